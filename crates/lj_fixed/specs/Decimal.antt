@@ -1,0 +1,96 @@
+-- Decimal words, and their values in billionths (nano).
+use Rattle.std.specs.Prelude.{ℕ, ◌+◌, ◌*◌, ◌/◌, ◌^◌, Bool, ◌&&◌, ◌||◌, ◌==◌, nat_lt, nat_le, ℤ, pos, negsuc, neg_ℤ, List, ◌++◌, length, if◌then◌else◌, Option, Some, None, Result, Ok, Err}
+use Rattle.std.specs.List.{list_any, before_first, after_first}
+use Rattle.std.specs.Option.{option_map}
+use Rattle.std.specs.Str.{all_ascii_digits}
+use Rattle.std.specs.Str.Parse.{digits_value, starts_with_minus, without_leading_sign, signed_digits_value}
+use Rattle.lj_fixed.specs.declared.numbers.NumberFault.{NumberFault}
+use Rattle.lj_fixed.specs.declared.numbers.NumberFault.TheVariants.{BadNumber, OutOfRange}
+
+-- what a word says: a sign, all digits as one number, how many of them stand behind the point, and the exponent of ten
+pub record Decimal : Type 0 where
+  pub negative : Bool
+  pub digits : ℕ
+  pub behind : ℕ
+  pub exponent : ℤ
+
+-- `.`
+abbrev pub is_point : ℕ → Bool
+is_point c = c == 46
+
+-- `e`, `E`, `d` or `D`
+abbrev pub is_exponent_letter : ℕ → Bool
+is_exponent_letter c = c == 101 || c == 69 || c == 100 || c == 68
+
+-- an optional sign and one to three digits
+abbrev pub is_exponent : List ℕ → Bool
+is_exponent text =
+    let digits = without_leading_sign text in
+    nat_lt 0 (length digits) && nat_le (length digits) 3 && all_ascii_digits digits
+
+-- the exponent behind the first letter, which is 0 where there is no letter
+abbrev pub exponent_of : List ℕ → Option ℤ
+exponent_of text =
+    let power = after_first is_exponent_letter text in
+    if list_any is_exponent_letter text
+    then (if is_exponent power then Some (signed_digits_value 10 power) else None)
+    else Some (pos 0)
+
+-- A word is at most 40 bytes: an optional sign; digits, at least one, and at most one point before, among or behind
+-- them; and an optional exponent behind a letter.
+unfoldable pub decimal_of : List ℕ → Option Decimal
+decimal_of word =
+    let text = without_leading_sign word in
+    let mantissa = before_first is_exponent_letter text in
+    let whole = before_first is_point mantissa in
+    let fraction = after_first is_point mantissa in
+    let digits = whole ++ fraction in
+    if nat_le (length word) 40 && nat_lt 0 (length digits) && all_ascii_digits digits
+    then option_map (λ exponent. record {
+          negative = starts_with_minus word;
+          digits = digits_value 10 digits;
+          behind = length fraction;
+          exponent = exponent;
+        }) (exponent_of text)
+    else None
+
+-- ten to a whole power is the fraction of these two
+abbrev pub tens_above : ℤ → ℕ
+tens_above (pos n) = 10 ^ n
+tens_above (negsuc n) = 1
+
+abbrev pub tens_below : ℤ → ℕ
+tens_below (pos n) = 1
+tens_below (negsuc n) = 10 ^ (n + 1)
+
+-- the size of a decimal's value is the fraction of these two
+abbrev pub numerator : Decimal → ℕ
+numerator d = d.digits * tens_above d.exponent
+
+abbrev pub denominator : Decimal → ℕ
+denominator d = 10 ^ d.behind * tens_below d.exponent
+
+-- the whole number nearest to n / d, and of two the larger: halves go away from zero
+abbrev pub rounded : ℕ → ℕ → ℕ
+rounded n d = (2 * n + d) / (2 * d)
+
+-- the size of a decimal's value in billionths
+abbrev pub nano_size : Decimal → ℕ
+nano_size d = rounded (numerator d * 10 ^ 9) (denominator d)
+
+-- n or -n
+abbrev pub with_sign : Bool → ℕ → ℤ
+with_sign negative n = if negative then neg_ℤ (pos n) else pos n
+
+-- the largest size of a nano: a million file units
+abbrev pub nano_limit : ℕ
+nano_limit = 10 ^ 15
+
+-- the nano of a decimal, if there is one
+abbrev pub nano_or_fault : Option Decimal → Result ℤ NumberFault
+nano_or_fault None = Err BadNumber
+nano_or_fault (Some d) = if nat_le (nano_size d) nano_limit then Ok (with_sign d.negative (nano_size d)) else Err OutOfRange
+
+-- the nano that a word writes: `BadNumber` outside the grammar, and `OutOfRange` beyond the limit
+unfoldable pub nano_of : List ℕ → Result ℤ NumberFault
+nano_of word = nano_or_fault (decimal_of word)

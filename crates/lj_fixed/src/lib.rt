@@ -1,0 +1,5 @@
+#![tactic(auto)]
+
+mod numbers;
+
+pub use numbers::NumberFault;
