@@ -1,0 +1,45 @@
+-- What a scale keeps beside its three numbers.
+use Rattle.std.specs.Prelude.{ℕ, ◌+◌, ◌-◌, ◌*◌, ◌/◌, ◌^◌, ◌<◌, ◌≤◌, ◌≡◌, refl}
+use Rattle.std.specs.Int.{div_ceil}
+use Rattle.lj_ring.specs.Scales.{Units}
+use Rattle.lj_ring.specs.declared.units.Scale.TheInside.{Inside}
+
+-- the first squared distance out of reach: a quarter of 25 sigma², rounded up
+abbrev pub reach_of : ℕ → ℕ
+reach_of square = div_ceil (25 * square) 4
+
+-- the reciprocal of sigma² in units of 2^-95, rounded up
+abbrev pub inverse_of : ℕ → ℕ
+inverse_of square = div_ceil (2 ^ 95) square
+
+abbrev pub units_of_kept : Inside → Units
+units_of_kept a = record { edge = a.edge; sigma = a.sigma; strength = a.strength }
+
+-- the kept numbers are those of sigma
+pub record IsKept (a : Inside) : Type 0 where
+  pub sigma_least : 65536 ≤ a.sigma
+  pub sigma_most : 5 * a.sigma < 2 ^ 32
+  pub strength_most : a.strength ≤ 2 ^ 24
+  pub square_is : a.sigma_square ≡ a.sigma * a.sigma
+  pub reach_is : a.reach ≡ reach_of (a.sigma * a.sigma)
+  pub inverse_is : a.inverse ≡ inverse_of (a.sigma * a.sigma)
+
+abbrev pub kept_of : Units → Inside
+kept_of u = record {
+  edge = u.edge;
+  sigma = u.sigma;
+  strength = u.strength;
+  sigma_square = u.sigma * u.sigma;
+  reach = reach_of (u.sigma * u.sigma);
+  inverse = inverse_of (u.sigma * u.sigma)
+}
+
+-- scales with equal numbers are equal
+same_kept : (edge sigma strength square square' reach reach' inverse inverse' : ℕ) → square ≡ square' → reach ≡ reach' → inverse ≡ inverse'
+    → (let a : Inside = record { edge = edge; sigma = sigma; strength = strength; sigma_square = square; reach = reach; inverse = inverse } in
+       let b : Inside = record { edge = edge; sigma = sigma; strength = strength; sigma_square = square'; reach = reach'; inverse = inverse' } in
+       b ≡ a)
+same_kept edge sigma strength square square' reach reach' inverse inverse' p q r = cc
+
+pub kept_of-units : (a : Inside) → IsKept a → kept_of (units_of_kept a) ≡ a
+kept_of-units a h = same_kept a.edge a.sigma a.strength a.sigma_square _ a.reach _ a.inverse _ h.square_is h.reach_is h.inverse_is

@@ -1,0 +1,4 @@
+pub mod Ring
+pub mod Places
+pub mod Scales
+pub mod Kept

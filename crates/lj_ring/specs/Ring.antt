@@ -1,0 +1,40 @@
+-- Coordinates on the ring of 2^32 units that one axis of the periodic box is, and sums on it.
+use Rattle.std.specs.Prelude.{ℕ, zero, suc, ◌+◌, ◌-◌, ◌*◌, ◌%◌, ◌^◌, ℤ, pos, ◌+ℤ◌, ◌-ℤ◌, ◌*ℤ◌, neg_ℤ, ◌≤ℤ◌, ◌<ℤ◌, ◌≡◌, unsigned_abs}
+use Rattle.std.specs.Int.{cast_signed, int_rem_euclid, w32}
+use Rattle.lj_ring.specs.declared.coordinates.Place.{Place}
+
+-- the coordinate that a whole number of units comes to, once round the ring as often as need be
+abbrev pub in_ring : ℤ → ℕ
+in_ring z = unsigned_abs (int_rem_euclid z (pos (2 ^ 32)))
+
+-- the least image of the difference a - b, in -2^31 ..= 2^31 - 1
+abbrev pub image : ℕ → ℕ → ℤ
+image a b = cast_signed w32 ((a + (2 ^ 32 - b)) % 2 ^ 32)
+
+-- z is the least image of a - b: it lies in -2^31 ..= 2^31 - 1 and is a - b but for whole turns of the ring
+pub record IsLeastImage (a b : ℕ) (z : ℤ) : Type 0 where
+  pub from : neg_ℤ (pos (2 ^ 31)) ≤ℤ z
+  pub below : z <ℤ pos (2 ^ 31)
+  pub turns : (k : ℤ) × (z ≡ pos a -ℤ pos b +ℤ k *ℤ pos (2 ^ 32))
+
+-- the square of a whole number
+abbrev pub square : ℤ → ℕ
+square z = unsigned_abs z * unsigned_abs z
+
+-- the squared distance of two places: the sum of the squares of the three least images
+abbrev pub distance : Place → Place → ℕ
+distance p q = square (image p.x q.x) + square (image p.y q.y) + square (image p.z q.z)
+
+-- the sum of f 0, f 1, .. f (n - 1)
+abbrev pub sum_below : ℕ → (ℕ → ℕ) → ℕ
+sum_below zero f = 0
+sum_below (suc n) f = sum_below n f + f n
+
+-- the same sum in the ring
+abbrev pub ring_sum : ℕ → (ℕ → ℕ) → ℕ
+ring_sum n f = sum_below n f % 2 ^ 32
+
+-- the same sum of signed numbers
+abbrev pub int_sum_below : ℕ → (ℕ → ℤ) → ℤ
+int_sum_below zero f = pos 0
+int_sum_below (suc n) f = int_sum_below n f +ℤ f n

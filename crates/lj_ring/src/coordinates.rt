@@ -1,0 +1,51 @@
+ghost use Rattle.std.specs.Prelude.{◌≡◌, ◌≤◌, ◌^◌, ◌*◌};
+
+use crate::units::Edge;
+use lj_fixed::Nano;
+
+/// The place of an atom: a coordinate on each axis, in ring units, of which the box edge has 2^32.
+#[derive(Clone, Copy, PartialEq, Eq, Debug)]
+pub struct Place {
+    pub x: u32,
+    pub y: u32,
+    pub z: u32,
+}
+
+ghost use Rattle.lj_ring.specs.Ring as ring;
+ghost use Rattle.lj_ring.specs.Places as places;
+
+/// The least image of `to - from`, in ring units: the difference round the ring that is nearest to 0.
+#[inline]
+pub fn image(to: u32, from: u32) -> i32
+    ensures value { result ≡ ring.image to from }
+    ensures least { ring.IsLeastImage to from result }
+{
+    to.wrapping_sub(from).cast_signed()
+}
+
+/// The square of an image, in square ring units.
+#[inline]
+fn square(image: i32) -> u64
+    ensures value { result ≡ ring.square image }
+    ensures bound { result ≤ 2 ^ 62 }
+{
+    let length = i64::from(image);
+    (length * length).unsigned_abs()
+}
+
+/// The squared distance of two places, in square ring units, at most 3 * 2^62.
+#[inline]
+pub fn dist2(a: &Place, b: &Place) -> u64
+    ensures value { result ≡ ring.distance a.now b.now }
+    ensures bound { result ≤ 3 * 2 ^ 62 }
+{
+    square(image(a.x, b.x)) + square(image(a.y, b.y)) + square(image(a.z, b.z))
+}
+
+/// The coordinate of a position in nano: `floor(position * 2^32 / edge)` round the ring.
+pub fn place_of(position: Nano, edge: &Edge) -> u32
+    ensures { result ≡ places.place_of edge.now position }
+{
+    let turns = i128::from(position.get()) * (1 << 32);
+    turns.div_euclid(i128::from(edge.nano())).rem_euclid(1 << 32) as u32
+}

@@ -1,0 +1,8 @@
+//! The periodic box as a ring of 2^32 units on each axis: coordinates, least images, and the scale of a simulation.
+#![tactic(auto)]
+
+mod coordinates;
+mod units;
+
+pub use coordinates::{Place, dist2, image, place_of};
+pub use units::{Edge, Scale, ScaleFault};

@@ -1,0 +1,202 @@
+ghost use Rattle.std.specs.Prelude.{◌≡◌, ◌≤◌, ◌<◌, ◌+◌, ◌*◌, ◌/◌, ◌^◌, ◌⊎◌, IsTrue, IsFalse, IfSome, MatchOption, SomeIff, unsigned_abs, true, false};
+ghost use Rattle.lj_ring.specs.Places.{units_of};
+ghost use Rattle.lj_ring.specs.Scales.{edge_fits, sigma_fits, strength_fits, scale_of, bin, interacts};
+
+use lj_fixed::Nano;
+use std::marker::Model;
+use thiserror::Error;
+
+/// The edge of the cubic box, 10^6 to 10^15 nano (billionths of a file unit).
+#[derive(Clone, Copy, PartialEq, Eq, Debug)]
+pub struct Edge {
+    nano: u64,
+}
+
+impl Model for Edge {
+    ghost use Rattle.std.specs.Prelude.{ℕ, ◌≤◌, ◌^◌};
+
+    ghost Value = { ℕ };
+
+    ghost view = { λ e. e.nano };
+
+    ghost invariant = { λ e. (10 ^ 6 ≤ e.nano) × (e.nano ≤ 10 ^ 15) };
+
+    ghost inverse = { λ n. record { nano = n } };
+}
+
+impl Edge {
+    /// The length of the edge in nano.
+    #[inline]
+    pub fn nano(&self) -> u64
+        ensures value { result ≡ self.now }
+        ensures least { 10 ^ 6 ≤ result }
+        ensures most { result ≤ 10 ^ 15 }
+    {
+        self.nano
+    }
+
+    /// An edge of this length, where it fits.
+    fn new(length: Nano) -> Option<Edge>
+        ensures { SomeIff result (IsTrue (edge_fits length)) (unsigned_abs length) }
+    {
+        let nano = length.get();
+        if 1_000_000 <= nano && nano <= 1_000_000_000_000_000 {
+            Some(Edge {
+                nano: nano.unsigned_abs(),
+            })
+        } else {
+            None
+        }
+    }
+}
+
+/// Why a scale is refused: the first of the three that does not fit.
+#[derive(Clone, Copy, PartialEq, Eq, Debug, Error)]
+pub enum ScaleFault {
+    #[error("the edge is not 10^6 to 10^15 nano")]
+    Edge,
+    #[error("sigma is below 2^-16 of the edge, or a fifth of it or more")]
+    Sigma,
+    #[error("the step factor is not 1 to 2^24")]
+    StepFactor,
+}
+
+/// The scale of a simulation: the edge of its box, sigma in ring units, and the step factor dt² ε / (m σ²) in units of
+/// 2^-32. Beside them it keeps what the loop over pairs needs of sigma.
+#[derive(Clone, Copy, PartialEq, Eq, Debug)]
+pub struct Scale {
+    edge: Edge,
+    sigma: u32,
+    strength: u32,
+    sigma_square: u64,
+    /// The first squared distance out of reach, `ceil(25 sigma² / 4)`.
+    reach: u64,
+    /// `ceil(2^95 / sigma²)`, by which a bin is guessed without a division.
+    inverse: u64,
+}
+
+impl Model for Scale {
+    ghost use Rattle.lj_ring.specs.Scales.{Units};
+
+    ghost Value = { Units };
+
+    ghost use Rattle.lj_ring.specs.Kept.{units_of_kept, IsKept, kept_of, kept_of-units};
+
+    ghost view = { units_of_kept };
+
+    ghost invariant = { IsKept };
+
+    ghost inverse = { kept_of };
+
+    ghost inverse_ok = { kept_of-units };
+}
+
+impl Scale {
+    /// The scale of an edge and a sigma in nano, and a step factor `h` in units of 2^-32, 1 to 2^24.
+    /// The edge is tested first, then sigma, then the step factor.
+    pub fn new(edge: Nano, sigma: Nano, h: u64) -> Result<Scale, ScaleFault>
+        ensures { result ≡ scale_of edge sigma h }
+    {
+        let Some(edge) = Edge::new(edge) else {
+            return Err(ScaleFault::Edge);
+        };
+        let Some(sigma) = sigma_in_units(sigma, &edge) else {
+            return Err(ScaleFault::Sigma);
+        };
+        let Some(strength) = step_factor(h) else {
+            return Err(ScaleFault::StepFactor);
+        };
+        Ok(Scale::of(edge, sigma, strength))
+    }
+
+    /// The edge of the box.
+    pub fn edge(&self) -> Edge
+        ensures { result ≡ self.now.edge }
+    {
+        self.edge
+    }
+
+    /// The step factor in units of 2^-32.
+    #[inline]
+    pub fn strength(&self) -> u32
+        ensures value { result ≡ self.now.strength }
+        ensures most { result ≤ 2 ^ 24 }
+    {
+        self.strength
+    }
+
+    /// The bin, below 800, of a pair at squared distance `s`, or None where it does not interact.
+    #[inline]
+    pub fn bin_within_reach(&self, s: u64) -> Option<usize>
+        ensures reach { MatchOption result (interacts self.now s ≡ false) (λ _. interacts self.now s ≡ true) }
+        ensures value { IfSome result (λ k. k ≡ bin self.now s) }
+        ensures within { IfSome result (λ k. k < 800) }
+    {
+        if s < self.reach {
+            Some(quotient(s, self.sigma_square, self.inverse))
+        } else {
+            None
+        }
+    }
+
+    fn of(edge: Edge, sigma: u32, strength: u32) -> Scale
+        requires sigma_least { 65536 ≤ sigma }
+        requires sigma_most { 5 * sigma < 2 ^ 32 }
+        requires strength_most { strength ≤ 2 ^ 24 }
+        ensures { result ≡ record { edge = edge; sigma = sigma; strength = strength } }
+    {
+        let sigma_square = u64::from(sigma) * u64::from(sigma);
+        let inverse = (1u128 << 95).div_ceil(u128::from(sigma_square)) as u64;
+        Scale {
+            edge,
+            sigma,
+            strength,
+            sigma_square,
+            reach: (25 * sigma_square).div_ceil(4),
+            inverse,
+        }
+    }
+}
+
+/// Sigma in ring units, where it fits.
+fn sigma_in_units(sigma: Nano, edge: &Edge) -> Option<u32>
+    ensures { SomeIff result (IsTrue (sigma_fits (units_of edge.now sigma))) (unsigned_abs (units_of edge.now sigma)) }
+{
+    let sigma = sigma.get();
+    if sigma < 0 {
+        return None;
+    }
+    let units = (u128::from(sigma.unsigned_abs()) << 32) / u128::from(edge.nano());
+    if 65536 <= units && 5 * units < 1 << 32 {
+        Some(units as u32)
+    } else {
+        None
+    }
+}
+
+fn step_factor(h: u64) -> Option<u32>
+    ensures { SomeIff result (IsTrue (strength_fits h)) h }
+{
+    if 1 <= h && h <= 1 << 24 {
+        Some(h as u32)
+    } else {
+        None
+    }
+}
+
+/// `128 s / sigma_square`, by a guess that is mostly right, and else by the division.
+#[inline]
+fn quotient(s: u64, sigma_square: u64, inverse: u64) -> usize
+    requires { 128 * s < 800 * sigma_square }
+    ensures value { result ≡ 128 * s / sigma_square }
+    ensures within { result < 800 }
+{
+    let guess = (u128::from(s) * u128::from(inverse)) >> 88;
+    let scaled = u128::from(s) * 128;
+    let below = guess * u128::from(sigma_square);
+    if below <= scaled && scaled - below < u128::from(sigma_square) {
+        guess as usize
+    } else {
+        (scaled / u128::from(sigma_square)) as usize
+    }
+}
