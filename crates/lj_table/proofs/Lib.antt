@@ -1,0 +1,3 @@
+pub mod Quotients
+pub mod Sizes
+pub mod Cells

@@ -1,0 +1,34 @@
+-- The entries of the Lennard-Jones tables, at the centres of the bins of squared distance.
+use Rattle.std.specs.Prelude.{ℕ, ◌+◌, ◌*◌, ◌^◌, ◌<◌, ◌≡◌, ℤ, pos, ◌-ℤ◌, ◌*ℤ◌, int_div, unsigned_abs, List, length, slice_index_or, if◌then◌else◌}
+use Rattle.lj_ring.specs.Scales.{Units, bin, interacts, entry}
+
+-- the centre of bin k, in 256ths of sigma²: n = 2k + 1, so that (σ/r)² there is 2^8 / n
+abbrev pub centre : ℕ → ℕ
+centre k = 2 * k + 1
+
+-- the push of bin k in units of 2^-24: 24 (2 u^7 - u^4) where u is (σ/r)² at its centre, rounded toward zero
+unfoldable pub push_entry : ℕ → ℤ
+push_entry k = int_div (pos (24 * 2 ^ 56) *ℤ (pos (2 ^ 25) -ℤ pos (centre k ^ 3))) (pos (centre k ^ 7))
+
+-- the energy of bin k in units of 2^-24 ε: 4 (u^6 - u^3) where u is (σ/r)² at its centre, rounded toward zero
+unfoldable pub energy_entry : ℕ → ℤ
+energy_entry k = int_div (pos (2 ^ 50) *ℤ (pos (2 ^ 24) -ℤ pos (centre k ^ 3))) (pos (centre k ^ 6))
+
+-- what a table gives for a pair at a squared distance: the entry of its bin, and 0 out of reach
+abbrev pub looked_up : (ℕ → ℤ) → Units → ℕ → ℤ
+looked_up entry_of u s = if interacts u s then entry_of (entry (bin u s)) else pos 0
+
+-- the push and the energy of a pair at a squared distance
+abbrev pub push_at : Units → ℕ → ℤ
+push_at u s = looked_up push_entry u s
+
+abbrev pub energy_at : Units → ℕ → ℤ
+energy_at u s = looked_up energy_entry u s
+
+-- the cells of a table are the entries of the bins, each below 64 that of bin 64
+abbrev pub HasEntries : (ℕ → ℤ) → List ℤ → Type 0
+HasEntries entry_of cells = (k : ℕ) → k < 800 → slice_index_or cells k (pos 0) ≡ entry_of (entry k)
+
+-- each cell of a table is below 2^37 in size
+abbrev pub AreSmall : List ℤ → Type 0
+AreSmall cells = (k : ℕ) → k < 800 → unsigned_abs (slice_index_or cells k (pos 0)) < 2 ^ 37

@@ -1,0 +1,41 @@
+ghost use Rattle.std.specs.Prelude.{◌≡◌, ◌≤◌, ◌<◌, ◌^◌, ◌*◌, ◌+◌, pos, ◌-ℤ◌, ◌*ℤ◌, int_div, unsigned_abs};
+ghost use Rattle.lj_table.specs.Entries as entries;
+
+/// The push of bin `k`, 64 to 799, in units of 2^-24.
+pub fn push_entry(k: u16) -> i64
+    requires from { 64 ≤ k }
+    requires below { k < 800 }
+    ensures value { result ≡ entries.push_entry k }
+    ensures size { unsigned_abs result < 2 ^ 37 }
+{
+    let centre = u128::from(2 * k + 1);
+    let cube = centre * centre * centre;
+    signed_quotient(24 << 56, 1 << 25, cube, cube * cube * centre)
+}
+
+/// The energy of bin `k`, 64 to 799, in units of 2^-24 ε.
+pub fn energy_entry(k: u16) -> i64
+    requires from { 64 ≤ k }
+    requires below { k < 800 }
+    ensures value { result ≡ entries.energy_entry k }
+    ensures size { unsigned_abs result < 2 ^ 37 }
+{
+    let centre = u128::from(2 * k + 1);
+    let cube = centre * centre * centre;
+    signed_quotient(1 << 50, 1 << 24, cube, cube * cube)
+}
+
+/// `factor * (top - cube) / power`, toward zero.
+fn signed_quotient(factor: u128, top: u128, cube: u128, power: u128) -> i64
+    requires product { factor * (top + cube) < 2 ^ 128 }
+    requires above { factor * top < 2 ^ 37 * power }
+    requires under { factor * cube < 2 ^ 37 * power }
+    ensures value { result ≡ int_div (pos factor *ℤ (pos top -ℤ pos cube)) (pos power) }
+    ensures size { unsigned_abs result < 2 ^ 37 }
+{
+    if cube <= top {
+        (factor * (top - cube) / power) as i64
+    } else {
+        -((factor * (cube - top) / power) as i64)
+    }
+}
