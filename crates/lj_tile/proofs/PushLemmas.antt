@@ -1,0 +1,72 @@
+use Rattle.std.proofs.Common.{ℕ, zero, suc, ◌+◌, ◌-◌, ◌*◌, ◌/◌, ◌%◌, ◌^◌, ◌<◌, ◌≤◌, ◌≡◌, ℤ, pos, negsuc, ◌*ℤ◌, int_div, unsigned_abs, FitsSigned, w32, w64, of_z, to_z, neg_ℤ, refl, sym, ap, ◌∙◌, rules, arith}
+use Rattle.std.proofs.lemmas.Int.{unsigned_abs-mul, fits_signed_from_abs, to_z-of_z}
+use Rattle.std.proofs.lemmas.Nat.{mul-le}
+use Rattle.std.proofs.Math.IntN.{zero-*ℤ}
+use Rattle.std.specs.Int.{w128}
+use Rattle.lj_ring.specs.declared.coordinates.Place.{Place}
+use Rattle.lj_ring.specs.Ring.{in_ring, image, distance}
+use Rattle.lj_ring.specs.Scales.{Units}
+use Rattle.lj_table.specs.Entries.{push_at}
+use Rattle.lj_tile.specs.declared.pairs.Push.{Push}
+use Rattle.lj_tile.specs.Pushes.{push, no_push}
+
+-- the low 32 bits of a signed number are its coordinate
+pub low_bits : (z : ℤ) → FitsSigned w64 z → of_z w64 z % 2 ^ 32 ≡ in_ring z
+low_bits (pos n) fits = refl
+low_bits (negsuc n) fits = let small : n < 2 ^ 63 = omega (arith, fits.sfits) in omega arith
+
+-- a product of two sizes is small
+pub small_product : (a b : ℤ) (m n : ℕ) → unsigned_abs a ≤ m → unsigned_abs b ≤ n → unsigned_abs (a *ℤ b) ≤ m * n
+small_product a b m n p q = rw (unsigned_abs-mul a b) (mul-le (unsigned_abs a) (unsigned_abs b) m n p q)
+
+abs_neg : (m : ℕ) → unsigned_abs (neg_ℤ (pos m)) ≡ m
+abs_neg zero = refl
+abs_neg (suc m) = refl
+
+-- the size of a quotient toward zero
+quotient_size : (z : ℤ) (d : ℕ) → unsigned_abs (int_div z (pos d)) ≡ unsigned_abs z / d
+quotient_size (pos n) d = refl
+quotient_size (negsuc n) d = abs_neg (suc n / d)
+
+image_size : (image : ℤ) → FitsSigned w32 image → unsigned_abs image ≤ 2 ^ 31
+image_size (pos n) fits = omega (arith, fits.sfits)
+image_size (negsuc n) fits = omega (arith, fits.sfits)
+
+product_size : (factor image : ℤ) → unsigned_abs factor < 2 ^ 61 → FitsSigned w32 image → unsigned_abs (factor *ℤ image) ≤ 2 ^ 61 * 2 ^ 31
+product_size factor image small fits = small_product factor image (2 ^ 61) (2 ^ 31) (omega arith) (image_size image fits)
+
+push_fits : (factor image : ℤ) → unsigned_abs factor < 2 ^ 61 → FitsSigned w32 image → FitsSigned w64 (int_div (factor *ℤ image) (pos (2 ^ 56)))
+push_fits factor image small fits =
+    let size = product_size factor image small fits in
+    fits_signed_from_abs w64 _ (rw quotient_size (omega (arith, size)))
+
+-- what the code computes along an axis, conversions and all
+pub along : (factor image : ℤ) → unsigned_abs factor < 2 ^ 61 → FitsSigned w32 image
+    → of_z w64 (to_z w64 (of_z w64 (to_z w128 (of_z w128 (int_div (to_z w128 (of_z w128 (to_z w128 (of_z w128 factor) *ℤ to_z w128 (of_z w128 image)))) (pos (2 ^ 56))))))) % 2 ^ 32
+    ≡ in_ring (int_div (factor *ℤ image) (pos (2 ^ 56)))
+along factor image small fits =
+    let size = product_size factor image small fits in
+    let f : FitsSigned w128 factor = fits_signed_from_abs w128 factor (omega arith) in
+    let i : FitsSigned w128 image = fits_signed_from_abs w128 image (omega (arith, image_size image fits)) in
+    let product : FitsSigned w128 (factor *ℤ image) = fits_signed_from_abs w128 _ (omega (arith, size)) in
+    let narrow : FitsSigned w64 (int_div (factor *ℤ image) (pos (2 ^ 56))) = push_fits factor image small fits in
+    let wide : FitsSigned w128 (int_div (factor *ℤ image) (pos (2 ^ 56))) = fits_signed_from_abs w128 _ (rw quotient_size (omega (arith, size))) in
+    rw (to_z-of_z w128 factor f, to_z-of_z w128 image i, to_z-of_z w128 (factor *ℤ image) product, to_z-of_z w128 _ wide, to_z-of_z w64 _ narrow)
+    (low_bits _ narrow)
+
+-- a push by its three parts
+pub push_is : (u : Units) (p q : Place) (factor ix iy iz : ℤ) (x y z : ℕ)
+    → factor ≡ push_at u (distance p q) *ℤ pos u.strength → ix ≡ image p.x q.x → iy ≡ image p.y q.y → iz ≡ image p.z q.z
+    → x ≡ in_ring (int_div (factor *ℤ ix) (pos (2 ^ 56))) → y ≡ in_ring (int_div (factor *ℤ iy) (pos (2 ^ 56))) → z ≡ in_ring (int_div (factor *ℤ iz) (pos (2 ^ 56)))
+    → (let made : Push = record { x = x; y = y; z = z } in made ≡ push u p q)
+unfolding push
+push_is u p q factor ix iy iz x y z f i j k e g h = rw (e, g, h, f, i, j, k) refl
+
+-- a pair whose entry is 0 does not push
+pub nothing_is : (u : Units) (p q : Place) → push_at u (distance p q) ≡ pos 0 → no_push ≡ push u p q
+unfolding push
+nothing_is u p q none = rw (none, zero-*ℤ (pos u.strength), zero-*ℤ (image p.x q.x), zero-*ℤ (image p.y q.y), zero-*ℤ (image p.z q.z)) refl
+
+-- a signed number whose bits are 0 is 0
+pub zero_bits : (z : ℤ) → FitsSigned w64 z → of_z w64 z ≡ 0 → z ≡ pos 0
+zero_bits z fits e = sym (to_z-of_z w64 z fits) ∙ ap (λ n. to_z w64 n) e

@@ -1,0 +1,33 @@
+-- The push and the energy of a pair of atoms.
+use Rattle.std.specs.Prelude.{ℕ, ◌+◌, ◌*◌, ◌%◌, ◌^◌, ◌≡◌, refl, ℤ, pos, ◌*ℤ◌, int_div}
+use Rattle.lj_ring.specs.declared.coordinates.Place.{Place}
+use Rattle.lj_ring.specs.Ring.{image, distance, in_ring}
+use Rattle.lj_ring.specs.Scales.{Units}
+use Rattle.lj_table.specs.Entries.{push_at, energy_at}
+use Rattle.lj_tile.specs.declared.pairs.Push.{Push}
+
+-- no push
+abbrev pub no_push : Push
+no_push = record { x = 0; y = 0; z = 0 }
+
+-- a push along one axis on the ring: table entry times step factor times image, in units of 2^-56, toward zero
+abbrev pub push_along : Units → ℤ → ℤ → ℕ
+push_along u entry image = in_ring (int_div (entry *ℤ pos u.strength *ℤ image) (pos (2 ^ 56)))
+
+-- the push on an atom at p of an atom at q: along the images of p - q, and 0 where the pair does not interact
+unfoldable pub push : Units → Place → Place → Push
+push u p q =
+    let entry = push_at u (distance p q) in
+    record {
+      x = push_along u entry (image p.x q.x);
+      y = push_along u entry (image p.y q.y);
+      z = push_along u entry (image p.z q.z)
+    }
+
+-- the energy of the pair, in units of 2^-24 ε: 0 where it does not interact
+abbrev pub energy : Units → Place → Place → ℤ
+energy u p q = energy_at u (distance p q)
+
+-- the sum of two pushes on the ring
+abbrev pub plus : Push → Push → Push
+plus a b = record { x = (a.x + b.x) % 2 ^ 32; y = (a.y + b.y) % 2 ^ 32; z = (a.z + b.z) % 2 ^ 32 }

@@ -1,0 +1,69 @@
+ghost use Rattle.std.specs.Prelude.{◌≡◌, ◌≤◌, ◌<◌, ◌^◌, pos, ◌*ℤ◌, int_div, unsigned_abs};
+ghost use Rattle.lj_ring.specs.Ring.{in_ring};
+ghost use Rattle.lj_tile.specs.Pushes as pushes;
+
+use lj_ring::{Place, Scale, dist2, image};
+use lj_table::Table;
+
+/// A push, or a sum of pushes, on an atom in one step: ring units along each axis, modulo 2^32.
+#[derive(Clone, Copy, PartialEq, Eq, Debug)]
+pub struct Push {
+    pub x: u32,
+    pub y: u32,
+    pub z: u32,
+}
+
+impl Push {
+    /// No push at all.
+    pub const NONE: Push = Push { x: 0, y: 0, z: 0 };
+
+    /// The sum of two pushes.
+    #[inline]
+    pub fn plus(self, other: Push) -> Push
+        ensures { result ≡ pushes.plus self other }
+    {
+        Push {
+            x: self.x.wrapping_add(other.x),
+            y: self.y.wrapping_add(other.y),
+            z: self.z.wrapping_add(other.z),
+        }
+    }
+}
+
+/// The push of the atom at `there` on the atom at `here`. Most pairs are out of reach: they end at the table's 0.
+#[inline]
+pub fn pair_push(table: &Table, scale: &Scale, here: &Place, there: &Place) -> Push
+    ensures { result ≡ pushes.push scale.now here.now there.now }
+{
+    let entry = table.push(dist2(here, there), scale);
+    if entry == 0 {
+        return Push::NONE;
+    }
+    let factor = strengthened(entry, scale.strength());
+    Push {
+        x: push_along(factor, image(here.x, there.x)),
+        y: push_along(factor, image(here.y, there.y)),
+        z: push_along(factor, image(here.z, there.z)),
+    }
+}
+
+/// A table entry times the step factor.
+#[inline]
+fn strengthened(entry: i64, strength: u32) -> i64
+    requires small_entry { unsigned_abs entry < 2 ^ 37 }
+    requires small_strength { strength ≤ 2 ^ 24 }
+    ensures value { result ≡ entry *ℤ pos strength }
+    ensures size { unsigned_abs result < 2 ^ 61 }
+{
+    entry * i64::from(strength)
+}
+
+/// `factor * image / 2^56`, toward zero, on the ring.
+#[inline]
+fn push_along(factor: i64, image: i32) -> u32
+    requires { unsigned_abs factor < 2 ^ 61 }
+    ensures { result ≡ in_ring (int_div (factor *ℤ image) (pos (2 ^ 56))) }
+{
+    let push = (i128::from(factor) * i128::from(image) / (1 << 56)) as i64;
+    (push.cast_unsigned() % (1 << 32)) as u32
+}
