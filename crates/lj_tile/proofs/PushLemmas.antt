@@ -1,10 +1,10 @@
-use Rattle.std.proofs.Common.{ℕ, zero, suc, ◌+◌, ◌-◌, ◌*◌, ◌/◌, ◌%◌, ◌^◌, ◌<◌, ◌≤◌, ◌≡◌, ℤ, pos, negsuc, ◌*ℤ◌, int_div, unsigned_abs, FitsSigned, w32, w64, of_z, to_z, neg_ℤ, refl, sym, ap, ◌∙◌, rules, arith}
-use Rattle.std.proofs.lemmas.Int.{unsigned_abs-mul, fits_signed_from_abs, to_z-of_z}
+use Rattle.std.proofs.Common.{ℕ, zero, suc, ◌+◌, ◌-◌, ◌*◌, ◌/◌, ◌%◌, ◌^◌, ◌<◌, ◌≤◌, ◌≡◌, ℤ, pos, negsuc, ◌+ℤ◌, ◌-ℤ◌, ◌*ℤ◌, int_div, unsigned_abs, FitsSigned, w32, w64, of_z, to_z, neg_ℤ, refl, sym, ap, ◌∙◌, rules, arith}
+use Rattle.std.proofs.lemmas.Int.{ints, unsigned_abs-mul, fits_signed_from_abs, to_z-of_z}
 use Rattle.std.proofs.lemmas.Nat.{mul-le}
-use Rattle.std.proofs.Math.IntN.{zero-*ℤ}
+use Rattle.std.proofs.Math.IntN.{zero-*ℤ, *ℤ-zero}
 use Rattle.std.specs.Int.{w128}
 use Rattle.lj_ring.specs.declared.coordinates.Place.{Place}
-use Rattle.lj_ring.specs.Ring.{in_ring, image, distance}
+use Rattle.lj_ring.specs.Ring.{in_ring, image, distance, IsLeastImage}
 use Rattle.lj_ring.specs.Scales.{Units}
 use Rattle.lj_table.specs.Entries.{push_at}
 use Rattle.lj_tile.specs.declared.pairs.Push.{Push}
@@ -70,3 +70,22 @@ nothing_is u p q none = rw (none, zero-*ℤ (pos u.strength), zero-*ℤ (image p
 -- a signed number whose bits are 0 is 0
 pub zero_bits : (z : ℤ) → FitsSigned w64 z → of_z w64 z ≡ 0 → z ≡ pos 0
 zero_bits z fits e = sym (to_z-of_z w64 z fits) ∙ ap (λ n. to_z w64 n) e
+
+least_from : (a b : ℕ) (z k : ℤ) → IsLeastImage a b z → a ≡ b → z ≡ pos a -ℤ pos b +ℤ k *ℤ pos (2 ^ 32) → z ≡ pos 0
+least_from a b z (pos zero) least same e = omega (arith, ints, least.from, least.below)
+least_from a b z (pos (suc n)) least same e = absurd (omega (arith, ints, least.from, least.below))
+least_from a b z (negsuc n) least same e = absurd (omega (arith, ints, least.from, least.below))
+
+-- the least image of no difference is 0
+least_self : (a b : ℕ) (z : ℤ) → IsLeastImage a b z → a ≡ b → z ≡ pos 0
+least_self a b z least same = least_from a b z least.turns.0 least same least.turns.1
+
+-- an atom does not push itself
+pub push_self : (u : Units) (p q : Place) (ix iy iz : ℤ) → ix ≡ image p.x q.x → iy ≡ image p.y q.y → iz ≡ image p.z q.z
+    → IsLeastImage p.x q.x ix → IsLeastImage p.y q.y iy → IsLeastImage p.z q.z iz → p ≡ q → push u p q ≡ no_push
+unfolding push
+push_self u p q ix iy iz x_is y_is z_is x y z same =
+    let x_none : image p.x q.x ≡ pos 0 = sym x_is ∙ least_self p.x q.x ix x (ap (λ (r : Place). r.x) same) in
+    let y_none : image p.y q.y ≡ pos 0 = sym y_is ∙ least_self p.y q.y iy y (ap (λ (r : Place). r.y) same) in
+    let z_none : image p.z q.z ≡ pos 0 = sym z_is ∙ least_self p.z q.z iz z (ap (λ (r : Place). r.z) same) in
+    rw (x_none, y_none, z_none, *ℤ-zero) refl

@@ -33,7 +33,8 @@ impl Push {
 /// The push of the atom at `there` on the atom at `here`. Most pairs are out of reach: they end at the table's 0.
 #[inline]
 pub fn pair_push(table: &Table, scale: &Scale, here: &Place, there: &Place) -> Push
-    ensures { result ≡ pushes.push scale.now here.now there.now }
+    ensures value { result ≡ pushes.push scale.now here.now there.now }
+    ensures itself { here.now ≡ there.now → result ≡ pushes.no_push }
 {
     let entry = table.push(dist2(here, there), scale);
     if entry == 0 {

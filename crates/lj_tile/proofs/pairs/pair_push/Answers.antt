@@ -1,17 +1,17 @@
 use Rattle.std.proofs.Common.{FitsSigned, w64, w32, rules, sym, ◌∙◌, ap}
 use Rattle.std.proofs.lemmas.Int.{to_z-of_z}
 use Rattle.lj_table.specs.Entries.{push_at}
-use Rattle.lj_tile.proofs.PushLemmas.{push_is, nothing_is, zero_bits}
+use Rattle.lj_tile.proofs.PushLemmas.{push_is, push_self, nothing_is, zero_bits}
 use Rattle.lj_tile.proofs.pairs.pair_push.Goals as goal
 
-pub returns-then-entry-eq0 : goal.returns-then-entry-eq0
-returns-then-entry-eq0 c =
+pub returns-then-entry-eq0-clause-value : goal.returns-then-entry-eq0-clause-value
+returns-then-entry-eq0-clause-value c =
     let e : FitsSigned w64 c.push-entry.result = search rules in
     nothing_is c.args.scale.now c.args.here.now c.args.there.now
     (ap (push_at c.args.scale.now) (sym c.dist2.ensures.value) ∙ sym c.push-entry.ensures.value ∙ zero_bits c.push-entry.result e c.if-entry-eq0.true)
 
-pub returns : goal.returns
-returns c =
+pub returns-clause-value : goal.returns-clause-value
+returns-clause-value c =
     let e : FitsSigned w64 c.push-entry.result = search rules in
     let f : FitsSigned w64 c.strengthened-factor.result = search rules in
     let x : FitsSigned w32 c.image.result = search rules in
@@ -25,3 +25,9 @@ returns c =
     (rw (to_z-of_z w64 _ f, to_z-of_z w32 _ x) at c.push_along.ensures)
     (rw (to_z-of_z w64 _ f, to_z-of_z w32 _ y) at c.push_along-2.ensures)
     (rw (to_z-of_z w64 _ f, to_z-of_z w32 _ z) at c.push_along-3.ensures)
+
+pub returns-clause-itself : goal.returns-clause-itself
+returns-clause-itself c same =
+    returns-clause-value c
+    ∙ push_self c.args.scale.now c.args.here.now c.args.there.now c.image.result c.image-2.result c.image-3.result
+      c.image.ensures.value c.image-2.ensures.value c.image-3.ensures.value c.image.ensures.least c.image-2.ensures.least c.image-3.ensures.least same
