@@ -1,3 +1,4 @@
 pub mod Motion
 pub mod Live
 pub mod Kept
+pub mod Worked

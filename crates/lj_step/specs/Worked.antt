@@ -1,0 +1,61 @@
+-- Two atoms 1.5 sigma apart in a box of 256 sigma, as theorems by computation: the frames of the first two steps, the
+-- measures after the second, and the way back.
+use Rattle.std.specs.Prelude.{◌≡◌, ◌∷◌, [], ℕ, pos, negsuc, List, refl}
+use Rattle.lj_ring.specs.declared.coordinates.Place.{Place}
+use Rattle.lj_ring.specs.Scales.{Units}
+use Rattle.lj_table.specs.Entries.{push_entry, energy_entry}
+use Rattle.lj_tile.specs.Pushes.{push}
+use Rattle.lj_step.specs.Motion.{Simulation, opening, stepped, steps, reversed, tugged, force, momentum, kinetic, potential, Displacement}
+
+-- a place on the x axis
+abbrev pub on_x : ℕ → Place
+on_x x = record { x = x; y = 0; z = 0 }
+
+-- an edge of 256, sigma 1, and a step factor of 2^17 in units of 2^-32
+abbrev pub dimer_units : Units
+dimer_units = record { edge = 256000000000; sigma = 16777216; strength = 131072 }
+
+-- at rest, 1.5 sigma apart
+abbrev pub dimer_frame : List Place
+dimer_frame = on_x 0 ∷ on_x 25165824 ∷ []
+
+abbrev pub dimer : Simulation
+dimer = opening dimer_frame dimer_frame
+
+-- after n steps
+unfoldable pub after : ℕ → Simulation
+after n = steps dimer_units n dimer
+
+pub after_one : (after 1).cur ≡ on_x 589 ∷ on_x 25165235 ∷ []
+unfolding after push force push_entry
+after_one = refl
+
+pub after_two : (after 2).cur ≡ on_x 1774 ∷ on_x 25164050 ∷ []
+unfolding after push force push_entry
+after_two = refl
+
+pub kinetic_after_two : kinetic (after 2) ≡ 2808450
+unfolding after push force push_entry
+kinetic_after_two = refl
+
+pub potential_after_two : potential dimer_units (after 2).cur ≡ negsuc 5399726
+unfolding after push force push_entry energy_entry
+potential_after_two = refl
+
+pub momentum_after_two : momentum (after 2) ≡ record { x = pos 0; y = pos 0; z = pos 0 }
+unfolding after push force push_entry
+momentum_after_two = refl
+
+-- reversed after two steps, the simulation stands at step 1 again, and two steps more go past the opening
+pub back_at_one : (reversed (after 2)).cur ≡ on_x 589 ∷ on_x 25165235 ∷ []
+unfolding after push force push_entry
+back_at_one = refl
+
+pub back_past_opening : (steps dimer_units 2 (reversed (after 2))).cur ≡ dimer_frame
+unfolding after push force push_entry
+back_past_opening = refl
+
+-- a tug of 5 along x at step 1 shows in the next step
+pub tugged_then_stepped : (stepped dimer_units (tugged 0 (record { x = pos 5; y = pos 0; z = pos 0 }) (after 1))).cur ≡ on_x 1779 ∷ on_x 25164050 ∷ []
+unfolding after push force push_entry
+tugged_then_stepped = refl
