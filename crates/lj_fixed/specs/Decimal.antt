@@ -22,11 +22,13 @@ is_point c = c == 46
 abbrev pub is_exponent_letter : ℕ → Bool
 is_exponent_letter c = c == 101 || c == 69 || c == 100 || c == 68
 
+-- one to three digits
+abbrev pub is_short_number : List ℕ → Bool
+is_short_number digits = nat_lt 0 (length digits) && nat_le (length digits) 3 && all_ascii_digits digits
+
 -- an optional sign and one to three digits
 abbrev pub is_exponent : List ℕ → Bool
-is_exponent text =
-    let digits = without_leading_sign text in
-    nat_lt 0 (length digits) && nat_le (length digits) 3 && all_ascii_digits digits
+is_exponent text = is_short_number (without_leading_sign text)
 
 -- the exponent behind the first letter, which is 0 where there is no letter
 abbrev pub exponent_of : List ℕ → Option ℤ
@@ -47,28 +49,28 @@ decimal_of word =
     let digits = whole ++ fraction in
     if nat_le (length word) 40 && nat_lt 0 (length digits) && all_ascii_digits digits
     then option_map (λ exponent. record {
-          negative = starts_with_minus word;
-          digits = digits_value 10 digits;
-          behind = length fraction;
-          exponent = exponent;
-        }) (exponent_of text)
+      negative = starts_with_minus word;
+      digits = digits_value 10 digits;
+      behind = length fraction;
+      exponent = exponent;
+    }) (exponent_of text)
     else None
 
--- ten to a whole power is the fraction of these two
-abbrev pub tens_above : ℤ → ℕ
-tens_above (pos n) = 10 ^ n
-tens_above (negsuc n) = 1
+-- how many places an exponent moves the point up, and how many down
+abbrev pub places_up : ℤ → ℕ
+places_up (pos n) = n
+places_up (negsuc n) = 0
 
-abbrev pub tens_below : ℤ → ℕ
-tens_below (pos n) = 1
-tens_below (negsuc n) = 10 ^ (n + 1)
+abbrev pub places_down : ℤ → ℕ
+places_down (pos n) = 0
+places_down (negsuc n) = n + 1
 
 -- the size of a decimal's value is the fraction of these two
 abbrev pub numerator : Decimal → ℕ
-numerator d = d.digits * tens_above d.exponent
+numerator d = d.digits * 10 ^ places_up d.exponent
 
 abbrev pub denominator : Decimal → ℕ
-denominator d = 10 ^ d.behind * tens_below d.exponent
+denominator d = 10 ^ (d.behind + places_down d.exponent)
 
 -- the whole number nearest to n / d, and of two the larger: halves go away from zero
 abbrev pub rounded : ℕ → ℕ → ℕ

@@ -1,2 +1,5 @@
 pub mod Decimal
+pub mod Millionths
+pub mod Reading
+pub mod StandsFor
 pub mod Worked

@@ -1,5 +1,8 @@
 #![tactic(auto)]
 
+mod digits;
 mod numbers;
+mod words;
 
-pub use numbers::NumberFault;
+pub use numbers::{Nano, NumberFault};
+pub use words::parse_nano;

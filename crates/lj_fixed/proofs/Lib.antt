@@ -1,0 +1,4 @@
+pub mod Answered
+pub mod Grammar
+pub mod Leading
+pub mod Rounding
