@@ -1,6 +1,8 @@
--- Words and their nanos, worked out.
+-- Words and their nanos, and printed millionths, worked out.
 use Rattle.std.specs.Prelude.{◌≡◌, pos, negsuc, Ok, Err, codes, refl}
+use Rattle.std.specs.Fmt.{digits}
 use Rattle.lj_fixed.specs.Decimal.{decimal_of, nano_of}
+use Rattle.lj_fixed.specs.Millionths.{millionths}
 use Rattle.lj_fixed.specs.declared.numbers.NumberFault.TheVariants.{BadNumber, OutOfRange}
 
 point_behind : nano_of (codes "1.") ≡ Ok (pos 1000000000)
@@ -90,3 +92,23 @@ forty_bytes = refl
 forty_one_bytes : nano_of (codes "0000000000000000000000000000000000000001.") ≡ Err BadNumber
 unfolding nano_of decimal_of
 forty_one_bytes = refl
+
+exponent_below_tens : nano_of (codes "123456789012345678901234567890123456e-30") ≡ Ok (pos 123456789012346)
+unfolding nano_of decimal_of
+exponent_below_tens = refl
+
+no_millionths : millionths 0 ≡ codes "0.000000"
+unfolding millionths digits
+no_millionths = refl
+
+below_one : millionths 105 ≡ codes "0.000105"
+unfolding millionths digits
+below_one = refl
+
+above_one : millionths 1499894 ≡ codes "1.499894"
+unfolding millionths digits
+above_one = refl
+
+most_millionths : millionths 18446744073709551615 ≡ codes "18446744073709.551615"
+unfolding millionths digits
+most_millionths = refl

@@ -1,0 +1,32 @@
+// Millionths of a file unit as text.
+ghost use Rattle.std.specs.Prelude.{◌≡◌, ◌+◌, ◌++◌, ◌<◌, ◌≤◌, ◌^◌};
+ghost use Rattle.arrayvec.specs.ArrayString.{array_string_len};
+ghost use Rattle.lj_fixed.specs.Millionths.{last_digits, millionths};
+
+use arrayvec::ArrayString;
+use itoa::Buffer;
+
+const MILLION: u64 = 1_000_000;
+
+// Appends six digits, zeros in front included.
+fn push_six_digits(text: &mut ArrayString<32>, number: u64)
+    requires number { number < 10 ^ 6 }
+    requires room { array_string_len text.old + 6 ≤ 32 }
+    ensures { text.new.bytes ≡ text.old.bytes ++ last_digits 6 number }
+{
+    for power in [100_000, 10_000, 1_000, 100, 10, 1] {
+        text.push(char::from(b'0' + (number / power % 10) as u8));
+    }
+}
+
+/// So many millionths as a decimal: the whole part, a point and six decimals.
+#[tactic(auto, unfolding(crate::specs::Millionths::millionths))]
+pub fn micro_text(micros: u64) -> ArrayString<32>
+    ensures { result.bytes ≡ millionths micros }
+{
+    let mut text = ArrayString::new();
+    text.push_str(Buffer::new().format(micros / MILLION));
+    text.push('.');
+    push_six_digits(&mut text, micros % MILLION);
+    text
+}
