@@ -1,0 +1,67 @@
+-- What the readers answer, in the relation of lines and answers.
+use Rattle.std.proofs.Common.{◌≡◌, ℕ, Bool, true, false, cond, inl, inr, List, [], ◌∷◌, length, Option, Some, None, Result, Ok, Err, refl, sym, ap, subst, ◌∙◌}
+use Rattle.std.specs.Prelude.{IfOk, IsTrue}
+use Rattle.std.proofs.lemmas.Bool.{cases_Bool, eqb-true}
+use Rattle.lj_xyz.specs.declared.fault.XyzFault.{XyzFault}
+use Rattle.lj_xyz.specs.declared.fault.XyzError.{XyzError}
+use Rattle.lj_xyz.specs.declared.fault.XyzError.TheVariants as errors
+use Rattle.lj_xyz.specs.declared.row.Row.{Row}
+use Rattle.lj_xyz.specs.declared.reader.Position.{Position}
+use Rattle.lj_xyz.specs.declared.reader.Position.TheVariants.{First, Second}
+use Rattle.lj_xyz.specs.Atoms.{is_count, count_if, count_of, number_of}
+use Rattle.lj_xyz.specs.Frames.{Mode, rest, pair, IsReading, IsFrame, admits}
+use Rattle.lj_xyz.specs.Reading.{Fails, Gives, reading}
+use Rattle.lj_xyz.proofs.ReadingLaws.{reading_stands}
+
+-- what was read stands in the relation
+pub frames_stand : {X : Type 0} (view : X → List (List Row)) (mode : Mode) (lines : List (List ℕ)) (r : Result X XyzError) → Gives view r (reading mode lines)
+    → IfOk r (λ x. IsReading mode lines (Ok (view x)))
+frames_stand view mode lines (Ok x) e = rw e at (reading_stands mode lines)
+frames_stand view mode lines (Err error) e = tt
+
+-- the fault that was answered stands in the relation
+pub fault_stands : {X : Type 0} (view : X → List (List Row)) (mode : Mode) (lines : List (List ℕ)) (r : Result X XyzError) → Gives view r (reading mode lines)
+    → (fault : XyzFault) → r ≡ Err (errors.Fault fault) → IsReading mode lines (Err fault)
+fault_stands view mode lines (Ok x) e fault is = absurd cc
+fault_stands view mode lines (Err errors.Memory) e fault is = absurd cc
+fault_stands view mode lines (Err (errors.Fault found)) e fault is =
+    let same : found ≡ fault = cc in
+    rw (← same) (rw e at (reading_stands mode lines))
+
+cc_some : (m n : ℕ) → ◌≡◌ {A = Option ℕ} (Some m) (Some n) → m ≡ n
+cc_some m n e = cc
+
+none_some : (n : ℕ) → ◌≡◌ {A = Option ℕ} None (Some n) → ⊥
+none_some n e = cc
+
+counted : (o : Option ℕ) (n : ℕ) → count_if o ≡ Some n → is_count n ≡ true
+counted None n e = absurd cc
+counted (Some m) n e =
+    elim (cases_Bool (is_count m)) [
+      | inl fits ↦
+          let same : m ≡ n = cc_some m n (rw fits at e) in
+          rw (← same) fits
+      | inr fails ↦ absurd (none_some n (rw fails at e))
+    ]
+
+-- a frame has 1 to 4,096 atoms
+pub frame_count : (position : Position) (frame : List (List ℕ)) (rows : List Row) → IsFrame position frame rows → is_count (length rows) ≡ true
+frame_count position frame rows is = counted (number_of is.is_head.counts.first) (length rows) is.is_head.counts.value
+
+-- ---- the numbers of atoms
+
+pub one_count : (lines : List (List ℕ)) (rows : List Row) → IsReading rest lines (Ok (rows ∷ [])) → is_count (length rows) ≡ true
+one_count lines rows is =
+    let same : is.0 ≡ rows = cc in
+    rw (← same) (frame_count First is.2.frame is.0 is.2.is_frame)
+
+pub two_counts : (lines : List (List ℕ)) (first second : List Row) → IsReading pair lines (Ok (first ∷ second ∷ []))
+    → (is_count (length first) ≡ true) × (length second ≡ length first)
+two_counts lines first second is =
+    let same : is.0 ≡ first = cc in
+    let same_next : is.1 ≡ second = cc in
+    let gives = is.3 in
+    rw (← same, ← same_next) (
+      frame_count First gives.frame is.0 gives.is_frame,
+      eqb-true (length is.1) (length is.0) gives.is_next.is_head.admitted,
+    )

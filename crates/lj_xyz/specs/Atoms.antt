@@ -1,0 +1,64 @@
+-- What single lines of a frame say: the number of atoms, and one atom.
+use Rattle.std.specs.Prelude.{ℕ, Bool, ◌&&◌, nat_lt, nat_le, ℤ, List, [], ◌∷◌, length, Option, Some, None, Result, Ok, Err, if◌then◌else◌}
+use Rattle.std.specs.Str.{all_ascii_digits}
+use Rattle.std.specs.Str.Parse.{digits_value}
+use Rattle.lj_fixed.specs.declared.numbers.NumberFault.{NumberFault}
+use Rattle.lj_fixed.specs.Decimal.{nano_of}
+use Rattle.lj_xyz.specs.declared.fault.XyzKind.{XyzKind}
+use Rattle.lj_xyz.specs.declared.fault.XyzKind.TheVariants as kind
+use Rattle.lj_xyz.specs.declared.row.Row.{Row}
+use Rattle.lj_xyz.specs.Lines.{words_of}
+use Rattle.lj_xyz.specs.Kinds.{kind_of}
+use Rattle.lj_xyz.specs.Symbols.{is_symbol}
+
+-- a number of atoms that a frame may have
+abbrev pub is_count : ℕ → Bool
+is_count n = nat_le 1 n && nat_le n 4096
+
+-- the number that a word of 1 to 19 digits is
+unfoldable pub number_of : List ℕ → Option ℕ
+number_of word =
+    if nat_lt 0 (length word) && nat_le (length word) 19 && all_ascii_digits word
+    then Some (digits_value 10 word)
+    else None
+
+abbrev pub count_if : Option ℕ → Option ℕ
+count_if None = None
+count_if (Some n) = if is_count n then Some n else None
+
+-- the number of atoms that a word says
+abbrev pub count_of : List ℕ → Option ℕ
+count_of word = count_if (number_of word)
+
+infixl 10 ◌>>=◌
+abbrev pub ◌>>=◌ : {A B F : Type 0} → Result A F → (A → Result B F) → Result B F
+(Ok x) >>= f = f x
+(Err e) >>= f = Err e
+
+abbrev pub fault_of_kind : Result ℤ NumberFault → Result ℤ XyzKind
+fault_of_kind (Ok nano) = Ok nano
+fault_of_kind (Err fault) = Err (kind_of fault)
+
+-- the coordinate that a word writes, in nano
+abbrev pub coordinate : List ℕ → Result ℤ XyzKind
+coordinate word = fault_of_kind (nano_of word)
+
+-- the atom that four words say, or the first fault of them
+unfoldable pub row_of_four : List ℕ → List ℕ → List ℕ → List ℕ → Result Row XyzKind
+row_of_four symbol x y z =
+    if is_symbol symbol
+    then (do
+      x ← coordinate x
+      y ← coordinate y
+      z ← coordinate z
+      Ok (record { symbol = symbol; x = x; y = y; z = z }))
+    else Err kind.Symbol
+
+-- the atom of a line's words, of which those behind the fourth are not used
+abbrev pub row_of_words : List (List ℕ) → Result Row XyzKind
+row_of_words (symbol ∷ x ∷ y ∷ z ∷ more) = row_of_four symbol x y z
+row_of_words _ = Err kind.Short
+
+-- the atom that a line says, or what is wrong with the line
+unfoldable pub row_of : List ℕ → Result Row XyzKind
+row_of line = row_of_words (words_of line)

@@ -1,0 +1,7 @@
+-- Where a reader stands in the lines of its text.
+use Rattle.lj_xyz.specs.declared.lines.Lines.{Lines}
+use Rattle.lj_xyz.specs.Lines.{lines_of}
+use Rattle.lj_xyz.specs.Reading.{Left}
+
+abbrev pub left_of : Lines → Left
+left_of lines = record { taken = lines.taken; lines = lines_of lines.rest.now }

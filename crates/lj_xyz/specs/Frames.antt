@@ -1,0 +1,123 @@
+-- XYZ bodies as lists of whole lines: the frames that a body gives, or its first fault in reading order and the
+-- line where it stands.
+use Rattle.std.specs.Prelude.{◌≡◌, ℕ, ◌+◌, ◌<◌, Bool, true, false, ◌==◌, List, [], ◌∷◌, ◌++◌, length, map, Option, Some, None, Result, Ok, Err, ◌⊎◌}
+use Rattle.std.specs.List.{AllByRecursion}
+use Rattle.lj_xyz.specs.declared.fault.XyzKind.{XyzKind}
+use Rattle.lj_xyz.specs.declared.fault.XyzKind.TheVariants as kind
+use Rattle.lj_xyz.specs.declared.fault.XyzFault.{XyzFault}
+use Rattle.lj_xyz.specs.declared.row.Row.{Row}
+use Rattle.lj_xyz.specs.declared.reader.Position.{Position}
+use Rattle.lj_xyz.specs.declared.reader.Position.TheVariants.{First, Second}
+use Rattle.lj_xyz.specs.Lines.{words_of}
+use Rattle.lj_xyz.specs.Atoms.{count_of, row_of}
+
+-- the frames that are read: the first one, or the first two
+pub data Mode : Type 0 where
+  rest : Mode
+  pair : Mode
+
+-- a line without a word
+abbrev pub IsWordless : List ℕ → Type 0
+IsWordless line = words_of line ≡ []
+
+-- a line whose first word says so many atoms, or with None, no number of atoms
+pub record Counts (line : List ℕ) (atoms : Option ℕ) : Type 0 where
+  pub first : List ℕ
+  pub others : List (List ℕ)
+  pub words : words_of line ≡ first ∷ others
+  pub value : count_of first ≡ atoms
+
+-- a first frame may have any number of atoms, and a second one has as many as the first
+abbrev pub admits : Position → ℕ → Bool
+admits First n = true
+admits (Second atoms) n = n == atoms
+
+-- the fault where there is no count line
+abbrev pub missing : Position → XyzKind
+missing First = kind.Count
+missing (Second atoms) = kind.Pair
+
+-- the head of a frame of n atoms: any number of lines without a word, and the count line
+pub record IsHead (position : Position) (head : List (List ℕ)) (n : ℕ) : Type 0 where
+  pub blanks : List (List ℕ)
+  pub count : List ℕ
+  pub whole : head ≡ blanks ++ count ∷ []
+  pub wordless : AllByRecursion IsWordless blanks
+  pub counts : Counts count (Some n)
+  pub admitted : admits position n ≡ true
+
+-- each line says the atom of its row
+abbrev pub AreAtoms : List (List ℕ) → List Row → Type 0
+AreAtoms atoms rows = map row_of atoms ≡ map (λ row. Ok row) rows
+
+-- the lines of a frame: its head, a comment line of any bytes, and a line for each row
+pub record IsFrame (position : Position) (frame : List (List ℕ)) (rows : List Row) : Type 0 where
+  pub head : List (List ℕ)
+  pub comment : List ℕ
+  pub atoms : List (List ℕ)
+  pub whole : frame ≡ head ++ comment ∷ atoms
+  pub is_head : IsHead position head (length rows)
+  pub are_atoms : AreAtoms atoms rows
+
+-- a fault at the line that follows so many others, where lines count from 1
+abbrev pub fault_behind : ℕ → XyzKind → XyzFault
+fault_behind lines kind = record { kind = kind; line = lines + 1 }
+
+-- The first fault, in reading order, of the frame that these lines are to begin with. They are all lines of the body
+-- but for the first ones, whose number is `before`.
+pub data FirstFault (position : Position) (before : ℕ) (lines : List (List ℕ)) (fault : XyzFault) : Type 0 where
+  -- there is no count line
+  no_count : AllByRecursion IsWordless lines
+      → fault ≡ fault_behind (before + length lines) (missing position) → FirstFault position before lines fault
+  -- the count line's first word is no number of atoms
+  bad_count : (blanks : List (List ℕ)) (count : List ℕ) (behind : List (List ℕ)) → lines ≡ blanks ++ count ∷ behind
+      → AllByRecursion IsWordless blanks → Counts count None
+      → fault ≡ fault_behind (before + length blanks) kind.Count → FirstFault position before lines fault
+  -- the number of atoms is not that of the first frame
+  other_count : (blanks : List (List ℕ)) (count : List ℕ) (behind : List (List ℕ)) (n : ℕ) → lines ≡ blanks ++ count ∷ behind
+      → AllByRecursion IsWordless blanks → Counts count (Some n) → admits position n ≡ false
+      → fault ≡ fault_behind (before + length blanks) kind.Pair → FirstFault position before lines fault
+  -- the comment line is missing
+  no_comment : (n : ℕ) → IsHead position lines n
+      → fault ≡ fault_behind (before + length lines) kind.Short → FirstFault position before lines fault
+  -- an atom line is missing
+  no_atom : (head : List (List ℕ)) (n : ℕ) (comment : List ℕ) (atoms : List (List ℕ)) (rows : List Row)
+      → lines ≡ head ++ comment ∷ atoms → IsHead position head n → AreAtoms atoms rows → length atoms < n
+      → fault ≡ fault_behind (before + length lines) kind.Short → FirstFault position before lines fault
+  -- an atom line says no atom
+  bad_atom : (head : List (List ℕ)) (n : ℕ) (comment : List ℕ) (atoms : List (List ℕ)) (rows : List Row) (bad : List ℕ) (behind : List (List ℕ)) (wrong : XyzKind)
+      → lines ≡ head ++ comment ∷ (atoms ++ bad ∷ behind) → IsHead position head n → AreAtoms atoms rows → length atoms < n
+      → row_of bad ≡ Err wrong
+      → fault ≡ fault_behind (before + length head + 1 + length atoms) wrong → FirstFault position before lines fault
+
+-- The lines of a body begin with a frame of these rows; what follows the frame is not read.
+pub record GivesOne (lines : List (List ℕ)) (rows : List Row) : Type 0 where
+  pub frame : List (List ℕ)
+  pub behind : List (List ℕ)
+  pub whole : lines ≡ frame ++ behind
+  pub is_frame : IsFrame First frame rows
+
+-- They begin with two frames of as many atoms; what follows the second is not read.
+pub record GivesTwo (lines : List (List ℕ)) (first second : List Row) : Type 0 where
+  pub frame : List (List ℕ)
+  pub next : List (List ℕ)
+  pub behind : List (List ℕ)
+  pub whole : lines ≡ frame ++ (next ++ behind)
+  pub is_frame : IsFrame First frame first
+  pub is_next : IsFrame (Second (length first)) next second
+
+-- They begin with a frame, and the next one has this fault.
+pub record FaultOfSecond (lines : List (List ℕ)) (fault : XyzFault) : Type 0 where
+  pub frame : List (List ℕ)
+  pub behind : List (List ℕ)
+  pub rows : List Row
+  pub whole : lines ≡ frame ++ behind
+  pub is_frame : IsFrame First frame rows
+  pub of_next : FirstFault (Second (length rows)) (length frame) behind fault
+
+-- The relation between the lines of a body, the mode, and the frames or the first fault with its line.
+abbrev pub IsReading : Mode → List (List ℕ) → Result (List (List Row)) XyzFault → Type 0
+IsReading rest lines (Ok frames) = (rows : List Row) × (frames ≡ rows ∷ []) × GivesOne lines rows
+IsReading rest lines (Err fault) = FirstFault First 0 lines fault
+IsReading pair lines (Ok frames) = (first : List Row) × (second : List Row) × (frames ≡ first ∷ second ∷ []) × GivesTwo lines first second
+IsReading pair lines (Err fault) = FirstFault First 0 lines fault ⊎ FaultOfSecond lines fault

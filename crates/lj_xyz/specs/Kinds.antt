@@ -1,0 +1,9 @@
+-- The fault of a coordinate that is no nano.
+use Rattle.lj_fixed.specs.declared.numbers.NumberFault.{NumberFault}
+use Rattle.lj_fixed.specs.declared.numbers.NumberFault.TheVariants.{BadNumber, OutOfRange}
+use Rattle.lj_xyz.specs.declared.fault.XyzKind.{XyzKind}
+use Rattle.lj_xyz.specs.declared.fault.XyzKind.TheVariants as kind
+
+abbrev pub kind_of : NumberFault → XyzKind
+kind_of BadNumber = kind.Number
+kind_of OutOfRange = kind.Range

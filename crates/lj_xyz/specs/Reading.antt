@@ -1,0 +1,91 @@
+-- Reading from the first line to the last, with the first fault that is met. It gives what `Frames` says, by a law of
+-- this crate.
+use Rattle.std.specs.Prelude.{◌≡◌, ℕ, zero, suc, ◌+◌, List, [], ◌∷◌, length, Option, Some, None, Result, Ok, Err, if◌then◌else◌}
+use Rattle.lj_xyz.specs.declared.fault.XyzKind.{XyzKind}
+use Rattle.lj_xyz.specs.declared.fault.XyzKind.TheVariants as kind
+use Rattle.lj_xyz.specs.declared.fault.XyzFault.{XyzFault}
+use Rattle.lj_xyz.specs.declared.fault.XyzError.{XyzError}
+use Rattle.lj_xyz.specs.declared.fault.XyzError.TheVariants as errors
+use Rattle.lj_xyz.specs.declared.row.Row.{Row}
+use Rattle.lj_xyz.specs.declared.reader.Position.{Position}
+use Rattle.lj_xyz.specs.declared.reader.Position.TheVariants.{First, Second}
+use Rattle.lj_xyz.specs.Lines.{words_of}
+use Rattle.lj_xyz.specs.Atoms.{◌>>=◌, count_of, row_of}
+use Rattle.lj_xyz.specs.Frames.{Mode, rest, pair, admits, missing, fault_behind}
+
+-- how many lines were read, and the lines that are left
+pub record Left : Type 0 where
+  pub taken : ℕ
+  pub lines : List (List ℕ)
+
+abbrev pub fault_at : ℕ → XyzKind → XyzFault
+fault_at line kind = record { kind = kind; line = line }
+
+-- the number of atoms of the count line, which is the line of that number
+abbrev pub admitted : Position → ℕ → Option ℕ → Result ℕ XyzFault
+admitted position line None = Err (fault_at line kind.Count)
+admitted position line (Some n) = if admits position n then Ok n else Err (fault_at line kind.Pair)
+
+-- the number of atoms that the first line with a word says
+unfoldable pub head_in : Position → ℕ → List (List ℕ) → Result (ℕ × Left) XyzFault
+head_in position taken [] = Err (fault_behind taken (missing position))
+head_in position taken (line ∷ lines) =
+    elim (words_of line) [
+      | [] ↦ head_in position (taken + 1) lines
+      | first ∷ others ↦ admitted position (taken + 1) (count_of first) >>= λ n. Ok (n, record { taken = taken + 1; lines = lines })
+    ]
+
+-- the lines behind the comment line
+unfoldable pub behind_comment : ℕ → List (List ℕ) → Result Left XyzFault
+behind_comment taken [] = Err (fault_behind taken kind.Short)
+behind_comment taken (comment ∷ lines) = Ok (record { taken = taken + 1; lines = lines })
+
+-- the atom of the line of that number
+abbrev pub row_at : ℕ → Result Row XyzKind → Result Row XyzFault
+row_at line (Ok row) = Ok row
+row_at line (Err wrong) = Err (fault_at line wrong)
+
+-- the atom of the next line, and the lines behind it
+unfoldable pub next_row : ℕ → List (List ℕ) → Result (Row × Left) XyzFault
+next_row taken [] = Err (fault_behind taken kind.Short)
+next_row taken (line ∷ lines) = row_at (taken + 1) (row_of line) >>= λ row. Ok (row, record { taken = taken + 1; lines = lines })
+
+-- so many atoms, from these lines
+unfoldable pub rows_in : ℕ → Left → Result (List Row × Left) XyzFault
+rows_in zero left = Ok ([], left)
+rows_in (suc n) left = do
+  row ← next_row left.taken left.lines
+  others ← rows_in n row.1
+  Ok (row.0 ∷ others.0, others.1)
+
+unfoldable pub frame_in : Position → Left → Result (List Row × Left) XyzFault
+frame_in position left = do
+  head ← head_in position left.taken left.lines
+  body ← behind_comment head.1.taken head.1.lines
+  rows_in head.0 body
+
+abbrev pub start : List (List ℕ) → Left
+start lines = record { taken = 0; lines = lines }
+
+unfoldable pub reading : Mode → List (List ℕ) → Result (List (List Row)) XyzFault
+reading rest lines = do
+  first ← frame_in First (start lines)
+  Ok (first.0 ∷ [])
+reading pair lines = do
+  first ← frame_in First (start lines)
+  second ← frame_in (Second (length first.0)) first.1
+  Ok (first.0 ∷ second.0 ∷ [])
+
+-- what a function returned, seen by `view`, is what reading gives, unless memory ran out
+abbrev pub Fails : {Y : Type 0} → XyzError → Result Y XyzFault → Type 0
+Fails errors.Memory read = Unit {0}
+Fails (errors.Fault fault) read = read ≡ Err fault
+
+abbrev pub Gives : {X Y : Type 0} → (X → Y) → Result X XyzError → Result Y XyzFault → Type 0
+Gives view (Ok x) read = read ≡ Ok (view x)
+Gives view (Err error) read = Fails error read
+
+-- the same for a function that takes no memory
+abbrev pub Tells : {X Y : Type 0} → (X → Y) → Result X XyzFault → Result Y XyzFault → Type 0
+Tells view (Ok x) read = read ≡ Ok (view x)
+Tells view (Err fault) read = read ≡ Err fault

@@ -1,0 +1,17 @@
+//! The text of XYZ files: frames of atoms read from the lines of a body, and written line by line.
+#![tactic(auto)]
+
+mod fault;
+mod laws;
+mod lines;
+mod reader;
+mod row;
+mod symbol;
+mod writer;
+
+pub use fault::{XyzError, XyzFault, XyzKind};
+pub use laws::one_reading;
+pub use reader::{read_pair, read_rest};
+pub use row::{FramePair, Row, Rows};
+pub use symbol::Symbol;
+pub use writer::{FrameLine, atom_line, comment_line, count_line};

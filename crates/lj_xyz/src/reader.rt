@@ -1,0 +1,230 @@
+ghost use Rattle.std.specs.Prelude.{◌≡◌, ◌≤◌, [], ◌∷◌, length, Ok, Err, IfOk, IsTrue};
+ghost use Rattle.lj_xyz.specs.declared.fault.XyzFault.{XyzFault};
+ghost use Rattle.lj_xyz.specs.Lines.{lines_of};
+ghost use Rattle.lj_xyz.specs.Atoms.{is_count, number_of, count_of, row_of, row_of_four};
+ghost use Rattle.lj_xyz.specs.Frames.{IsReading, admits, missing, rest, pair};
+ghost use Rattle.lj_xyz.specs.Reading.{Gives, Tells, admitted, head_in, behind_comment, next_row, rows_in, frame_in, reading};
+ghost use Rattle.lj_xyz.specs.Cursor.{left_of};
+
+use crate::fault::{XyzError, XyzFault, XyzKind};
+use crate::lines::{Lines, split_word};
+use crate::row::{FramePair, Row, Rows};
+use crate::symbol::Symbol;
+use lj_fixed::parse_nano;
+use std::alloc::Global;
+
+/// The most atoms that a frame may have.
+const MAX_ATOMS: u64 = 4096;
+
+/// The most digits of a count.
+const MAX_DIGITS: usize = 19;
+
+/// Which frame is read: the first, or the second, which has as many atoms as the first.
+#[derive(Clone, Copy)]
+pub enum Position {
+    First,
+    Second(usize),
+}
+
+impl Position {
+    fn admits(self, count: usize) -> bool
+        ensures { result ≡ admits self count }
+    {
+        match self {
+            Position::First => true,
+            Position::Second(atoms) => count == atoms,
+        }
+    }
+
+    fn missing(self) -> XyzKind
+        ensures { result ≡ missing self }
+    {
+        match self {
+            Position::First => XyzKind::Count,
+            Position::Second(_) => XyzKind::Pair,
+        }
+    }
+}
+
+// The number of 1 to 19 digits, if it is one.
+#[tactic(auto, unfolding(crate::specs::Atoms::number_of))]
+fn number_of(word: &[u8]) -> Option<u64>
+    ensures { result ≡ number_of word.now }
+{
+    if word.is_empty() || word.len() > MAX_DIGITS {
+        return None;
+    }
+    let mut number = 0;
+    for byte in word {
+        if !byte.is_ascii_digit() {
+            return None;
+        }
+        number = number * 10 + u64::from(*byte - b'0');
+    }
+    Some(number)
+}
+
+fn count_of(word: &[u8]) -> Option<usize>
+    ensures { result ≡ count_of word.now }
+{
+    let number = number_of(word)?;
+    if number == 0 || number > MAX_ATOMS {
+        return None;
+    }
+    Some(number as usize)
+}
+
+// The atom that a line says.
+#[tactic(auto, unfolding(crate::specs::Atoms::row_of))]
+fn row_of(line: &[u8]) -> Result<Row, XyzKind>
+    ensures { result ≡ row_of line.now }
+{
+    let (symbol, line) = split_word(line).ok_or(XyzKind::Short)?;
+    let (x, line) = split_word(line).ok_or(XyzKind::Short)?;
+    let (y, line) = split_word(line).ok_or(XyzKind::Short)?;
+    let (z, _others) = split_word(line).ok_or(XyzKind::Short)?;
+    row_of_four(symbol, x, y, z)
+}
+
+#[tactic(auto, unfolding(crate::specs::Atoms::row_of_four))]
+fn row_of_four(symbol: &[u8], x: &[u8], y: &[u8], z: &[u8]) -> Result<Row, XyzKind>
+    ensures { result ≡ row_of_four symbol.now x.now y.now z.now }
+{
+    let symbol = Symbol::new(symbol).ok_or(XyzKind::Symbol)?;
+    let x = parse_nano(x)?;
+    let y = parse_nano(y)?;
+    let z = parse_nano(z)?;
+    Ok(Row { symbol, x, y, z })
+}
+
+// The number of atoms that the first word of the count line says, the line of that number.
+fn admitted(position: Position, line: u64, word: &[u8]) -> Result<usize, XyzFault>
+    ensures { result ≡ admitted position line (count_of word.now) }
+{
+    let Some(count) = count_of(word) else {
+        return Err(XyzFault {
+            kind: XyzKind::Count,
+            line,
+        });
+    };
+    if !position.admits(count) {
+        return Err(XyzFault {
+            kind: XyzKind::Pair,
+            line,
+        });
+    }
+    Ok(count)
+}
+
+// Passes over the lines without a word, and reads the count line.
+fn read_head(lines: &mut Lines, position: Position) -> Result<usize, XyzFault>
+    ensures { Tells (λ count. (count, left_of lines.new)) result (head_in position lines.old.taken (lines_of lines.old.rest.now)) }
+{
+    while let Some(line) = lines.next_line() {
+        if let Some((word, _others)) = split_word(line) {
+            return admitted(position, lines.taken, word);
+        }
+    }
+    Err(XyzFault {
+        kind: position.missing(),
+        line: lines.taken + 1,
+    })
+}
+
+#[tactic(auto, unfolding(crate::specs::Reading::behind_comment))]
+fn pass_comment(lines: &mut Lines) -> Result<(), XyzFault>
+    ensures { Tells (λ _. left_of lines.new) result (behind_comment lines.old.taken (lines_of lines.old.rest.now)) }
+{
+    match lines.next_line() {
+        Some(_comment) => Ok(()),
+        None => Err(XyzFault {
+            kind: XyzKind::Short,
+            line: lines.taken + 1,
+        }),
+    }
+}
+
+#[tactic(auto, unfolding(crate::specs::Reading::next_row))]
+fn read_row(lines: &mut Lines) -> Result<Row, XyzFault>
+    ensures { Tells (λ row. (row, left_of lines.new)) result (next_row lines.old.taken (lines_of lines.old.rest.now)) }
+{
+    let Some(line) = lines.next_line() else {
+        return Err(XyzFault {
+            kind: XyzKind::Short,
+            line: lines.taken + 1,
+        });
+    };
+    match row_of(line) {
+        Ok(row) => Ok(row),
+        Err(kind) => Err(XyzFault {
+            kind,
+            line: lines.taken,
+        }),
+    }
+}
+
+fn read_rows(alloc: Global, lines: &mut Lines, count: usize) -> Result<Vec<Row>, XyzError>
+    ensures { Gives (λ rows. (rows.items, left_of lines.new)) result (rows_in count (left_of lines.old)) }
+{
+    let mut rows = Vec::with_capacity(alloc, count)?;
+    for _ in 0..count {
+        let row = read_row(lines)?;
+        rows.push(row)?;
+    }
+    Ok(rows)
+}
+
+#[tactic(auto, unfolding(crate::specs::Reading::frame_in))]
+fn read_frame(alloc: Global, lines: &mut Lines, position: Position) -> Result<Rows, XyzError>
+    ensures { Gives (λ rows. (rows, left_of lines.new)) result (frame_in position (left_of lines.old)) }
+{
+    let count = read_head(lines, position)?;
+    pass_comment(lines)?;
+    let rows = read_rows(alloc, lines, count)?;
+    Ok(Rows::new(rows))
+}
+
+#[tactic(auto, unfolding(crate::specs::Reading::reading))]
+fn first_frame(alloc: Global, text: &[u8]) -> Result<Rows, XyzError>
+    ensures { Gives (λ rows. rows ∷ []) result (reading rest (lines_of text.now)) }
+{
+    let mut lines = Lines::new(text);
+    let rows = read_frame(alloc, &mut lines, Position::First)?;
+    Ok(rows)
+}
+
+#[tactic(auto, unfolding(crate::specs::Reading::reading))]
+fn first_two_frames(alloc: Global, text: &[u8]) -> Result<FramePair, XyzError>
+    ensures { Gives (λ frames. frames.first ∷ frames.second ∷ []) result (reading pair (lines_of text.now)) }
+{
+    let mut lines = Lines::new(text);
+    let first = read_frame(alloc, &mut lines, Position::First)?;
+    let second = read_frame(alloc, &mut lines, Position::Second(first.len()))?;
+    Ok(FramePair { first, second })
+}
+
+/// Reads the first frame of a text. What follows it is not read.
+pub fn read_rest(alloc: Global, text: &[u8]) -> Result<Rows, XyzError>
+    ensures frame { IfOk result (λ rows. IsReading rest (lines_of text.now) (Ok (rows ∷ []))) }
+    ensures fault { (fault : XyzFault) → result ≡ Err (XyzError.Fault fault) → IsReading rest (lines_of text.now) (Err fault) }
+    ensures count { IfOk result (λ rows. IsTrue (is_count (length rows))) }
+
+    // The same as an equation, where memory was found.
+    ensures exact { Gives (λ rows. rows ∷ []) result (reading rest (lines_of text.now)) }
+{
+    first_frame(alloc, text)
+}
+
+/// Reads the first two frames of a text, which are to have as many atoms. What follows them is not read. The symbols
+/// of the second frame are checked, and not compared with those of the first.
+pub fn read_pair(alloc: Global, text: &[u8]) -> Result<FramePair, XyzError>
+    ensures frames { IfOk result (λ frames. IsReading pair (lines_of text.now) (Ok (frames.first ∷ frames.second ∷ []))) }
+    ensures fault { (fault : XyzFault) → result ≡ Err (XyzError.Fault fault) → IsReading pair (lines_of text.now) (Err fault) }
+    ensures count { IfOk result (λ frames. IsTrue (is_count (length frames.first))) }
+    ensures same_count { IfOk result (λ frames. length frames.second ≡ length frames.first) }
+
+    // The same as an equation, where memory was found.
+    ensures exact { Gives (λ frames. frames.first ∷ frames.second ∷ []) result (reading pair (lines_of text.now)) }
+{
+    first_two_frames(alloc, text)
+}

@@ -1,0 +1,53 @@
+ghost use Rattle.std.specs.Prelude.{IsTrue, SomeIff, ◌≡◌};
+ghost use Rattle.lj_xyz.specs.Symbols.{is_symbol};
+
+use arrayvec::ArrayVec;
+use std::marker::Model;
+
+/// The most bytes of a symbol.
+const CAPACITY: usize = 16;
+
+/// The symbol of an atom: 1 to 16 bytes, each in 0x21 to 0x7E.
+#[derive(Debug, Drop)]
+pub struct Symbol {
+    bytes: ArrayVec<u8, CAPACITY>,
+}
+
+impl Model for Symbol {
+    ghost use Rattle.std.specs.Prelude.{List, ℕ, IsTrue};
+    ghost use Rattle.lj_xyz.specs.Symbols.{is_symbol};
+
+    ghost Value = { List ℕ };
+
+    ghost view = { λ s. s.bytes.items };
+
+    ghost invariant = { λ s. IsTrue (is_symbol s.bytes.items) };
+}
+
+// Whether a word is a symbol.
+fn is_symbol(word: &[u8]) -> bool
+    ensures { result ≡ is_symbol word.now }
+{
+    !word.is_empty() && word.len() <= CAPACITY && word.iter().all(u8::is_ascii_graphic)
+}
+
+impl Symbol {
+    /// The symbol that a word is, if it is one.
+    pub fn new(word: &[u8]) -> Option<Symbol>
+        ensures { SomeIff result (IsTrue (is_symbol word.now)) word.now }
+    {
+        if !is_symbol(word) {
+            return None;
+        }
+        let mut bytes = ArrayVec::new();
+        let _fits = bytes.try_extend_from_slice(word);
+        Some(Symbol { bytes })
+    }
+
+    pub fn as_bytes(&self) -> &[u8]
+        ensures value { result.now ≡ self.now }
+        ensures symbol { IsTrue (is_symbol self.now) }
+    {
+        self.bytes.as_slice()
+    }
+}
