@@ -1,4 +1,6 @@
 ghost use Rattle.std.specs.Prelude.{◌≡◌, ◌≤◌, ◌^◌, ◌*◌};
+ghost use Rattle.lj_ring.specs.Places as places;
+ghost use Rattle.lj_ring.specs.Ring as ring;
 
 use crate::units::Edge;
 use lj_fixed::Nano;
@@ -10,9 +12,6 @@ pub struct Place {
     pub y: u32,
     pub z: u32,
 }
-
-ghost use Rattle.lj_ring.specs.Ring as ring;
-ghost use Rattle.lj_ring.specs.Places as places;
 
 /// The least image of `to - from`, in ring units: the difference round the ring that is nearest to 0.
 #[inline]
@@ -48,4 +47,12 @@ pub fn place_of(position: Nano, edge: &Edge) -> u32
 {
     let turns = i128::from(position.get()) * (1 << 32);
     turns.div_euclid(i128::from(edge.nano())).rem_euclid(1 << 32) as u32
+}
+
+/// The coordinate of a place in millionths of a file unit: `floor(place * edge / (2^32 * 1000))`.
+pub fn micro_of(place: u32, edge: &Edge) -> u64
+    ensures { result ≡ places.micro_of edge.now place }
+{
+    let scaled = u128::from(place) * u128::from(edge.nano());
+    (scaled / ((1 << 32) * 1000)) as u64
 }
