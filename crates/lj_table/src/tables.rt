@@ -8,6 +8,7 @@ use lj_ring::Scale;
 const BINS: usize = 800;
 
 /// The pushes and energies of the bins within reach. The cells below bin 64 repeat that of bin 64.
+#[derive(Drop)]
 pub struct Table {
     pushes: [i64; BINS],
     energies: [i64; BINS],
