@@ -1,0 +1,7 @@
+pub mod Lines
+pub mod Numbers
+pub mod Names
+pub mod Items
+pub mod Commands
+pub mod Texts
+pub mod Advances

@@ -1,0 +1,54 @@
+//! The engine: from the bytes of a stream of commands to the bytes of their replies.
+
+use crate::item::split_item;
+use crate::session::Sessions;
+use lj_table::Table;
+use std::alloc::Global;
+use std::io::{Read, Write};
+use thiserror::Error;
+
+/// The most bytes of an input.
+const MOST_INPUT_BYTES: u64 = 4_194_304;
+
+/// Why a run did not come to its end.
+#[derive(Debug, Drop, Error)]
+pub enum ThinFault {
+    /// The input could not be read, or has more than 4,194,304 bytes.
+    #[error("read fault")]
+    Read,
+    #[error("write fault")]
+    Write,
+    #[error("no memory")]
+    Memory,
+}
+
+/// Reads the commands of `reader` to its end, and writes the replies to `writer`. After a fault
+/// the replies to the first items may have been written.
+pub fn run_thin<R: Read, W: Write>(
+    alloc: Global,
+    reader: &mut R,
+    writer: &mut W,
+) -> Result<(), ThinFault> {
+    let input = read_input(alloc, reader)?;
+    let table = Table::new();
+    let mut sessions = Sessions::new(alloc);
+    let mut rest = input.as_slice();
+    while let Some((item, behind)) = split_item(rest) {
+        let reply = sessions.answer(&table, item);
+        writeln!(writer, "{reply}").map_err(|_| ThinFault::Write)?;
+        rest = behind;
+    }
+    writer.flush().map_err(|_| ThinFault::Write)
+}
+
+// All bytes of the reader. The room is made beforehand, so each later error is the reader's.
+fn read_input<R: Read>(alloc: Global, reader: &mut R) -> Result<Vec<u8>, ThinFault> {
+    let room = MOST_INPUT_BYTES as usize + 2;
+    let mut input = Vec::with_capacity(alloc, room).map_err(|_| ThinFault::Memory)?;
+    let mut front = reader.take(MOST_INPUT_BYTES + 1);
+    front.read_to_end(&mut input).map_err(|_| ThinFault::Read)?;
+    if input.len() as u64 > MOST_INPUT_BYTES {
+        return Err(ThinFault::Read);
+    }
+    Ok(input)
+}
