@@ -8,6 +8,9 @@ ghost use Rattle.lj_fixed.specs.Reading.{Leads, within_limit};
 
 use crate::numbers::NANO_LIMIT;
 
+// A number from here on has eighteen digits, and takes no more.
+const FULL: u64 = 100_000_000_000_000_000;
+
 const POWERS_OF_TEN: [u64; 20] = [
     1,
     10,
@@ -87,7 +90,7 @@ impl Significand {
         ensures number { (n : ℕ) → Leads self.number self.dropped n → Leads result.number result.dropped (n * 10 + digit) }
         ensures dropped { result.dropped ≤ self.dropped + 1 }
     {
-        if self.number < 100_000_000_000_000_000 {
+        if self.number < FULL {
             Significand {
                 number: self.number * 10 + u64::from(digit),
                 dropped: self.dropped,

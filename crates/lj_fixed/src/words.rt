@@ -9,6 +9,8 @@ use crate::numbers::{Nano, NumberFault};
 
 const MAX_WORD_LENGTH: usize = 40;
 
+const MAX_EXPONENT_DIGITS: usize = 3;
+
 const NANO_PLACES: u32 = 9;
 
 // The digits of a mantissa, how many they are and how many of them stand behind the point; and what comes next.
@@ -90,7 +92,7 @@ fn read_short_number(digits: &[u8]) -> Option<u16>
     ensures value { result ≡ (if is_short_number digits.now then Some (digits_value 10 digits.now) else None) }
     ensures short { IfSome result (λ number. number < 1000) }
 {
-    if digits.is_empty() || digits.len() > 3 {
+    if digits.is_empty() || digits.len() > MAX_EXPONENT_DIGITS {
         return None;
     }
     let (significand, count) = Significand::zero().read_on(digits);
