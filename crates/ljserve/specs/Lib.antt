@@ -5,3 +5,4 @@ pub mod Items
 pub mod Commands
 pub mod Texts
 pub mod Advances
+pub mod Refusals

@@ -21,10 +21,14 @@ use std::{env, io};
 const USAGE: &str = "usage: ljserve < COMMANDS";
 
 fn main(rt: HostRuntime) -> ExitCode {
-    let Ok(words) = env::args(&rt) else {
-        return usage(&rt);
+    let words = match env::args(&rt) {
+        Ok(words) => words.count(),
+        Err(e) if e.kind() == io::ErrorKind::OutOfMemory => {
+            return failure(&rt, &ThinFault::Memory);
+        }
+        Err(_) => return usage(&rt),
     };
-    if words.count() > 1 {
+    if words > 1 {
         return usage(&rt);
     }
     match run(&rt) {

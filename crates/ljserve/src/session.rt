@@ -156,6 +156,10 @@ fn advance(sim: &mut Sim, steps: u64, table: &Table)
 }
 
 impl From<ScaleFault> for Refusal {
+    ghost use Rattle.ljserve.specs.Refusals.{refusal_of_scale};
+
+    ghost from_gives = { λ fault refusal. refusal ≡ refusal_of_scale fault };
+
     fn from(fault: ScaleFault) -> Refusal {
         match fault {
             ScaleFault::Edge => Refusal::Edge,
@@ -166,6 +170,10 @@ impl From<ScaleFault> for Refusal {
 }
 
 impl From<BodyFault> for Refusal {
+    ghost use Rattle.ljserve.specs.Refusals.{refusal_of_body};
+
+    ghost from_gives = { λ fault refusal. refusal ≡ refusal_of_body fault };
+
     fn from(fault: BodyFault) -> Refusal {
         match fault {
             BodyFault::Form => Refusal::XyzCount { line: 1 },
@@ -175,12 +183,20 @@ impl From<BodyFault> for Refusal {
 }
 
 impl From<AllocError> for Refusal {
+    ghost use Rattle.ljserve.specs.declared.reply.Refusal.TheVariants.{Memory};
+
+    ghost from_gives = { λ _ refusal. refusal ≡ Memory };
+
     fn from(_: AllocError) -> Refusal {
         Refusal::Memory
     }
 }
 
 impl<T: Drop> From<AllocFailed<T>> for Refusal {
+    ghost use Rattle.ljserve.specs.declared.reply.Refusal.TheVariants.{Memory};
+
+    ghost from_gives = { λ _ refusal. refusal ≡ Memory };
+
     fn from(_: AllocFailed<T>) -> Refusal {
         Refusal::Memory
     }

@@ -1,0 +1,349 @@
+use crate::engine::{ThinFault, run_thin};
+use arrayvec::ArrayVec;
+use std::alloc::Global;
+use std::io;
+use std::io::{ErrorKind, Read, Write};
+use std::process::Abort;
+use std::test::Fail;
+
+const LOAD: &str = "LOAD a 256 1 131072 rest 28\n2\ndimer\nAr 0 0 0\nAr 1.5 0 0\n";
+
+const STEPS: &str = "ADVANCE a 1\nSHOW a 0\nSHOW a 1\nADVANCE a 1\nSHOW a 0\nSHOW a 1\n";
+
+const REPLIES: &str = "OK LOAD a 0 2
+OK ADVANCE a 1
+OK SHOW a 1 0 589 0 0
+OK SHOW a 1 1 25165235 0 0
+OK ADVANCE a 2
+OK SHOW a 2 0 1774 0 0
+OK SHOW a 2 1 25164050 0 0
+";
+
+/// The most bytes of an input.
+const MOST_INPUT_BYTES: usize = 4_194_304;
+
+type Output = ArrayVec<u8, 1024>;
+
+/// A reader that gives up to 7 bytes a call, and fails once its calls are used up.
+#[derive(Drop)]
+struct FailingReader<'a> {
+    rest: &'a [u8],
+    calls: usize,
+}
+
+impl Read for FailingReader<'_> {
+    fn read(&mut self, buf: &mut [u8]) -> io::Result<usize> {
+        if self.calls == 0 {
+            return Err(io::Error::from(ErrorKind::Other));
+        }
+        self.calls -= 1;
+        let most = buf.len().min(7);
+        self.rest.read(&mut buf[..most])
+    }
+}
+
+/// A writer that takes up to 5 bytes a call, and fails once its calls are used up.
+#[derive(Drop)]
+struct FailingWriter {
+    output: Output,
+    calls: usize,
+}
+
+impl FailingWriter {
+    fn count_call(&mut self) -> io::Result<()> {
+        if self.calls == 0 {
+            return Err(io::Error::from(ErrorKind::Other));
+        }
+        self.calls -= 1;
+        Ok(())
+    }
+}
+
+impl Write for FailingWriter {
+    fn write(&mut self, buf: &[u8]) -> io::Result<usize> {
+        self.count_call()?;
+        let most = buf.len().min(5);
+        self.output.write(&buf[..most])
+    }
+
+    fn flush(&mut self) -> io::Result<()> {
+        self.count_call()
+    }
+}
+
+/// Runs the commands of `input`, whose replies are to be `replies`.
+fn expect_replies(rt: &impl Abort, alloc: Global, input: &str, replies: &str) {
+    let mut output = Output::new();
+    let result = run_thin(alloc, &mut input.as_bytes(), &mut output);
+    assert!(rt; result.is_ok(), "after {input:?}");
+    assert_eq!(rt; output.as_slice(), replies.as_bytes(), "after {input:?}");
+}
+
+/// The dimer with one LOAD's words changed, and what is answered.
+fn expect_load(rt: &impl Abort, alloc: Global, words: &str, reply: &str) -> Result<(), Fail> {
+    let input = format!(in alloc;
+        "{LOAD}LOAD {words} rest 28\n2\ndimer\nAr 0 0 0\nAr 1.5 0 0\nSHOW a 1\n"
+    )?;
+    let replies = format!(in alloc; "OK LOAD a 0 2\n{reply}\nOK SHOW a 0 1 25165824 0 0\n")?;
+    expect_replies(rt, alloc, input.as_str(), replies.as_str());
+    Ok(())
+}
+
+/// A LOAD of this body is refused.
+fn expect_bad_body(rt: &impl Abort, alloc: Global, body: &str) -> Result<(), Fail> {
+    let count = body.len();
+    let input = format!(in alloc; "LOAD a 256 1 1 rest {count}\n{body}SHOW a 0\n")?;
+    expect_replies(
+        rt,
+        alloc,
+        input.as_str(),
+        "ERR 30 XYZ_COUNT line 1\nERR 10 NO_SESSION\n",
+    );
+    Ok(())
+}
+
+#[test]
+fn runs_the_dimer(rt: HostRuntime) -> Result<(), Fail> {
+    let input = format!(in rt.alloc(); "{LOAD}{STEPS}")?;
+    expect_replies(&rt, rt.alloc(), input.as_str(), REPLIES);
+    Ok(())
+}
+
+#[test]
+fn refuses_lines_that_are_no_commands(rt: HostRuntime) -> Result<(), Fail> {
+    for line in [
+        "",
+        " \t",
+        "advance a 1",
+        "ADVANCE",
+        "ADVANCE a",
+        "ADVANCE a 1 2",
+        "ADVANCE a -1",
+        "ADVANCE a +1",
+        "ADVANCE a 00000000000000000001",
+        "ADVANCE a! 1",
+        "ADVANCE abcdefghijklmnopq 1",
+        "SHOW a",
+        "SHOW a x",
+        "SHOW a 0 0",
+        "LIST",
+        "BYE",
+        "ADVANCE a 1\r",
+        "LOAD a 256 1 1 pair 0",
+        "LOAD a 256 1 rest 0",
+        "LOAD a! 256 1 1 rest 0",
+        "LOAD a 256 1 1 rest 0 0",
+    ] {
+        let input = format!(in rt.alloc(); "{LOAD}{line}\r\nSHOW a 1\n")?;
+        expect_replies(
+            &rt,
+            rt.alloc(),
+            input.as_str(),
+            "OK LOAD a 0 2\nERR 06 COMMAND\nOK SHOW a 0 1 25165824 0 0\n",
+        );
+    }
+    Ok(())
+}
+
+#[test]
+fn refuses_in_order(rt: HostRuntime) -> Result<(), Fail> {
+    let alloc = rt.alloc();
+    expect_load(&rt, alloc, "a x x x", "ERR 11 EXISTS")?;
+    for edge in ["x", "0", "-256", "0.000999999", "1e7", "1000000.1"] {
+        let words = format!(in alloc; "b {edge} x x")?;
+        expect_load(&rt, alloc, words.as_str(), "ERR 36 EDGE")?;
+    }
+    for sigma in ["x", "0", "-1", "0.0039", "51.2000001", "1e7"] {
+        let words = format!(in alloc; "b 256 {sigma} x")?;
+        expect_load(&rt, alloc, words.as_str(), "ERR 37 SIGMA")?;
+    }
+    for factor in ["x", "0", "+5", "16777217", "00000000000000000001"] {
+        let words = format!(in alloc; "b 256 1 {factor}")?;
+        expect_load(&rt, alloc, words.as_str(), "ERR 38 STEP_FACTOR")?;
+    }
+    expect_load(&rt, alloc, "b 256 1 016777216", "OK LOAD b 0 2")
+}
+
+#[test]
+fn refuses_bodies_that_are_no_frames(rt: HostRuntime) -> Result<(), Fail> {
+    for body in [
+        "",
+        "1",
+        "1\n",
+        "1\nc\n",
+        "0\nc\n",
+        "4097\nc\n",
+        "x\nc\nX 0 0 0\n",
+        "\n1\nc\nX 0 0 0\n",
+        "1\r\nc\nX 0 0 0\n",
+        "1\nc\nX 0 0 0",
+        "2\nc\nX 0 0 0\n",
+        "1\nc\nX 0 0 0\n\n",
+        "1\nc\nX 0 0\n",
+        "1\nc\nX 0 0 0 0\n",
+        "1\nc\nX . 0 0\n",
+        "1\nc\nX 0 1e7 0\n",
+        "1\nc\nX 0 0 NaN\n",
+        "1\nc\nabcdefghijklmnopq 0 0 0\n",
+        "1\nc\n\x7f 0 0 0\n",
+        "1\nc\nX 0 0 0\r\n",
+    ] {
+        expect_bad_body(&rt, rt.alloc(), body)?;
+    }
+    Ok(())
+}
+
+#[test]
+fn refuses_what_is_out_of_range(rt: HostRuntime) -> Result<(), Fail> {
+    let commands =
+        "ADVANCE z 1\nSHOW z 0\nSHOW a 2\nSHOW a 9999999999999999999\nADVANCE a 1000001\nADVANCE a 0\nSHOW a 01\n";
+    let input = format!(in rt.alloc(); "{LOAD}{commands}")?;
+    expect_replies(
+        &rt,
+        rt.alloc(),
+        input.as_str(),
+        "OK LOAD a 0 2\nERR 10 NO_SESSION\nERR 10 NO_SESSION\nERR 14 NO_ATOM\nERR 14 NO_ATOM\nERR 23 STEP_RANGE\nOK ADVANCE a 0\nOK SHOW a 0 1 25165824 0 0\n",
+    );
+    Ok(())
+}
+
+#[test]
+fn leaves_what_is_unfinished(rt: HostRuntime) -> Result<(), Fail> {
+    for rest in [
+        "ADVANCE a 1",
+        "LOAD b 256 1 1 rest 24",
+        "LOAD b 256 1 1 rest 24\n1\nc\nX 0 0 0\n",
+    ] {
+        let input = format!(in rt.alloc(); "{LOAD}{rest}")?;
+        expect_replies(&rt, rt.alloc(), input.as_str(), "OK LOAD a 0 2\n");
+    }
+    Ok(())
+}
+
+#[test]
+fn ends_at_a_load_without_a_count(rt: HostRuntime) -> Result<(), Fail> {
+    for line in [
+        "LOAD",
+        "LOAD x",
+        "LOAD b 256 1 1 rest",
+        "LOAD b 256 1 1 rest -1",
+        "LOAD b 256 1 1 rest 00000001",
+        "LOAD b 256 1 1 rest 1048577",
+    ] {
+        let input = format!(in rt.alloc(); "{LOAD}{line}\n{STEPS}")?;
+        expect_replies(&rt, rt.alloc(), input.as_str(), "OK LOAD a 0 2\n");
+    }
+    Ok(())
+}
+
+#[test]
+fn cuts_words_at_blanks_and_drops_one_return(rt: HostRuntime) {
+    expect_replies(
+        &rt,
+        rt.alloc(),
+        "\t LOAD  a\t256 1 1 rest\t12 \r\n1\n\r\nX 1 0 0\n SHOW a 0 \r\nSHOW a\x0b0\n",
+        "OK LOAD a 0 1\nOK SHOW a 0 0 16777216 0 0\nERR 06 COMMAND\n",
+    );
+}
+
+#[test]
+fn reads_the_largest_input(rt: HostRuntime) -> Result<(), Fail> {
+    let alloc = rt.alloc();
+    let mut input = vec![in alloc; b'x'; MOST_INPUT_BYTES - 1]?;
+    input.push(b'\n')?;
+    let mut output = Output::new();
+    assert!(rt; run_thin(alloc, &mut input.as_slice(), &mut output).is_ok());
+    assert_eq!(rt; output.as_slice(), b"ERR 06 COMMAND\n".as_slice());
+
+    input.push(b'\n')?;
+    let mut output = Output::new();
+    let result = run_thin(alloc, &mut input.as_slice(), &mut output);
+    assert!(rt; matches!(&result, Err(ThinFault::Read)));
+    assert!(rt; output.is_empty());
+    Ok(())
+}
+
+#[test]
+fn stops_where_the_reader_fails(rt: HostRuntime) -> Result<(), Fail> {
+    let input = format!(in rt.alloc(); "{LOAD}{STEPS}")?;
+    let needed = input.len().div_ceil(7) + 1;
+    for calls in 0..needed + 2 {
+        let rest = input.as_bytes();
+        let mut output = Output::new();
+        let result = run_thin(rt.alloc(), &mut FailingReader { rest, calls }, &mut output);
+        if calls < needed {
+            assert!(rt;
+                matches!(&result, Err(ThinFault::Read)),
+                "with {calls} calls"
+            );
+            assert!(rt; output.is_empty(), "with {calls} calls");
+        } else {
+            assert!(rt; result.is_ok(), "with {calls} calls");
+            assert_eq!(rt; output.as_slice(), REPLIES.as_bytes(), "with {calls} calls");
+        }
+    }
+    Ok(())
+}
+
+#[test]
+fn stops_where_the_writer_fails(rt: HostRuntime) -> Result<(), Fail> {
+    let input = format!(in rt.alloc(); "{LOAD}{STEPS}")?;
+    let mut ended = 0;
+    for calls in 0..200 {
+        let mut writer = FailingWriter {
+            output: Output::new(),
+            calls,
+        };
+        let result = run_thin(rt.alloc(), &mut input.as_bytes(), &mut writer);
+        let written = writer.output.as_slice();
+        match result {
+            Ok(()) => {
+                assert_eq!(rt; written, REPLIES.as_bytes(), "with {calls} calls");
+                ended += 1;
+            }
+            Err(fault) => {
+                assert!(rt; matches!(&fault, ThinFault::Write), "with {calls} calls");
+                assert!(rt;
+                    REPLIES.as_bytes().starts_with(written),
+                    "with {calls} calls"
+                );
+                assert!(rt; ended == 0, "with {calls} calls");
+            }
+        }
+    }
+    assert!(rt; 0 < ended && ended < 200 - REPLIES.len() / 5);
+    Ok(())
+}
+
+/// A LOAD, the same once more, and a step: as it goes with memory, and where the first LOAD lacks it.
+const TWICE: &str = "LOAD a 256 1 131072 rest 28
+2
+dimer
+Ar 0 0 0
+Ar 1.5 0 0
+LOAD a 256 1 131072 rest 28
+2
+dimer
+Ar 0 0 0
+Ar 1.5 0 0
+ADVANCE a 1
+SHOW a 0
+";
+
+const ANSWERED: &str = "OK LOAD a 0 2\nERR 11 EXISTS\nOK ADVANCE a 1\nOK SHOW a 1 0 589 0 0\n";
+
+const REFUSED: &str = "ERR 90 MEMORY\nOK LOAD a 0 2\nOK ADVANCE a 1\nOK SHOW a 1 0 589 0 0\n";
+
+/// It allocates nothing itself, to be run with each allocation refused in turn, too.
+#[test]
+fn answers_or_lacks_memory(rt: HostRuntime) {
+    let mut output = Output::new();
+    let answered = match run_thin(rt.alloc(), &mut TWICE.as_bytes(), &mut output) {
+        Ok(()) => {
+            let replies = output.as_slice();
+            replies == ANSWERED.as_bytes() || replies == REFUSED.as_bytes()
+        }
+        Err(fault) => matches!(&fault, ThinFault::Memory) && output.is_empty(),
+    };
+    assert!(rt; answered, "{:?}", output.as_slice());
+}
