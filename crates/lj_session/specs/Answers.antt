@@ -1,0 +1,101 @@
+-- What a command answers: a reply, and the user after it. A refusal leaves the user as it was.
+use Rattle.std.specs.Prelude.{ℕ, ◌^◌, Bool, ◌&&◌, not, nat_le, nat_lt, is_some, pos, ◌+ℤ◌, ◌*ℤ◌, unsigned_abs, List, [], ◌∷◌, Option, Some, None, Result, Ok, Err}
+use Rattle.lj_step.specs.Motion.{Simulation, place_at, steps, reversed, tugged, momentum, kinetic, potential}
+use Rattle.lj_xyz.specs.Atoms.{◌>>=◌}
+use Rattle.lj_session.specs.declared.command.Command.{Command}
+use Rattle.lj_session.specs.declared.command.Command.TheVariants.{Load, Advance, Reverse, Branch, Restore, Forget, Tug, Measure, Show, Dump, List as ListSessions, ListBranches, Unload, Bye}
+use Rattle.lj_session.specs.declared.refusal.Refusal.{Refusal}
+use Rattle.lj_session.specs.declared.refusal.Refusal.TheVariants.{NoSession, NoBranch, BranchExists, NoAtom, QuotaBranches, StepRange, Memory}
+use Rattle.lj_session.specs.declared.reply.Reply.{Reply}
+use Rattle.lj_session.specs.declared.reply.Reply.TheVariants as reply
+use Rattle.lj_session.specs.Users.{Session, User, named, put, taken_out, with_session, atoms_of, branches_used}
+use Rattle.lj_session.specs.Loads.{unless, admitted, body_held, session_read}
+
+-- what stands under a name, else a refusal
+abbrev pub or_refusal : {A : Type 0} → Option A → Refusal → Result A Refusal
+or_refusal (Some value) refusal = Ok value
+or_refusal None refusal = Err refusal
+
+-- the session of a name
+abbrev pub session_of : User → List ℕ → Result Session Refusal
+session_of user name = or_refusal (named name user.sessions) NoSession
+
+-- what is saved in a session under a name
+abbrev pub saved_in : Session → List ℕ → Result Simulation Refusal
+saved_in session branch = or_refusal (named branch session.saved) NoBranch
+
+-- a session has atoms 0, 1, .. and no more than its count
+abbrev pub has_atom : Session → ℕ → Result (Unit {0}) Refusal
+has_atom session atom = unless (nat_lt atom (atoms_of session)) NoAtom
+
+-- the user, where the simulation of a session is now this one
+abbrev pub with_sim : List ℕ → Session → Simulation → User → User
+with_sim name session sim user = with_session name (record session { sim = sim }) user
+
+-- a session may go on by at most a million steps, and to step numbers of size at most 10^12
+abbrev pub can_advance : Session → ℕ → Bool
+can_advance session n =
+    nat_le n 1000000 && nat_le (unsigned_abs (session.sim.step +ℤ session.sim.dir *ℤ pos n)) (10 ^ 12)
+
+-- what a command does: its reply and the next user, or its first refusal
+unfoldable pub performed : User → Command → Bool → Result (Reply × User) Refusal
+performed user (Load name edge sigma step_factor mode body) mark = do
+  units ← admitted user name edge sigma step_factor
+  bytes ← body_held body mark
+  session ← session_read user units mode bytes
+  Ok (reply.Loaded name (atoms_of session), with_session name session user)
+performed user (Advance name n) mark = do
+  session ← session_of user name
+  near ← unless (can_advance session n) StepRange
+  let sim = steps session.units n session.sim in Ok (reply.Advanced name sim.step, with_sim name session sim user)
+performed user (Reverse name) mark = do
+  session ← session_of user name
+  let sim = reversed session.sim in Ok (reply.Reversed name sim.step, with_sim name session sim user)
+performed user (Branch name branch) mark = do
+  session ← session_of user name
+  new ← unless (not (is_some (named branch session.saved))) BranchExists
+  room ← unless (nat_lt (branches_used user) user.quota.branches) QuotaBranches
+  held ← unless (not mark) Memory
+  Ok (reply.Branched name branch session.sim.step, with_session name (record session { saved = put branch session.sim session.saved }) user)
+performed user (Restore name branch) mark = do
+  session ← session_of user name
+  sim ← saved_in session branch
+  Ok (reply.Restored name branch sim.step, with_sim name session sim user)
+performed user (Forget name branch) mark = do
+  session ← session_of user name
+  sim ← saved_in session branch
+  Ok (reply.Forgotten name branch, with_session name (record session { saved = taken_out branch session.saved }) user)
+performed user (Tug name atom x y z) mark = do
+  session ← session_of user name
+  there ← has_atom session atom
+  let sim = tugged atom (record { x = x; y = y; z = z }) session.sim in
+      Ok (reply.Tugged name atom sim.step, with_sim name session sim user)
+performed user (Measure name) mark = do
+  session ← session_of user name
+  let sim = session.sim in
+      let m = momentum sim in
+      Ok (reply.Measured name sim.step (atoms_of session) (m.x ∷ m.y ∷ m.z ∷ []) (kinetic sim) (potential session.units sim.cur), user)
+performed user (Show name atom) mark = do
+  session ← session_of user name
+  there ← has_atom session atom
+  Ok (reply.Shown name session.sim.step atom (place_at session.sim.cur atom), user)
+performed user (Dump name) mark = do
+  session ← session_of user name
+  Ok (reply.Dumped name, user)
+performed user ListSessions mark = Ok (reply.Listed, user)
+performed user (ListBranches name) mark = do
+  session ← session_of user name
+  Ok (reply.ListedBranches name, user)
+performed user (Unload name) mark = do
+  session ← session_of user name
+  Ok (reply.Unloaded name, record user { sessions = taken_out name user.sessions })
+performed user Bye mark = Ok (reply.Bye, user)
+
+-- a refusal is replied, and the user stays
+abbrev pub settled : User → Result (Reply × User) Refusal → Reply × User
+settled user (Ok answer) = answer
+settled user (Err refusal) = (reply.Refused refusal, user)
+
+-- What a command answers. The mark says that memory was refused to it; it matters to LOAD and BRANCH alone.
+abbrev pub answer : User → Command → Bool → Reply × User
+answer user command mark = settled user (performed user command mark)

@@ -1,0 +1,6 @@
+pub mod Names
+pub mod Refusals
+pub mod Users
+pub mod Loads
+pub mod Answers
+pub mod Turns

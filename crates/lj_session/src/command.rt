@@ -1,0 +1,88 @@
+//! Commands of a user.
+
+use crate::body::Body;
+use crate::name::Name;
+use lj_fixed::Nano;
+
+/// How many frames of its body a LOAD reads.
+#[derive(Clone, Copy, Debug, PartialEq, Eq)]
+pub enum Mode {
+    /// One: the atoms begin at rest.
+    Rest,
+    /// Two: the places one step before the opening, and those at it.
+    Pair,
+}
+
+/// A command. `name` is that of a session, and `branch` that of a frame saved in it. Atoms are
+/// numbered from 0.
+#[derive(Debug, Drop)]
+pub enum Command {
+    /// Loads a session from a body. Each of the three numbers is `None` where its word is no such
+    /// number: the edge of the box and sigma in nano, and the step factor in units of 2^-32. The
+    /// body is `None` where no memory was found for it.
+    Load {
+        name: Name,
+        edge: Option<Nano>,
+        sigma: Option<Nano>,
+        step_factor: Option<u64>,
+        mode: Mode,
+        body: Option<Body>,
+    },
+    /// Goes on by a number of steps.
+    Advance {
+        name: Name,
+        steps: u64,
+    },
+    /// Turns the motion back.
+    Reverse {
+        name: Name,
+    },
+    /// Saves the simulation as it stands.
+    Branch {
+        name: Name,
+        branch: Name,
+    },
+    /// Goes back to a saved simulation, which stays saved.
+    Restore {
+        name: Name,
+        branch: Name,
+    },
+    /// Gives up a saved simulation.
+    Forget {
+        name: Name,
+        branch: Name,
+    },
+    /// Adds a displacement for each step, in ring units along each axis, to the motion of an atom.
+    Tug {
+        name: Name,
+        atom: u64,
+        x: i32,
+        y: i32,
+        z: i32,
+    },
+    /// Measures momentum, kinetic number and potential.
+    Measure {
+        name: Name,
+    },
+    /// Shows the place of an atom.
+    Show {
+        name: Name,
+        atom: u64,
+    },
+    /// Writes out the frame.
+    Dump {
+        name: Name,
+    },
+    /// Lists the sessions.
+    List,
+    /// Lists what is saved in a session.
+    ListBranches {
+        name: Name,
+    },
+    /// Gives up a session.
+    Unload {
+        name: Name,
+    },
+    /// Ends the connection.
+    Bye,
+}

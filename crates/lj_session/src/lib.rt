@@ -1,0 +1,14 @@
+//! The sessions of a user: the commands on them, their replies, and what each command is answered.
+#![tactic(auto)]
+
+mod body;
+mod command;
+mod name;
+mod refusal;
+mod reply;
+
+pub use body::Body;
+pub use command::{Command, Mode};
+pub use name::Name;
+pub use refusal::Refusal;
+pub use reply::Reply;

@@ -1,0 +1,163 @@
+//! Refusals, each with its number and its name.
+ghost use Rattle.std.specs.Prelude.{◌≡◌};
+ghost use Rattle.lj_session.specs.Refusals.{number_of, title_of, xyz_number, xyz_title};
+
+use lj_xyz::{XyzFault, XyzKind};
+use std::fmt;
+
+/// Why an item is refused. A refusal changes nothing.
+#[derive(Clone, Copy, Debug, PartialEq, Eq)]
+pub enum Refusal {
+    /// No such user, or another token.
+    Denied,
+    /// A line of more than 256 bytes.
+    Line,
+    /// A line without a word, a wrong number of words, or a word not of its shape.
+    Syntax,
+    /// A LOAD line without a count.
+    Body,
+    /// 65,536 bytes without a line feed.
+    Long,
+    /// The first word is no command.
+    Command,
+    /// A million items were answered.
+    Enough,
+    /// No session has this name.
+    NoSession,
+    /// A session has this name already.
+    Exists,
+    /// Nothing is saved under this name.
+    NoBranch,
+    /// Something is saved under this name already.
+    BranchExists,
+    /// The session has no atom of this number.
+    NoAtom,
+    /// The user has as many sessions as the quota allows.
+    QuotaSessions,
+    /// The user would have more atoms than the quota allows.
+    QuotaAtoms,
+    /// The user has as many saved frames as the quota allows.
+    QuotaBranches,
+    /// More than a million steps, or a step number beyond 10^12 in size.
+    StepRange,
+    /// The first fault of a body.
+    Xyz(XyzFault),
+    /// The edge is not 10^6 to 10^15 nano.
+    Edge,
+    /// Sigma does not fit the edge.
+    Sigma,
+    /// The step factor is not 1 to 2^24.
+    StepFactor,
+    /// A growth was refused.
+    Memory,
+}
+
+impl Refusal {
+    /// The number, 1 to 90.
+    pub fn number(self) -> u8
+        ensures { result ≡ number_of self }
+    {
+        match self {
+            Refusal::Denied => 1,
+            Refusal::Line => 2,
+            Refusal::Syntax => 3,
+            Refusal::Body => 4,
+            Refusal::Long => 5,
+            Refusal::Command => 6,
+            Refusal::Enough => 8,
+            Refusal::NoSession => 10,
+            Refusal::Exists => 11,
+            Refusal::NoBranch => 12,
+            Refusal::BranchExists => 13,
+            Refusal::NoAtom => 14,
+            Refusal::QuotaSessions => 20,
+            Refusal::QuotaAtoms => 21,
+            Refusal::QuotaBranches => 22,
+            Refusal::StepRange => 23,
+            Refusal::Xyz(fault) => xyz_number(fault.kind),
+            Refusal::Edge => 36,
+            Refusal::Sigma => 37,
+            Refusal::StepFactor => 38,
+            Refusal::Memory => 90,
+        }
+    }
+
+    /// The name, in capitals.
+    pub fn name(self) -> &'static str
+        ensures { result.now ≡ title_of self }
+    {
+        match self {
+            Refusal::Denied => "DENIED",
+            Refusal::Line => "LINE",
+            Refusal::Syntax => "SYNTAX",
+            Refusal::Body => "BODY",
+            Refusal::Long => "LONG",
+            Refusal::Command => "COMMAND",
+            Refusal::Enough => "ENOUGH",
+            Refusal::NoSession => "NO_SESSION",
+            Refusal::Exists => "EXISTS",
+            Refusal::NoBranch => "NO_BRANCH",
+            Refusal::BranchExists => "BRANCH_EXISTS",
+            Refusal::NoAtom => "NO_ATOM",
+            Refusal::QuotaSessions => "QUOTA_SESSIONS",
+            Refusal::QuotaAtoms => "QUOTA_ATOMS",
+            Refusal::QuotaBranches => "QUOTA_BRANCHES",
+            Refusal::StepRange => "STEP_RANGE",
+            Refusal::Xyz(fault) => xyz_name(fault.kind),
+            Refusal::Edge => "EDGE",
+            Refusal::Sigma => "SIGMA",
+            Refusal::StepFactor => "STEP_FACTOR",
+            Refusal::Memory => "MEMORY",
+        }
+    }
+}
+
+fn xyz_number(kind: XyzKind) -> u8
+    ensures { result ≡ xyz_number kind }
+{
+    match kind {
+        XyzKind::Count => 30,
+        XyzKind::Short => 31,
+        XyzKind::Symbol => 32,
+        XyzKind::Number => 33,
+        XyzKind::Range => 34,
+        XyzKind::Pair => 35,
+    }
+}
+
+fn xyz_name(kind: XyzKind) -> &'static str
+    ensures { result.now ≡ xyz_title kind }
+{
+    match kind {
+        XyzKind::Count => "XYZ_COUNT",
+        XyzKind::Short => "XYZ_SHORT",
+        XyzKind::Symbol => "XYZ_SYMBOL",
+        XyzKind::Number => "XYZ_NUMBER",
+        XyzKind::Range => "XYZ_RANGE",
+        XyzKind::Pair => "XYZ_PAIR",
+    }
+}
+
+impl fmt::Display for Refusal {
+    ghost use Rattle.std.specs.Prelude.{Some};
+    ghost use Rattle.lj_session.specs.Refusals.{refusal_text};
+
+    ghost output = { λ refusal. Some (refusal_text refusal) };
+
+    fn fmt<W: fmt::Write>(&self, f: &mut fmt::Formatter<W>) -> fmt::Result {
+        let number = self.number();
+        let name = self.name();
+        match self {
+            Refusal::Xyz(fault) => {
+                write!(
+                    f,
+                    "ERR {}{} {name} line {}",
+                    number / 10,
+                    number % 10,
+                    fault.line
+                )
+            }
+            _ => write!(f, "ERR {}{} {name}", number / 10, number % 10),
+        }
+    }
+}

@@ -1,0 +1,74 @@
+//! Replies to commands.
+
+use crate::name::Name;
+use crate::refusal::Refusal;
+use lj_ring::Place;
+
+/// What an item is answered. A reply names the step that it describes.
+#[derive(Debug, Drop)]
+pub enum Reply {
+    Loaded {
+        name: Name,
+        atoms: usize,
+    },
+    Advanced {
+        name: Name,
+        step: i64,
+    },
+    Reversed {
+        name: Name,
+        step: i64,
+    },
+    Branched {
+        name: Name,
+        branch: Name,
+        step: i64,
+    },
+    Restored {
+        name: Name,
+        branch: Name,
+        step: i64,
+    },
+    Forgotten {
+        name: Name,
+        branch: Name,
+    },
+    Tugged {
+        name: Name,
+        atom: u64,
+        step: i64,
+    },
+    /// The momentum and the kinetic number are in ring units for each step, the potential in units
+    /// of 2^-24 ε.
+    Measured {
+        name: Name,
+        step: i64,
+        atoms: usize,
+        momentum: [i64; 3],
+        kinetic: u128,
+        potential: i64,
+    },
+    Shown {
+        name: Name,
+        step: i64,
+        atom: u64,
+        place: Place,
+    },
+    /// The frame of a session of the user after the command.
+    Dumped {
+        name: Name,
+    },
+    /// All sessions of the user after the command.
+    Listed,
+    /// All that is saved in a session of the user after the command.
+    ListedBranches {
+        name: Name,
+    },
+    Unloaded {
+        name: Name,
+    },
+    /// The connection ends.
+    Bye,
+    /// The user is as before.
+    Refused(Refusal),
+}

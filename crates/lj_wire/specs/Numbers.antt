@@ -1,0 +1,28 @@
+-- Whole numbers as words.
+use Rattle.std.specs.Prelude.{ℕ, ◌^◌, Bool, ◌&&◌, nat_le, ℤ, pos, neg_ℤ, ◌-ℤ◌, int_le, List, length, drop, Option, Some, None, if◌then◌else◌}
+use Rattle.std.specs.List.{list_all}
+use Rattle.std.specs.Char.{is_ascii_digit}
+use Rattle.std.specs.Option.{option_map, option_and_then}
+use Rattle.std.specs.Str.Parse.{digits_value, starts_with_minus}
+
+-- 1 to 19 digits
+abbrev pub is_number : List ℕ → Bool
+is_number word = nat_le 1 (length word) && nat_le (length word) 19 && list_all is_ascii_digit word
+
+-- the number that a word says in base ten
+unfoldable pub number_of : List ℕ → Option ℕ
+number_of word = if is_number word then Some (digits_value 10 word) else None
+
+-- a number, or with `-` before it the one below zero
+abbrev pub integer_of : List ℕ → Option ℤ
+integer_of word =
+    if starts_with_minus word then option_map (λ n. neg_ℤ (pos n)) (number_of (drop 1 word))
+    else option_map pos (number_of word)
+
+-- a displacement is from -2^31 to 2^31 - 1
+abbrev pub is_displacement : ℤ → Bool
+is_displacement z = int_le (neg_ℤ (pos (2 ^ 31))) z && int_le z (pos (2 ^ 31) -ℤ pos 1)
+
+-- the displacement that a word says
+unfoldable pub displacement_of : List ℕ → Option ℤ
+displacement_of word = option_and_then (λ z. if is_displacement z then Some z else None) (integer_of word)

@@ -1,0 +1,174 @@
+-- Streams worked out by computation: a stream given as lines with their bodies, and what is written for it.
+use Rattle.std.specs.Prelude.{◌≡◌, ℕ, ◌+◌, ◌<◌, ◌==◌, Bool, true, false, not, ◌&&◌, nat_lt, List, [], ◌∷◌, ◌++◌, length, map, if◌then◌else◌, refl}
+use Rattle.std.specs.List.{list_any, concat}
+use Rattle.std.specs.Fmt.{digits}
+use Rattle.std.proofs.Common.{inl, inr, ap, sym, ◌∙◌, subst}
+use Rattle.std.proofs.lemmas.Bool.{and_parts, ltb-true, eqb-true}
+use Rattle.lj_fixed.specs.Decimal.{decimal_of, nano_of}
+use Rattle.lj_fixed.specs.Millionths.{millionths}
+use Rattle.lj_table.specs.Entries.{push_entry, energy_entry}
+use Rattle.lj_tile.specs.Pushes.{push}
+use Rattle.lj_step.specs.Motion.{force}
+use Rattle.lj_xyz.specs.Lines.{is_line_feed, lines_of, words_of}
+use Rattle.lj_xyz.specs.Atoms as atoms
+use Rattle.lj_xyz.specs.Reading.{head_in, behind_comment, next_row, rows_in, frame_in, reading}
+use Rattle.lj_session.specs.Names.{name_of}
+use Rattle.lj_session.specs.Users.{Quota, User, fresh}
+use Rattle.lj_session.specs.Answers.{performed}
+use Rattle.lj_wire.specs.declared.item.Item.{Item}
+use Rattle.lj_wire.specs.Items.{ends}
+use Rattle.lj_wire.specs.Numbers.{number_of, displacement_of}
+use Rattle.lj_wire.specs.Commands.{announced, item_of, count_of, item_of_words, body_len}
+use Rattle.lj_wire.specs.Texts.{text}
+use Rattle.lj_wire.specs.Told.{told, texts, last_user}
+use Rattle.lj_wire.specs.Streams.{IsLine, IsLineItem, IsPart, Splits, AreMarks, Dialogue, most_items}
+
+-- all that a worked stream computes by
+unfoldable pub computed : Unit {0}
+unfolding digits decimal_of nano_of millionths push_entry energy_entry push force lines_of words_of atoms.number_of atoms.row_of_four atoms.row_of head_in behind_comment next_row rows_in frame_in reading name_of performed number_of displacement_of count_of item_of_words body_len text
+computed = tt
+
+-- a line, and the body behind it
+abbrev pub Piece : Type 0
+Piece = List ℕ × List ℕ
+
+abbrev pub piece_item : Piece → Item
+piece_item piece = item_of piece.0 piece.1
+
+-- what stands behind the pieces: nothing, a line whose body is cut short, or whatever is not read any more
+pub data Rest : Type 0 where
+  nothing : Rest
+  short : List ℕ → List ℕ → Rest
+  unread : List ℕ → Rest
+
+abbrev pub rest_bytes : Rest → List ℕ
+rest_bytes nothing = []
+rest_bytes (short line body) = line ++ 10 ∷ body
+rest_bytes (unread bytes) = bytes
+
+abbrev pub stream_of : List Piece → List ℕ → List ℕ
+stream_of [] rest = rest
+stream_of (piece ∷ pieces) rest = (piece.0 ++ 10 ∷ piece.1) ++ stream_of pieces rest
+
+abbrev pub items_of : List Piece → List Item
+items_of pieces = map piece_item pieces
+
+-- a piece is a line with the body that it announces
+abbrev pub is_line : List ℕ → Bool
+is_line line = not (list_any is_line_feed line) && nat_lt (length line) 65536
+
+abbrev pub is_piece : Piece → Bool
+is_piece piece = is_line piece.0 && length piece.1 == announced piece.0
+
+abbrev pub is_part : Rest → Bool
+is_part nothing = true
+is_part (short line body) = is_line line && nat_lt (length body) (announced line)
+is_part (unread bytes) = false
+
+abbrev pub is_last : List Piece → Bool
+is_last [] = true
+is_last (piece ∷ pieces) = false
+
+-- the pieces are items from number n on, and what follows is less than one, unless the last piece ends the connection
+abbrev pub are_pieces : ℕ → List Piece → Rest → Bool
+are_pieces n [] rest = nat_lt n most_items && is_part rest
+are_pieces n (piece ∷ pieces) rest =
+    nat_lt n most_items && is_piece piece && (if ends (piece_item piece) then is_last pieces else are_pieces (n + 1) pieces rest)
+
+IsLine-from_test : (line : List ℕ) → is_line line ≡ true → IsLine line
+IsLine-from_test line h =
+    let p = and_parts (not (list_any is_line_feed line)) (nat_lt (length line) 65536) h in
+    (not-true (list_any is_line_feed line) p.0, ltb-true (length line) 65536 p.1)
+  where
+    not-true : (b : Bool) → not b ≡ true → b ≡ false
+    not-true true e = cc
+    not-true false e = refl
+
+IsLineItem-from_test : (piece : Piece) → is_piece piece ≡ true → IsLineItem (piece.0 ++ 10 ∷ piece.1) (piece_item piece)
+IsLineItem-from_test piece h =
+    let p = and_parts (is_line piece.0) (length piece.1 == announced piece.0) h in
+    record {
+      line = piece.0;
+      body = piece.1;
+      whole = refl;
+      is_line = IsLine-from_test piece.0 p.0;
+      announces = eqb-true (length piece.1) (announced piece.0) p.1;
+      means = refl;
+    }
+
+IsPart-from_test : (n : ℕ) (rest : Rest) → n < most_items → is_part rest ≡ true → IsPart n (rest_bytes rest)
+IsPart-from_test n nothing below h = (below, inl (refl, ltb-true 0 65536 refl))
+IsPart-from_test n (short line body) below h =
+    let p = and_parts (is_line line) (nat_lt (length body) (announced line)) h in (
+      below,
+      inr (record {
+        line = line;
+        body = body;
+        whole = refl;
+        is_line = IsLine-from_test line p.0;
+        announces = ltb-true (length body) (announced line) p.1;
+      }),
+    )
+IsPart-from_test n (unread bytes) below h = cc
+
+last_piece : (pieces : List Piece) (rest : List ℕ) → is_last pieces ≡ true → (items_of pieces ≡ []) × (stream_of pieces rest ≡ rest)
+last_piece [] rest h = (refl, refl)
+last_piece (piece ∷ pieces) rest h = cc
+
+chosen : (b test other : Bool) → b ≡ true → (if b then test else other) ≡ true → test ≡ true
+chosen true test other e h = h
+chosen false test other e h = cc
+
+not_chosen : (b test other : Bool) → b ≡ false → (if b then test else other) ≡ true → other ≡ true
+not_chosen true test other e h = cc
+not_chosen false test other e h = h
+
+pub Splits-from_test : (n : ℕ) (pieces : List Piece) (rest : Rest) → are_pieces n pieces rest ≡ true
+    → Splits n (stream_of pieces (rest_bytes rest)) (items_of pieces) (rest_bytes rest)
+Splits-from_test n [] rest h =
+    let p = and_parts (nat_lt n most_items) (is_part rest) h in
+    (refl, IsPart-from_test n rest (ltb-true n most_items p.0) p.1)
+Splits-from_test n (piece ∷ pieces) rest h =
+    let ending = ends (piece_item piece) in
+    let next = are_pieces (n + 1) pieces rest in
+    let p = and_parts (nat_lt n most_items && is_piece piece) (if ending then is_last pieces else next) h in
+    let q = and_parts (nat_lt n most_items) (is_piece piece) p.0 in (
+      piece.0 ++ 10 ∷ piece.1,
+      stream_of pieces (rest_bytes rest),
+      refl,
+      inl (ltb-true n most_items q.0, inl (IsLineItem-from_test piece q.1)),
+      (λ e. last_piece pieces (rest_bytes rest) (chosen ending (is_last pieces) next e p.1)),
+      (λ e. Splits-from_test (n + 1) pieces rest (not_chosen ending (is_last pieces) next e p.1)),
+    )
+
+-- no mark is set
+abbrev pub unset : List Item → List Bool
+unset items = map (λ item. false) items
+
+texts-unset : (user : User) (items : List Item) → texts user items (unset items) ≡ texts user items []
+texts-unset user [] = refl
+texts-unset user (item ∷ items) = ap (λ others. (told user item false).0 ∷ others) (texts-unset (told user item false).1 items)
+
+AreMarks-unset : (user : User) (items : List Item) → AreMarks (unset items) (texts user items (unset items))
+AreMarks-unset user [] = tt
+AreMarks-unset user (item ∷ items) = ((λ e. cc), AreMarks-unset (told user item false).1 items)
+
+-- what a new user with this quota is written for bytes, where memory is there
+abbrev pub IsWritten : Quota → List ℕ → List ℕ → Type 0
+IsWritten quota bytes written = (next : User) × Dialogue (fresh quota) bytes written next
+
+pub played : (quota : Quota) (pieces : List Piece) (rest : Rest) (bytes written : List ℕ) → bytes ≡ stream_of pieces (rest_bytes rest)
+    → are_pieces 0 pieces rest ≡ true → written ≡ concat (texts (fresh quota) (items_of pieces) []) → IsWritten quota bytes written
+played quota pieces rest bytes written b test w =
+    let items = items_of pieces in (
+      last_user (fresh quota) items (unset items),
+      record {
+        items = items;
+        rest = rest_bytes rest;
+        marks = unset items;
+        splits = subst (λ x. Splits 0 x items (rest_bytes rest)) (sym b) (Splits-from_test 0 pieces rest test);
+        are_marks = AreMarks-unset (fresh quota) items;
+        written_is = w ∙ ap concat (sym (texts-unset (fresh quota) items));
+        next_is = refl;
+      },
+    )

@@ -1,0 +1,83 @@
+-- The items of a stream of bytes, and the dialogue that a stream is answered.
+use Rattle.std.specs.Prelude.{◌≡◌, ℕ, ◌+◌, ◌<◌, Bool, true, false, List, [], ◌∷◌, ◌++◌, length, ◌⊎◌}
+use Rattle.std.specs.List.{list_any, concat}
+use Rattle.lj_xyz.specs.Lines.{is_line_feed}
+use Rattle.lj_session.specs.Users.{User}
+use Rattle.lj_wire.specs.declared.item.Fault.TheVariants.{Long, Enough}
+use Rattle.lj_wire.specs.declared.item.Item.{Item}
+use Rattle.lj_wire.specs.declared.item.Item.TheVariants.{Last}
+use Rattle.lj_wire.specs.Items.{ends}
+use Rattle.lj_wire.specs.Commands.{announced, item_of}
+use Rattle.lj_wire.specs.Texts.{is_memory}
+use Rattle.lj_wire.specs.Told.{texts, last_user}
+
+-- no byte is a line feed
+abbrev pub LacksLineFeed : List ℕ → Type 0
+LacksLineFeed bytes = list_any is_line_feed bytes ≡ false
+
+-- a line without its line feed: fewer than 65,536 bytes
+abbrev pub IsLine : List ℕ → Type 0
+IsLine line = LacksLineFeed line × (length line < 65536)
+
+-- a line with its line feed, and behind it the body that it announces
+pub record IsLineItem (bytes : List ℕ) (item : Item) : Type 0 where
+  pub line : List ℕ
+  pub body : List ℕ
+  pub whole : bytes ≡ line ++ 10 ∷ body
+  pub is_line : IsLine line
+  pub announces : length body ≡ announced line
+  pub means : item ≡ item_of line body
+
+-- as many bytes without a line feed as no line has
+pub record IsLongItem (bytes : List ℕ) (item : Item) : Type 0 where
+  pub one_line : LacksLineFeed bytes
+  pub long : length bytes ≡ 65536
+  pub means : item ≡ Last Long
+
+-- how many items a connection may have before the last fault
+abbrev pub most_items : ℕ
+most_items = 1000000
+
+-- the bytes of item number n, counted from 0: a line with its body, or a line too long; behind a million items the last fault, of no bytes
+abbrev pub IsItem : ℕ → List ℕ → Item → Type 0
+IsItem n bytes item =
+    (n < most_items) × (IsLineItem bytes item ⊎ IsLongItem bytes item)
+    ⊎ (n ≡ most_items) × (bytes ≡ []) × (item ≡ Last Enough)
+
+-- a line with its line feed, and less than the body that it announces
+pub record IsOpenBody (bytes : List ℕ) : Type 0 where
+  pub line : List ℕ
+  pub body : List ℕ
+  pub whole : bytes ≡ line ++ 10 ∷ body
+  pub is_line : IsLine line
+  pub announces : length body < announced line
+
+-- less than a whole item, and nothing behind it
+abbrev pub IsPart : ℕ → List ℕ → Type 0
+IsPart n bytes = (n < most_items) × (IsLine bytes ⊎ IsOpenBody bytes)
+
+-- The bytes are these items, from number n on, and then a rest that is less than an item. None follows one that ends
+-- the connection, behind which the rest may be anything.
+abbrev pub Splits : ℕ → List ℕ → List Item → List ℕ → Type 0
+Splits n bytes [] rest = (bytes ≡ rest) × IsPart n rest
+Splits n bytes (item ∷ items) rest =
+    (front : List ℕ) × (behind : List ℕ) × (bytes ≡ front ++ behind) × IsItem n front item
+    × (ends item ≡ true → (items ≡ []) × (behind ≡ rest))
+    × (ends item ≡ false → Splits (n + 1) behind items rest)
+
+-- a mark for each text, set only where the text is the memory refusal
+abbrev pub AreMarks : List Bool → List (List ℕ) → Type 0
+AreMarks [] [] = Unit {0}
+AreMarks (mark ∷ marks) (text ∷ texts) = (mark ≡ true → is_memory text ≡ true) × AreMarks marks texts
+AreMarks [] (text ∷ texts) = ⊥
+AreMarks (mark ∷ marks) [] = ⊥
+
+-- The dialogue: from a user on, these bytes are answered by what is written, which leaves the next user.
+pub record Dialogue (user : User) (bytes written : List ℕ) (next : User) : Type 0 where
+  pub items : List Item
+  pub rest : List ℕ
+  pub marks : List Bool
+  pub splits : Splits 0 bytes items rest
+  pub are_marks : AreMarks marks (texts user items marks)
+  pub written_is : written ≡ concat (texts user items marks)
+  pub next_is : next ≡ last_user user items marks

@@ -1,0 +1,89 @@
+-- The text of a reply: its lines, each with its line feed.
+use Rattle.std.specs.Prelude.{ℕ, ◌+◌, Bool, List, [], ◌∷◌, ◌++◌, length, map, Option, Some, None, codes}
+use Rattle.std.specs.Fmt.{decimal, signed_decimal}
+use Rattle.std.specs.List.{join_with_byte, flat_map}
+use Rattle.std.specs.Str.{bytes_eq}
+use Rattle.lj_ring.specs.declared.coordinates.Place.{Place}
+use Rattle.lj_ring.specs.Places.{micro_of}
+use Rattle.lj_step.specs.Motion.{Simulation}
+use Rattle.lj_xyz.specs.Texts.{count_text, comment_text, atom_text}
+use Rattle.lj_session.specs.declared.refusal.Refusal.TheVariants.{Memory}
+use Rattle.lj_session.specs.declared.reply.Reply.{Reply}
+use Rattle.lj_session.specs.declared.reply.Reply.TheVariants.{Loaded, Advanced, Reversed, Branched, Restored, Forgotten, Tugged, Measured, Shown, Dumped, Listed, ListedBranches, Unloaded, Bye, Refused}
+use Rattle.lj_session.specs.Refusals.{refusal_text}
+use Rattle.lj_session.specs.Users.{Session, User, named, atoms_of}
+
+-- a line of a text
+abbrev pub ended : List ℕ → List ℕ
+ended line = line ++ 10 ∷ []
+
+-- a line of words with a blank between each two
+abbrev pub line_of : List (List ℕ) → List ℕ
+line_of words = ended (join_with_byte 32 words)
+
+-- `OK` and these words
+abbrev pub ok : List (List ℕ) → List ℕ
+ok words = line_of (codes "OK" ∷ words)
+
+-- the line of a session in a list: its name, its step, how many atoms it has and how much is saved in it
+abbrev pub session_line : List ℕ × Session → List ℕ
+session_line entry =
+    let session = entry.1 in
+    line_of (entry.0 ∷ signed_decimal session.sim.step ∷ decimal (atoms_of session) ∷ decimal (length session.saved) ∷ [])
+
+-- the line of what is saved: its name and its step
+abbrev pub branch_line : List ℕ × Simulation → List ℕ
+branch_line entry = line_of (entry.0 ∷ signed_decimal entry.1.step ∷ [])
+
+-- the line of an atom, its place in millionths of a file unit
+abbrev pub atom_line : ℕ → List ℕ → Place → List ℕ
+atom_line edge symbol place = ended (atom_text symbol (micro_of edge place.x) (micro_of edge place.y) (micro_of edge place.z))
+
+abbrev pub atom_lines : ℕ → List (List ℕ) → List Place → List ℕ
+atom_lines edge (symbol ∷ symbols) (place ∷ places) = atom_line edge symbol place ++ atom_lines edge symbols places
+atom_lines edge (symbol ∷ symbols) [] = []
+atom_lines edge [] places = []
+
+-- the frame of a session: the number of its atoms, its step, and a line for each atom
+abbrev pub frame_text : Session → List ℕ
+frame_text session =
+    ended (count_text (atoms_of session)) ++ (ended (comment_text session.sim.step) ++ atom_lines session.units.edge session.symbols session.sim.cur)
+
+-- `OK DUMP`, and the frame
+abbrev pub dump_text : List ℕ → Option Session → List ℕ
+dump_text name (Some session) =
+    ok (codes "DUMP" ∷ name ∷ signed_decimal session.sim.step ∷ decimal (atoms_of session + 2) ∷ []) ++ frame_text session
+dump_text name None = []
+
+-- `OK LIST`, and a line for each that is saved in the session
+abbrev pub branches_text : List ℕ → Option Session → List ℕ
+branches_text name (Some session) = ok (codes "LIST" ∷ name ∷ decimal (length session.saved) ∷ []) ++ flat_map branch_line session.saved
+branches_text name None = []
+
+-- the text of a reply, with the user after the command
+unfoldable pub text : User → Reply → List ℕ
+text user (Loaded name atoms) = ok (codes "LOAD" ∷ name ∷ codes "0" ∷ decimal atoms ∷ [])
+text user (Advanced name step) = ok (codes "ADVANCE" ∷ name ∷ signed_decimal step ∷ [])
+text user (Reversed name step) = ok (codes "REVERSE" ∷ name ∷ signed_decimal step ∷ [])
+text user (Branched name branch step) = ok (codes "BRANCH" ∷ name ∷ branch ∷ signed_decimal step ∷ [])
+text user (Restored name branch step) = ok (codes "RESTORE" ∷ name ∷ branch ∷ signed_decimal step ∷ [])
+text user (Forgotten name branch) = ok (codes "FORGET" ∷ name ∷ branch ∷ [])
+text user (Tugged name atom step) = ok (codes "TUG" ∷ name ∷ decimal atom ∷ signed_decimal step ∷ [])
+text user (Measured name step atoms momentum kinetic potential) =
+    ok (codes "MEASURE" ∷ name ∷ signed_decimal step ∷ decimal atoms ∷ (map signed_decimal momentum ++ decimal kinetic ∷ signed_decimal potential ∷ []))
+text user (Shown name step atom place) =
+    ok (codes "SHOW" ∷ name ∷ signed_decimal step ∷ decimal atom ∷ decimal place.x ∷ decimal place.y ∷ decimal place.z ∷ [])
+text user (Dumped name) = dump_text name (named name user.sessions)
+text user Listed = ok (codes "LIST" ∷ decimal (length user.sessions) ∷ []) ++ flat_map session_line user.sessions
+text user (ListedBranches name) = branches_text name (named name user.sessions)
+text user (Unloaded name) = ok (codes "DROP" ∷ name ∷ [])
+text user Bye = ok (codes "BYE" ∷ [])
+text user (Refused refusal) = ended (refusal_text refusal)
+
+-- the text that tells want of memory
+abbrev pub memory_text : List ℕ
+memory_text = ended (refusal_text Memory)
+
+-- whether a text is the memory refusal
+abbrev pub is_memory : List ℕ → Bool
+is_memory text = bytes_eq text memory_text

@@ -1,0 +1,44 @@
+-- What a user is told: the texts of the answers to items, one after the other.
+use Rattle.std.specs.Prelude.{ℕ, Bool, false, List, [], ◌∷◌}
+use Rattle.lj_session.specs.declared.reply.Reply.{Reply}
+use Rattle.lj_session.specs.declared.reply.Reply.TheVariants.{Refused}
+use Rattle.lj_session.specs.Users.{Quota, User, fresh}
+use Rattle.lj_session.specs.Answers.{answer}
+use Rattle.lj_wire.specs.declared.item.Item.{Item}
+use Rattle.lj_wire.specs.declared.item.Item.TheVariants.{Command, Bad, Last}
+use Rattle.lj_wire.specs.Items.{refusal_of}
+use Rattle.lj_wire.specs.Texts.{text}
+
+-- the reply to an item, and the user after it
+abbrev pub answered : User → Item → Bool → Reply × User
+answered user (Command command) mark = answer user command mark
+answered user (Bad fault) mark = (Refused (refusal_of fault), user)
+answered user (Last fault) mark = (Refused (refusal_of fault), user)
+
+-- the text that an item is answered, and the user after it
+abbrev pub told : User → Item → Bool → List ℕ × User
+told user item mark = let a = answered user item mark in (text a.1 a.0, a.1)
+
+-- a mark says that memory was refused to an item, and a missing one that it was not
+abbrev pub first_mark : List Bool → Bool
+first_mark [] = false
+first_mark (mark ∷ marks) = mark
+
+abbrev pub other_marks : List Bool → List Bool
+other_marks [] = []
+other_marks (mark ∷ marks) = marks
+
+-- the texts of the answers to items, from a user on
+abbrev pub texts : User → List Item → List Bool → List (List ℕ)
+texts user [] marks = []
+texts user (item ∷ items) marks =
+    let next = told user item (first_mark marks) in next.0 ∷ texts next.1 items (other_marks marks)
+
+-- the user after items
+abbrev pub last_user : User → List Item → List Bool → User
+last_user user [] marks = user
+last_user user (item ∷ items) marks = last_user (told user item (first_mark marks)).1 items (other_marks marks)
+
+-- A user's items answered alone, from the user without sessions: the texts, and the last user.
+abbrev pub alone : Quota → List Item → List Bool → List (List ℕ) × User
+alone quota items marks = (texts (fresh quota) items marks, last_user (fresh quota) items marks)

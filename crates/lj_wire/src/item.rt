@@ -1,0 +1,59 @@
+//! Items of a stream of bytes.
+ghost use Rattle.std.specs.Prelude.{◌≡◌};
+ghost use Rattle.lj_wire.specs.Items.{refusal_of, ends};
+
+use lj_session::{Command, Refusal};
+
+/// What is wrong with an item that is no command.
+#[derive(Clone, Copy, Debug, PartialEq, Eq)]
+pub enum Fault {
+    /// A line of more than 256 bytes.
+    Line,
+    /// A line without a word, a wrong number of words, or a word not of its shape.
+    Syntax,
+    /// A LOAD line without a count.
+    Body,
+    /// 65,536 bytes without a line feed.
+    Long,
+    /// The first word is no command.
+    Command,
+    /// A million items came before.
+    Enough,
+}
+
+/// An item of a stream.
+#[derive(Debug, Drop)]
+pub enum Item {
+    Command(Command),
+    /// The connection goes on behind it.
+    Bad(Fault),
+    /// The connection ends with it.
+    Last(Fault),
+}
+
+impl From<Fault> for Refusal {
+    ghost from_gives = { λ fault refusal. refusal ≡ refusal_of fault };
+
+    fn from(fault: Fault) -> Refusal {
+        match fault {
+            Fault::Line => Refusal::Line,
+            Fault::Syntax => Refusal::Syntax,
+            Fault::Body => Refusal::Body,
+            Fault::Long => Refusal::Long,
+            Fault::Command => Refusal::Command,
+            Fault::Enough => Refusal::Enough,
+        }
+    }
+}
+
+impl Item {
+    /// Whether the connection ends with this item.
+    pub fn ends(&self) -> bool
+        ensures { result ≡ ends self.now }
+    {
+        match self {
+            Item::Command(Command::Bye) | Item::Last(_) => true,
+            Item::Command(_) | Item::Bad(_) => false,
+        }
+    }
+}
