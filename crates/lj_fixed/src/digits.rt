@@ -43,7 +43,8 @@ fn power_of_ten(power: u32) -> Option<u64>
 
 // `number` times ten to a power, or nothing if that is above `NANO_LIMIT`.
 fn raised(number: u64, power: u32) -> Option<u64>
-    ensures { MatchOption result (nano_limit < number * 10 ^ power) (λ value. value ≡ number * 10 ^ power) }
+    ensures { MatchOption result (nano_limit < number * 10 ^ power)
+        (λ value. value ≡ number * 10 ^ power) }
 {
     if number == 0 {
         return Some(0);
@@ -87,7 +88,8 @@ impl Significand {
     fn push(self, digit: u8) -> Significand
         requires digit { digit < 10 }
         requires dropped { self.dropped < 2 ^ 31 }
-        ensures number { (n : ℕ) → Leads self.number self.dropped n → Leads result.number result.dropped (n * 10 + digit) }
+        ensures number { (n : ℕ) → Leads self.number self.dropped n
+            → Leads result.number result.dropped (n * 10 + digit) }
         ensures dropped { result.dropped ≤ self.dropped + 1 }
     {
         if self.number < FULL {
@@ -124,7 +126,8 @@ impl Significand {
     // The number times ten to the power `up` over ten to the power `down`, rounded, if it is at most `NANO_LIMIT`.
     pub fn scaled(self, up: u32, down: u32) -> Option<u64>
         requires { self.dropped + up < 2 ^ 32 }
-        ensures { (n : ℕ) → Leads self.number self.dropped n → result ≡ within_limit (rounded (n * 10 ^ up) (10 ^ down)) }
+        ensures { (n : ℕ) → Leads self.number self.dropped n
+            → result ≡ within_limit (rounded (n * 10 ^ up) (10 ^ down)) }
     {
         let up = up + self.dropped;
         let size = if up >= down {

@@ -67,6 +67,7 @@ fn read_fraction(whole: Significand, rest: &[u8]) -> (Significand, usize, &[u8])
     }
 }
 
+// The digits at the front of a text, with a point before, among or behind them or without one.
 fn read_mantissa(text: &[u8]) -> Mantissa<'_>
     requires { length text.now ≤ 40 }
     ensures number { Leads result.significand.number result.significand.dropped
@@ -89,7 +90,8 @@ fn read_mantissa(text: &[u8]) -> Mantissa<'_>
 
 // One to three digits.
 fn read_short_number(digits: &[u8]) -> Option<u16>
-    ensures value { result ≡ (if is_short_number digits.now then Some (digits_value 10 digits.now) else None) }
+    ensures value { result ≡ (if is_short_number digits.now
+        then Some (digits_value 10 digits.now) else None) }
     ensures short { IfSome result (λ number. number < 1000) }
 {
     if digits.is_empty() || digits.len() > MAX_EXPONENT_DIGITS {
@@ -104,7 +106,8 @@ fn read_short_number(digits: &[u8]) -> Option<u16>
 
 // The exponent that stands behind the letter: an optional sign and one to three digits.
 fn read_power(text: &[u8]) -> Option<i32>
-    ensures value { result ≡ (if is_exponent text.now then Some (signed_digits_value 10 text.now) else None) }
+    ensures value { result ≡ (if is_exponent text.now
+        then Some (signed_digits_value 10 text.now) else None) }
     ensures lowest { IfSome result (λ power. negsuc 998 ≤ℤ power) }
     ensures highest { IfSome result (λ power. power ≤ℤ pos 999) }
 {
@@ -121,7 +124,8 @@ fn is_exponent_letter(byte: u8) -> bool
 
 // The exponent of a word whose mantissa stands before `tail`.
 fn read_exponent(tail: &[u8]) -> Option<i32>
-    ensures value { result ≡ (if begins_exponent tail.now then exponent_of tail.now else None) }
+    ensures value { result ≡ (if begins_exponent tail.now
+        then exponent_of tail.now else None) }
     ensures lowest { IfSome result (λ exponent. negsuc 998 ≤ℤ exponent) }
     ensures highest { IfSome result (λ exponent. exponent ≤ℤ pos 999) }
 {
