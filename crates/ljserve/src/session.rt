@@ -1,5 +1,6 @@
 //! The sessions of a run, and the answers to commands on them.
-ghost use Rattle.std.specs.Prelude.{◌≡◌, ◌≤◌, ◌^◌, ◌↔◌, IsTrue, IfOk, vec_len, unsigned_abs};
+ghost use Rattle.std.specs.Prelude.{◌≡◌, ◌≤◌, ◌^◌, ◌↔◌, IsTrue, IfOk, vec_len, pos, unwrap_or, unsigned_abs};
+ghost use Rattle.lj_ring.specs.Scales as scales;
 ghost use Rattle.lj_step.specs.Motion as motion;
 ghost use Rattle.lj_step.specs.Motion.{opening};
 ghost use Rattle.ljserve.specs.Advances.{MayAdvance};
@@ -109,7 +110,9 @@ fn scale_of(
     edge: Option<Nano>,
     sigma: Option<Nano>,
     step_factor: Option<u64>,
-) -> Result<Scale, ScaleFault> {
+) -> Result<Scale, ScaleFault>
+    ensures { result ≡ scales.scale_of (unwrap_or edge (pos 0)) (unwrap_or sigma (pos 0)) (unwrap_or step_factor 0) }
+{
     let zero = Nano::new(0).unwrap();
     Scale::new(
         edge.unwrap_or(zero),
