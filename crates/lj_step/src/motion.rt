@@ -4,7 +4,7 @@ ghost use Rattle.lj_step.specs.Motion as motion;
 
 use lj_ring::{Place, Scale};
 use lj_table::Table;
-use lj_tile::{Push, pair_push};
+use lj_tile::{Push, add_pair_push};
 use std::alloc::{AllocError, Global};
 use std::marker::Model;
 use std::mem;
@@ -182,7 +182,7 @@ fn force_on(i: usize, frame: &[Place], scale: &Scale, table: &Table) -> Push
     let here = frame[i];
     let mut sum = Push::NONE;
     for there in frame {
-        sum = sum.plus(pair_push(table, scale, &here, there));
+        sum = add_pair_push(sum, table, scale, &here, there);
     }
     sum
 }

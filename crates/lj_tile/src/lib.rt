@@ -3,4 +3,4 @@
 
 mod pairs;
 
-pub use pairs::{Push, pair_push};
+pub use pairs::{Push, add_pair_push, pair_push};
