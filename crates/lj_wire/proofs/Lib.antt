@@ -1,1 +1,3 @@
-pub mod Splitting
+mod Splitting
+mod Marks
+mod Turns

@@ -3,6 +3,12 @@ pub mod Numbers
 pub mod Commands
 pub mod Texts
 pub mod Told
+pub mod Runs
 pub mod Streams
+pub mod Laws
 pub mod Played
 pub mod Worked
+pub mod WorkedBodies
+pub mod WorkedUsers
+pub mod WorkedLines
+pub mod WorkedLimits

@@ -1,6 +1,6 @@
 -- Streams worked out by computation: a stream given as lines with their bodies, and what is written for it.
-use Rattle.std.specs.Prelude.{◌≡◌, ℕ, ◌+◌, ◌<◌, ◌==◌, Bool, true, false, not, ◌&&◌, nat_lt, List, [], ◌∷◌, ◌++◌, length, map, if◌then◌else◌, refl}
-use Rattle.std.specs.List.{list_any, concat}
+use Rattle.std.specs.Prelude.{◌≡◌, ℕ, zero, suc, ◌+◌, ◌<◌, ◌==◌, Bool, true, false, not, ◌&&◌, nat_lt, List, [], ◌∷◌, ◌++◌, length, map, take, drop, if◌then◌else◌, refl}
+use Rattle.std.specs.List.{list_any, concat, before_first, after_first}
 use Rattle.std.specs.Fmt.{digits}
 use Rattle.std.proofs.Common.{inl, inr, ap, sym, ◌∙◌, subst}
 use Rattle.std.proofs.lemmas.Bool.{and_parts, ltb-true, eqb-true}
@@ -35,14 +35,16 @@ Piece = List ℕ × List ℕ
 abbrev pub piece_item : Piece → Item
 piece_item piece = item_of piece.0 piece.1
 
--- what stands behind the pieces: nothing, a line whose body is cut short, or whatever is not read any more
+-- what stands behind the pieces: nothing, a line that is cut short, a line whose body is, or whatever is not read any more
 pub data Rest : Type 0 where
   nothing : Rest
+  open_line : List ℕ → Rest
   short : List ℕ → List ℕ → Rest
   unread : List ℕ → Rest
 
 abbrev pub rest_bytes : Rest → List ℕ
 rest_bytes nothing = []
+rest_bytes (open_line line) = line
 rest_bytes (short line body) = line ++ 10 ∷ body
 rest_bytes (unread bytes) = bytes
 
@@ -62,6 +64,7 @@ is_piece piece = is_line piece.0 && length piece.1 == announced piece.0
 
 abbrev pub is_part : Rest → Bool
 is_part nothing = true
+is_part (open_line line) = is_line line
 is_part (short line body) = is_line line && nat_lt (length body) (announced line)
 is_part (unread bytes) = false
 
@@ -98,6 +101,7 @@ IsLineItem-from_test piece h =
 
 IsPart-from_test : (n : ℕ) (rest : Rest) → n < most_items → is_part rest ≡ true → IsPart n (rest_bytes rest)
 IsPart-from_test n nothing below h = (below, inl (refl, ltb-true 0 65536 refl))
+IsPart-from_test n (open_line line) below h = (below, inl (IsLine-from_test line h))
 IsPart-from_test n (short line body) below h =
     let p = and_parts (is_line line) (nat_lt (length body) (announced line)) h in (
       below,
@@ -153,22 +157,41 @@ AreMarks-unset : (user : User) (items : List Item) → AreMarks (unset items) (t
 AreMarks-unset user [] = tt
 AreMarks-unset user (item ∷ items) = ((λ e. cc), AreMarks-unset (told user item false).1 items)
 
+-- a quota of so many sessions, atoms and saved simulations
+abbrev pub quota : ℕ → ℕ → ℕ → Quota
+quota sessions atoms branches = record { sessions = sessions; atoms = atoms; branches = branches }
+
+-- the quota of a program that is given none
+abbrev pub usual : Quota
+usual = quota 8 16384 16
+
 -- what a new user with this quota is written for bytes, where memory is there
 abbrev pub IsWritten : Quota → List ℕ → List ℕ → Type 0
 IsWritten quota bytes written = (next : User) × Dialogue (fresh quota) bytes written next
 
-pub played : (quota : Quota) (pieces : List Piece) (rest : Rest) (bytes written : List ℕ) → bytes ≡ stream_of pieces (rest_bytes rest)
-    → are_pieces 0 pieces rest ≡ true → written ≡ concat (texts (fresh quota) (items_of pieces) []) → IsWritten quota bytes written
-played quota pieces rest bytes written b test w =
+-- The first items of a stream, so many of them, as lines with the bodies that they announce.
+abbrev pub cut : ℕ → List ℕ → List Piece
+cut zero bytes = []
+cut (suc n) bytes =
+    let line = before_first is_line_feed bytes in
+    let behind = after_first is_line_feed bytes in
+    (line, take (announced line) behind) ∷ cut n (drop (announced line) behind)
+
+-- so many items are cut off the stream, and a rest is left; what is written for them follows by computation
+pub played : (allowed : Quota) (count : ℕ) (rest : Rest) (bytes written : List ℕ) → bytes ≡ stream_of (cut count bytes) (rest_bytes rest)
+    → are_pieces 0 (cut count bytes) rest ≡ true → written ≡ concat (texts (fresh allowed) (items_of (cut count bytes)) [])
+    → IsWritten allowed bytes written
+played allowed count rest bytes written whole test told =
+    let pieces = cut count bytes in
     let items = items_of pieces in (
-      last_user (fresh quota) items (unset items),
+      last_user (fresh allowed) items (unset items),
       record {
         items = items;
         rest = rest_bytes rest;
         marks = unset items;
-        splits = subst (λ x. Splits 0 x items (rest_bytes rest)) (sym b) (Splits-from_test 0 pieces rest test);
-        are_marks = AreMarks-unset (fresh quota) items;
-        written_is = w ∙ ap concat (sym (texts-unset (fresh quota) items));
+        splits = subst (λ x. Splits 0 x items (rest_bytes rest)) (sym whole) (Splits-from_test 0 pieces rest test);
+        are_marks = AreMarks-unset (fresh allowed) items;
+        written_is = told ∙ ap concat (sym (texts-unset (fresh allowed) items));
         next_is = refl;
       },
     )

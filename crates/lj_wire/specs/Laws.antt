@@ -1,0 +1,32 @@
+-- Laws of streams and of answers, each proved on the function of its name.
+use Rattle.std.specs.Prelude.{◌≡◌, ℕ, ◌+◌, ◌<◌, Bool, false, List}
+use Rattle.lj_session.specs.Users.{User}
+use Rattle.lj_wire.specs.declared.item.Item.{Item}
+use Rattle.lj_wire.specs.Items.{ends}
+use Rattle.lj_wire.specs.Texts.{is_memory}
+use Rattle.lj_wire.specs.Told.{told}
+use Rattle.lj_wire.specs.Runs.{item_turns, user_turned, item_left}
+use Rattle.lj_wire.specs.Streams.{Splits}
+
+-- A stream has one splitting into items and a rest.
+abbrev pub OneSplitting : Type 0
+OneSplitting = (n : ℕ) (bytes : List ℕ) (items others : List Item) (rest remainder : List ℕ)
+    → Splits n bytes items rest → Splits n bytes others remainder → (items ≡ others) × (rest ≡ remainder)
+
+-- What is told says whether memory was refused: the mark may be read off the text.
+abbrev pub MarkIsTold : Type 0
+MarkIsTold = (user : User) (item : Item) (mark : Bool) → told user item mark ≡ told user item (is_memory (told user item mark).0)
+
+-- While more than one turn is left, a turn does not change what is told in the end.
+abbrev pub TurnKeepsTold : Type 0
+TurnKeepsTold = (user : User) (item : Item) (mark : Bool) → 1 < item_turns user item
+    → told (user_turned user item) (item_left item) mark ≡ told user item mark
+
+-- A turn lowers the number of turns by one, while more than one is left.
+abbrev pub TurnLowersTurns : Type 0
+TurnLowersTurns = (user : User) (item : Item) → 1 < item_turns user item
+    → item_turns (user_turned user item) (item_left item) + 1 ≡ item_turns user item
+
+-- What runs does not end the connection, and what is left of it does not either.
+abbrev pub RunningGoesOn : Type 0
+RunningGoesOn = (user : User) (item : Item) → 0 < item_turns user item → (ends item ≡ false) × (ends (item_left item) ≡ false)

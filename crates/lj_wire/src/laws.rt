@@ -1,0 +1,27 @@
+//! Laws of streams and of answers: functions that do nothing, whose contracts are the laws.
+ghost use Rattle.lj_wire.specs.Laws.{OneSplitting, MarkIsTold, TurnKeepsTold, TurnLowersTurns, RunningGoesOn};
+
+/// A stream has one splitting into items and a rest.
+pub fn one_splitting()
+    ensures { OneSplitting }
+{}
+
+/// The mark of an item may be read off the text that it is answered.
+pub fn mark_is_told()
+    ensures { MarkIsTold }
+{}
+
+/// While more than one turn is left, a turn does not change what is told in the end.
+pub fn turn_keeps_told()
+    ensures { TurnKeepsTold }
+{}
+
+/// A turn lowers the number of turns by one.
+pub fn turn_lowers_turns()
+    ensures { TurnLowersTurns }
+{}
+
+/// What runs does not end the connection.
+pub fn running_goes_on()
+    ensures { RunningGoesOn }
+{}
