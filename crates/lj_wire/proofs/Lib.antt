@@ -1,3 +1,4 @@
 mod Splitting
 mod Marks
 mod Turns
+mod Existence

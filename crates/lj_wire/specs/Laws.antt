@@ -13,6 +13,10 @@ abbrev pub OneSplitting : Type 0
 OneSplitting = (n : ℕ) (bytes : List ℕ) (items others : List Item) (rest remainder : List ℕ)
     → Splits n bytes items rest → Splits n bytes others remainder → (items ≡ others) × (rest ≡ remainder)
 
+-- Each stream has a splitting.
+abbrev pub SomeSplitting : Type 0
+SomeSplitting = (bytes : List ℕ) → (items : List Item) × (rest : List ℕ) × Splits 0 bytes items rest
+
 -- What is told says whether memory was refused: the mark may be read off the text.
 abbrev pub MarkIsTold : Type 0
 MarkIsTold = (user : User) (item : Item) (mark : Bool) → told user item mark ≡ told user item (is_memory (told user item mark).0)

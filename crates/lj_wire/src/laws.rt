@@ -1,9 +1,14 @@
 //! Laws of streams and of answers: functions that do nothing, whose contracts are the laws.
-ghost use Rattle.lj_wire.specs.Laws.{OneSplitting, MarkIsTold, TurnKeepsTold, TurnLowersTurns, RunningGoesOn};
+ghost use Rattle.lj_wire.specs.Laws.{OneSplitting, SomeSplitting, MarkIsTold, TurnKeepsTold, TurnLowersTurns, RunningGoesOn};
 
 /// A stream has one splitting into items and a rest.
 pub fn one_splitting()
     ensures { OneSplitting }
+{}
+
+/// Each stream has a splitting into items and a rest.
+pub fn some_splitting()
+    ensures { SomeSplitting }
 {}
 
 /// The mark of an item may be read off the text that it is answered.

@@ -5,4 +5,7 @@ mod item;
 mod laws;
 
 pub use item::{Fault, Item};
-pub use laws::{mark_is_told, one_splitting, running_goes_on, turn_keeps_told, turn_lowers_turns};
+pub use laws::{
+    mark_is_told, one_splitting, running_goes_on, some_splitting, turn_keeps_told,
+    turn_lowers_turns,
+};
