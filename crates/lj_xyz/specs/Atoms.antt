@@ -22,6 +22,7 @@ number_of word =
     then Some (digits_value 10 word)
     else None
 
+-- a number, if a frame may have so many atoms
 abbrev pub count_if : Option ℕ → Option ℕ
 count_if None = None
 count_if (Some n) = if is_count n then Some n else None
@@ -30,18 +31,20 @@ count_if (Some n) = if is_count n then Some n else None
 abbrev pub count_of : List ℕ → Option ℕ
 count_of word = count_if (number_of word)
 
+-- the next step, or the fault of the first one
 infixl 10 ◌>>=◌
 abbrev pub ◌>>=◌ : {A B F : Type 0} → Result A F → (A → Result B F) → Result B F
 (Ok x) >>= f = f x
 (Err e) >>= f = Err e
 
-abbrev pub fault_of_kind : Result ℤ NumberFault → Result ℤ XyzKind
-fault_of_kind (Ok nano) = Ok nano
-fault_of_kind (Err fault) = Err (kind_of fault)
+-- a nano, or its fault as a fault of the line
+abbrev pub coordinate_or_kind : Result ℤ NumberFault → Result ℤ XyzKind
+coordinate_or_kind (Ok nano) = Ok nano
+coordinate_or_kind (Err fault) = Err (kind_of fault)
 
 -- the coordinate that a word writes, in nano
 abbrev pub coordinate : List ℕ → Result ℤ XyzKind
-coordinate word = fault_of_kind (nano_of word)
+coordinate word = coordinate_or_kind (nano_of word)
 
 -- the atom that four words say, or the first fault of them
 unfoldable pub row_of_four : List ℕ → List ℕ → List ℕ → List ℕ → Result Row XyzKind

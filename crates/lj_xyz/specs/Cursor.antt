@@ -3,5 +3,6 @@ use Rattle.lj_xyz.specs.declared.lines.Lines.{Lines}
 use Rattle.lj_xyz.specs.Lines.{lines_of}
 use Rattle.lj_xyz.specs.Reading.{Left}
 
+-- how many lines it took, and the lines that it has left
 abbrev pub left_of : Lines → Left
 left_of lines = record { taken = lines.taken; lines = lines_of lines.rest.now }

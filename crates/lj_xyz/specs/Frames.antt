@@ -68,27 +68,37 @@ fault_behind lines kind = record { kind = kind; line = lines + 1 }
 pub data FirstFault (position : Position) (before : ℕ) (lines : List (List ℕ)) (fault : XyzFault) : Type 0 where
   -- there is no count line
   no_count : AllByRecursion IsWordless lines
-      → fault ≡ fault_behind (before + length lines) (missing position) → FirstFault position before lines fault
+      → fault ≡ fault_behind (before + length lines) (missing position)
+      → FirstFault position before lines fault
   -- the count line's first word is no number of atoms
-  bad_count : (blanks : List (List ℕ)) (count : List ℕ) (behind : List (List ℕ)) → lines ≡ blanks ++ count ∷ behind
+  bad_count : (blanks : List (List ℕ)) (count : List ℕ) (behind : List (List ℕ))
+      → lines ≡ blanks ++ count ∷ behind
       → AllByRecursion IsWordless blanks → Counts count None
-      → fault ≡ fault_behind (before + length blanks) kind.Count → FirstFault position before lines fault
+      → fault ≡ fault_behind (before + length blanks) kind.Count
+      → FirstFault position before lines fault
   -- the number of atoms is not that of the first frame
-  other_count : (blanks : List (List ℕ)) (count : List ℕ) (behind : List (List ℕ)) (n : ℕ) → lines ≡ blanks ++ count ∷ behind
+  other_count : (blanks : List (List ℕ)) (count : List ℕ) (behind : List (List ℕ)) (n : ℕ)
+      → lines ≡ blanks ++ count ∷ behind
       → AllByRecursion IsWordless blanks → Counts count (Some n) → admits position n ≡ false
-      → fault ≡ fault_behind (before + length blanks) kind.Pair → FirstFault position before lines fault
+      → fault ≡ fault_behind (before + length blanks) kind.Pair
+      → FirstFault position before lines fault
   -- the comment line is missing
   no_comment : (n : ℕ) → IsHead position lines n
-      → fault ≡ fault_behind (before + length lines) kind.Short → FirstFault position before lines fault
+      → fault ≡ fault_behind (before + length lines) kind.Short
+      → FirstFault position before lines fault
   -- an atom line is missing
   no_atom : (head : List (List ℕ)) (n : ℕ) (comment : List ℕ) (atoms : List (List ℕ)) (rows : List Row)
-      → lines ≡ head ++ comment ∷ atoms → IsHead position head n → AreAtoms atoms rows → length atoms < n
-      → fault ≡ fault_behind (before + length lines) kind.Short → FirstFault position before lines fault
+      → lines ≡ head ++ comment ∷ atoms
+      → IsHead position head n → AreAtoms atoms rows → length atoms < n
+      → fault ≡ fault_behind (before + length lines) kind.Short
+      → FirstFault position before lines fault
   -- an atom line says no atom
-  bad_atom : (head : List (List ℕ)) (n : ℕ) (comment : List ℕ) (atoms : List (List ℕ)) (rows : List Row) (bad : List ℕ) (behind : List (List ℕ)) (wrong : XyzKind)
-      → lines ≡ head ++ comment ∷ (atoms ++ bad ∷ behind) → IsHead position head n → AreAtoms atoms rows → length atoms < n
-      → row_of bad ≡ Err wrong
-      → fault ≡ fault_behind (before + length head + 1 + length atoms) wrong → FirstFault position before lines fault
+  bad_atom : (head : List (List ℕ)) (n : ℕ) (comment : List ℕ) (atoms : List (List ℕ)) (rows : List Row)
+      (bad : List ℕ) (behind : List (List ℕ)) (wrong : XyzKind)
+      → lines ≡ head ++ comment ∷ (atoms ++ bad ∷ behind)
+      → IsHead position head n → AreAtoms atoms rows → length atoms < n → row_of bad ≡ Err wrong
+      → fault ≡ fault_behind (before + length head + 1 + length atoms) wrong
+      → FirstFault position before lines fault
 
 -- The lines of a body begin with a frame of these rows; what follows the frame is not read.
 pub record GivesOne (lines : List (List ℕ)) (rows : List Row) : Type 0 where
@@ -119,5 +129,6 @@ pub record FaultOfSecond (lines : List (List ℕ)) (fault : XyzFault) : Type 0 w
 abbrev pub IsReading : Mode → List (List ℕ) → Result (List (List Row)) XyzFault → Type 0
 IsReading rest lines (Ok frames) = (rows : List Row) × (frames ≡ rows ∷ []) × GivesOne lines rows
 IsReading rest lines (Err fault) = FirstFault First 0 lines fault
-IsReading pair lines (Ok frames) = (first : List Row) × (second : List Row) × (frames ≡ first ∷ second ∷ []) × GivesTwo lines first second
+IsReading pair lines (Ok frames) =
+    (first : List Row) × (second : List Row) × (frames ≡ first ∷ second ∷ []) × GivesTwo lines first second
 IsReading pair lines (Err fault) = FirstFault First 0 lines fault ⊎ FaultOfSecond lines fault

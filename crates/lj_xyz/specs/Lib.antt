@@ -6,3 +6,4 @@ pub mod Frames
 pub mod Reading
 pub mod Cursor
 pub mod Texts
+pub mod Worked

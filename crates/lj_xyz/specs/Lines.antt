@@ -11,6 +11,7 @@ is_line_feed b = b == 10
 abbrev pub is_blank : ℕ → Bool
 is_blank b = b == 32 || b == 9
 
+-- a part between blanks that has a byte
 abbrev pub is_word : List ℕ → Bool
 is_word part = nat_lt 0 (length part)
 

@@ -18,6 +18,7 @@ pub record Left : Type 0 where
   pub taken : ℕ
   pub lines : List (List ℕ)
 
+-- a fault at the line of that number
 abbrev pub fault_at : ℕ → XyzKind → XyzFault
 fault_at line kind = record { kind = kind; line = line }
 
@@ -32,7 +33,8 @@ head_in position taken [] = Err (fault_behind taken (missing position))
 head_in position taken (line ∷ lines) =
     elim (words_of line) [
       | [] ↦ head_in position (taken + 1) lines
-      | first ∷ others ↦ admitted position (taken + 1) (count_of first) >>= λ n. Ok (n, record { taken = taken + 1; lines = lines })
+      | first ∷ others ↦
+          admitted position (taken + 1) (count_of first) >>= λ n. Ok (n, record { taken = taken + 1; lines = lines })
     ]
 
 -- the lines behind the comment line
@@ -48,7 +50,8 @@ row_at line (Err wrong) = Err (fault_at line wrong)
 -- the atom of the next line, and the lines behind it
 unfoldable pub next_row : ℕ → List (List ℕ) → Result (Row × Left) XyzFault
 next_row taken [] = Err (fault_behind taken kind.Short)
-next_row taken (line ∷ lines) = row_at (taken + 1) (row_of line) >>= λ row. Ok (row, record { taken = taken + 1; lines = lines })
+next_row taken (line ∷ lines) =
+    row_at (taken + 1) (row_of line) >>= λ row. Ok (row, record { taken = taken + 1; lines = lines })
 
 -- so many atoms, from these lines
 unfoldable pub rows_in : ℕ → Left → Result (List Row × Left) XyzFault
@@ -58,15 +61,18 @@ rows_in (suc n) left = do
   others ← rows_in n row.1
   Ok (row.0 ∷ others.0, others.1)
 
+-- the rows of a frame, and the lines behind it
 unfoldable pub frame_in : Position → Left → Result (List Row × Left) XyzFault
 frame_in position left = do
   head ← head_in position left.taken left.lines
   body ← behind_comment head.1.taken head.1.lines
   rows_in head.0 body
 
+-- the lines of a body, of which none is read
 abbrev pub start : List (List ℕ) → Left
 start lines = record { taken = 0; lines = lines }
 
+-- the frames that the mode asks for, or the first fault
 unfoldable pub reading : Mode → List (List ℕ) → Result (List (List Row)) XyzFault
 reading rest lines = do
   first ← frame_in First (start lines)
@@ -76,16 +82,17 @@ reading pair lines = do
   second ← frame_in (Second (length first.0)) first.1
   Ok (first.0 ∷ second.0 ∷ [])
 
--- what a function returned, seen by `view`, is what reading gives, unless memory ran out
+-- an error is what reading gives, unless memory ran out
 abbrev pub Fails : {Y : Type 0} → XyzError → Result Y XyzFault → Type 0
 Fails errors.Memory read = Unit {0}
 Fails (errors.Fault fault) read = read ≡ Err fault
 
+-- what a function returned, seen by `view`, is what reading gives, unless memory ran out
 abbrev pub Gives : {X Y : Type 0} → (X → Y) → Result X XyzError → Result Y XyzFault → Type 0
 Gives view (Ok x) read = read ≡ Ok (view x)
 Gives view (Err error) read = Fails error read
 
--- the same for a function that takes no memory
+-- the same of a function that takes no memory
 abbrev pub Tells : {X Y : Type 0} → (X → Y) → Result X XyzFault → Result Y XyzFault → Type 0
 Tells view (Ok x) read = read ≡ Ok (view x)
 Tells view (Err fault) read = read ≡ Err fault

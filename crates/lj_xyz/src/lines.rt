@@ -27,8 +27,11 @@ impl<'a> Lines<'a> {
     /// The next line without its end, if one is left.
     pub fn next_line(&mut self) -> Option<&'a [u8]>
         ensures line { MatchOption result
-            ((lines_of self.old.rest.now ≡ []) × (self.new.taken ≡ self.old.taken) × (self.new.rest.now ≡ self.old.rest.now))
-            (λ line. (lines_of self.old.rest.now ≡ line.now ∷ lines_of self.new.rest.now) × (self.new.taken ≡ self.old.taken + 1)) }
+            ((lines_of self.old.rest.now ≡ [])
+            × (self.new.taken ≡ self.old.taken)
+            × (self.new.rest.now ≡ self.old.rest.now))
+            (λ line. (lines_of self.old.rest.now ≡ line.now ∷ lines_of self.new.rest.now)
+            × (self.new.taken ≡ self.old.taken + 1)) }
     {
         let (line, rest) = split_line(self.rest)?;
         self.rest = rest;
@@ -39,7 +42,9 @@ impl<'a> Lines<'a> {
 
 /// The first line of a text without its end, and what follows it.
 fn split_line(text: &[u8]) -> Option<(&[u8], &[u8])>
-    ensures line { MatchOption result (lines_of text.now ≡ []) (λ p. lines_of text.now ≡ p.0.now ∷ lines_of p.1.now) }
+    ensures line { MatchOption result
+        (lines_of text.now ≡ [])
+        (λ p. lines_of text.now ≡ p.0.now ∷ lines_of p.1.now) }
     ensures shorter { MatchOption result (length text.now ≡ 0) (λ p. length p.1.now < length text.now) }
 {
     if text.is_empty() {
@@ -88,7 +93,9 @@ fn blanks_len(line: &[u8]) -> usize
 
 /// The first word of a line, and what follows it.
 pub fn split_word(line: &[u8]) -> Option<(&[u8], &[u8])>
-    ensures { MatchOption result (words_of line.now ≡ []) (λ p. words_of line.now ≡ p.0.now ∷ words_of p.1.now) }
+    ensures { MatchOption result
+        (words_of line.now ≡ [])
+        (λ p. words_of line.now ≡ p.0.now ∷ words_of p.1.now) }
 {
     let line = &line[blanks_len(line)..];
     if line.is_empty() {

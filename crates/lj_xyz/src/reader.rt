@@ -118,7 +118,8 @@ fn admitted(position: Position, line: u64, word: &[u8]) -> Result<usize, XyzFaul
 
 // Passes over the lines without a word, and reads the count line.
 fn read_head(lines: &mut Lines, position: Position) -> Result<usize, XyzFault>
-    ensures { Tells (λ count. (count, left_of lines.new)) result (head_in position lines.old.taken (lines_of lines.old.rest.now)) }
+    ensures { Tells (λ count. (count, left_of lines.new)) result
+        (head_in position lines.old.taken (lines_of lines.old.rest.now)) }
 {
     while let Some(line) = lines.next_line() {
         if let Some((word, _others)) = split_word(line) {
@@ -133,7 +134,8 @@ fn read_head(lines: &mut Lines, position: Position) -> Result<usize, XyzFault>
 
 #[tactic(auto, unfolding(crate::specs::Reading::behind_comment))]
 fn pass_comment(lines: &mut Lines) -> Result<(), XyzFault>
-    ensures { Tells (λ _. left_of lines.new) result (behind_comment lines.old.taken (lines_of lines.old.rest.now)) }
+    ensures { Tells (λ _. left_of lines.new) result
+        (behind_comment lines.old.taken (lines_of lines.old.rest.now)) }
 {
     match lines.next_line() {
         Some(_comment) => Ok(()),
@@ -146,7 +148,8 @@ fn pass_comment(lines: &mut Lines) -> Result<(), XyzFault>
 
 #[tactic(auto, unfolding(crate::specs::Reading::next_row))]
 fn read_row(lines: &mut Lines) -> Result<Row, XyzFault>
-    ensures { Tells (λ row. (row, left_of lines.new)) result (next_row lines.old.taken (lines_of lines.old.rest.now)) }
+    ensures { Tells (λ row. (row, left_of lines.new)) result
+        (next_row lines.old.taken (lines_of lines.old.rest.now)) }
 {
     let Some(line) = lines.next_line() else {
         return Err(XyzFault {
@@ -164,7 +167,8 @@ fn read_row(lines: &mut Lines) -> Result<Row, XyzFault>
 }
 
 fn read_rows(alloc: Global, lines: &mut Lines, count: usize) -> Result<Vec<Row>, XyzError>
-    ensures { Gives (λ rows. (rows.items, left_of lines.new)) result (rows_in count (left_of lines.old)) }
+    ensures { Gives (λ rows. (rows.items, left_of lines.new)) result
+        (rows_in count (left_of lines.old)) }
 {
     let mut rows = Vec::with_capacity(alloc, count)?;
     for _ in 0..count {
@@ -176,7 +180,8 @@ fn read_rows(alloc: Global, lines: &mut Lines, count: usize) -> Result<Vec<Row>,
 
 #[tactic(auto, unfolding(crate::specs::Reading::frame_in))]
 fn read_frame(alloc: Global, lines: &mut Lines, position: Position) -> Result<Rows, XyzError>
-    ensures { Gives (λ rows. (rows, left_of lines.new)) result (frame_in position (left_of lines.old)) }
+    ensures { Gives (λ rows. (rows, left_of lines.new)) result
+        (frame_in position (left_of lines.old)) }
 {
     let count = read_head(lines, position)?;
     pass_comment(lines)?;
@@ -195,7 +200,8 @@ fn first_frame(alloc: Global, text: &[u8]) -> Result<Rows, XyzError>
 
 #[tactic(auto, unfolding(crate::specs::Reading::reading))]
 fn first_two_frames(alloc: Global, text: &[u8]) -> Result<FramePair, XyzError>
-    ensures { Gives (λ frames. frames.first ∷ frames.second ∷ []) result (reading pair (lines_of text.now)) }
+    ensures { Gives (λ frames. frames.first ∷ frames.second ∷ []) result
+        (reading pair (lines_of text.now)) }
 {
     let mut lines = Lines::new(text);
     let first = read_frame(alloc, &mut lines, Position::First)?;
@@ -206,7 +212,8 @@ fn first_two_frames(alloc: Global, text: &[u8]) -> Result<FramePair, XyzError>
 /// Reads the first frame of a text. What follows it is not read.
 pub fn read_rest(alloc: Global, text: &[u8]) -> Result<Rows, XyzError>
     ensures frame { IfOk result (λ rows. IsReading rest (lines_of text.now) (Ok (rows ∷ []))) }
-    ensures fault { (fault : XyzFault) → result ≡ Err (XyzError.Fault fault) → IsReading rest (lines_of text.now) (Err fault) }
+    ensures fault { (fault : XyzFault) →
+        result ≡ Err (XyzError.Fault fault) → IsReading rest (lines_of text.now) (Err fault) }
     ensures count { IfOk result (λ rows. IsTrue (is_count (length rows))) }
 
     // The same as an equation, where memory was found.
@@ -218,13 +225,16 @@ pub fn read_rest(alloc: Global, text: &[u8]) -> Result<Rows, XyzError>
 /// Reads the first two frames of a text, which are to have as many atoms. What follows them is not read. The symbols
 /// of the second frame are checked, and not compared with those of the first.
 pub fn read_pair(alloc: Global, text: &[u8]) -> Result<FramePair, XyzError>
-    ensures frames { IfOk result (λ frames. IsReading pair (lines_of text.now) (Ok (frames.first ∷ frames.second ∷ []))) }
-    ensures fault { (fault : XyzFault) → result ≡ Err (XyzError.Fault fault) → IsReading pair (lines_of text.now) (Err fault) }
+    ensures frames { IfOk result (λ frames.
+        IsReading pair (lines_of text.now) (Ok (frames.first ∷ frames.second ∷ []))) }
+    ensures fault { (fault : XyzFault) →
+        result ≡ Err (XyzError.Fault fault) → IsReading pair (lines_of text.now) (Err fault) }
     ensures count { IfOk result (λ frames. IsTrue (is_count (length frames.first))) }
     ensures same_count { IfOk result (λ frames. length frames.second ≡ length frames.first) }
 
     // The same as an equation, where memory was found.
-    ensures exact { Gives (λ frames. frames.first ∷ frames.second ∷ []) result (reading pair (lines_of text.now)) }
+    ensures exact { Gives (λ frames. frames.first ∷ frames.second ∷ []) result
+        (reading pair (lines_of text.now)) }
 {
     first_two_frames(alloc, text)
 }

@@ -10,7 +10,9 @@ use lj_fixed::micro_text;
 
 /// A line of a frame, without its line feed. The longest, of an atom, has a symbol of 16 bytes and three coordinates of
 /// at most 32 bytes, each behind a blank.
-pub type FrameLine = ArrayVec<u8, 128>;
+pub type FrameLine = ArrayVec<u8, LINE_CAPACITY>;
+
+const LINE_CAPACITY: usize = 128;
 
 /// The line with the number of atoms.
 pub fn count_line(atoms: usize) -> FrameLine
@@ -44,7 +46,7 @@ pub fn atom_line(symbol: &Symbol, x: u64, y: u64, z: u64) -> FrameLine
 }
 
 fn push_text(line: &mut FrameLine, text: &[u8])
-    requires { array_vec_len line.old + length text.now ≤ 128 }
+    requires { array_vec_len line.old + length text.now ≤ LINE_CAPACITY }
     ensures { line.new.items ≡ line.old.items ++ text.now }
 {
     let _fits = line.try_extend_from_slice(text);
@@ -52,7 +54,7 @@ fn push_text(line: &mut FrameLine, text: &[u8])
 
 // One blank and a coordinate.
 fn push_coordinate(line: &mut FrameLine, micros: u64)
-    requires { array_vec_len line.old + 33 ≤ 128 }
+    requires { array_vec_len line.old + 33 ≤ LINE_CAPACITY }
     ensures text { line.new.items ≡ line.old.items ++ codes " " ++ millionths micros }
     ensures short { array_vec_len line.new ≤ array_vec_len line.old + 33 }
 {
