@@ -28,11 +28,13 @@ unless false refusal = Err refusal
 abbrev pub nano_or_zero : Option ℤ → ℤ
 nano_or_zero nano = unwrap_or nano (pos 0)
 
+-- the refusal of a scale
 abbrev pub scale_refusal : ScaleFault → Refusal
 scale_refusal scale.Edge = Edge
 scale_refusal scale.Sigma = Sigma
 scale_refusal scale.StepFactor = StepFactor
 
+-- a scale, or its fault as a refusal
 abbrev pub scale_or_refusal : Result Units ScaleFault → Result Units Refusal
 scale_or_refusal (Ok units) = Ok units
 scale_or_refusal (Err fault) = Err (scale_refusal fault)
@@ -54,6 +56,7 @@ body_held None mark = Err Memory
 abbrev pub place_in : ℕ → Row → Place
 place_in edge row = record { x = place_of edge row.x; y = place_of edge row.y; z = place_of edge row.z }
 
+-- the frame of a list of atoms
 abbrev pub places_in : ℕ → List Row → List Place
 places_in edge rows = map (place_in edge) rows
 
@@ -72,10 +75,12 @@ session_of_frames units [] = opened units [] []
 session_of_frames units (only ∷ []) = opened units only only
 session_of_frames units (first ∷ second ∷ others) = opened units first second
 
+-- frames, or the fault of a body as a refusal
 abbrev pub frames_or_refusal : Result (List (List Row)) XyzFault → Result (List (List Row)) Refusal
 frames_or_refusal (Ok frames) = Ok frames
 frames_or_refusal (Err fault) = Err (Xyz fault)
 
+-- how many frames are read: the first, or the first two
 abbrev pub reading_mode : Mode → frames.Mode
 reading_mode Rest = frames.rest
 reading_mode Pair = frames.pair

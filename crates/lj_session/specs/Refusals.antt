@@ -6,6 +6,7 @@ use Rattle.lj_xyz.specs.declared.fault.XyzKind.TheVariants as kind
 use Rattle.lj_session.specs.declared.refusal.Refusal.{Refusal}
 use Rattle.lj_session.specs.declared.refusal.Refusal.TheVariants.{Denied, Line, Syntax, Body, Long, Command, Enough, NoSession, Exists, NoBranch, BranchExists, NoAtom, QuotaSessions, QuotaAtoms, QuotaBranches, StepRange, Xyz, Edge, Sigma, StepFactor, Memory}
 
+-- the number of a fault of a body
 abbrev pub xyz_number : XyzKind → ℕ
 xyz_number kind.Count = 30
 xyz_number kind.Short = 31
@@ -14,6 +15,7 @@ xyz_number kind.Number = 33
 xyz_number kind.Range = 34
 xyz_number kind.Pair = 35
 
+-- its name
 abbrev pub xyz_title : XyzKind → List ℕ
 xyz_title kind.Count = codes "XYZ_COUNT"
 xyz_title kind.Short = codes "XYZ_SHORT"
@@ -22,6 +24,7 @@ xyz_title kind.Number = codes "XYZ_NUMBER"
 xyz_title kind.Range = codes "XYZ_RANGE"
 xyz_title kind.Pair = codes "XYZ_PAIR"
 
+-- the number of a refusal
 abbrev pub number_of : Refusal → ℕ
 number_of Denied = 1
 number_of Line = 2
@@ -45,6 +48,7 @@ number_of Sigma = 37
 number_of StepFactor = 38
 number_of Memory = 90
 
+-- its name
 abbrev pub title_of : Refusal → List ℕ
 title_of Denied = codes "DENIED"
 title_of Line = codes "LINE"

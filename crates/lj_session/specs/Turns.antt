@@ -22,6 +22,7 @@ turns user (Advance name n) = advance_turns (named name user.sessions) n
 turns user (Measure name) = measure_turns (named name user.sessions)
 turns user _ = 0
 
+-- the user with that session a step further
 abbrev pub session_turned : User → List ℕ → Option Session → User
 session_turned user name None = user
 session_turned user name (Some session) = with_sim name session (stepped session.units session.sim) user

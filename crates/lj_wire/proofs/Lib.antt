@@ -2,3 +2,4 @@ mod Splitting
 mod Marks
 mod Turns
 mod Existence
+pub mod Progressing

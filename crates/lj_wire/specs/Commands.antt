@@ -19,6 +19,7 @@ use Rattle.lj_wire.specs.declared.item.Item.TheVariants as item
 use Rattle.lj_wire.specs.Numbers.{number_of, displacement_of}
 
 infixl 10 ◌>>=◌
+-- the next word, or none
 abbrev pub ◌>>=◌ : {A B : Type 0} → Option A → (A → Option B) → Option B
 (Some x) >>= f = f x
 None >>= f = None
@@ -88,6 +89,7 @@ commands =
     ∷ (codes "BYE", plain command.Bye)
     ∷ []
 
+-- `rest` or `pair`
 abbrev pub mode_of : List ℕ → Option Mode
 mode_of word =
     if bytes_eq word (codes "rest") then Some Rest
@@ -111,10 +113,12 @@ count_of word = if nat_le (length word) 7 then (do
 abbrev pub last_count : Words → Option ℕ
 last_count words = last_or None words >>= count_of
 
+-- the command of words that say one
 abbrev pub or_syntax : Option Command → Item
 or_syntax (Some command) = item.Command command
 or_syntax None = item.Bad fault.Syntax
 
+-- `LOAD`
 abbrev pub is_load : List ℕ → Bool
 is_load verb = bytes_eq verb (codes "LOAD")
 

@@ -8,6 +8,7 @@ use Rattle.lj_wire.specs.declared.item.Fault.TheVariants as fault
 use Rattle.lj_wire.specs.declared.item.Item.{Item}
 use Rattle.lj_wire.specs.declared.item.Item.TheVariants.{Command, Bad, Last}
 
+-- the refusal of a fault
 abbrev pub refusal_of : Fault → Refusal
 refusal_of fault.Line = refusal.Line
 refusal_of fault.Syntax = refusal.Syntax

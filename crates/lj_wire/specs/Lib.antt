@@ -6,6 +6,7 @@ pub mod Told
 pub mod Runs
 pub mod Streams
 pub mod Laws
+pub mod Progress
 pub mod Played
 pub mod Worked
 pub mod WorkedBodies

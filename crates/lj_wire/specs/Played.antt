@@ -32,6 +32,7 @@ computed = tt
 abbrev pub Piece : Type 0
 Piece = List ℕ × List ℕ
 
+-- the item that it is
 abbrev pub piece_item : Piece → Item
 piece_item piece = item_of piece.0 piece.1
 
@@ -42,32 +43,38 @@ pub data Rest : Type 0 where
   short : List ℕ → List ℕ → Rest
   unread : List ℕ → Rest
 
+-- the bytes of a rest
 abbrev pub rest_bytes : Rest → List ℕ
 rest_bytes nothing = []
 rest_bytes (open_line line) = line
 rest_bytes (short line body) = line ++ 10 ∷ body
 rest_bytes (unread bytes) = bytes
 
+-- the bytes of pieces and a rest
 abbrev pub stream_of : List Piece → List ℕ → List ℕ
 stream_of [] rest = rest
 stream_of (piece ∷ pieces) rest = (piece.0 ++ 10 ∷ piece.1) ++ stream_of pieces rest
 
+-- the items of pieces
 abbrev pub items_of : List Piece → List Item
 items_of pieces = map piece_item pieces
 
--- a piece is a line with the body that it announces
+-- a line, by a test
 abbrev pub is_line : List ℕ → Bool
 is_line line = not (list_any is_line_feed line) && nat_lt (length line) 65536
 
+-- a line with the body that it announces, by a test
 abbrev pub is_piece : Piece → Bool
 is_piece piece = is_line piece.0 && length piece.1 == announced piece.0
 
+-- less than an item, by a test
 abbrev pub is_part : Rest → Bool
 is_part nothing = true
 is_part (open_line line) = is_line line
 is_part (short line body) = is_line line && nat_lt (length body) (announced line)
 is_part (unread bytes) = false
 
+-- nothing follows
 abbrev pub is_last : List Piece → Bool
 is_last [] = true
 is_last (piece ∷ pieces) = false

@@ -39,6 +39,7 @@ branch_line entry = line_of (entry.0 ∷ signed_decimal entry.1.step ∷ [])
 abbrev pub atom_line : ℕ → List ℕ → Place → List ℕ
 atom_line edge symbol place = ended (atom_text symbol (micro_of edge place.x) (micro_of edge place.y) (micro_of edge place.z))
 
+-- the lines of all atoms
 abbrev pub atom_lines : ℕ → List (List ℕ) → List Place → List ℕ
 atom_lines edge (symbol ∷ symbols) (place ∷ places) = atom_line edge symbol place ++ atom_lines edge symbols places
 atom_lines edge (symbol ∷ symbols) [] = []

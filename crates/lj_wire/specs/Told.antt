@@ -24,6 +24,7 @@ abbrev pub first_mark : List Bool → Bool
 first_mark [] = false
 first_mark (mark ∷ marks) = mark
 
+-- the marks of the other items
 abbrev pub other_marks : List Bool → List Bool
 other_marks [] = []
 other_marks (mark ∷ marks) = marks

@@ -1,0 +1,156 @@
+-- From item to item of a dialogue, and to its end. A loop over a stream keeps `Progress`, and cites these.
+use Rattle.std.proofs.Common.{◌≡◌, ℕ, zero, suc, ◌+◌, ◌<◌, Bool, true, false, List, [], ◌∷◌, ◌++◌, length, refl, sym, ◌∙◌, ap, subst, arith}
+use Rattle.std.specs.List.{concat}
+use Rattle.std.proofs.lemmas.List.{append-nil, length-append}
+use Rattle.std.proofs.lemmas.List.Folds.{concat-append}
+use Rattle.lj_session.specs.Users.{User}
+use Rattle.lj_wire.specs.declared.item.Item.{Item}
+use Rattle.lj_wire.specs.Items.{ends}
+use Rattle.lj_wire.specs.Texts.{is_memory}
+use Rattle.lj_wire.specs.Told.{told, texts, last_user, first_mark, other_marks}
+use Rattle.lj_wire.specs.Streams.{IsItem, IsPart, Splits, AreMarks, Dialogue}
+use Rattle.lj_wire.specs.Progress.{Takes, Progress}
+
+Takes-more : (n : ℕ) (bytes : List ℕ) (items : List Item) (left front behind : List ℕ) (item : Item)
+    → Takes n bytes items left → left ≡ front ++ behind → IsItem (n + length items) front item → ends item ≡ false
+    → Takes n bytes (items ++ item ∷ []) behind
+Takes-more n bytes [] left front behind item t e i goes =
+    (front, behind, t ∙ e, subst (λ m. IsItem m front item) (let s : n + 0 ≡ n = omega arith in s) i, goes, refl)
+Takes-more n bytes (first ∷ items) left front behind item t e i goes =
+    let s : n + suc (length items) ≡ n + 1 + length items = omega arith in
+    (t.0, t.1, t.2, t.3, t.4, Takes-more (n + 1) t.1 items left front behind item t.5 e (subst (λ m. IsItem m front item) s i) goes)
+
+Splits-part : (n : ℕ) (bytes : List ℕ) (items : List Item) (left : List ℕ) → Takes n bytes items left → IsPart (n + length items) left
+    → Splits n bytes items left
+Splits-part n bytes [] left t p = (t, subst (λ m. IsPart m left) (let s : n + 0 ≡ n = omega arith in s) p)
+Splits-part n bytes (first ∷ items) left t p =
+    let s : n + suc (length items) ≡ n + 1 + length items = omega arith in
+    let next = Splits-part (n + 1) t.1 items left t.5 (subst (λ m. IsPart m left) s p) in
+    (t.0, t.1, t.2, t.3, (λ h. let differ : true ≡ false = sym h ∙ t.4 in cc), (λ h. next))
+
+Splits-end : (n : ℕ) (bytes : List ℕ) (items : List Item) (left front behind : List ℕ) (item : Item)
+    → Takes n bytes items left → left ≡ front ++ behind → IsItem (n + length items) front item → ends item ≡ true
+    → Splits n bytes (items ++ item ∷ []) behind
+Splits-end n bytes [] left front behind item t e i end = (
+  front,
+  behind,
+  t ∙ e,
+  subst (λ m. IsItem m front item) (let s : n + 0 ≡ n = omega arith in s) i,
+  (λ h. (refl, refl)),
+  (λ h. let differ : true ≡ false = sym end ∙ h in cc),
+)
+Splits-end n bytes (first ∷ items) left front behind item t e i end =
+    let s : n + suc (length items) ≡ n + 1 + length items = omega arith in
+    let next = Splits-end (n + 1) t.1 items left front behind item t.5 e (subst (λ m. IsItem m front item) s i) end in
+    (t.0, t.1, t.2, t.3, (λ h. let differ : true ≡ false = sym h ∙ t.4 in cc), (λ h. next))
+
+-- marks of texts are as many as the texts
+marks-length : (marks : List Bool) (told : List (List ℕ)) → AreMarks marks told → length marks ≡ length told
+marks-length [] [] h = refl
+marks-length [] (text ∷ told) h = absurd h
+marks-length (mark ∷ marks) [] h = absurd h
+marks-length (mark ∷ marks) (text ∷ told) h = ap suc (marks-length marks told h.1)
+
+texts-length : (user : User) (items : List Item) (marks : List Bool) → length (texts user items marks) ≡ length items
+texts-length user [] marks = refl
+texts-length user (item ∷ items) marks = ap suc (texts-length (told user item (first_mark marks)).1 items (other_marks marks))
+
+AreMarks-more : (marks : List Bool) (told : List (List ℕ)) (mark : Bool) (text : List ℕ) → AreMarks marks told → (mark ≡ true → is_memory text ≡ true)
+    → AreMarks (marks ++ mark ∷ []) (told ++ text ∷ [])
+AreMarks-more [] [] mark text h only = (only, tt)
+AreMarks-more [] (next ∷ told) mark text h only = absurd h
+AreMarks-more (next ∷ marks) [] mark text h only = absurd h
+AreMarks-more (next ∷ marks) (first ∷ told) mark text h only = (h.0, AreMarks-more marks told mark text h.1 only)
+
+texts-more : (user : User) (items : List Item) (marks : List Bool) (item : Item) (mark : Bool) → length marks ≡ length items
+    → texts user (items ++ item ∷ []) (marks ++ mark ∷ []) ≡ texts user items marks ++ (told (last_user user items marks) item mark).0 ∷ []
+texts-more user [] [] item mark h = refl
+texts-more user [] (next ∷ marks) item mark h = absurd (omega (arith, h))
+texts-more user (first ∷ items) [] item mark h = absurd (omega (arith, h))
+texts-more user (first ∷ items) (next ∷ marks) item mark h =
+    ap (λ others. (told user first next).0 ∷ others) (texts-more (told user first next).1 items marks item mark (omega (arith, h)))
+
+last_user-more : (user : User) (items : List Item) (marks : List Bool) (item : Item) (mark : Bool) → length marks ≡ length items
+    → last_user user (items ++ item ∷ []) (marks ++ mark ∷ []) ≡ (told (last_user user items marks) item mark).1
+last_user-more user [] [] item mark h = refl
+last_user-more user [] (next ∷ marks) item mark h = absurd (omega (arith, h))
+last_user-more user (first ∷ items) [] item mark h = absurd (omega (arith, h))
+last_user-more user (first ∷ items) (next ∷ marks) item mark h = last_user-more (told user first next).1 items marks item mark (omega (arith, h))
+
+-- what one item more adds to the marks, the texts and the user
+record Added (user : User) (items : List Item) (marks : List Bool) (item : Item) (mark : Bool) : Type 0 where
+  are_marks : AreMarks (marks ++ mark ∷ []) (texts user (items ++ item ∷ []) (marks ++ mark ∷ []))
+  written_is : concat (texts user items marks) ++ (told (last_user user items marks) item mark).0 ≡ concat (texts user (items ++ item ∷ []) (marks ++ mark ∷ []))
+  next_is : (told (last_user user items marks) item mark).1 ≡ last_user user (items ++ item ∷ []) (marks ++ mark ∷ [])
+
+added : (user : User) (items : List Item) (marks : List Bool) (item : Item) (mark : Bool) → AreMarks marks (texts user items marks)
+    → (mark ≡ true → is_memory (told (last_user user items marks) item mark).0 ≡ true) → Added user items marks item mark
+added user items marks item mark are only =
+    let text = (told (last_user user items marks) item mark).0 in
+    let same = marks-length marks (texts user items marks) are ∙ texts-length user items marks in
+    let more = texts-more user items marks item mark same in
+    record {
+      are_marks = subst (AreMarks (marks ++ mark ∷ [])) (sym more) (AreMarks-more marks (texts user items marks) mark text are only);
+      written_is = ap (λ x. concat (texts user items marks) ++ x) (sym (append-nil text)) ∙ sym (concat-append (texts user items marks) (text ∷ [])) ∙ ap concat (sym more);
+      next_is = sym (last_user-more user items marks item mark same);
+    }
+
+-- a dialogue begins with nothing answered
+pub Progress-start : (user : User) (bytes : List ℕ) → Progress user bytes 0 [] bytes user
+Progress-start user bytes = record {
+  items = [];
+  marks = [];
+  takes = refl;
+  counted = refl;
+  are_marks = tt;
+  written_is = refl;
+  next_is = refl;
+}
+
+-- one item more, which does not end the connection
+pub Progress-more : (user : User) (bytes : List ℕ) (count : ℕ) (written left : List ℕ) (next : User) (front behind : List ℕ) (item : Item) (mark : Bool)
+    → Progress user bytes count written left next → left ≡ front ++ behind → IsItem count front item → ends item ≡ false
+    → (mark ≡ true → is_memory (told next item mark).0 ≡ true)
+    → Progress user bytes (count + 1) (written ++ (told next item mark).0) behind (told next item mark).1
+Progress-more user bytes count written left next front behind item mark p e i goes only =
+    let last = last_user user p.items p.marks in
+    let a = added user p.items p.marks item mark p.are_marks (subst (λ u. mark ≡ true → is_memory (told u item mark).0 ≡ true) p.next_is only) in
+    record {
+      items = p.items ++ item ∷ [];
+      marks = p.marks ++ mark ∷ [];
+      takes = Takes-more 0 bytes p.items left front behind item p.takes e (subst (λ m. IsItem m front item) (let s : count ≡ 0 + length p.items = omega (arith, p.counted) in s) i) goes;
+      counted = length-append p.items (item ∷ []) ∙ omega (arith, p.counted);
+      are_marks = a.are_marks;
+      written_is = ap (λ w. w ++ (told next item mark).0) p.written_is ∙ ap (λ u. concat (texts user p.items p.marks) ++ (told u item mark).0) p.next_is ∙ a.written_is;
+      next_is = ap (λ u. (told u item mark).1) p.next_is ∙ a.next_is;
+    }
+
+-- less than an item is left, and the dialogue is at its end
+pub Dialogue-part : (user : User) (bytes : List ℕ) (count : ℕ) (written left : List ℕ) (next : User) → Progress user bytes count written left next
+    → IsPart count left → Dialogue user bytes written next
+Dialogue-part user bytes count written left next p part = record {
+  items = p.items;
+  rest = left;
+  marks = p.marks;
+  splits = Splits-part 0 bytes p.items left p.takes (subst (λ m. IsPart m left) (let s : count ≡ 0 + length p.items = omega (arith, p.counted) in s) part);
+  are_marks = p.are_marks;
+  written_is = p.written_is;
+  next_is = p.next_is;
+}
+
+-- an item that ends the connection, and with it the dialogue
+pub Dialogue-end : (user : User) (bytes : List ℕ) (count : ℕ) (written left : List ℕ) (next : User) (front behind : List ℕ) (item : Item) (mark : Bool)
+    → Progress user bytes count written left next → left ≡ front ++ behind → IsItem count front item → ends item ≡ true
+    → (mark ≡ true → is_memory (told next item mark).0 ≡ true)
+    → Dialogue user bytes (written ++ (told next item mark).0) (told next item mark).1
+Dialogue-end user bytes count written left next front behind item mark p e i end only =
+    let a = added user p.items p.marks item mark p.are_marks (subst (λ u. mark ≡ true → is_memory (told u item mark).0 ≡ true) p.next_is only) in
+    record {
+      items = p.items ++ item ∷ [];
+      rest = behind;
+      marks = p.marks ++ mark ∷ [];
+      splits = Splits-end 0 bytes p.items left front behind item p.takes e (subst (λ m. IsItem m front item) (let s : count ≡ 0 + length p.items = omega (arith, p.counted) in s) i) end;
+      are_marks = a.are_marks;
+      written_is = ap (λ w. w ++ (told next item mark).0) p.written_is ∙ ap (λ u. concat (texts user p.items p.marks) ++ (told u item mark).0) p.next_is ∙ a.written_is;
+      next_is = ap (λ u. (told u item mark).1) p.next_is ∙ a.next_is;
+    }

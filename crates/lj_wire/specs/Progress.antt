@@ -1,0 +1,25 @@
+-- A dialogue that is not at its end: the first items of a stream are answered, and the rest is still to come.
+use Rattle.std.specs.Prelude.{◌≡◌, ℕ, ◌+◌, Bool, true, false, List, [], ◌∷◌, ◌++◌, length}
+use Rattle.std.specs.List.{concat}
+use Rattle.lj_session.specs.Users.{User}
+use Rattle.lj_wire.specs.declared.item.Item.{Item}
+use Rattle.lj_wire.specs.Items.{ends}
+use Rattle.lj_wire.specs.Told.{texts, last_user}
+use Rattle.lj_wire.specs.Streams.{IsItem, AreMarks}
+
+-- The bytes begin with these items, from number n on, of which none ends the connection; the others are left.
+abbrev pub Takes : ℕ → List ℕ → List Item → List ℕ → Type 0
+Takes n bytes [] left = bytes ≡ left
+Takes n bytes (item ∷ items) left =
+    (front : List ℕ) × (behind : List ℕ) × (bytes ≡ front ++ behind) × IsItem n front item
+    × (ends item ≡ false) × Takes (n + 1) behind items left
+
+-- So many items of the bytes are answered, from a user on, by what is written; the other bytes are left, and the next user.
+pub record Progress (user : User) (bytes : List ℕ) (count : ℕ) (written left : List ℕ) (next : User) : Type 0 where
+  pub items : List Item
+  pub marks : List Bool
+  pub takes : Takes 0 bytes items left
+  pub counted : length items ≡ count
+  pub are_marks : AreMarks marks (texts user items marks)
+  pub written_is : written ≡ concat (texts user items marks)
+  pub next_is : next ≡ last_user user items marks
