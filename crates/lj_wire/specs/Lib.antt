@@ -13,3 +13,4 @@ pub mod WorkedBodies
 pub mod WorkedUsers
 pub mod WorkedLines
 pub mod WorkedLimits
+pub mod WorkedChain
