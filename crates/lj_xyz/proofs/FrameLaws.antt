@@ -1,17 +1,15 @@
 -- What stands in the relation of frames and faults is what reading from the first line to the last gives.
-use Rattle.std.proofs.Common.{◌≡◌, ℕ, zero, suc, ◌+◌, ◌-◌, ◌≤◌, ◌<◌, Bool, true, false, cond, List, [], ◌∷◌, ◌++◌, length, map, Option, Some, None, Result, Ok, Err, refl, sym, ap, subst, ◌∙◌, ◌⊎◌, inl, inr, append_assoc, append-nil, arith, add-zero, zero-add}
+use Rattle.std.proofs.Common.{◌≡◌, ℕ, suc, ◌+◌, ◌-◌, ◌<◌, List, [], ◌∷◌, ◌++◌, length, Option, Some, None, Result, Ok, Err, refl, sym, ap, subst, ◌∙◌, append_assoc, append-nil, arith, add-zero, zero-add}
 use Rattle.std.specs.List.{AllByRecursion}
-use Rattle.std.proofs.lemmas.List.{length-append, length-map}
+use Rattle.std.proofs.lemmas.List.{length-append}
 use Rattle.lj_xyz.specs.declared.fault.XyzKind.{XyzKind}
 use Rattle.lj_xyz.specs.declared.fault.XyzKind.TheVariants as kind
 use Rattle.lj_xyz.specs.declared.fault.XyzFault.{XyzFault}
 use Rattle.lj_xyz.specs.declared.row.Row.{Row}
 use Rattle.lj_xyz.specs.declared.reader.Position.{Position}
-use Rattle.lj_xyz.specs.declared.reader.Position.TheVariants.{First, Second}
-use Rattle.lj_xyz.specs.Lines.{words_of}
-use Rattle.lj_xyz.specs.Atoms.{◌>>=◌, count_of, row_of}
-use Rattle.lj_xyz.specs.Frames.{Mode, rest, pair, IsWordless, Counts, admits, missing, IsHead, AreAtoms, IsFrame, fault_behind, FirstFault, no_count, bad_count, other_count, no_comment, no_atom, bad_atom, GivesOne, GivesTwo, FaultOfSecond, IsReading}
-use Rattle.lj_xyz.specs.Reading.{Left, admitted, head_in, behind_comment, next_row, rows_in, frame_in, start, reading}
+use Rattle.lj_xyz.specs.Atoms.{◌>>=◌, row_of}
+use Rattle.lj_xyz.specs.Frames.{IsWordless, Counts, missing, IsHead, AreAtoms, IsFrame, fault_behind, FirstFault, no_count, bad_count, other_count, no_comment, no_atom, bad_atom}
+use Rattle.lj_xyz.specs.Reading.{Left, admitted, head_in, behind_comment, next_row, rows_in, frame_in}
 use Rattle.lj_xyz.proofs.ReaderLaws.{head_over, head_at, head_none, with_front, no_front}
 
 abbrev pub left : ℕ → List (List ℕ) → Left

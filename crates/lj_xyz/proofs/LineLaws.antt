@@ -1,13 +1,12 @@
 -- How the lines of a text and the words of a line follow from its front.
-use Rattle.std.proofs.Common.{◌≡◌, ℕ, zero, suc, ◌+◌, ◌-◌, ◌<◌, ◌≤◌, Bool, true, false, cond, not, eqb, ltb, List, [], ◌∷◌, ◌++◌, length, get_or, take, drop, Option, Some, None, map, refl, sym, ap, subst, ◌∙◌, arith, inl, inr, add-one, one-add, lt-ltb, le-ltb, unwrap_or}
-use Rattle.std.specs.Prelude.{filter, slice_index, ◌==◌}
-use Rattle.std.specs.List.{slice_split, onto_first, position_or_len, prefix_len, before_first, after_first, All}
+use Rattle.std.proofs.Common.{◌≡◌, ℕ, ◌+◌, ◌-◌, ◌<◌, Bool, true, false, cond, not, ltb, List, [], ◌∷◌, length, get_or, take, drop, Option, Some, None, refl, sym, ap, ◌∙◌, arith, inl, inr, one-add, lt-ltb, le-ltb, unwrap_or}
+use Rattle.std.specs.List.{slice_split, onto_first, position_or_len, before_first, after_first}
 use Rattle.std.specs.Str.Lines.{strip_carriage_return}
-use Rattle.std.proofs.lemmas.Bool.{cases_Bool, cases_lt, false_from_ne_true, not_from_true, not_from_false, not-true}
-use Rattle.std.proofs.lemmas.List.{drop_more, nil_from_length, take_all, drop_all, take_rest, length-take-le, length-drop}
+use Rattle.std.proofs.lemmas.Bool.{cases_Bool, cases_lt, false_from_ne_true, not-true}
+use Rattle.std.proofs.lemmas.List.{drop_more, take_all, drop_all, take_rest, length-take-le, length-drop}
 use Rattle.std.proofs.lemmas.List.Elements.{All-from_get_or}
 use Rattle.std.proofs.lemmas.List.Splits.{slice_split_none, slice_split_first, slice_split-cons_yes, slice_split-cons_no}
-use Rattle.std.proofs.lemmas.List.Sums.{fails_before_first, passes_at_first, position_or_len_is, prefix_len-le-length, prefix_len_stops}
+use Rattle.std.proofs.lemmas.List.Sums.{fails_before_first, passes_at_first, position_or_len_is, prefix_len-le-length}
 use Rattle.bstr.specs.Find.{NoneBefore, Nowhere, Passes, is_byte}
 use Rattle.lj_xyz.specs.Lines.{is_line_feed, is_blank, is_word, but_empty_last, lines_of, words_of}
 

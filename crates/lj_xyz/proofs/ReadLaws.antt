@@ -1,16 +1,16 @@
 -- What the readers answer, in the relation of lines and answers.
-use Rattle.std.proofs.Common.{◌≡◌, ℕ, Bool, true, false, cond, inl, inr, List, [], ◌∷◌, length, Option, Some, None, Result, Ok, Err, refl, sym, ap, subst, ◌∙◌}
-use Rattle.std.specs.Prelude.{IfOk, IsTrue}
+use Rattle.std.proofs.Common.{◌≡◌, ℕ, true, inl, inr, List, [], ◌∷◌, length, Option, Some, None, Result, Ok, Err}
+use Rattle.std.specs.Prelude.{IfOk}
 use Rattle.std.proofs.lemmas.Bool.{cases_Bool, eqb-true}
 use Rattle.lj_xyz.specs.declared.fault.XyzFault.{XyzFault}
 use Rattle.lj_xyz.specs.declared.fault.XyzError.{XyzError}
 use Rattle.lj_xyz.specs.declared.fault.XyzError.TheVariants as errors
 use Rattle.lj_xyz.specs.declared.row.Row.{Row}
 use Rattle.lj_xyz.specs.declared.reader.Position.{Position}
-use Rattle.lj_xyz.specs.declared.reader.Position.TheVariants.{First, Second}
-use Rattle.lj_xyz.specs.Atoms.{is_count, count_if, count_of, number_of}
-use Rattle.lj_xyz.specs.Frames.{Mode, rest, pair, IsReading, IsFrame, admits}
-use Rattle.lj_xyz.specs.Reading.{Fails, Gives, reading}
+use Rattle.lj_xyz.specs.declared.reader.Position.TheVariants.{First}
+use Rattle.lj_xyz.specs.Atoms.{is_count, count_if, number_of}
+use Rattle.lj_xyz.specs.Frames.{Mode, rest, pair, IsReading, IsFrame}
+use Rattle.lj_xyz.specs.Reading.{Gives, reading}
 use Rattle.lj_xyz.proofs.ReadingLaws.{reading_stands}
 
 -- what was read stands in the relation

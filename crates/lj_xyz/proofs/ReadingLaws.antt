@@ -1,11 +1,10 @@
 -- The relation of a body's lines to its frames or first fault has one answer, which reading gives.
-use Rattle.std.proofs.Common.{◌≡◌, ℕ, ◌+◌, List, [], ◌∷◌, ◌++◌, length, Result, Ok, Err, refl, sym, ap, subst, ◌∙◌, ◌⊎◌, inl, inr, append_assoc, arith, zero-add}
+use Rattle.std.proofs.Common.{◌≡◌, ℕ, List, [], ◌∷◌, ◌++◌, length, Result, Ok, Err, refl, sym, ap, ◌∙◌, inl, inr, arith, zero-add}
 use Rattle.lj_xyz.specs.declared.fault.XyzFault.{XyzFault}
 use Rattle.lj_xyz.specs.declared.row.Row.{Row}
-use Rattle.lj_xyz.specs.declared.reader.Position.{Position}
 use Rattle.lj_xyz.specs.declared.reader.Position.TheVariants.{First, Second}
 use Rattle.lj_xyz.specs.Atoms.{◌>>=◌}
-use Rattle.lj_xyz.specs.Frames.{Mode, rest, pair, IsFrame, FirstFault, GivesOne, GivesTwo, FaultOfSecond, IsReading}
+use Rattle.lj_xyz.specs.Frames.{Mode, rest, pair, FirstFault, GivesOne, GivesTwo, FaultOfSecond, IsReading}
 use Rattle.lj_xyz.specs.Reading.{Left, frame_in, start, reading}
 use Rattle.lj_xyz.proofs.FrameLaws.{left, frame_good, frame_fault}
 use Rattle.lj_xyz.proofs.FrameStands.{FrameEnds, FrameStands, frame_stands}

@@ -1,5 +1,5 @@
 -- Bodies and lines of text, worked out.
-use Rattle.std.specs.Prelude.{◌≡◌, ℕ, ◌+◌, List, [], ◌∷◌, ◌++◌, ℤ, pos, negsuc, Result, Ok, Err, codes, refl}
+use Rattle.std.specs.Prelude.{◌≡◌, ℕ, List, [], ◌∷◌, ℤ, pos, negsuc, Result, Ok, Err, codes, refl}
 use Rattle.std.specs.Fmt.{digits}
 use Rattle.lj_fixed.specs.Decimal.{nano_of, decimal_of}
 use Rattle.lj_fixed.specs.Millionths.{millionths}

@@ -1,8 +1,7 @@
-use Rattle.std.proofs.Common.{length, rules, tests}
+use Rattle.std.proofs.Common.{rules, tests}
 use Rattle.std.proofs.lemmas.Iterator.{YieldsList-from_slice}
 use Rattle.std.proofs.lemmas.Iterator.Search.{position_from_yields_List}
 use Rattle.lj_xyz.proofs.LineLaws.{position_or_all, is_in_word}
-use Rattle.lj_xyz.specs.Lines.{is_blank}
 use Rattle.lj_xyz.proofs.lines.blanks_len.Goals as goal
 
 pub returns-clause-value : goal.returns-clause-value

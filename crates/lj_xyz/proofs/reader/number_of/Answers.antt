@@ -1,4 +1,4 @@
-use Rattle.std.proofs.Common.{◌∙◌, sym, length, eqb-true, arith}
+use Rattle.std.proofs.Common.{◌∙◌, sym, length, arith}
 use Rattle.std.proofs.lemmas.Bool.{eqb-false}
 use Rattle.lj_xyz.proofs.NumberLaws.{number-lt, read_more, is_number, is_none}
 use Rattle.lj_xyz.proofs.reader.number_of.Goals as goal
