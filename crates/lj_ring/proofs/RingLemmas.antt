@@ -13,18 +13,18 @@ upper_half n far in_n = grind (arith, nat_tests)
 turns : (a b : ℕ) → a < 2 ^ 32 → b < 2 ^ 32 → (k : ℤ) × (image a b ≡ pos a -ℤ pos b +ℤ k *ℤ pos (2 ^ 32))
 turns a b in_a in_b =
     elim (cases_lt a b) [
-        inl under ↦
-            let e : (a + (2 ^ 32 - b)) % 2 ^ 32 ≡ a + (2 ^ 32 - b) = omega arith in
-            elim (cases_lt (a + (2 ^ 32 - b)) (2 ^ 31)) [
-                inl near ↦ (pos 1, rw e (omega (arith, ints)))
-              | inr far ↦ (pos 0, rw (e, upper_half (a + (2 ^ 32 - b)) far (omega arith)) (omega (arith, ints)))
-            ]
+      | inl under ↦
+          let e : (a + (2 ^ 32 - b)) % 2 ^ 32 ≡ a + (2 ^ 32 - b) = omega arith in
+          elim (cases_lt (a + (2 ^ 32 - b)) (2 ^ 31)) [
+            | inl near ↦ (pos 1, rw e (omega (arith, ints)))
+            | inr far ↦ (pos 0, rw (e, upper_half (a + (2 ^ 32 - b)) far (omega arith)) (omega (arith, ints)))
+          ]
       | inr over ↦
-            let e : (a + (2 ^ 32 - b)) % 2 ^ 32 ≡ a - b = omega arith in
-            elim (cases_lt (a - b) (2 ^ 31)) [
-                inl near ↦ (pos 0, rw e (omega (arith, ints)))
-              | inr far ↦ (negsuc 0, rw (e, upper_half (a - b) far (omega arith)) (omega (arith, ints)))
-            ]
+          let e : (a + (2 ^ 32 - b)) % 2 ^ 32 ≡ a - b = omega arith in
+          elim (cases_lt (a - b) (2 ^ 31)) [
+            | inl near ↦ (pos 0, rw e (omega (arith, ints)))
+            | inr far ↦ (negsuc 0, rw (e, upper_half (a - b) far (omega arith)) (omega (arith, ints)))
+          ]
     ]
 
 -- the image of a difference is its least one
@@ -32,5 +32,5 @@ pub image-least : (a b : ℕ) → a < 2 ^ 32 → b < 2 ^ 32 → IsLeastImage a b
 image-least a b in_a in_b = record {
   from = omega (arith, ints);
   below = omega (arith, ints);
-  turns = turns a b in_a in_b
+  turns = turns a b in_a in_b;
 }

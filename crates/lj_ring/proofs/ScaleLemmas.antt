@@ -15,6 +15,6 @@ in_reach s square some near = let h : 128 * s / square < 800 = div_below (128 * 
 pub reach_test : (s square : ℕ) → 0 < square → leb (reach_of square) s ≡ not (nat_lt (128 * s / square) 800)
 reach_test s square some =
     elim (cases_lt s (reach_of square)) [
-        inl near ↦ let e : leb (reach_of square) s ≡ false = grind (arith, nat_tests) in rw (e, in_reach s square some near) refl
+      | inl near ↦ let e : leb (reach_of square) s ≡ false = grind (arith, nat_tests) in rw (e, in_reach s square some near) refl
       | inr far ↦ let e : leb (reach_of square) s ≡ true = grind (arith, nat_tests) in rw (e, out_of_reach s square some far) refl
     ]

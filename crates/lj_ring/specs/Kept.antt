@@ -31,14 +31,14 @@ kept_of u = record {
   strength = u.strength;
   sigma_square = u.sigma * u.sigma;
   reach = reach_of (u.sigma * u.sigma);
-  inverse = inverse_of (u.sigma * u.sigma)
+  inverse = inverse_of (u.sigma * u.sigma);
 }
 
 -- scales with equal numbers are equal
 same_kept : (edge sigma strength square square' reach reach' inverse inverse' : ℕ) → square ≡ square' → reach ≡ reach' → inverse ≡ inverse'
     → (let a : Inside = record { edge = edge; sigma = sigma; strength = strength; sigma_square = square; reach = reach; inverse = inverse } in
-       let b : Inside = record { edge = edge; sigma = sigma; strength = strength; sigma_square = square'; reach = reach'; inverse = inverse' } in
-       b ≡ a)
+    let b : Inside = record { edge = edge; sigma = sigma; strength = strength; sigma_square = square'; reach = reach'; inverse = inverse' } in
+    b ≡ a)
 same_kept edge sigma strength square square' reach reach' inverse inverse' p q r = cc
 
 pub kept_of-units : (a : Inside) → IsKept a → kept_of (units_of_kept a) ≡ a

@@ -27,11 +27,11 @@ abbrev pub scale_of : ℤ → ℤ → ℕ → Result Units ScaleFault
 scale_of edge sigma strength =
     let sigma_units = units_of (unsigned_abs edge) sigma in
     if edge_fits edge then
-        (if sigma_fits sigma_units then
-            (if strength_fits strength then
-                Ok (record { edge = unsigned_abs edge; sigma = unsigned_abs sigma_units; strength = strength })
-            else Err StepFactor)
-        else Err Sigma)
+    (if sigma_fits sigma_units then
+    (if strength_fits strength then
+    Ok (record { edge = unsigned_abs edge; sigma = unsigned_abs sigma_units; strength = strength })
+    else Err StepFactor)
+    else Err Sigma)
     else Err Edge
 
 -- the bin of a squared distance: 128 bins to the square of sigma

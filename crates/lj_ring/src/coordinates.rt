@@ -46,7 +46,9 @@ pub fn place_of(position: Nano, edge: &Edge) -> u32
     ensures { result ≡ places.place_of edge.now position }
 {
     let turns = i128::from(position.get()) * (1 << 32);
-    turns.div_euclid(i128::from(edge.nano())).rem_euclid(1 << 32) as u32
+    turns
+        .div_euclid(i128::from(edge.nano()))
+        .rem_euclid(1 << 32) as u32
 }
 
 /// The coordinate of a place in millionths of a file unit: `floor(place * edge / (2^32 * 1000))`.

@@ -13,7 +13,7 @@ abbrev pub force_below : Units → List Place → ℕ → ℕ → Push
 force_below u frame i n = record {
   x = ring_sum n (λ j. (push_of u frame i j).x);
   y = ring_sum n (λ j. (push_of u frame i j).y);
-  z = ring_sum n (λ j. (push_of u frame i j).z)
+  z = ring_sum n (λ j. (push_of u frame i j).z);
 }
 
 pub force_all : (u : Units) (frame : List Place) (i : ℕ) → force_below u frame i (length frame) ≡ force u frame i
@@ -25,7 +25,7 @@ push_counts : (u : Units) (frame : List Place) (i j : ℕ) (sum more : Push) →
     → (place_at frame i ≡ place_at frame j → more ≡ plus sum no_push) → more ≡ plus sum (push_of u frame i j)
 push_counts u frame i j sum more value itself =
     elim (cases_eq j i) [
-        inl same ↦ let e : (j == i) ≡ true = grind (arith, nat_tests) in rw e (itself (ap (place_at frame) (sym same)))
+      | inl same ↦ let e : (j == i) ≡ true = grind (arith, nat_tests) in rw e (itself (ap (place_at frame) (sym same)))
       | inr other ↦ let e : (j == i) ≡ false = grind (arith, nat_tests) in rw e value
     ]
 

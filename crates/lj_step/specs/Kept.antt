@@ -16,7 +16,7 @@ sign_of Backward = negsuc 0
 abbrev pub live_of : Inside → Live
 live_of a = record {
   units = a.scale;
-  sim = record { prev = a.prev.items; cur = a.cur.items; step = a.step; dir = sign_of a.dir }
+  sim = record { prev = a.prev.items; cur = a.cur.items; step = a.step; dir = sign_of a.dir };
 }
 
 -- both frames have one count of atoms, and this and the last step number are at most 10^12 in size

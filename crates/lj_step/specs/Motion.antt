@@ -31,7 +31,7 @@ unfoldable pub force : Units → List Place → ℕ → Push
 force u frame i = record {
   x = ring_sum (length frame) (λ j. (push_of u frame i j).x);
   y = ring_sum (length frame) (λ j. (push_of u frame i j).y);
-  z = ring_sum (length frame) (λ j. (push_of u frame i j).z)
+  z = ring_sum (length frame) (λ j. (push_of u frame i j).z);
 }
 
 -- the next coordinate on an axis: 2 cur - prev + push on the ring
@@ -43,7 +43,7 @@ abbrev pub next_place : Place → Place → Push → Place
 next_place prev cur push = record {
   x = next_coordinate prev.x cur.x push.x;
   y = next_coordinate prev.y cur.y push.y;
-  z = next_coordinate prev.z cur.z push.z
+  z = next_coordinate prev.z cur.z push.z;
 }
 
 -- the next place of atom i under the pushes of all other atoms
@@ -87,7 +87,7 @@ momentum sim =
     record {
       x = int_sum_below n (λ i. image (place_at sim.cur i).x (place_at sim.prev i).x);
       y = int_sum_below n (λ i. image (place_at sim.cur i).y (place_at sim.prev i).y);
-      z = int_sum_below n (λ i. image (place_at sim.cur i).z (place_at sim.prev i).z)
+      z = int_sum_below n (λ i. image (place_at sim.cur i).z (place_at sim.prev i).z);
     }
 
 -- the kinetic number: the sum of the squares of those images over all atoms and axes

@@ -6,5 +6,5 @@ abbrev pub invariant-loop-i : goal.invariant-loop-i
 invariant-loop-i l = record {
   same : length l.prev.items ≡ length l.cur;
   done : (k : ℕ) → k < l.i → place_at l.prev.items k ≡ moved l.scale l.fn.prev.items l.cur k;
-  left : (k : ℕ) → l.i ≤ k → place_at l.prev.items k ≡ place_at l.fn.prev.items k
+  left : (k : ℕ) → l.i ≤ k → place_at l.prev.items k ≡ place_at l.fn.prev.items k;
 }

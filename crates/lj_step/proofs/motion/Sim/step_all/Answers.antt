@@ -32,5 +32,5 @@ invariant_of-self c = record {
   some = rw (same_count c) c.self.invariant.some;
   most = rw (same_count c) c.self.invariant.most;
   step_bound = rw (next_step c) (sum_bound c);
-  last_bound = rw (next_step c, +ℤ-neg_ℤ_cancel c.self.inside.step (sign_of c.self.inside.dir)) c.self.invariant.step_bound
+  last_bound = rw (next_step c, +ℤ-neg_ℤ_cancel c.self.inside.step (sign_of c.self.inside.dir)) c.self.invariant.step_bound;
 }

@@ -19,5 +19,5 @@ loop-k-preserved c =
       pushes = cells_more IsPush c.loop-k.pushes c.loop-k.k c.push_entry.result (omega (arith, c.loop-k.invariant.push_cells)) c.loop-k.invariant.pushes (rw (← c.max.ensures) c.push_entry.ensures.value);
       energies = cells_more IsEnergy c.loop-k.energies c.loop-k.k c.energy_entry.result (omega (arith, c.loop-k.invariant.energy_cells)) c.loop-k.invariant.energies (rw (← c.max-in-loop-k.ensures) c.energy_entry.ensures.value);
       push_sizes = cells_more IsSmall c.loop-k.pushes c.loop-k.k c.push_entry.result (omega (arith, c.loop-k.invariant.push_cells)) c.loop-k.invariant.push_sizes c.push_entry.ensures.size;
-      energy_sizes = cells_more IsSmall c.loop-k.energies c.loop-k.k c.energy_entry.result (omega (arith, c.loop-k.invariant.energy_cells)) c.loop-k.invariant.energy_sizes c.energy_entry.ensures.size
+      energy_sizes = cells_more IsSmall c.loop-k.energies c.loop-k.k c.energy_entry.result (omega (arith, c.loop-k.invariant.energy_cells)) c.loop-k.invariant.energy_sizes c.energy_entry.ensures.size;
     }

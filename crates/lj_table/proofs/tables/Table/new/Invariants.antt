@@ -10,5 +10,5 @@ invariant-loop-k l = record {
   pushes : (j : ℕ) → j < l.k → slice_index_or l.pushes j (pos 0) ≡ push_entry (entry j);
   energies : (j : ℕ) → j < l.k → slice_index_or l.energies j (pos 0) ≡ energy_entry (entry j);
   push_sizes : (j : ℕ) → j < l.k → unsigned_abs (slice_index_or l.pushes j (pos 0)) < 2 ^ 37;
-  energy_sizes : (j : ℕ) → j < l.k → unsigned_abs (slice_index_or l.energies j (pos 0)) < 2 ^ 37
+  energy_sizes : (j : ℕ) → j < l.k → unsigned_abs (slice_index_or l.energies j (pos 0)) < 2 ^ 37;
 }
