@@ -1,5 +1,5 @@
 -- Each stream has a splitting into items and a rest.
-use Rattle.std.proofs.Common.{◌≡◌, ℕ, zero, suc, ◌+◌, ◌<◌, ◌≤◌, Bool, true, false, ◌||◌, List, [], ◌∷◌, ◌++◌, length, take, drop, ◌⊎◌, inl, inr, refl, sym, ◌∙◌, ap, subst, arith}
+use Rattle.std.proofs.Common.{◌≡◌, ℕ, zero, suc, ◌+◌, ◌<◌, ◌≤◌, Bool, true, false, ◌||◌, List, [], ◌∷◌, ◌++◌, length, take, drop, ◌⊎◌, inl, inr, refl, sym, ◌∙◌, ap, arith}
 use Rattle.std.specs.List.{list_any}
 use Rattle.std.proofs.lemmas.Bool.{cases_lt, eqb-true}
 use Rattle.std.proofs.lemmas.List.{append_assoc, append-nil, length-append, take-append-drop, length-take-le}
@@ -10,7 +10,7 @@ use Rattle.lj_wire.specs.declared.item.Item.{Item}
 use Rattle.lj_wire.specs.declared.item.Item.TheVariants.{Last}
 use Rattle.lj_wire.specs.Items.{ends}
 use Rattle.lj_wire.specs.Commands.{announced, item_of}
-use Rattle.lj_wire.specs.Streams.{LacksLineFeed, IsLine, IsLineItem, IsLongItem, IsItem, IsPart, Splits, most_items}
+use Rattle.lj_wire.specs.Streams.{LacksLineFeed, IsLineItem, IsLongItem, IsItem, Splits, most_items}
 
 abbrev Split : ℕ → List ℕ → Type 0
 Split n bytes = (items : List Item) × (rest : List ℕ) × Splits n bytes items rest

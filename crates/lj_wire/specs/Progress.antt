@@ -1,5 +1,5 @@
 -- A dialogue that is not at its end: the first items of a stream are answered, and the rest is still to come.
-use Rattle.std.specs.Prelude.{◌≡◌, ℕ, ◌+◌, Bool, true, false, List, [], ◌∷◌, ◌++◌, length}
+use Rattle.std.specs.Prelude.{◌≡◌, ℕ, ◌+◌, Bool, false, List, [], ◌∷◌, ◌++◌, length}
 use Rattle.std.specs.List.{concat}
 use Rattle.lj_session.specs.Users.{User}
 use Rattle.lj_wire.specs.declared.item.Item.{Item}
