@@ -1,1 +1,2 @@
 pub mod PushLemmas
+pub mod NameLemmas

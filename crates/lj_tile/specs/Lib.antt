@@ -1,1 +1,5 @@
 pub mod Pushes
+pub mod Names
+pub mod Tiles
+pub mod Tasks
+pub mod Results

@@ -1,6 +1,15 @@
 //! Pushes and energies of pairs of atoms, and the tasks that a step is cut into.
 #![tactic(auto)]
 
+mod blocks;
+mod names;
 mod pairs;
+mod results;
+mod sums;
+mod tasks;
 
+pub use blocks::{BLOCK, Block};
+pub use names::{Kind, Label, Name, TaskName};
 pub use pairs::{Push, pair_push};
+pub use results::{Done, compute};
+pub use tasks::Task;

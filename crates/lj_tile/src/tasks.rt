@@ -1,0 +1,76 @@
+ghost use Rattle.std.specs.Prelude.{◌≡◌, ◌≤◌, ◌<◌, ◌↔◌, length, IsTrue};
+ghost use Rattle.lj_tile.specs.declared.names.Kind.TheVariants.{Energy};
+
+use crate::blocks::Block;
+use crate::names::TaskName;
+use lj_ring::Scale;
+use std::marker::Model;
+
+/// A task: one tile of a step, with all that it takes to compute it. Its first block has the atoms whose sums a force task
+/// gives; place t of block n is atom 64 n + t.
+#[derive(Debug, Drop)]
+pub struct Task {
+    name: TaskName,
+    scale: Scale,
+    first: Block,
+    second: Block,
+}
+
+impl Model for Task {
+    ghost use Rattle.lj_tile.specs.Tasks.{Work, IsTask};
+
+    ghost Value = { Work };
+
+    ghost view = { λ t. record { name = t.name; units = t.scale; a = t.first; b = t.second } };
+
+    ghost invariant = { λ t. IsTask (record { name = t.name; units = t.scale; a = t.first; b = t.second }) };
+}
+
+impl Task {
+    /// The task of this name over two blocks of places, the same block twice where the name has one index twice.
+    pub fn new(name: TaskName, scale: Scale, a: Block, b: Block) -> Task
+        requires some_first { 1 ≤ length a }
+        requires some_second { 1 ≤ length b }
+        requires first_index { name.bi < 64 }
+        requires second_index { name.bj < 64 }
+        requires diagonal { name.bi ≡ name.bj → a ≡ b }
+        requires in_order { name.kind ≡ Energy → name.bi ≤ name.bj }
+        ensures { result ≡ record { name = name; units = scale; a = a; b = b } }
+    {
+        Task {
+            name,
+            scale,
+            first: a,
+            second: b,
+        }
+    }
+
+    /// The name of the task.
+    pub fn name(&self) -> &TaskName
+        ensures { result.now ≡ self.now.name }
+    {
+        &self.name
+    }
+
+    /// An equal task.
+    pub fn copy(&self) -> Task
+        ensures { result ≡ self.now }
+    {
+        Task {
+            name: self.name.copy(),
+            scale: self.scale,
+            first: self.first.copy(),
+            second: self.second.copy(),
+        }
+    }
+
+    /// Whether the other task is equal: its name, its scale and its two blocks.
+    pub fn is(&self, other: &Task) -> bool
+        ensures { IsTrue result ↔ (self.now ≡ other.now) }
+    {
+        self.name == other.name
+            && self.scale == other.scale
+            && self.first.is(&other.first)
+            && self.second.is(&other.second)
+    }
+}
