@@ -1,4 +1,5 @@
 pub mod Motion
 pub mod Live
 pub mod Kept
+pub mod Laws
 pub mod Worked
