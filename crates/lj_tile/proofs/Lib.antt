@@ -1,2 +1,3 @@
 pub mod PushLemmas
 pub mod NameLemmas
+pub mod SumLemmas

@@ -21,7 +21,7 @@ push u p q =
     record {
       x = push_along u entry (image p.x q.x);
       y = push_along u entry (image p.y q.y);
-      z = push_along u entry (image p.z q.z)
+      z = push_along u entry (image p.z q.z);
     }
 
 -- the energy of the pair, in units of 2^-24 ε: 0 where it does not interact

@@ -23,7 +23,7 @@ unfoldable pub push_sum : Units → Place → List Place → (ℕ → Bool) → 
 push_sum u p places chosen = record {
   x = ring_sum (length places) (λ j. (chosen_push u (chosen j) p (place_at places j)).x);
   y = ring_sum (length places) (λ j. (chosen_push u (chosen j) p (place_at places j)).y);
-  z = ring_sum (length places) (λ j. (chosen_push u (chosen j) p (place_at places j)).z)
+  z = ring_sum (length places) (λ j. (chosen_push u (chosen j) p (place_at places j)).z);
 }
 
 -- a tile is a set of ordered pairs of atoms, each atom by its number: the pairs that the test picks

@@ -1,5 +1,5 @@
 //! Names: of sessions, and of tasks.
-ghost use Rattle.std.specs.Prelude.{◌≡◌, nat_eq, Some};
+ghost use Rattle.std.specs.Prelude.{◌≡◌, ◌↔◌, IsTrue, nat_eq, Some};
 ghost use Rattle.std.specs.List.{list_all};
 ghost use Rattle.std.specs.Cmp.{partial_equiv_from_equiv};
 ghost use Rattle.std.specs.Cmp.Lexicographic.{pointwise, nat_list_eq_equiv};
@@ -9,10 +9,9 @@ ghost use Rattle.std.proofs.Common.{rules};
 ghost use Rattle.lj_tile.specs.Names.{is_name_byte, is_name, name_of};
 
 use arrayvec::ArrayString;
-use std::fmt;
 use std::hash::{Hash, Hasher};
 use std::marker::Model;
-use std::str;
+use std::{fmt, str};
 
 /// The most bytes of a name.
 const MOST_BYTES: usize = 16;
@@ -150,5 +149,12 @@ impl TaskName {
             bi: self.bi,
             bj: self.bj,
         }
+    }
+
+    /// Whether the other name is equal.
+    pub fn is(&self, other: &TaskName) -> bool
+        ensures { IsTrue result ↔ (self.now ≡ other.now) }
+    {
+        self == other
     }
 }

@@ -1,10 +1,14 @@
-ghost use Rattle.std.specs.Prelude.{◌≡◌, ◌≤◌, ◌<◌, ℕ, length, slice_index_or};
-ghost use Rattle.lj_tile.specs.Pushes.{no_push};
-ghost use Rattle.lj_tile.specs.Tasks.{task_force, task_energy};
+ghost use Rattle.std.specs.Prelude.{◌≡◌, ◌≤◌, ◌<◌, ◌*◌, ◌^◌, ℕ, length, slice_index_or, unsigned_abs};
+ghost use Rattle.lj_ring.specs.Ring.{int_sum_below};
+ghost use Rattle.lj_tile.specs.declared.names.Kind.TheVariants.{Energy};
+ghost use Rattle.lj_tile.specs.Pushes.{no_push, energy};
+ghost use Rattle.lj_tile.specs.Tiles.{place_at, chosen_energy};
+ghost use Rattle.lj_tile.specs.Tasks.{task_force, task_energy, are_in_order};
 
 use crate::blocks::BLOCK;
 use crate::pairs::{Push, pair_push};
 use crate::tasks::Task;
+use lj_ring::{Place, Scale, dist2};
 use lj_table::Table;
 
 /// The sums of the pushes on the places of the first block.
@@ -12,12 +16,65 @@ pub(crate) fn force_sums(task: &Task, table: &Table) -> [Push; BLOCK]
     ensures { (t : ℕ) → t < length task.now.a → slice_index_or result t no_push ≡ task_force task.now t }
 {
     let mut sums = [Push::NONE; BLOCK];
+    for t in 0..task.first().len() {
+        sums[t] = push_on(t, task, table);
+    }
     sums
+}
+
+/// The sum of the pushes on place `t` of the first block. An atom's own push on itself is none.
+fn push_on(t: usize, task: &Task, table: &Table) -> Push
+    requires { t < length task.now.a }
+    ensures { result ≡ task_force task.now t }
+{
+    let here = task.first()[t];
+    let places = task.second();
+    let mut sum = Push::NONE;
+    for there in places {
+        sum = sum.plus(pair_push(table, task.scale(), &here, there));
+    }
+    sum
 }
 
 /// The sum of the energies of the task's pairs.
 pub(crate) fn energy_sum(task: &Task, table: &Table) -> i64
+    requires { task.now.name.kind ≡ Energy }
     ensures { result ≡ task_energy task.now }
 {
-    0
+    let mut sum = 0;
+    for s in 0..task.second().len() {
+        sum += energy_before(s, task, table);
+    }
+    sum
+}
+
+/// The sum of the energies of place `s` of the second block with the earlier atoms of the first.
+fn energy_before(s: usize, task: &Task, table: &Table) -> i64
+    requires kind { task.now.name.kind ≡ Energy }
+    requires within { s < length task.now.b }
+    ensures value { let w = task.now in result ≡ int_sum_below (length w.a) (λ t.
+        chosen_energy w.units (are_in_order w t s) (place_at w.a t) (place_at w.b s)) }
+    ensures size { unsigned_abs result ≤ 64 * 2 ^ 37 }
+{
+    let there = task.second()[s];
+    let earlier = if task.name().bi == task.name().bj {
+        s
+    } else {
+        task.first().len()
+    };
+    energy_with(&there, earlier, task.first(), task.scale(), table)
+}
+
+/// The sum of the energies of the atom at `there` with the first `count` of `places`.
+fn energy_with(there: &Place, count: usize, places: &[Place], scale: &Scale, table: &Table) -> i64
+    requires within { count ≤ length places.now }
+    requires few { length places.now ≤ 64 }
+    ensures value { result ≡ int_sum_below count (λ t. energy scale.now (place_at places.now t) there.now) }
+    ensures size { unsigned_abs result ≤ count * 2 ^ 37 }
+{
+    let mut sum = 0;
+    for t in 0..count {
+        sum += table.energy(dist2(&places[t], there), scale);
+    }
+    sum
 }

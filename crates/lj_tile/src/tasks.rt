@@ -1,9 +1,10 @@
 ghost use Rattle.std.specs.Prelude.{◌≡◌, ◌≤◌, ◌<◌, ◌↔◌, length, IsTrue};
 ghost use Rattle.lj_tile.specs.declared.names.Kind.TheVariants.{Energy};
+ghost use Rattle.lj_tile.specs.Tasks.{IsTask};
 
 use crate::blocks::Block;
 use crate::names::TaskName;
-use lj_ring::Scale;
+use lj_ring::{Place, Scale};
 use std::marker::Model;
 
 /// A task: one tile of a step, with all that it takes to compute it. Its first block has the atoms whose sums a force task
@@ -47,9 +48,30 @@ impl Task {
 
     /// The name of the task.
     pub fn name(&self) -> &TaskName
-        ensures { result.now ≡ self.now.name }
+        ensures value { result.now ≡ self.now.name }
+        ensures sound { IsTask self.now }
     {
         &self.name
+    }
+
+    pub(crate) fn scale(&self) -> &Scale
+        ensures { result.now ≡ self.now.units }
+    {
+        &self.scale
+    }
+
+    pub(crate) fn first(&self) -> &[Place]
+        ensures value { result.now ≡ self.now.a }
+        ensures sound { IsTask self.now }
+    {
+        self.first.places()
+    }
+
+    pub(crate) fn second(&self) -> &[Place]
+        ensures value { result.now ≡ self.now.b }
+        ensures sound { IsTask self.now }
+    {
+        self.second.places()
     }
 
     /// An equal task.
@@ -68,9 +90,15 @@ impl Task {
     pub fn is(&self, other: &Task) -> bool
         ensures { IsTrue result ↔ (self.now ≡ other.now) }
     {
-        self.name == other.name
-            && self.scale == other.scale
+        self.name.is(&other.name)
+            && is_same_scale(&self.scale, &other.scale)
             && self.first.is(&other.first)
             && self.second.is(&other.second)
     }
+}
+
+fn is_same_scale(a: &Scale, b: &Scale) -> bool
+    ensures { IsTrue result ↔ (a.now ≡ b.now) }
+{
+    a == b
 }

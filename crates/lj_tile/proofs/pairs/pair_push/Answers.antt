@@ -30,4 +30,4 @@ pub returns-clause-itself : goal.returns-clause-itself
 returns-clause-itself c same =
     returns-clause-value c
     ∙ push_self c.args.scale.now c.args.here.now c.args.there.now c.image.result c.image-2.result c.image-3.result
-      c.image.ensures.value c.image-2.ensures.value c.image-3.ensures.value c.image.ensures.least c.image-2.ensures.least c.image-3.ensures.least same
+    c.image.ensures.value c.image-2.ensures.value c.image-3.ensures.value c.image.ensures.least c.image-2.ensures.least c.image-3.ensures.least same
