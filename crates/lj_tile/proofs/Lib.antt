@@ -1,3 +1,4 @@
 pub mod PushLemmas
 pub mod NameLemmas
 pub mod SumLemmas
+pub mod SameLemmas

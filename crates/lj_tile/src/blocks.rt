@@ -1,4 +1,6 @@
 ghost use Rattle.std.specs.Prelude.{◌≡◌, ◌≤◌, ◌↔◌, length, IsTrue};
+ghost use Rattle.std.specs.Cmp.{partial_equiv_from_equiv};
+ghost use Rattle.lj_tile.specs.Blocks.{same_places, same_places-equiv};
 
 use lj_ring::Place;
 use std::marker::Model;
@@ -63,6 +65,20 @@ impl Block {
     pub fn is(&self, other: &Block) -> bool
         ensures { IsTrue result ↔ (self.now ≡ other.now) }
     {
+        self == other
+    }
+}
+
+impl PartialEq for Block {
+    ghost eq = { same_places };
+
+    ghost laws = { partial_equiv_from_equiv same_places-equiv };
+
+    fn eq(&self, other: &Self) -> bool {
         self.places() == other.places()
     }
+}
+
+impl Eq for Block {
+    ghost laws = { same_places-equiv };
 }

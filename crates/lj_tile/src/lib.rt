@@ -13,3 +13,6 @@ pub use names::{Kind, Label, Name, TaskName};
 pub use pairs::{Push, pair_push};
 pub use results::{Done, compute};
 pub use tasks::Task;
+
+#[cfg(test)]
+mod tests;

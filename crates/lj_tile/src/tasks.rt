@@ -9,7 +9,7 @@ use std::marker::Model;
 
 /// A task: one tile of a step, with all that it takes to compute it. Its first block has the atoms whose sums a force task
 /// gives; place t of block n is atom 64 n + t.
-#[derive(Debug, Drop)]
+#[derive(PartialEq, Eq, Debug, Drop)]
 pub struct Task {
     name: TaskName,
     scale: Scale,
@@ -23,6 +23,8 @@ impl Model for Task {
     ghost Value = { Work };
 
     ghost view = { λ t. record { name = t.name; units = t.scale; a = t.first; b = t.second } };
+
+    ghost inverse = { λ w. record { name = w.name; scale = w.units; first = w.a; second = w.b } };
 
     ghost invariant = { λ t. IsTask (record { name = t.name; units = t.scale; a = t.first; b = t.second }) };
 }
