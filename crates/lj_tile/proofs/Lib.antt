@@ -2,3 +2,4 @@ pub mod PushLemmas
 pub mod NameLemmas
 pub mod SumLemmas
 pub mod SameLemmas
+pub mod NearLemmas

@@ -1,28 +1,22 @@
-use Rattle.std.proofs.Common.{ℕ, zero, suc, ◌+◌, ◌-◌, ◌*◌, ◌%◌, ◌^◌, ◌<◌, ◌≤◌, ◌≡◌, ◌≢◌, ◌==◌, not, Bool, true, false, ℤ, pos, ◌+ℤ◌, unsigned_abs, FitsSigned, w64, to_z, of_z, List, length, refl, sym, ap, ◌∙◌, inl, inr, nat_lt, add-one, arith}
+use Rattle.std.proofs.Common.{ℕ, zero, suc, ◌+◌, ◌-◌, ◌*◌, ◌%◌, ◌^◌, ◌<◌, ◌≤◌, ◌≡◌, ◌≢◌, ◌==◌, not, Bool, true, false, ℤ, pos, ◌+ℤ◌, unsigned_abs, FitsSigned, w64, to_z, of_z, List, length, refl, sym, ap, subst, min, ◌∙◌, inl, inr, ◌⊎◌, nat_lt, add-one, arith}
 use Rattle.std.proofs.Math.IntN.{+ℤ_idr}
 use Rattle.std.proofs.lemmas.Bool.{cases_eq, cases_lt}
 use Rattle.std.proofs.lemmas.Nat.{mul-le}
 use Rattle.std.proofs.lemmas.Bool.Decides.{nat_tests}
 use Rattle.std.proofs.lemmas.Int.{ints, fits_signed_from_abs, to_z-of_z}
 use Rattle.lj_ring.specs.declared.coordinates.Place.{Place}
-use Rattle.lj_ring.specs.Ring.{ring_sum, int_sum_below}
+use Rattle.lj_ring.specs.Ring.{sum_below, ring_sum, int_sum_below, distance}
+use Rattle.lj_ring.specs.Scales.{interacts}
+use Rattle.lj_table.specs.Entries.{push_at}
 use Rattle.lj_tile.specs.declared.pairs.Push.{Push}
 use Rattle.lj_tile.specs.Pushes.{push, no_push, plus, energy}
 use Rattle.lj_tile.specs.declared.names.Kind.TheVariants.{Energy}
+use Rattle.lj_tile.specs.declared.near.Columns.{Columns}
+use Rattle.lj_tile.specs.Near.{IsReach, HasColumns, column_place}
+use Rattle.lj_tile.proofs.PushLemmas.{nothing_is}
+use Rattle.lj_tile.proofs.NearLemmas.{distance_most}
 use Rattle.lj_tile.specs.Tiles.{place_at, chosen_push, chosen_energy, push_sum}
-use Rattle.lj_tile.specs.Tasks.{Work, IsTask, atom, are_apart, are_in_order, task_force, task_energy}
-
--- what place s of the second block adds to the push on place t of the first
-abbrev pub push_of : Work → ℕ → ℕ → Push
-push_of w t s = chosen_push w.units (are_apart w t s) (place_at w.a t) (place_at w.b s)
-
--- the sum of the pushes on place t of the first n places of the second block
-abbrev pub force_below : Work → ℕ → ℕ → Push
-force_below w t n = record {
-  x = ring_sum n (λ s. (push_of w t s).x);
-  y = ring_sum n (λ s. (push_of w t s).y);
-  z = ring_sum n (λ s. (push_of w t s).z);
-}
+use Rattle.lj_tile.specs.Tasks.{Work, IsTask, atom, are_apart, are_in_order, push_of, force_below, task_force, task_energy}
 
 pub force_all : (w : Work) (t : ℕ) → force_below w t (length w.b) ≡ task_force w t
 unfolding push_sum
@@ -139,3 +133,54 @@ sum_is a b k m p q few small =
 
 pub int_sum_more : (f : ℕ → ℤ) (n : ℕ) (sum term : ℤ) → sum ≡ int_sum_below n f → term ≡ f n → sum +ℤ term ≡ int_sum_below (n + 1) f
 int_sum_more f n sum term p q = rw (add-one, p, q) refl
+
+m_zero : (m : ℕ) → m ≤ 0 → m ≡ 0
+m_zero m h = omega arith
+
+bool_cases : (b : Bool) → (b ≡ true) ⊎ (b ≡ false)
+bool_cases true = inl refl
+bool_cases false = inr refl
+
+-- a sum whose terms from m on are 0
+sum_far : (f : ℕ → ℕ) (m n : ℕ) → m ≤ n → ((s : ℕ) → m ≤ s → s < n → f s ≡ 0) → sum_below m f ≡ sum_below n f
+sum_far f m zero le none = rw (m_zero m le) refl
+sum_far f m (suc n) le none =
+    elim (cases_lt n m) [
+      | inl end ↦ let e : m ≡ suc n = omega arith in rw e refl
+      | inr more ↦
+          let last : f n ≡ 0 = none n more (omega arith) in
+          let before = sum_far f m n more (λ s h k. none s h (omega arith)) in
+          omega (arith, last, before)
+    ]
+
+-- places that do not push leave the sum as it is
+pub force_below_far : (w : Work) (t m n : ℕ) → m ≤ n → ((s : ℕ) → m ≤ s → s < n → push_of w t s ≡ no_push) → force_below w t m ≡ force_below w t n
+force_below_far w t m n le none =
+    let x = sum_far (λ s. (push_of w t s).x) m n le (λ s h k. ap (λ (p : Push). p.x) (none s h k)) in
+    let y = sum_far (λ s. (push_of w t s).y) m n le (λ s h k. ap (λ (p : Push). p.y) (none s h k)) in
+    let z = sum_far (λ s. (push_of w t s).z) m n le (λ s h k. ap (λ (p : Push). p.z) (none s h k)) in
+    rw (x, y, z) refl
+
+-- a pair out of reach does not push
+pub far_pair : (w : Work) (t s : ℕ) → interacts w.units (distance (place_at w.a t) (place_at w.b s)) ≡ false → push_of w t s ≡ no_push
+far_pair w t s far =
+    let none : push_at w.units (distance (place_at w.a t) (place_at w.b s)) ≡ pos 0 = rw far refl in
+    let silent : push w.units (place_at w.a t) (place_at w.b s) ≡ no_push = sym (nothing_is w.units (place_at w.a t) (place_at w.b s) none) in
+    elim (bool_cases (are_apart w t s)) [
+      | inl apart ↦ rw (apart, silent) refl
+      | inr same ↦ rw same refl
+    ]
+
+-- eight places whose columns are out of reach do not push
+pub force_below_skips : (w : Work) (t reach from : ℕ) (columns : Columns) → IsReach w.units reach → HasColumns columns w.b
+    → ((k : ℕ) → k < 8 → reach * 2 ^ 34 ≤ distance (place_at w.a t) (column_place columns (from + k)))
+    → force_below w t (min from (length w.b)) ≡ force_below w t (min (from + 8) (length w.b))
+force_below_skips w t reach from columns out same far =
+    force_below_far w t (min from (length w.b)) (min (from + 8) (length w.b)) (omega arith)
+    (λ s h k.
+    let within : s < length w.b = omega arith in
+    let at : from + (s - from) ≡ s = omega arith in
+    let there : column_place columns (from + (s - from)) ≡ place_at w.b s = ap (column_place columns) at ∙ same s within in
+    let least : reach * 2 ^ 34 ≤ distance (place_at w.a t) (place_at w.b s) =
+    subst (λ (q : Place). reach * 2 ^ 34 ≤ distance (place_at w.a t) q) there (far (s - from) (omega arith)) in
+    far_pair w t s (out (distance (place_at w.a t) (place_at w.b s)) least (distance_most (place_at w.a t) (place_at w.b s))))

@@ -4,4 +4,5 @@ pub mod Blocks
 pub mod Tiles
 pub mod Tasks
 pub mod Results
+pub mod Near
 pub mod Worked

@@ -1,13 +1,13 @@
 -- What a task stands for, and its value.
 use Rattle.std.specs.Prelude.{ℕ, ◌+◌, ◌*◌, ◌==◌, ◌≡◌, ◌<◌, ◌≤◌, Bool, not, nat_lt, ℤ, List, length}
 use Rattle.lj_ring.specs.declared.coordinates.Place.{Place}
-use Rattle.lj_ring.specs.Ring.{int_sum_below}
+use Rattle.lj_ring.specs.Ring.{ring_sum, int_sum_below}
 use Rattle.lj_ring.specs.Scales.{Units}
 use Rattle.lj_tile.specs.declared.pairs.Push.{Push}
 use Rattle.lj_tile.specs.declared.names.TaskName.{TaskName}
 use Rattle.lj_tile.specs.declared.names.Kind.{Kind}
 use Rattle.lj_tile.specs.declared.names.Kind.TheVariants.{Force, Energy}
-use Rattle.lj_tile.specs.Tiles.{place_at, push_sum, chosen_energy}
+use Rattle.lj_tile.specs.Tiles.{place_at, push_sum, chosen_push, chosen_energy}
 
 -- the value of a task: its name, the scale of its simulation, and the places of its two blocks
 pub record Work : Type 0 where
@@ -31,6 +31,18 @@ are_in_order w t s = nat_lt (atom w.name.bi t) (atom w.name.bj s)
 -- the value of a force task, for place t of its first block: the ring sum of the pushes of the second block's other atoms
 abbrev pub task_force : Work → ℕ → Push
 task_force w t = push_sum w.units (place_at w.a t) w.b (are_apart w t)
+
+-- what place s of the second block adds to it
+abbrev pub push_of : Work → ℕ → ℕ → Push
+push_of w t s = chosen_push w.units (are_apart w t s) (place_at w.a t) (place_at w.b s)
+
+-- the ring sum of what the first n places of the second block add to it
+abbrev pub force_below : Work → ℕ → ℕ → Push
+force_below w t n = record {
+  x = ring_sum n (λ s. (push_of w t s).x);
+  y = ring_sum n (λ s. (push_of w t s).y);
+  z = ring_sum n (λ s. (push_of w t s).z);
+}
 
 -- the value of an energy task: the sum of the energies of the pairs i < j, i in the first block and j in the second
 unfoldable pub task_energy : Work → ℤ

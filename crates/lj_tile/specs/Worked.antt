@@ -32,7 +32,7 @@ task_of kind bi bj first second = record {
   name = record { label = record { user = 0; session = 97 ∷ [] }; step = pos 0; kind = kind; bi = bi; bj = bj };
   units = dimer_units;
   a = first;
-  b = second
+  b = second;
 }
 
 -- in one block each atom is pushed by the other, and not by itself

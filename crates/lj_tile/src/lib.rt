@@ -3,6 +3,7 @@
 
 mod blocks;
 mod names;
+mod near;
 mod pairs;
 mod results;
 mod sums;

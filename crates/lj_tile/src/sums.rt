@@ -1,11 +1,13 @@
-ghost use Rattle.std.specs.Prelude.{◌≡◌, ◌≤◌, ◌<◌, ◌*◌, ◌^◌, ℕ, length, slice_index_or, unsigned_abs};
+ghost use Rattle.std.specs.Prelude.{◌≡◌, ◌≤◌, ◌<◌, ◌+◌, ◌*◌, ◌^◌, ℕ, length, slice_index_or, min, unsigned_abs};
 ghost use Rattle.lj_ring.specs.Ring.{int_sum_below};
 ghost use Rattle.lj_tile.specs.declared.names.Kind.TheVariants.{Energy};
 ghost use Rattle.lj_tile.specs.Pushes.{no_push, energy};
 ghost use Rattle.lj_tile.specs.Tiles.{place_at, chosen_energy};
-ghost use Rattle.lj_tile.specs.Tasks.{task_force, task_energy, are_in_order};
+ghost use Rattle.lj_tile.specs.Near.{HasColumns, IsReach};
+ghost use Rattle.lj_tile.specs.Tasks.{task_force, task_energy, are_in_order, force_below};
 
 use crate::blocks::BLOCK;
+use crate::near::{Columns, LANES, coarse_reach};
 use crate::pairs::{Push, pair_push};
 use crate::tasks::Task;
 use lj_ring::{Place, Scale, dist2};
@@ -15,23 +17,47 @@ use lj_table::Table;
 pub(crate) fn force_sums(task: &Task, table: &Table) -> [Push; BLOCK]
     ensures { (t : ℕ) → t < length task.now.a → slice_index_or result t no_push ≡ task_force task.now t }
 {
+    let columns = Columns::new(task.second());
+    let reach = coarse_reach(task.scale());
     let mut sums = [Push::NONE; BLOCK];
     for t in 0..task.first().len() {
-        sums[t] = push_on(t, task, table);
+        sums[t] = push_on(t, task, &columns, reach, table);
     }
     sums
 }
 
-/// The sum of the pushes on place `t` of the first block. An atom's own push on itself is none.
-fn push_on(t: usize, task: &Task, table: &Table) -> Push
-    requires { t < length task.now.a }
+/// The sum of the pushes on place `t` of the first block. It looks closely only at those eighths of the second block that
+/// may interact with it.
+#[inline]
+fn push_on(t: usize, task: &Task, columns: &Columns, reach: u32, table: &Table) -> Push
+    requires within { t < length task.now.a }
+    requires columns { HasColumns columns.now task.now.b }
+    requires reach { IsReach task.now.units reach }
     ensures { result ≡ task_force task.now t }
 {
     let here = task.first()[t];
-    let places = task.second();
     let mut sum = Push::NONE;
-    for there in places {
-        sum = sum.plus(pair_push(table, task.scale(), &here, there));
+    for eighth in 0..LANES {
+        if columns.may_reach(LANES * eighth, &here, reach) {
+            sum = with_pushes_of(LANES * eighth, sum, t, task, table);
+        }
+    }
+    sum
+}
+
+/// The sum of the pushes on place `t` of the first block, with those of the eight places from `from` on of the second. An
+/// atom's own push on itself is none.
+fn with_pushes_of(from: usize, before: Push, t: usize, task: &Task, table: &Table) -> Push
+    requires first { t < length task.now.a }
+    requires few { from ≤ 64 }
+    requires before { before ≡ force_below task.now t (min from (length task.now.b)) }
+    ensures { result ≡ force_below task.now t (min (from + 8) (length task.now.b)) }
+{
+    let here = task.first()[t];
+    let places = task.second();
+    let mut sum = before;
+    for s in from.min(places.len())..(from + LANES).min(places.len()) {
+        sum = sum.plus(pair_push(table, task.scale(), &here, &places[s]));
     }
     sum
 }

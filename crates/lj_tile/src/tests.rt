@@ -2,6 +2,7 @@ use crate::{Block, Done, Kind, Label, Name, Task, TaskName, compute};
 use lj_fixed::Nano;
 use lj_ring::{Place, Scale};
 use lj_table::Table;
+use std::process::Abort;
 use std::test::Fail;
 
 const LEFT: Place = Place { x: 0, y: 0, z: 0 };
@@ -51,7 +52,7 @@ fn off_diagonal(kind: Kind, here: Place, there: Place) -> Option<Task> {
     ))
 }
 
-fn done_of(task: Option<Task>, rt: &HostRuntime) -> Done {
+fn done_of(task: Option<Task>, rt: &impl Abort) -> Done {
     compute(task.expect(rt, "a task"), &Table::new())
 }
 
@@ -70,7 +71,10 @@ fn pushes_of_another_block(rt: HostRuntime) {
 
 #[test]
 fn energy_of_a_pair(rt: HostRuntime) {
-    assert_eq!(rt; done_of(diagonal(Kind::Energy), &rt).energy_sum(), -5_349_132);
+    assert_eq!(rt;
+        done_of(diagonal(Kind::Energy), &rt).energy_sum(),
+        -5_349_132
+    );
     let apart = off_diagonal(Kind::Energy, LEFT, RIGHT);
     assert_eq!(rt; done_of(apart, &rt).energy_sum(), -5_349_132);
 }

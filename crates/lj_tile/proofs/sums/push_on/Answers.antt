@@ -1,21 +1,29 @@
-use Rattle.std.proofs.Common.{◌≡◌, ◌<◌, length, sym, ap, ◌∙◌, subst, arith}
-use Rattle.lj_tile.specs.Pushes.{plus}
-use Rattle.lj_tile.proofs.SumLemmas.{force_below, force_all, force_below_more, push_counts}
+use Rattle.std.proofs.Common.{◌≡◌, ◌+◌, ◌*◌, ◌≤◌, ◌^◌, ℕ, min, length, sym, ap, ◌∙◌, subst, arith}
+use Rattle.lj_ring.specs.declared.coordinates.Place.{Place}
+use Rattle.lj_ring.specs.Ring.{distance}
+use Rattle.lj_tile.specs.Tiles.{place_at}
+use Rattle.lj_tile.specs.Tasks.{force_below}
+use Rattle.lj_tile.specs.Near.{column_place}
+use Rattle.lj_tile.proofs.SumLemmas.{force_all, force_below_skips}
 use Rattle.lj_tile.proofs.sums.push_on.Goals as goal
+use Rattle.lj_tile.proofs.sums.push_on.Goals.{then-may_reach, else-may_reach}
 
-pub loop-there-preserved : goal.loop-there-preserved
-loop-there-preserved c =
-    let within : c.loop-there.there-index < length c.args.task.now.b = omega (arith, ap length c.second-places.ensures.value) in
-    let value = rw (c.scale.ensures, c.first.ensures.value, c.second-places.ensures.value) at c.pair_push.ensures.value in
-    let itself = rw (c.first.ensures.value, c.second-places.ensures.value) at c.pair_push.ensures.itself in
-    let counts = push_counts c.args.task.now c.args.t c.loop-there.there-index c.pair_push.result c.first.ensures.sound c.requires within value itself in
-    c.plus-sum.ensures
-    ∙ ap (λ s. plus s c.pair_push.result) c.loop-there.invariant
-    ∙ force_below_more c.args.task.now c.args.t c.loop-there.there-index c.pair_push.result counts
+pub loop-eighth-preserved : goal.loop-eighth-preserved
+loop-eighth-preserved c =
+    let w = c.args.task.now in
+    let next : min (8 * c.loop-eighth.eighth + 8) (length w.b) ≡ min (8 * (c.loop-eighth.eighth + 1)) (length w.b) = omega arith in
+    elim c.if-may_reach.branch [
+      | then-may_reach v ↦ v.sum-is ∙ v.with_pushes_of-sum.ensures ∙ ap (force_below w c.args.t) next
+      | else-may_reach v ↦
+          v.sum-is ∙ c.loop-eighth.invariant
+          ∙ force_below_skips w c.args.t c.args.reach (8 * c.loop-eighth.eighth) c.args.columns.now c.requires.reach c.requires.columns
+          (rw c.first.ensures.value at (c.may_reach.ensures v.if-may_reach.false))
+          ∙ ap (force_below w c.args.t) next
+    ]
 
 pub returns : goal.returns
 returns c =
-    let all : c.loop-there.there-index ≡ length c.args.task.now.b = omega (arith, ap length c.second-places.ensures.value) in
-    c.loop-there.invariant
+    let all : min (8 * c.loop-eighth.eighth) (length c.args.task.now.b) ≡ length c.args.task.now.b = omega (arith, c.first.ensures.sound.most_second) in
+    c.loop-eighth.invariant
     ∙ ap (force_below c.args.task.now c.args.t) all
     ∙ force_all c.args.task.now c.args.t
