@@ -55,16 +55,16 @@ none_left flags k none =
 pub opened_flag : (kind : Kind) (count k : ℕ) → k < 64 * blocks count → slice_index_or (map (is_tile kind count) (range_with_len 0 (64 * blocks count))) k false ≡ is_tile kind count k
 opened_flag kind count k within = get_or-map-range_with_len (is_tile kind count) 0 (64 * blocks count) k k false within (omega arith)
 
-tile_within : (count i j : ℕ) → i < count → j < count → count ≤ 4096 → tile_number (i / 64) (j / 64) < 64 * blocks count
+pub tile_within : (count i j : ℕ) → i < count → j < count → count ≤ 4096 → tile_number (i / 64) (j / 64) < 64 * blocks count
 tile_within count i j hi hj few = omega arith
 
-parts_of : (count i j : ℕ) → j < count → count ≤ 4096 → (first_block (tile_number (i / 64) (j / 64)) ≡ i / 64) × (second_block (tile_number (i / 64) (j / 64)) ≡ j / 64)
+pub parts_of : (count i j : ℕ) → j < count → count ≤ 4096 → (first_block (tile_number (i / 64) (j / 64)) ≡ i / 64) × (second_block (tile_number (i / 64) (j / 64)) ≡ j / 64)
 parts_of count i j hj few = (omega arith, omega arith)
 
-block_below : (count j : ℕ) → j < count → j / 64 < blocks count
+pub block_below : (count j : ℕ) → j < count → j / 64 < blocks count
 block_below count j h = omega arith
 
-tile_passes : (kind : Kind) (count k : ℕ) → second_block k < blocks count → in_order kind k ≡ true → is_tile kind count k ≡ true
+pub tile_passes : (kind : Kind) (count k : ℕ) → second_block k < blocks count → in_order kind k ≡ true → is_tile kind count k ≡ true
 tile_passes kind count k below ordered =
     let first : nat_lt (second_block k) (blocks count) ≡ true = grind (arith, nat_tests) in
     ap (λ (b : Bool). b && in_order kind k) first ∙ ordered
@@ -78,8 +78,11 @@ force_opened count i j hi hj few =
     opened_flag Force count (tile_number (i / 64) (j / 64)) (tile_within count i j hi hj few)
     ∙ tile_passes Force count (tile_number (i / 64) (j / 64)) below refl
 
-ordered_blocks : (count i j : ℕ) → i < j → j < count → count ≤ 4096 → first_block (tile_number (i / 64) (j / 64)) ≤ second_block (tile_number (i / 64) (j / 64))
+pub ordered_blocks : (count i j : ℕ) → i < j → j < count → count ≤ 4096 → first_block (tile_number (i / 64) (j / 64)) ≤ second_block (tile_number (i / 64) (j / 64))
 ordered_blocks count i j before hj few = omega arith
+
+pub ordered_is : (k : ℕ) → first_block k ≤ second_block k → in_order Energy k ≡ true
+ordered_is k h = grind (arith, nat_tests)
 
 -- an opened energy step awaits each pair i < j
 pub energy_opened : (count i j : ℕ) → i < j → j < count → count ≤ 4096
@@ -91,9 +94,6 @@ energy_opened count i j before hj few =
     let ordered : in_order Energy (tile_number (i / 64) (j / 64)) ≡ true = ordered_is (tile_number (i / 64) (j / 64)) order in
     opened_flag Energy count (tile_number (i / 64) (j / 64)) (tile_within count i j (omega arith) hj few)
     ∙ tile_passes Energy count (tile_number (i / 64) (j / 64)) below ordered
-  where
-    ordered_is : (k : ℕ) → first_block k ≤ second_block k → in_order Energy k ≡ true
-    ordered_is k h = grind (arith, nat_tests)
 
 -- the flags that are set are those of tiles
 pub opened_within : (kind : Kind) (count k : ℕ) → slice_index_or (map (is_tile kind count) (range_with_len 0 (64 * blocks count))) k false ≡ true → is_tile kind count k ≡ true

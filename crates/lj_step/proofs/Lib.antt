@@ -12,3 +12,5 @@ pub mod PartialForces
 pub mod PartialEnergies
 pub mod Opened
 pub mod Steps
+pub mod Covers
+pub mod TaskCovers

@@ -132,7 +132,7 @@ along_odd u e y z opposite =
     ∙ ap (λ w. (in_ring w + push_along u e z) % 2 ^ 32) (quotient_odd (e *ℤ pos u.strength *ℤ z))
     ∙ sum_zero (int_div (e *ℤ pos u.strength *ℤ z) (pos (2 ^ 56)))
 
-along_none : (u : Units) (y : ℤ) → push_along u (pos 0) y ≡ 0
+pub along_none : (u : Units) (y : ℤ) → push_along u (pos 0) y ≡ 0
 along_none u y =
     ap (λ w. in_ring (int_div (w *ℤ y) (pos (2 ^ 56)))) (zero-*ℤ (pos u.strength))
     ∙ ap (λ w. in_ring (int_div w (pos (2 ^ 56)))) (zero-*ℤ y)
@@ -143,7 +143,7 @@ pub record AddToNone (a b : Push) : Type 0 where
   pub y : (a.y + b.y) % 2 ^ 32 ≡ 0
   pub z : (a.z + b.z) % 2 ^ 32 ≡ 0
 
-entry_far : (u : Units) (s : ℕ) → interacts u s ≡ false → push_at u s ≡ pos 0
+pub entry_far : (u : Units) (s : ℕ) → interacts u s ≡ false → push_at u s ≡ pos 0
 entry_far u s far = ap (λ (b : Bool). if b then push_entry (entry (bin u s)) else pos 0) far
 
 none_along : (u : Units) (d e y z : ℤ) → d ≡ pos 0 → e ≡ pos 0 → (push_along u d y + push_along u e z) % 2 ^ 32 ≡ 0

@@ -1,10 +1,12 @@
 -- What the laws of the motion are stated of.
-use Rattle.std.specs.Prelude.{ℕ, ◌+◌, ◌-◌, ◌*◌, ◌%◌, ◌^◌, ◌<◌, ◌≤◌, ◌≡◌, List, length}
+use Rattle.std.specs.Prelude.{ℕ, ◌+◌, ◌-◌, ◌*◌, ◌%◌, ◌^◌, ◌<◌, ◌≤◌, ◌≡◌, ℤ, pos, ◌+ℤ◌, List, [], ◌∷◌, length, map, sum_by}
+use Rattle.std.specs.List.{range_with_len}
 use Rattle.lj_ring.specs.declared.coordinates.Place.{Place}
 use Rattle.lj_ring.specs.Ring.{ring_sum}
 use Rattle.lj_ring.specs.Scales.{Units}
 use Rattle.lj_tile.specs.declared.pairs.Push.{Push}
-use Rattle.lj_step.specs.Motion.{Simulation, place_at}
+use Rattle.lj_tile.specs.Tiles.{Tile, tile_force, tile_energy}
+use Rattle.lj_step.specs.Motion.{Simulation, place_at, next_place}
 
 -- a place whose three coordinates lie on the ring
 pub record IsOnRing (p : Place) : Type 0 where
@@ -44,3 +46,25 @@ drift sim =
 -- the same displacement the other way
 abbrev pub opposite : Push → Push
 opposite d = record { x = ring_sub 0 d.x; y = ring_sub 0 d.y; z = ring_sub 0 d.z }
+
+-- the sum on the ring of the values of tiles, for atom i
+unfoldable pub tiles_force : Units → List Place → List Tile → ℕ → Push
+tiles_force u frame tiles i = record {
+  x = sum_by (λ tile. (tile_force u frame tile i).x) tiles % 2 ^ 32;
+  y = sum_by (λ tile. (tile_force u frame tile i).y) tiles % 2 ^ 32;
+  z = sum_by (λ tile. (tile_force u frame tile i).z) tiles % 2 ^ 32
+}
+
+-- one step by the sums of tiles
+abbrev pub stepped_by : Units → List Tile → Simulation → Simulation
+stepped_by u tiles sim = record {
+  prev = sim.cur;
+  cur = map (λ i. next_place (place_at sim.prev i) (place_at sim.cur i) (tiles_force u sim.cur tiles i)) (range_with_len 0 (length sim.cur));
+  step = sim.step +ℤ sim.dir;
+  dir = sim.dir
+}
+
+-- the sum of the values of energy tiles
+abbrev pub tiles_energy : Units → List Place → List Tile → ℤ
+tiles_energy u frame [] = pos 0
+tiles_energy u frame (tile ∷ tiles) = tile_energy u frame tile +ℤ tiles_energy u frame tiles
