@@ -4,7 +4,7 @@ use Rattle.std.specs.Prelude.{Option, Some, None, is_some, MatchOption}
 use Rattle.std.proofs.Math.Nat.{zero-div, div-zero, div-mul-le_self}
 use Rattle.std.proofs.lemmas.List.{get_or-map}
 use Rattle.std.proofs.lemmas.Bool.{ltb-false, le-ltb}
-use Rattle.std.specs.Int.{cast_signed}
+use Rattle.std.specs.Int.{cast_signed, bit_at}
 use Rattle.std.proofs.lemmas.Int.{ints}
 use Rattle.std.proofs.lemmas.Nat.{mul-le, le-div}
 use Rattle.std.proofs.lemmas.Bool.Decides.{nat_tests}
@@ -64,15 +64,11 @@ not_set : (t : Bool) → cond {A = ℕ} t 1 0 ≡ 0 → t ≡ false
 not_set true e = absurd (omega arith)
 not_set false e = refl
 
--- where the mask is empty, no lane is below
-pub none_below : (v : List ℕ) (reach : ℕ) → mask_l (map (λ x. ltb x reach) v) ≡ 0 → (k : ℕ) → k < length v → reach ≤ get_or v k 0
-none_below v reach empty k l =
-    let bit : cond {A = ℕ} (get_or (map (λ x. ltb x reach) v) k false) 1 0 ≡ 0 =
-    sym (bit_mask_l (map (λ x. ltb x reach) v) k) ∙ ap (λ m. m / 2 ^ k % 2) empty ∙ ap (λ n. n % 2) (zero-div (2 ^ k)) in
+-- where a bit of the mask is 0, its lane is not below
+pub not_below : (v : List ℕ) (reach k : ℕ) → k < length v → bit_at (mask_l (map (λ x. ltb x reach) v)) k ≡ 0 → reach ≤ get_or v k 0
+not_below v reach k l empty =
+    let bit : cond {A = ℕ} (get_or (map (λ x. ltb x reach) v) k false) 1 0 ≡ 0 = sym (bit_mask_l (map (λ x. ltb x reach) v) k) ∙ empty in
     ltb-false (get_or v k 0) reach (sym (get_or-map (λ x. ltb x reach) v k 0 false l) ∙ not_set _ bit)
-
-pub is_zero : (n : ℕ) → not (eqb n 0) ≡ false → n ≡ 0
-is_zero n h = grind (arith, nat_tests)
 
 abbrev pub wrapped_sum : ℕ → ℕ → ℕ
 wrapped_sum a b = (a + b) % 2 ^ 32

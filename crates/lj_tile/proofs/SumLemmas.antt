@@ -171,16 +171,26 @@ far_pair w t s far =
       | inr same ↦ rw same refl
     ]
 
--- eight places whose columns are out of reach do not push
-pub force_below_skips : (w : Work) (t reach from : ℕ) (columns : Columns) → IsReach w.units reach → HasColumns columns w.b
-    → ((k : ℕ) → k < 8 → reach * 2 ^ 34 ≤ distance (place_at w.a t) (column_place columns (from + k)))
-    → force_below w t (min from (length w.b)) ≡ force_below w t (min (from + 8) (length w.b))
-force_below_skips w t reach from columns out same far =
-    force_below_far w t (min from (length w.b)) (min (from + 8) (length w.b)) (omega arith)
-    (λ s h k.
-    let within : s < length w.b = omega arith in
-    let at : from + (s - from) ≡ s = omega arith in
-    let there : column_place columns (from + (s - from)) ≡ place_at w.b s = ap (column_place columns) at ∙ same s within in
+-- a place whose column is out of reach does not push
+pub column_silent : (w : Work) (t reach s : ℕ) (columns : Columns) → IsReach w.units reach → HasColumns columns w.b → s < length w.b
+    → reach * 2 ^ 34 ≤ distance (place_at w.a t) (column_place columns s) → push_of w t s ≡ no_push
+column_silent w t reach s columns out same within far =
     let least : reach * 2 ^ 34 ≤ distance (place_at w.a t) (place_at w.b s) =
-    subst (λ (q : Place). reach * 2 ^ 34 ≤ distance (place_at w.a t) q) there (far (s - from) (omega arith)) in
-    far_pair w t s (out (distance (place_at w.a t) (place_at w.b s)) least (distance_most (place_at w.a t) (place_at w.b s))))
+    subst (λ (q : Place). reach * 2 ^ 34 ≤ distance (place_at w.a t) q) (same s within) far in
+    far_pair w t s (out (distance (place_at w.a t) (place_at w.b s)) least (distance_most (place_at w.a t) (place_at w.b s)))
+
+-- a place that does not push, or is none, leaves the sum as it is
+pub force_below_skip : (w : Work) (t s : ℕ) → (s < length w.b → push_of w t s ≡ no_push)
+    → force_below w t (min s (length w.b)) ≡ force_below w t (min (s + 1) (length w.b))
+force_below_skip w t s silent =
+    force_below_far w t (min s (length w.b)) (min (s + 1) (length w.b)) (omega arith)
+    (λ j h k. let e : j ≡ s = omega arith in rw e (silent (omega arith)))
+
+-- the same of eight places
+pub force_below_eight : (w : Work) (t from : ℕ) → ((k : ℕ) → k < 8 → from + k < length w.b → push_of w t (from + k) ≡ no_push)
+    → force_below w t (min from (length w.b)) ≡ force_below w t (min (from + 8) (length w.b))
+force_below_eight w t from silent =
+    force_below_far w t (min from (length w.b)) (min (from + 8) (length w.b)) (omega arith)
+    (λ j h k.
+    let at : from + (j - from) ≡ j = omega arith in
+    rw at at (silent (j - from) (omega arith) (omega arith)))

@@ -1,4 +1,5 @@
 ghost use Rattle.std.specs.Prelude.{◌≡◌, ◌≤◌, ◌<◌, ◌+◌, ◌-◌, ◌*◌, ◌/◌, ◌%◌, ◌^◌, ℕ, false, min, length, slice_index, unsigned_abs};
+ghost use Rattle.std.specs.Int.{bit_at};
 ghost use Rattle.lj_ring.specs.Ring.{distance, image};
 ghost use Rattle.lj_tile.specs.Near.{HasColumns, IsReach, column_place};
 
@@ -33,16 +34,18 @@ impl Columns {
         Columns { x, y, z }
     }
 
-    /// Whether one of the eight places from `from` on may be nearer to `here` than `reach`, a squared distance in units of 2^34.
+    /// A mask of the eight places from `from` on: where a bit is 0, the place is not nearer to `here` than `reach`, a squared
+    /// distance in units of 2^34.
     #[inline]
-    pub(crate) fn may_reach(&self, from: usize, here: &Place, reach: u32) -> bool
+    pub(crate) fn near_eight(&self, from: usize, here: &Place, reach: u32) -> u64
         requires { from + 8 ≤ 64 }
-        ensures { result ≡ false → (k : ℕ) → k < 8 → reach * 2 ^ 34 ≤ distance here.now (column_place self.now (from + k)) }
+        ensures { (k : ℕ) → k < 8 → bit_at result k ≡ 0
+            → reach * 2 ^ 34 ≤ distance here.now (column_place self.now (from + k)) }
     {
         let x = coarse_sizes(&self.x, from, here.x);
         let y = coarse_sizes(&self.y, from, here.y);
         let z = coarse_sizes(&self.z, from, here.z);
-        is_any_below(sums_of_squares(x, y, z), reach)
+        below(sums_of_squares(x, y, z), reach)
     }
 }
 
@@ -105,11 +108,21 @@ fn sums_of_squares(x: u32x8, y: u32x8, z: u32x8) -> u32x8
     x * x + y * y + z * z
 }
 
+/// Bit k tells whether lane k is below `reach`.
 #[inline(always)]
-fn is_any_below(v: u32x8, reach: u32) -> bool
-    ensures { result ≡ false → (k : ℕ) → k < 8 → reach ≤ slice_index v k }
+fn below(v: u32x8, reach: u32) -> u64
+    ensures { (k : ℕ) → k < 8 → bit_at result k ≡ 0 → reach ≤ slice_index v k }
 {
-    v.simd_lt(u32x8::splat(reach)).to_bitmask() != 0
+    v.simd_lt(u32x8::splat(reach)).to_bitmask()
+}
+
+/// Whether bit `k` of the mask is set.
+#[inline(always)]
+pub(crate) fn is_set(mask: u64, k: usize) -> bool
+    requires { k < 64 }
+    ensures { result ≡ false → bit_at mask k ≡ 0 }
+{
+    (mask >> k) % 2 == 1
 }
 
 /// A squared distance, in units of 2^34, from which on no pair interacts: the least there is.

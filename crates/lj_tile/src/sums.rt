@@ -1,13 +1,14 @@
 ghost use Rattle.std.specs.Prelude.{◌≡◌, ◌≤◌, ◌<◌, ◌+◌, ◌*◌, ◌^◌, ℕ, length, slice_index_or, min, unsigned_abs};
+ghost use Rattle.std.specs.Int.{bit_at};
 ghost use Rattle.lj_ring.specs.Ring.{int_sum_below};
 ghost use Rattle.lj_tile.specs.declared.names.Kind.TheVariants.{Energy};
 ghost use Rattle.lj_tile.specs.Pushes.{no_push, energy};
 ghost use Rattle.lj_tile.specs.Tiles.{place_at, chosen_energy};
 ghost use Rattle.lj_tile.specs.Near.{HasColumns, IsReach};
-ghost use Rattle.lj_tile.specs.Tasks.{task_force, task_energy, are_in_order, force_below};
+ghost use Rattle.lj_tile.specs.Tasks.{task_force, task_energy, are_in_order, push_of, force_below};
 
 use crate::blocks::BLOCK;
-use crate::near::{Columns, LANES, coarse_reach};
+use crate::near::{Columns, LANES, coarse_reach, is_set};
 use crate::pairs::{Push, pair_push};
 use crate::tasks::Task;
 use lj_ring::{Place, Scale, dist2};
@@ -38,28 +39,54 @@ fn push_on(t: usize, task: &Task, columns: &Columns, reach: u32, table: &Table) 
     let here = task.first()[t];
     let mut sum = Push::NONE;
     for eighth in 0..LANES {
-        if columns.may_reach(LANES * eighth, &here, reach) {
-            sum = with_pushes_of(LANES * eighth, sum, t, task, table);
+        let near = columns.near_eight(LANES * eighth, &here, reach);
+        if near != 0 {
+            sum = with_pushes_of(near, LANES * eighth, sum, t, task, table);
         }
     }
     sum
 }
 
-/// The sum of the pushes on place `t` of the first block, with those of the eight places from `from` on of the second. An
-/// atom's own push on itself is none.
-fn with_pushes_of(from: usize, before: Push, t: usize, task: &Task, table: &Table) -> Push
+/// `before` with the pushes on place `t` of the first block of the eight places from `from` on of the second. Only those
+/// whose bit in `near` is set are looked at.
+#[inline]
+fn with_pushes_of(
+    near: u64,
+    from: usize,
+    before: Push,
+    t: usize,
+    task: &Task,
+    table: &Table,
+) -> Push
     requires first { t < length task.now.a }
     requires few { from ≤ 64 }
+    requires near { (k : ℕ) → k < 8 → from + k < length task.now.b → bit_at near k ≡ 0 → push_of task.now t (from + k) ≡ no_push }
     requires before { before ≡ force_below task.now t (min from (length task.now.b)) }
     ensures { result ≡ force_below task.now t (min (from + 8) (length task.now.b)) }
 {
-    let here = task.first()[t];
-    let places = task.second();
     let mut sum = before;
-    for s in from.min(places.len())..(from + LANES).min(places.len()) {
-        sum = sum.plus(pair_push(table, task.scale(), &here, &places[s]));
+    for k in 0..LANES {
+        if is_set(near, k) {
+            sum = with_push_of(from + k, sum, t, task, table);
+        }
     }
     sum
+}
+
+/// `before` with the push of place `s` of the second block, if there is one, on place `t` of the first. An atom's own push on
+/// itself is none.
+#[inline]
+fn with_push_of(s: usize, before: Push, t: usize, task: &Task, table: &Table) -> Push
+    requires first { t < length task.now.a }
+    requires few { s < 128 }
+    requires before { before ≡ force_below task.now t (min s (length task.now.b)) }
+    ensures { result ≡ force_below task.now t (min (s + 1) (length task.now.b)) }
+{
+    let places = task.second();
+    if s >= places.len() {
+        return before;
+    }
+    before.plus(pair_push(table, task.scale(), &task.first()[t], &places[s]))
 }
 
 /// The sum of the energies of the task's pairs.
