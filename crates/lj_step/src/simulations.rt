@@ -146,7 +146,7 @@ impl Sim {
         Ok(Snapshot {
             prev: Vec::from_slice(alloc, self.prev.as_slice())?,
             cur: Vec::from_slice(alloc, self.cur.as_slice())?,
-            step: self.step,
+            step: self.step(),
             dir: self.dir,
         })
     }
