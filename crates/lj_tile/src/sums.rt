@@ -38,7 +38,7 @@ fn push_on(t: usize, task: &Task, columns: &Columns, reach: u32, table: &Table) 
 {
     let here = task.first()[t];
     let mut sum = Push::NONE;
-    for eighth in 0..LANES {
+    for eighth in 0..BLOCK / LANES {
         let near = columns.near_eight(LANES * eighth, &here, reach);
         if near != 0 {
             sum = with_pushes_of(near, LANES * eighth, sum, t, task, table);
