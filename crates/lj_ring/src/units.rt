@@ -1,4 +1,4 @@
-ghost use Rattle.std.specs.Prelude.{◌≡◌, ◌≤◌, ◌<◌, ◌+◌, ◌*◌, ◌/◌, ◌^◌, ◌⊎◌, IsTrue, IsFalse, IfSome, MatchOption, SomeIff, unsigned_abs, true, false, not};
+ghost use Rattle.std.specs.Prelude.{◌≡◌, ◌≤◌, ◌<◌, ◌+◌, ◌*◌, ◌/◌, ◌^◌, ◌⊎◌, IsTrue, IsFalse, IfSome, MatchOption, SomeIff, unsigned_abs, true, false};
 ghost use Rattle.lj_ring.specs.Places.{units_of};
 ghost use Rattle.lj_ring.specs.Scales.{edge_fits, sigma_fits, strength_fits, scale_of, bin, interacts};
 
@@ -123,14 +123,6 @@ impl Scale {
         ensures most { result ≤ 2 ^ 24 }
     {
         self.strength
-    }
-
-    /// Whether a pair at squared distance `s` does not interact.
-    #[inline]
-    pub fn is_out_of_reach(&self, s: u64) -> bool
-        ensures { result ≡ not (interacts self.now s) }
-    {
-        s >= self.reach
     }
 
     /// The bin, below 800, of a pair at squared distance `s`, or None where it does not interact.

@@ -1,8 +1,8 @@
 //! Commands of a user.
 
 use crate::body::Body;
-use crate::name::Name;
 use lj_fixed::Nano;
+use lj_tile::Name;
 
 /// How many frames of its body a LOAD reads.
 #[derive(Clone, Copy, Debug, PartialEq, Eq)]

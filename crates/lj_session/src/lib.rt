@@ -3,12 +3,11 @@
 
 mod body;
 mod command;
-mod name;
 mod refusal;
 mod reply;
 
 pub use body::Body;
 pub use command::{Command, Mode};
-pub use name::Name;
+pub use lj_tile::Name;
 pub use refusal::Refusal;
 pub use reply::Reply;

@@ -1,2 +1,16 @@
-pub mod Forces
 pub mod StepNumbers
+pub mod Undone
+pub mod RingSums
+pub mod Opposites
+pub mod Drift
+pub mod Measured
+pub mod CoverLists
+pub mod BlockSums
+pub mod Flags
+pub mod BlockPlaces
+pub mod PartialForces
+pub mod PartialEnergies
+pub mod Opened
+pub mod Steps
+pub mod Covers
+pub mod TaskCovers

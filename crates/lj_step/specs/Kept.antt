@@ -1,28 +1,36 @@
--- What a simulation in the code stands for.
-use Rattle.std.specs.Prelude.{ℕ, ◌+◌, ◌^◌, ◌≤◌, ◌≡◌, ℤ, pos, negsuc, ◌+ℤ◌, ◌-ℤ◌, unsigned_abs, List, length}
-use Rattle.lj_ring.specs.declared.coordinates.Place.{Place}
-use Rattle.lj_ring.specs.Scales.{Units}
-use Rattle.lj_step.specs.Motion.{Simulation}
-use Rattle.lj_step.specs.declared.motion.Direction.{Direction}
-use Rattle.lj_step.specs.declared.motion.Direction.TheVariants.{Forward, Backward}
-use Rattle.lj_step.specs.declared.motion.Sim.TheInside.{Inside}
-use Rattle.lj_step.specs.Live.{Live}
+-- What a simulation in the code stands for, and what is true of it.
+use Rattle.std.specs.Prelude.{◌^◌, ◌≤◌, ◌≡◌, Bool, ℤ, pos, negsuc, ◌-ℤ◌, unsigned_abs, List, length, Option, Some, None}
+use Rattle.lj_tile.specs.declared.names.Kind.{Kind}
+use Rattle.lj_step.specs.declared.simulations.Direction.{Direction}
+use Rattle.lj_step.specs.declared.simulations.Direction.TheVariants.{Forward, Backward}
+use Rattle.lj_step.specs.declared.simulations.Sim.TheInside.{Inside}
+use Rattle.lj_step.specs.Live.{Live, OpenStep}
+use Rattle.lj_step.specs.Sums.{HasRoom, IsPartial}
 
 -- the direction as a number
 abbrev pub sign_of : Direction → ℤ
 sign_of Forward = pos 1
 sign_of Backward = negsuc 0
 
+-- the open step by its kind, if there is one, and its flags
+abbrev pub open_step_of : Option Kind → List Bool → Option OpenStep
+open_step_of None awaited = None
+open_step_of (Some kind) awaited = Some (record { kind = kind; awaited = awaited })
+
 abbrev pub live_of : Inside → Live
 live_of a = record {
   units = a.scale;
   sim = record { prev = a.prev.items; cur = a.cur.items; step = a.step; dir = sign_of a.dir };
+  part = open_step_of a.partial.kind a.partial.awaited.items;
 }
 
--- both frames have one count of atoms, and this and the last step number are at most 10^12 in size
+-- both frames have one count of atoms, this and the last step number are at most 10^12 in size, and the sums of the open
+-- step are those of the tiles that are in
 pub record IsSound (a : Inside) : Type 0 where
   pub same : length a.prev.items ≡ length a.cur.items
   pub some : 1 ≤ length a.cur.items
   pub most : length a.cur.items ≤ 4096
   pub step_bound : unsigned_abs a.step ≤ 10 ^ 12
   pub last_bound : unsigned_abs (a.step -ℤ sign_of a.dir) ≤ 10 ^ 12
+  pub room : HasRoom (length a.cur.items) a.partial
+  pub partial : IsPartial a.scale a.cur.items a.partial a.partial.kind

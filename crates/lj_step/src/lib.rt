@@ -1,6 +1,14 @@
-//! The simulation: two frames of places, stepped reversibly.
+//! The simulation: two frames of places, stepped reversibly, each step cut into tasks.
 #![tactic(auto)]
 
-mod motion;
+mod frames;
+pub mod laws;
+mod measures;
+mod partial;
+mod simulations;
+mod snapshots;
 
-pub use motion::{Frame, Frames, Sim};
+pub use frames::{Frame, Frames};
+pub use measures::Momentum;
+pub use simulations::{Displacement, Sim, Stray};
+pub use snapshots::Snapshot;

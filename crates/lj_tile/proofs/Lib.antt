@@ -1,1 +1,5 @@
 pub mod PushLemmas
+pub mod NameLemmas
+pub mod SumLemmas
+pub mod SameLemmas
+pub mod NearLemmas

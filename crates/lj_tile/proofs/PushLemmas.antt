@@ -1,11 +1,11 @@
-use Rattle.std.proofs.Common.{ℕ, zero, suc, ◌+◌, ◌-◌, ◌*◌, ◌/◌, ◌%◌, ◌^◌, ◌<◌, ◌≤◌, ◌≡◌, ℤ, pos, negsuc, ◌+ℤ◌, ◌-ℤ◌, ◌*ℤ◌, int_div, unsigned_abs, FitsSigned, w32, w64, of_z, to_z, neg_ℤ, Bool, true, false, not, refl, sym, ap, ◌∙◌, rules, arith}
+use Rattle.std.proofs.Common.{ℕ, zero, suc, ◌+◌, ◌-◌, ◌*◌, ◌/◌, ◌%◌, ◌^◌, ◌<◌, ◌≤◌, ◌≡◌, ℤ, pos, negsuc, ◌+ℤ◌, ◌-ℤ◌, ◌*ℤ◌, int_div, unsigned_abs, FitsSigned, w32, w64, of_z, to_z, neg_ℤ, refl, sym, ap, ◌∙◌, rules, arith}
 use Rattle.std.proofs.lemmas.Int.{ints, unsigned_abs-mul, fits_signed_from_abs, to_z-of_z}
 use Rattle.std.proofs.lemmas.Nat.{mul-le}
 use Rattle.std.proofs.Math.IntN.{zero-*ℤ, *ℤ-zero}
 use Rattle.std.specs.Int.{w128}
 use Rattle.lj_ring.specs.declared.coordinates.Place.{Place}
 use Rattle.lj_ring.specs.Ring.{in_ring, image, distance, IsLeastImage}
-use Rattle.lj_ring.specs.Scales.{Units, interacts}
+use Rattle.lj_ring.specs.Scales.{Units}
 use Rattle.lj_table.specs.Entries.{push_at}
 use Rattle.lj_tile.specs.declared.pairs.Push.{Push}
 use Rattle.lj_tile.specs.Pushes.{push, no_push}
@@ -89,13 +89,3 @@ push_self u p q ix iy iz x_is y_is z_is x y z same =
     let y_none : image p.y q.y ≡ pos 0 = sym y_is ∙ least_self p.y q.y iy y (ap (λ (r : Place). r.y) same) in
     let z_none : image p.z q.z ≡ pos 0 = sym z_is ∙ least_self p.z q.z iz z (ap (λ (r : Place). r.z) same) in
     rw (x_none, y_none, z_none, *ℤ-zero) refl
-
-not_true : (b : Bool) → not b ≡ true → b ≡ false
-not_true true h = cc
-not_true false h = refl
-
--- a pair out of reach does not push
-pub out_is_nothing : (u : Units) (p q : Place) → not (interacts u (distance p q)) ≡ true → push u p q ≡ no_push
-out_is_nothing u p q out =
-    let e : interacts u (distance p q) ≡ false = not_true _ out in
-    sym (nothing_is u p q (rw e refl))

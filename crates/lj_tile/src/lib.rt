@@ -1,6 +1,19 @@
 //! Pushes and energies of pairs of atoms, and the tasks that a step is cut into.
 #![tactic(auto)]
 
+mod blocks;
+mod names;
+mod near;
 mod pairs;
+mod results;
+mod sums;
+mod tasks;
 
-pub use pairs::{Push, add_pair_push, pair_push};
+pub use blocks::{BLOCK, Block};
+pub use names::{Kind, Label, Name, TaskName};
+pub use pairs::{Push, pair_push};
+pub use results::{Done, compute};
+pub use tasks::Task;
+
+#[cfg(test)]
+mod tests;

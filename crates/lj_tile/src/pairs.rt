@@ -30,18 +30,6 @@ impl Push {
     }
 }
 
-/// `sum` and the push of the atom at `there` on the atom at `here`. Most pairs are out of reach, and cost no addition.
-#[inline]
-pub fn add_pair_push(sum: Push, table: &Table, scale: &Scale, here: &Place, there: &Place) -> Push
-    ensures value { result ≡ pushes.plus sum (pushes.push scale.now here.now there.now) }
-    ensures itself { here.now ≡ there.now → result ≡ pushes.plus sum pushes.no_push }
-{
-    if scale.is_out_of_reach(dist2(here, there)) {
-        return sum;
-    }
-    sum.plus(pair_push(table, scale, here, there))
-}
-
 /// The push of the atom at `there` on the atom at `here`. Most pairs are out of reach: they end at the table's 0.
 #[inline]
 pub fn pair_push(table: &Table, scale: &Scale, here: &Place, there: &Place) -> Push

@@ -12,7 +12,7 @@ use Rattle.lj_session.specs.declared.command.Mode.{Mode}
 use Rattle.lj_session.specs.declared.command.Mode.TheVariants.{Rest, Pair}
 use Rattle.lj_session.specs.declared.command.Command.{Command}
 use Rattle.lj_session.specs.declared.command.Command.TheVariants as command
-use Rattle.lj_session.specs.Names.{name_of}
+use Rattle.lj_tile.specs.Names.{name_of}
 use Rattle.lj_wire.specs.declared.item.Fault.TheVariants as fault
 use Rattle.lj_wire.specs.declared.item.Item.{Item}
 use Rattle.lj_wire.specs.declared.item.Item.TheVariants as item

@@ -1,0 +1,100 @@
+use Rattle.std.proofs.Common.{ℕ, zero, suc, ◌+◌, ◌-◌, ◌*◌, ◌%◌, ◌^◌, ◌<◌, ◌≤◌, ◌≡◌, ℤ, pos, negsuc, ◌+ℤ◌, ◌-ℤ◌, neg_ℤ, List, length, map, refl, sym, ap, ◌∙◌, arith}
+use Rattle.std.specs.List.{range_with_len}
+use Rattle.std.proofs.lemmas.Int.{ints}
+use Rattle.std.proofs.lemmas.List.FromFn.{length-map-range_with_len, get_or-map-range_with_len, fill_by_all}
+use Rattle.lj_ring.specs.declared.coordinates.Place.{Place}
+use Rattle.lj_ring.specs.Scales.{Units}
+use Rattle.lj_tile.specs.declared.pairs.Push.{Push}
+use Rattle.lj_step.specs.Motion.{Simulation, place_at, force, next_coordinate, next_place, moved, next_frame, stepped, steps, reversed}
+use Rattle.lj_step.specs.Laws.{IsOnRing, AreOnRing, IsWhole}
+
+-- the place at index i of the frame after cur
+pub next_frame_at : (u : Units) (prev cur : List Place) (i : ℕ) → i < length cur → place_at (next_frame u prev cur) i ≡ moved u prev cur i
+next_frame_at u prev cur i h = get_or-map-range_with_len (moved u prev cur) 0 (length cur) i i _ h (omega arith)
+
+pub next_frame_length : (u : Units) (prev cur : List Place) → length (next_frame u prev cur) ≡ length cur
+next_frame_length u prev cur = length-map-range_with_len (moved u prev cur) 0 (length cur)
+
+next_coordinate_below : (p c f : ℕ) → next_coordinate p c f < 2 ^ 32
+next_coordinate_below p c f = omega arith
+
+next_place_on_ring : (p c : Place) (f : Push) → IsOnRing (next_place p c f)
+next_place_on_ring p c f = record {
+  x = next_coordinate_below p.x c.x f.x;
+  y = next_coordinate_below p.y c.y f.y;
+  z = next_coordinate_below p.z c.z f.z;
+}
+
+-- a step leads from a whole simulation to a whole one
+pub stepped_whole : (u : Units) (sim : Simulation) → IsWhole sim → IsWhole (stepped u sim)
+stepped_whole u sim h = record {
+  same = sym (next_frame_length u sim.prev sim.cur);
+  prev = h.cur;
+  cur = λ i below.
+      let within : i < length sim.cur = rw (← next_frame_length u sim.prev sim.cur) below in
+      rw (next_frame_at u sim.prev sim.cur i within) (next_place_on_ring _ _ _);
+}
+
+back_coordinate : (p c f : ℕ) → p < 2 ^ 32 → next_coordinate (next_coordinate p c f) c f ≡ p
+back_coordinate p c f h = omega arith
+
+place : ℕ → ℕ → ℕ → Place
+place x y z = record { x = x; y = y; z = z }
+
+-- places with equal coordinates are equal
+pub same_place : (p q : Place) → p.x ≡ q.x → p.y ≡ q.y → p.z ≡ q.z → p ≡ q
+unfolding place
+same_place p q x y z = ap (λ a. place a p.y p.z) x ∙ ap (λ b. place q.x b p.z) y ∙ ap (λ c. place q.x q.y c) z
+
+back_place : (p c : Place) (f : Push) → IsOnRing p → next_place (next_place p c f) c f ≡ p
+back_place p c f h =
+    same_place (next_place (next_place p c f) c f) p (back_coordinate p.x c.x f.x h.x) (back_coordinate p.y c.y f.y h.y) (back_coordinate p.z c.z f.z h.z)
+
+-- the push depends on the present frame alone, so that the step back finds the frame before
+frame_back : (u : Units) (prev cur : List Place) → length prev ≡ length cur → AreOnRing prev → next_frame u (next_frame u prev cur) cur ≡ prev
+frame_back u prev cur same on_ring =
+    sym (fill_by_all (moved u (next_frame u prev cur) cur) prev (length cur) (record { x = 0; y = 0; z = 0 }) same
+    (λ k h. let within : k < length prev = omega arith in
+    sym (ap (λ p. next_place p (place_at cur k) (force u cur k)) (next_frame_at u prev cur k h)
+    ∙ back_place (place_at prev k) (place_at cur k) (force u cur k) (on_ring k within))))
+
+same_step : (s d : ℤ) → s +ℤ d -ℤ d +ℤ neg_ℤ d ≡ s -ℤ d
+same_step s d = omega (arith, ints)
+
+-- a step back from the step after
+step_back : (u : Units) (sim : Simulation) → IsWhole sim → stepped u (reversed (stepped u sim)) ≡ reversed sim
+step_back u sim h =
+    let frame = frame_back u sim.prev sim.cur h.same h.prev in
+    let step = same_step sim.step sim.dir in
+    cc (frame, step)
+
+steps_more : (u : Units) (n : ℕ) (sim : Simulation) → steps u (suc n) sim ≡ stepped u (steps u n sim)
+steps_more u zero sim = refl
+steps_more u (suc n) sim = steps_more u n (stepped u sim)
+
+steps_back : (u : Units) (n : ℕ) (sim : Simulation) → IsWhole sim → steps u n (reversed (steps u n sim)) ≡ reversed sim
+steps_back u zero sim h = refl
+steps_back u (suc n) sim h =
+    steps_more u n (reversed (steps u n (stepped u sim)))
+    ∙ ap (stepped u) (steps_back u n (stepped u sim) (stepped_whole u sim h))
+    ∙ step_back u sim h
+
+turned_twice : (s d : ℤ) → s -ℤ d -ℤ neg_ℤ d ≡ s
+turned_twice s d = omega (arith, ints)
+
+same_direction : (d : ℤ) → neg_ℤ (neg_ℤ d) ≡ d
+same_direction (pos zero) = refl
+same_direction (pos (suc n)) = refl
+same_direction (negsuc n) = refl
+
+at_step : Simulation → ℤ → ℤ → Simulation
+at_step sim step dir = record { prev = sim.prev; cur = sim.cur; step = step; dir = dir }
+
+reversed_twice : (sim : Simulation) → reversed (reversed sim) ≡ sim
+unfolding at_step
+reversed_twice sim =
+    ap (λ s. at_step sim s (neg_ℤ (neg_ℤ sim.dir))) (turned_twice sim.step sim.dir)
+    ∙ ap (λ d. at_step sim sim.step d) (same_direction sim.dir)
+
+pub undone : (u : Units) (n : ℕ) (sim : Simulation) → IsWhole sim → reversed (steps u n (reversed (steps u n sim))) ≡ sim
+undone u n sim h = ap reversed (steps_back u n sim h) ∙ reversed_twice sim

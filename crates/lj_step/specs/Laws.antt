@@ -1,0 +1,70 @@
+-- What the laws of the motion are stated of.
+use Rattle.std.specs.Prelude.{ℕ, ◌+◌, ◌-◌, ◌*◌, ◌%◌, ◌^◌, ◌<◌, ◌≤◌, ◌≡◌, ℤ, pos, ◌+ℤ◌, List, [], ◌∷◌, length, map, sum_by}
+use Rattle.std.specs.List.{range_with_len}
+use Rattle.lj_ring.specs.declared.coordinates.Place.{Place}
+use Rattle.lj_ring.specs.Ring.{ring_sum}
+use Rattle.lj_ring.specs.Scales.{Units}
+use Rattle.lj_tile.specs.declared.pairs.Push.{Push}
+use Rattle.lj_tile.specs.Tiles.{Tile, tile_force, tile_energy}
+use Rattle.lj_step.specs.Motion.{Simulation, place_at, next_place}
+
+-- a place whose three coordinates lie on the ring
+pub record IsOnRing (p : Place) : Type 0 where
+  pub x : p.x < 2 ^ 32
+  pub y : p.y < 2 ^ 32
+  pub z : p.z < 2 ^ 32
+
+-- each place of a frame lies on the ring
+abbrev pub AreOnRing : List Place → Type 0
+AreOnRing frame = (i : ℕ) → i < length frame → IsOnRing (place_at frame i)
+
+-- both frames have one count of atoms, and their places lie on the ring
+pub record IsWhole (sim : Simulation) : Type 0 where
+  pub same : length sim.prev ≡ length sim.cur
+  pub prev : AreOnRing sim.prev
+  pub cur : AreOnRing sim.cur
+
+-- sigma of a scale: five of it are shorter than the box, so that no pair that interacts lies half the box apart
+pub record IsScale (u : Units) : Type 0 where
+  pub least : 65536 ≤ u.sigma
+  pub most : 5 * u.sigma < 2 ^ 32
+
+-- a difference on the ring
+abbrev pub ring_sub : ℕ → ℕ → ℕ
+ring_sub a b = (a + (2 ^ 32 - b)) % 2 ^ 32
+
+-- the drift along each axis: the sum on the ring of cur - prev over all atoms
+unfoldable pub drift : Simulation → Push
+drift sim =
+    let n = length sim.cur in
+    record {
+      x = ring_sum n (λ i. ring_sub (place_at sim.cur i).x (place_at sim.prev i).x);
+      y = ring_sum n (λ i. ring_sub (place_at sim.cur i).y (place_at sim.prev i).y);
+      z = ring_sum n (λ i. ring_sub (place_at sim.cur i).z (place_at sim.prev i).z);
+    }
+
+-- the same displacement the other way
+abbrev pub opposite : Push → Push
+opposite d = record { x = ring_sub 0 d.x; y = ring_sub 0 d.y; z = ring_sub 0 d.z }
+
+-- the sum on the ring of the values of tiles, for atom i
+unfoldable pub tiles_force : Units → List Place → List Tile → ℕ → Push
+tiles_force u frame tiles i = record {
+  x = sum_by (λ tile. (tile_force u frame tile i).x) tiles % 2 ^ 32;
+  y = sum_by (λ tile. (tile_force u frame tile i).y) tiles % 2 ^ 32;
+  z = sum_by (λ tile. (tile_force u frame tile i).z) tiles % 2 ^ 32;
+}
+
+-- one step by the sums of tiles
+abbrev pub stepped_by : Units → List Tile → Simulation → Simulation
+stepped_by u tiles sim = record {
+  prev = sim.cur;
+  cur = map (λ i. next_place (place_at sim.prev i) (place_at sim.cur i) (tiles_force u sim.cur tiles i)) (range_with_len 0 (length sim.cur));
+  step = sim.step +ℤ sim.dir;
+  dir = sim.dir;
+}
+
+-- the sum of the values of energy tiles
+abbrev pub tiles_energy : Units → List Place → List Tile → ℤ
+tiles_energy u frame [] = pos 0
+tiles_energy u frame (tile ∷ tiles) = tile_energy u frame tile +ℤ tiles_energy u frame tiles

@@ -1,0 +1,116 @@
+-- An open step: its cover by tiles of two blocks, the tasks of these tiles, and which of them are still awaited.
+use Rattle.std.specs.Prelude.{ℕ, ◌+◌, ◌-◌, ◌*◌, ◌/◌, ◌%◌, ◌≡◌, ◌&&◌, Bool, true, false, nat_le, nat_lt, min, List, length, map, count_by, slice_index_or, slice_set, slice_range, slice_get, Option, Some, None}
+use Rattle.std.specs.List.{range_with_len, filter}
+use Rattle.std.specs.Option.{option_map, option_map_or}
+use Rattle.lj_ring.specs.declared.coordinates.Place.{Place}
+use Rattle.lj_tile.specs.declared.names.Label.{Label}
+use Rattle.lj_tile.specs.declared.names.Kind.{Kind}
+use Rattle.lj_tile.specs.declared.names.Kind.TheVariants.{Force, Energy}
+use Rattle.lj_tile.specs.Tiles.{Tile, force_tile, energy_tile}
+use Rattle.lj_tile.specs.Tasks.{Work}
+use Rattle.lj_step.specs.Motion.{Simulation}
+use Rattle.lj_step.specs.Live.{Live, OpenStep}
+
+-- how many blocks of 64 a count of atoms has, the last one perhaps not full
+abbrev pub blocks : ℕ → ℕ
+blocks count = (count + 63) / 64
+
+-- the number of the tile of two blocks
+abbrev pub tile_number : ℕ → ℕ → ℕ
+tile_number bi bj = 64 * bi + bj
+
+abbrev pub first_block : ℕ → ℕ
+first_block k = k / 64
+
+abbrev pub second_block : ℕ → ℕ
+second_block k = k % 64
+
+-- each ordered pair of blocks has a force task, and each pair bi <= bj an energy task
+abbrev pub in_order : Kind → ℕ → Bool
+in_order Force k = true
+in_order Energy k = nat_le (first_block k) (second_block k)
+
+-- a step over so many atoms has a tile of this number
+abbrev pub is_tile : Kind → ℕ → ℕ → Bool
+is_tile kind count k = nat_lt (second_block k) (blocks count) && in_order kind k
+
+-- the cover of a step: the numbers of its tiles, in order of the first block, then of the second
+abbrev pub cover : Kind → ℕ → List ℕ
+cover kind count = filter (is_tile kind count) (range_with_len 0 (64 * blocks count))
+
+-- the pairs of atoms that a tile covers
+abbrev pub tile_of : Kind → ℕ → Tile
+tile_of Force k = force_tile (first_block k) (second_block k)
+tile_of Energy k = energy_tile (first_block k) (second_block k)
+
+-- the places of a block of a frame
+abbrev pub block : List Place → ℕ → List Place
+block frame b = slice_range frame (64 * b) (min (64 * b + 64) (length frame))
+
+-- the task of a tile of the present step
+abbrev pub task_of : Live → Label → Kind → ℕ → Work
+task_of live label kind k = record {
+  name = record { label = label; step = live.sim.step; kind = kind; bi = first_block k; bj = second_block k };
+  units = live.units;
+  a = block live.sim.cur (first_block k);
+  b = block live.sim.cur (second_block k);
+}
+
+-- the tile whose task this is by its blocks
+abbrev pub number_of : Work → ℕ
+number_of work = tile_number work.name.bi work.name.bj
+
+-- the i-th task of the open step, if there is one
+abbrev pub task_in : Live → Label → ℕ → Option OpenStep → Option Work
+task_in live label i None = None
+task_in live label i (Some p) = option_map (task_of live label p.kind) (slice_get (cover p.kind (length live.sim.cur)) i)
+
+abbrev pub task_at : Live → Label → ℕ → Option Work
+task_at live label i = task_in live label i live.part
+
+-- an open step that awaits all its tiles
+abbrev pub opened : Kind → ℕ → OpenStep
+opened kind count = record { kind = kind; awaited = map (is_tile kind count) (range_with_len 0 (64 * blocks count)) }
+
+-- the open step awaits the tile of this number
+abbrev pub awaits : OpenStep → ℕ → Bool
+awaits p k = slice_index_or p.awaited k false
+
+-- the open step awaits the i-th tile of its cover
+abbrev pub awaits_in : ℕ → ℕ → Option OpenStep → Bool
+awaits_in count i None = false
+awaits_in count i (Some p) = option_map_or (awaits p) (slice_get (cover p.kind count) i) false
+
+abbrev pub awaits_at : Live → ℕ → Bool
+awaits_at live i = awaits_in (length live.sim.cur) i live.part
+
+-- the task is that of a tile that the open step awaits: none is where no step is open
+abbrev pub AwaitsIn : Live → Label → Work → Option OpenStep → Type 0
+AwaitsIn live label work None = ⊥
+AwaitsIn live label work (Some p) = (awaits p (number_of work) ≡ true) × (work ≡ task_of live label p.kind (number_of work))
+
+abbrev pub Awaits : Live → Label → Work → Type 0
+Awaits live label work = AwaitsIn live label work live.part
+
+-- the open step with one tile more that is in
+abbrev pub with_tile : ℕ → Option OpenStep → Option OpenStep
+with_tile k None = None
+with_tile k (Some p) = Some (record { kind = p.kind; awaited = slice_set p.awaited k false })
+
+-- how many tiles are awaited
+abbrev pub left : OpenStep → ℕ
+left p = count_by (λ awaited. awaited) p.awaited
+
+-- a step of this kind is open, and all its tiles are in
+abbrev pub IsWhole : Kind → Option OpenStep → Type 0
+IsWhole kind None = ⊥
+IsWhole kind (Some p) = (p.kind ≡ kind) × (left p ≡ 0)
+
+-- a step is open, and all its tiles are in
+abbrev pub is_whole : Option OpenStep → Bool
+is_whole None = false
+is_whole (Some p) = nat_le (left p) 0
+
+-- a simulation with no step open
+abbrev pub closed : Live → Simulation → Live
+closed live sim = record { units = live.units; sim = sim; part = None }

@@ -1,0 +1,77 @@
+ghost use Rattle.std.specs.Prelude.{◌≡◌, length};
+ghost use Rattle.lj_step.specs.Motion as motion;
+
+use lj_ring::Place;
+use lj_tile::Push;
+use std::marker::Model;
+
+/// The places of all atoms at one moment, in the order of the file.
+#[derive(Drop)]
+pub struct Frame {
+    places: Vec<Place>,
+}
+
+impl Model for Frame {
+    ghost use Rattle.std.specs.Prelude.{List};
+    ghost use Rattle.lj_ring.specs.declared.coordinates.Place.{Place};
+
+    ghost Value = { List Place };
+
+    ghost view = { λ f. f.places.items };
+}
+
+impl Frame {
+    /// The frame of these places. It takes no memory.
+    pub fn new(places: Vec<Place>) -> Frame
+        ensures { result ≡ places.items }
+    {
+        Frame { places }
+    }
+
+    pub(crate) fn into_places(self) -> Vec<Place>
+        ensures { result.items ≡ self }
+    {
+        self.places
+    }
+
+    /// How many atoms it has.
+    pub fn count(&self) -> usize
+        ensures { result ≡ length self.now }
+    {
+        self.places.as_slice().len()
+    }
+}
+
+/// Two frames one step apart.
+#[derive(Drop)]
+pub struct Frames {
+    pub prev: Frame,
+    pub cur: Frame,
+}
+
+/// Writes the places of a frame over those of another.
+pub(crate) fn overwrite(to: &mut Vec<Place>, from: &[Place])
+    requires { length to.old.items ≡ length from.now }
+    ensures { to.new.items ≡ from.now }
+{
+    to.as_mut_slice().copy_from_slice(from);
+}
+
+/// The next place of an atom by the places before and now, and the push on it.
+pub(crate) fn next_place(prev: Place, cur: Place, push: Push) -> Place
+    ensures { result ≡ motion.next_place prev cur push }
+{
+    Place {
+        x: next_coordinate(prev.x, cur.x, push.x),
+        y: next_coordinate(prev.y, cur.y, push.y),
+        z: next_coordinate(prev.z, cur.z, push.z),
+    }
+}
+
+/// `2 cur - prev + push` on the ring.
+#[inline]
+fn next_coordinate(prev: u32, cur: u32, push: u32) -> u32
+    ensures { result ≡ motion.next_coordinate prev cur push }
+{
+    cur.wrapping_add(cur).wrapping_sub(prev).wrapping_add(push)
+}

@@ -1,0 +1,348 @@
+ghost use Rattle.std.specs.Prelude.{◌≡◌, ◌≤◌, ◌<◌, ◌+◌, ◌^◌, ◌↔◌, pos, ◌+ℤ◌, ◌-ℤ◌, length, unsigned_abs, IfOk, IfErr, IsOk, IsTrue, OnOk, OnErr, Some, None, true, ℕ, ◌*◌, slice_index_or};
+ghost use Rattle.lj_tile.specs.declared.names.Kind.TheVariants.{Force, Energy};
+ghost use Rattle.lj_ring.specs.Ring.{in_ring};
+ghost use Rattle.lj_tile.specs.Pushes.{no_push};
+ghost use Rattle.lj_step.specs.Motion as motion;
+ghost use Rattle.lj_step.specs.OpenSteps as steps;
+
+use crate::frames::{Frames, next_place, overwrite};
+use crate::measures::{self, Momentum};
+use crate::partial::Partial;
+use crate::snapshots::Snapshot;
+use lj_ring::{Place, Scale};
+use lj_tile::{BLOCK, Block, Done, Kind, Label, Push, Task, TaskName};
+use std::alloc::{AllocError, Global};
+use std::marker::Model;
+use std::mem;
+
+/// The way that step numbers go.
+#[derive(Clone, Copy, PartialEq, Eq, Debug)]
+pub(crate) enum Direction {
+    Forward,
+    Backward,
+}
+
+impl Direction {
+    ghost use Rattle.lj_step.specs.Kept.{sign_of};
+    ghost use Rattle.std.specs.Prelude.{neg_ℤ};
+
+    fn sign(self) -> i64
+        ensures value { result ≡ sign_of self }
+        ensures size { unsigned_abs result ≡ 1 }
+    {
+        match self {
+            Direction::Forward => 1,
+            Direction::Backward => -1,
+        }
+    }
+
+    fn turned(self) -> Direction
+        ensures { sign_of result ≡ neg_ℤ (sign_of self) }
+    {
+        match self {
+            Direction::Forward => Direction::Backward,
+            Direction::Backward => Direction::Forward,
+        }
+    }
+}
+
+/// A displacement of an atom, in ring units along each axis.
+#[derive(Clone, Copy, PartialEq, Eq, Debug)]
+pub struct Displacement {
+    pub x: i32,
+    pub y: i32,
+    pub z: i32,
+}
+
+/// A result that the open step does not await, handed back.
+#[derive(Debug, Drop)]
+pub struct Stray {
+    pub done: Done,
+}
+
+/// A simulation: two frames one step apart, its step number and direction, its scale, and the step that is open. A step
+/// is opened, its tasks are computed by anyone in any order, the results accepted, and when it is whole it is turned.
+#[derive(Drop)]
+pub struct Sim {
+    scale: Scale,
+    prev: Vec<Place>,
+    cur: Vec<Place>,
+    step: i64,
+    dir: Direction,
+    partial: Partial,
+}
+
+impl Model for Sim {
+    ghost use Rattle.lj_step.specs.Live.{Live};
+
+    ghost Value = { Live };
+
+    ghost use Rattle.lj_step.specs.Kept.{live_of, IsSound};
+
+    ghost view = { live_of };
+
+    ghost invariant = { IsSound };
+}
+
+impl Sim {
+    /// A simulation that stands at step 0 and goes forward. Its room for steps is made here, and no other call takes
+    /// memory.
+    pub fn new(alloc: Global, frames: Frames, scale: Scale) -> Result<Sim, AllocError>
+        requires same { length frames.prev ≡ length frames.cur }
+        requires some { 1 ≤ length frames.cur }
+        requires most { length frames.cur ≤ 4096 }
+        ensures { IfOk result (λ s. s ≡ record { units = scale; sim = motion.opening frames.prev frames.cur; part = None }) }
+    {
+        let partial = Partial::new(alloc, frames.cur.count())?;
+        Ok(Sim {
+            scale,
+            prev: frames.prev.into_places(),
+            cur: frames.cur.into_places(),
+            step: 0,
+            dir: Direction::Forward,
+            partial,
+        })
+    }
+
+    /// Turns the motion back: the frames change places. An open step is closed.
+    pub fn reverse(&mut self)
+        ensures { self.new ≡ steps.closed self.old (motion.reversed self.old.sim) }
+    {
+        mem::swap(&mut self.prev, &mut self.cur);
+        self.step -= self.dir.sign();
+        self.dir = self.dir.turned();
+        self.partial.kind = None;
+    }
+
+    /// Gives atom `i` a displacement `d` more for each step, by moving its place one step before. An open step is closed.
+    pub fn tug(&mut self, i: usize, d: Displacement)
+        requires { i < length self.old.sim.cur }
+        ensures { self.new ≡ steps.closed self.old (motion.tugged i (record { x = d.x; y = d.y; z = d.z }) self.old.sim) }
+    {
+        self.prev[i] = moved_back(self.prev[i], d);
+        self.partial.kind = None;
+    }
+
+    /// The momentum: the sums over all atoms of the images of `cur - prev`.
+    pub fn momentum(&self) -> Momentum
+        ensures x { result.x ≡ (motion.momentum self.now.sim).x }
+        ensures y { result.y ≡ (motion.momentum self.now.sim).y }
+        ensures z { result.z ≡ (motion.momentum self.now.sim).z }
+    {
+        measures::momentum_of(self.prev.as_slice(), self.cur.as_slice())
+    }
+
+    /// The kinetic number: the sum of the squares of those images, in square ring units.
+    pub fn kinetic(&self) -> u128
+        ensures { result ≡ motion.kinetic self.now.sim }
+    {
+        measures::kinetic_of(self.prev.as_slice(), self.cur.as_slice())
+    }
+
+    /// A copy of both frames, the step number and the direction.
+    pub fn snapshot(&self, alloc: Global) -> Result<Snapshot, AllocError>
+        ensures { IfOk result (λ s. s ≡ self.now.sim) }
+    {
+        Ok(Snapshot {
+            prev: Vec::from_slice(alloc, self.prev.as_slice())?,
+            cur: Vec::from_slice(alloc, self.cur.as_slice())?,
+            step: self.step(),
+            dir: self.dir,
+        })
+    }
+
+    /// Takes both frames, the step number and the direction from a snapshot, which stays. An open step is closed.
+    pub fn restore(&mut self, snapshot: &Snapshot)
+        requires { length snapshot.now.cur ≡ length self.old.sim.cur }
+        ensures { self.new ≡ steps.closed self.old snapshot.now }
+    {
+        overwrite(&mut self.prev, snapshot.prev.as_slice());
+        overwrite(&mut self.cur, snapshot.cur.as_slice());
+        self.step = snapshot.step;
+        self.dir = snapshot.dir;
+        self.partial.kind = None;
+    }
+
+    /// Opens a step of a kind, which awaits the results of all its tiles. A step that was open is dropped.
+    pub fn open_step(&mut self, kind: Kind)
+        ensures { self.new ≡ record self.old { part = Some (steps.opened kind (length self.old.sim.cur)) } }
+    {
+        self.partial.open(kind, self.cur.as_slice().len());
+    }
+
+    /// The task of the i-th tile of the open step's cover; None past the last one, and where no step is open.
+    pub fn task(&self, i: usize, label: &Label) -> Option<Task>
+        ensures { result ≡ steps.task_at self.now label.now i }
+    {
+        let kind = self.partial.kind?;
+        let number = *self.partial.tiles.as_slice().get(i)?;
+        Some(self.task_of(label, kind, usize::from(number)))
+    }
+
+    /// Whether the open step still awaits the i-th tile of its cover.
+    pub fn awaits(&self, i: usize) -> bool
+        ensures { result ≡ steps.awaits_at self.now i }
+    {
+        let Some(_) = self.partial.kind else {
+            return false;
+        };
+        let Some(number) = self.partial.tiles.as_slice().get(i) else {
+            return false;
+        };
+        self.partial.awaited[usize::from(*number)]
+    }
+
+    /// Takes in the result of a tile that the open step awaits. It is refused exactly where no step is open, its task is
+    /// none of the open step's, or that tile is already in; it is then handed back, and nothing has changed.
+    pub fn accept(&mut self, label: &Label, done: Done) -> Result<(), Stray>
+        ensures accepted { IsOk result ↔ steps.Awaits self.old label.now done }
+        ensures taken { OnOk result (self.new ≡ record self.old { part = steps.with_tile (steps.number_of done) self.old.part }) }
+        ensures stray { IfErr result (λ s. s.done ≡ done) }
+        ensures unchanged { OnErr result (self.new ≡ self.old) }
+    {
+        if !self.is_awaited(label, done.task()) {
+            return Err(Stray { done });
+        }
+        let places = self.block(usize::from(done.task().name().bi)).len();
+        self.partial.add(&done, places);
+        Ok(())
+    }
+
+    /// Whether a step is open and all its tiles are in.
+    pub fn is_whole(&self) -> bool
+        ensures { result ≡ steps.is_whole self.now.part }
+    {
+        self.partial.kind.is_some() && self.partial.left == 0
+    }
+
+    /// Turns a whole force step: the motion goes one step on. No step is open afterwards.
+    pub fn turn(&mut self)
+        requires whole { steps.IsWhole Force self.old.part }
+        requires step { unsigned_abs (self.old.sim.step +ℤ self.old.sim.dir) ≤ 10 ^ 12 }
+        ensures { self.new ≡ steps.closed self.old (motion.stepped self.old.units self.old.sim) }
+    {
+        advance(
+            &mut self.prev,
+            self.cur.as_slice(),
+            self.partial.pushes.as_slice(),
+        );
+        mem::swap(&mut self.prev, &mut self.cur);
+        self.step += self.dir.sign();
+        self.partial.kind = None;
+    }
+
+    /// The potential, of a whole energy step: the sum of the energies of all pairs, in units of 2^-24 ε.
+    pub fn potential(&self) -> i128
+        requires { steps.IsWhole Energy self.now.part }
+        ensures { result ≡ motion.potential self.now.units self.now.sim.cur }
+    {
+        self.partial.energy
+    }
+
+    /// Whether this is the task of a tile that the open step awaits.
+    fn is_awaited(&self, label: &Label, task: &Task) -> bool
+        ensures { IsTrue result ↔ steps.Awaits self.now label.now task.now }
+    {
+        let Some(kind) = self.partial.kind else {
+            return false;
+        };
+        let name = task.name();
+        let number = BLOCK * usize::from(name.bi) + usize::from(name.bj);
+        match self.partial.awaited.as_slice().get(number) {
+            Some(true) => self.task_of(label, kind, number).is(task),
+            _ => false,
+        }
+    }
+
+    /// The task of a tile of the present step.
+    fn task_of(&self, label: &Label, kind: Kind, number: usize) -> Task
+        requires tile { steps.is_tile kind (length self.now.sim.cur) number ≡ true }
+        requires within { number < 64 * steps.blocks (length self.now.sim.cur) }
+        ensures { result ≡ steps.task_of self.now label.now kind number }
+    {
+        let (bi, bj) = (number / BLOCK, number % BLOCK);
+        let name = TaskName {
+            label: label.copy(),
+            step: self.step,
+            kind,
+            bi: bi as u8,
+            bj: bj as u8,
+        };
+        Task::new(
+            name,
+            self.scale,
+            Block::new(self.block(bi)),
+            Block::new(self.block(bj)),
+        )
+    }
+
+    /// The places of a block.
+    fn block(&self, index: usize) -> &[Place]
+        requires { index < steps.blocks (length self.now.sim.cur) }
+        ensures { result.now ≡ steps.block self.now.sim.cur index }
+    {
+        let places = self.cur.as_slice();
+        let start = BLOCK * index;
+        let end = (start + BLOCK).min(places.len());
+        &places[start..end]
+    }
+
+    /// The present place of atom `i`.
+    pub fn place(&self, i: usize) -> Place
+        requires { i < length self.now.sim.cur }
+        ensures { result ≡ motion.place_at self.now.sim.cur i }
+    {
+        self.cur[i]
+    }
+
+    /// The step number, of size at most 10^12.
+    pub fn step(&self) -> i64
+        ensures value { result ≡ self.now.sim.step }
+        ensures most { unsigned_abs result ≤ 10 ^ 12 }
+    {
+        self.step
+    }
+
+    /// What a step adds to the step number: 1 or -1.
+    pub fn dir(&self) -> i64
+        ensures value { result ≡ self.now.sim.dir }
+        ensures size { unsigned_abs result ≡ 1 }
+    {
+        self.dir.sign()
+    }
+
+    /// How many atoms there are, 1 to 4,096.
+    pub fn count(&self) -> usize
+        ensures value { result ≡ length self.now.sim.cur }
+        ensures some { 1 ≤ result }
+        ensures most { result ≤ 4096 }
+    {
+        self.cur.as_slice().len()
+    }
+}
+
+/// Puts the frame after `cur` in the place of `prev`, the frame before it, by the pushes on all atoms.
+fn advance(prev: &mut Vec<Place>, cur: &[Place], pushes: &[Push])
+    requires same { length prev.old.items ≡ length cur.now }
+    requires pushes { length pushes.now ≡ length cur.now }
+    ensures count { length prev.new.items ≡ length cur.now }
+    ensures places { (i : ℕ) → i < length cur.now
+        → motion.place_at prev.new.items i ≡ motion.next_place (motion.place_at prev.old.items i) (motion.place_at cur.now i) (slice_index_or pushes.now i no_push) }
+{
+    for i in 0..cur.len() {
+        prev[i] = next_place(prev[i], cur[i], pushes[i]);
+    }
+}
+
+/// A place moved back by a displacement, on the ring.
+fn moved_back(place: Place, by: Displacement) -> Place
+    ensures x { result.x ≡ in_ring (pos place.x -ℤ by.x) }
+    ensures y { result.y ≡ in_ring (pos place.y -ℤ by.y) }
+    ensures z { result.z ≡ in_ring (pos place.z -ℤ by.z) }
+{
+    Place {
+        x: place.x.wrapping_sub(by.x.cast_unsigned()),
+        y: place.y.wrapping_sub(by.y.cast_unsigned()),
+        z: place.z.wrapping_sub(by.z.cast_unsigned()),
+    }
+}

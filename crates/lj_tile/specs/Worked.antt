@@ -1,0 +1,72 @@
+-- Two atoms 1.5 sigma apart in a box of 256 sigma, as one block and as two: values of tasks as theorems by computation.
+use Rattle.std.specs.Prelude.{◌≡◌, ◌∷◌, [], ℕ, pos, negsuc, List, refl}
+use Rattle.lj_ring.specs.declared.coordinates.Place.{Place}
+use Rattle.lj_ring.specs.Scales.{Units}
+use Rattle.lj_table.specs.Entries.{push_entry, energy_entry}
+use Rattle.lj_tile.specs.declared.pairs.Push.{Push}
+use Rattle.lj_tile.specs.declared.names.Kind.{Kind}
+use Rattle.lj_tile.specs.declared.names.Kind.TheVariants.{Force, Energy}
+use Rattle.lj_tile.specs.Pushes.{push}
+use Rattle.lj_tile.specs.Tiles.{push_sum, tile_force, tile_energy, force_tile, energy_tile}
+use Rattle.lj_tile.specs.Tasks.{Work, task_force, task_energy}
+
+-- an edge of 256, sigma 1, and a step factor of 2^17 in units of 2^-32
+abbrev pub dimer_units : Units
+dimer_units = record { edge = 256000000000; sigma = 16777216; strength = 131072 }
+
+abbrev pub on_x : ℕ → Place
+on_x x = record { x = x; y = 0; z = 0 }
+
+abbrev pub left : List Place
+left = on_x 0 ∷ []
+
+abbrev pub right : List Place
+right = on_x 25165824 ∷ []
+
+abbrev pub both : List Place
+both = on_x 0 ∷ on_x 25165824 ∷ []
+
+-- a task of session `a` of user 0 at step 0
+abbrev pub task_of : Kind → ℕ → ℕ → List Place → List Place → Work
+task_of kind bi bj first second = record {
+  name = record { label = record { user = 0; session = 97 ∷ [] }; step = pos 0; kind = kind; bi = bi; bj = bj };
+  units = dimer_units;
+  a = first;
+  b = second;
+}
+
+-- in one block each atom is pushed by the other, and not by itself
+pub one_block_left : task_force (task_of Force 0 0 both both) 0 ≡ record { x = 589; y = 0; z = 0 }
+unfolding push_sum push push_entry
+one_block_left = refl
+
+pub one_block_right : task_force (task_of Force 0 0 both both) 1 ≡ record { x = 4294966707; y = 0; z = 0 }
+unfolding push_sum push push_entry
+one_block_right = refl
+
+-- a force task gives the sums of its first block
+pub two_blocks : task_force (task_of Force 3 1 left right) 0 ≡ record { x = 589; y = 0; z = 0 }
+unfolding push_sum push push_entry
+two_blocks = refl
+
+-- the pair counts once, whether its atoms stand in one block or in two
+pub one_block_energy : task_energy (task_of Energy 0 0 both both) ≡ negsuc 5349131
+unfolding task_energy energy_entry
+one_block_energy = refl
+
+pub two_blocks_energy : task_energy (task_of Energy 0 1 left right) ≡ negsuc 5349131
+unfolding task_energy energy_entry
+two_blocks_energy = refl
+
+-- the tile of a block with itself on a frame of these two atoms, and that of another block, which has none of their pairs
+pub tile_left : tile_force dimer_units both (force_tile 0 0) 0 ≡ record { x = 589; y = 0; z = 0 }
+unfolding push_sum push push_entry
+tile_left = refl
+
+pub tile_of_others : tile_force dimer_units both (force_tile 0 1) 0 ≡ record { x = 0; y = 0; z = 0 }
+unfolding push_sum push push_entry
+tile_of_others = refl
+
+pub tile_pair : tile_energy dimer_units both (energy_tile 0 0) ≡ negsuc 5349131
+unfolding energy_entry
+tile_pair = refl

@@ -1,0 +1,84 @@
+ghost use Rattle.std.specs.Prelude.{◌≡◌, ◌≤◌, ◌↔◌, length, IsTrue};
+ghost use Rattle.std.specs.Cmp.{partial_equiv_from_equiv};
+ghost use Rattle.lj_tile.specs.Blocks.{same_places, same_places-equiv};
+
+use lj_ring::Place;
+use std::marker::Model;
+
+/// The most atoms of a block.
+pub const BLOCK: usize = 64;
+
+const ORIGIN: Place = Place { x: 0, y: 0, z: 0 };
+
+/// A block of places of atoms that stand next to each other in the file, at most 64.
+#[derive(Debug, Drop)]
+pub struct Block {
+    cells: [Place; BLOCK],
+    count: usize,
+}
+
+impl Model for Block {
+    ghost use Rattle.std.specs.Prelude.{◌≤◌, List, take};
+    ghost use Rattle.lj_ring.specs.declared.coordinates.Place.{Place};
+
+    ghost Value = { List Place };
+
+    ghost view = { λ b. take b.count b.cells };
+
+    ghost invariant = { λ b. b.count ≤ 64 };
+}
+
+impl Block {
+    /// The block of these places.
+    pub fn new(places: &[Place]) -> Block
+        requires { length places.now ≤ 64 }
+        ensures { result ≡ places.now }
+    {
+        let mut cells = [ORIGIN; BLOCK];
+        cells[..places.len()].copy_from_slice(places);
+        Block {
+            cells,
+            count: places.len(),
+        }
+    }
+
+    /// Its places, in order.
+    #[inline]
+    pub fn places(&self) -> &[Place]
+        ensures value { result.now ≡ self.now }
+        ensures most { length result.now ≤ 64 }
+    {
+        &self.cells[..self.count]
+    }
+
+    /// An equal block.
+    pub fn copy(&self) -> Block
+        ensures { result ≡ self.now }
+    {
+        Block {
+            cells: self.cells,
+            count: self.count,
+        }
+    }
+
+    /// Whether the other block has the same places.
+    pub fn is(&self, other: &Block) -> bool
+        ensures { IsTrue result ↔ (self.now ≡ other.now) }
+    {
+        self == other
+    }
+}
+
+impl PartialEq for Block {
+    ghost eq = { same_places };
+
+    ghost laws = { partial_equiv_from_equiv same_places-equiv };
+
+    fn eq(&self, other: &Self) -> bool {
+        self.places() == other.places()
+    }
+}
+
+impl Eq for Block {
+    ghost laws = { same_places-equiv };
+}

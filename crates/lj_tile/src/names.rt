@@ -1,0 +1,160 @@
+//! Names: of sessions, and of tasks.
+ghost use Rattle.std.specs.Prelude.{◌≡◌, ◌↔◌, IsTrue, nat_eq, Some};
+ghost use Rattle.std.specs.List.{list_all};
+ghost use Rattle.std.specs.Cmp.{partial_equiv_from_equiv};
+ghost use Rattle.std.specs.Cmp.Lexicographic.{pointwise, nat_list_eq_equiv};
+ghost use Rattle.std.specs.Cmp.Rules.{hashing};
+ghost use Rattle.std.specs.Hash as fed;
+ghost use Rattle.std.proofs.Common.{rules};
+ghost use Rattle.lj_tile.specs.Names.{is_name_byte, is_name, name_of};
+
+use arrayvec::ArrayString;
+use std::hash::{Hash, Hasher};
+use std::marker::Model;
+use std::{fmt, str};
+
+/// The most bytes of a name.
+const MOST_BYTES: usize = 16;
+
+/// A name of a session: 1 to 16 letters, digits, `_` and `-`.
+#[derive(Debug, Drop)]
+pub struct Name {
+    text: ArrayString<MOST_BYTES>,
+}
+
+impl Model for Name {
+    ghost use Rattle.std.specs.Prelude.{List, ℕ};
+
+    ghost Value = { List ℕ };
+
+    ghost view = { λ name. name.text.bytes };
+}
+
+impl Name {
+    /// The name that `word` is, if it is one.
+    pub fn parse(word: &[u8]) -> Option<Name>
+        ensures { result ≡ name_of word.now }
+    {
+        if !is_name(word) {
+            return None;
+        }
+        let text = str::from_utf8(word).unwrap();
+        let text = ArrayString::from(text).unwrap();
+        Some(Name { text })
+    }
+
+    /// The same name once more.
+    pub fn copy(&self) -> Name
+        ensures { result ≡ self.now }
+    {
+        Name { text: self.text }
+    }
+}
+
+fn is_name(word: &[u8]) -> bool
+    ensures { result ≡ is_name word.now }
+{
+    1 <= word.len() && word.len() <= MOST_BYTES && all_name_bytes(word)
+}
+
+fn all_name_bytes(word: &[u8]) -> bool
+    ensures { result ≡ list_all is_name_byte word.now }
+{
+    word.iter().all(|byte| is_name_byte(*byte))
+}
+
+fn is_name_byte(byte: u8) -> bool
+    ensures { result ≡ is_name_byte byte }
+{
+    byte.is_ascii_alphanumeric() || byte == b'_' || byte == b'-'
+}
+
+impl PartialEq for Name {
+    ghost eq = { pointwise nat_eq };
+
+    ghost laws = { partial_equiv_from_equiv nat_list_eq_equiv };
+
+    fn eq(&self, other: &Self) -> bool {
+        self.text == other.text
+    }
+}
+
+impl Eq for Name {
+    ghost laws = { nat_list_eq_equiv };
+}
+
+impl Hash for Name {
+    ghost hash_input = { λ name. fed.str name };
+
+    ghost respects_eq = { Prim.search (hashing, rules) };
+
+    fn hash<H: Hasher>(&self, state: &mut H) {
+        self.text.hash(state);
+    }
+}
+
+impl fmt::Display for Name {
+    ghost output = { λ name. Some name };
+
+    fn fmt<W: fmt::Write>(&self, f: &mut fmt::Formatter<W>) -> fmt::Result {
+        write!(f, "{}", self.text)
+    }
+}
+
+/// Whose session a step is of: the user's number and the session's name.
+#[derive(PartialEq, Eq, Debug, Drop)]
+pub struct Label {
+    pub user: u8,
+    pub session: Name,
+}
+
+impl Label {
+    /// The same label once more.
+    pub fn copy(&self) -> Label
+        ensures { result ≡ self.now }
+    {
+        Label {
+            user: self.user,
+            session: self.session.copy(),
+        }
+    }
+}
+
+/// What a task sums: pushes or energies.
+#[derive(Clone, Copy, PartialEq, Eq, Debug)]
+pub enum Kind {
+    Force,
+    Energy,
+}
+
+/// The name of a task: the step that it is part of, and its two blocks of atoms.
+#[derive(PartialEq, Eq, Debug, Drop)]
+pub struct TaskName {
+    pub label: Label,
+    pub step: i64,
+    pub kind: Kind,
+    pub bi: u8,
+    pub bj: u8,
+}
+
+impl TaskName {
+    /// The same name once more.
+    pub fn copy(&self) -> TaskName
+        ensures { result ≡ self.now }
+    {
+        TaskName {
+            label: self.label.copy(),
+            step: self.step,
+            kind: self.kind,
+            bi: self.bi,
+            bj: self.bj,
+        }
+    }
+
+    /// Whether the other name is equal.
+    pub fn is(&self, other: &TaskName) -> bool
+        ensures { IsTrue result ↔ (self.now ≡ other.now) }
+    {
+        self == other
+    }
+}
