@@ -9,6 +9,5 @@ mod simulations;
 mod snapshots;
 
 pub use frames::{Frame, Frames};
-pub use measures::Momentum;
 pub use simulations::{Displacement, Sim, Stray};
 pub use snapshots::Snapshot;

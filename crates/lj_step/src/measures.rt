@@ -6,7 +6,7 @@ use lj_ring::{Place, dist2, image};
 
 /// The momentum along each axis, in ring units for each step, at most 2^43 in size.
 #[derive(Clone, Copy, PartialEq, Eq, Debug)]
-pub struct Momentum {
+pub(crate) struct Momentum {
     pub x: i64,
     pub y: i64,
     pub z: i64,

@@ -1,4 +1,4 @@
-ghost use Rattle.std.specs.Prelude.{◌≡◌, ◌≤◌, ◌<◌, ◌+◌, ◌^◌, ◌↔◌, pos, ◌+ℤ◌, ◌-ℤ◌, length, unsigned_abs, IfOk, IfErr, IsOk, IsTrue, OnOk, OnErr, Some, None, true, ℕ, ◌*◌, slice_index_or};
+ghost use Rattle.std.specs.Prelude.{◌≡◌, ◌≤◌, ◌<◌, ◌+◌, ◌^◌, ◌↔◌, pos, ◌+ℤ◌, ◌-ℤ◌, length, unsigned_abs, IfOk, IfErr, IsOk, IsTrue, OnOk, OnErr, Some, None, true, ℕ, ◌*◌, slice_index_or, [], ◌∷◌};
 ghost use Rattle.lj_tile.specs.declared.names.Kind.TheVariants.{Force, Energy};
 ghost use Rattle.lj_ring.specs.Ring.{in_ring};
 ghost use Rattle.lj_tile.specs.Pushes.{no_push};
@@ -123,13 +123,12 @@ impl Sim {
         self.partial.kind = None;
     }
 
-    /// The momentum: the sums over all atoms of the images of `cur - prev`.
-    pub fn momentum(&self) -> Momentum
-        ensures x { result.x ≡ (motion.momentum self.now.sim).x }
-        ensures y { result.y ≡ (motion.momentum self.now.sim).y }
-        ensures z { result.z ≡ (motion.momentum self.now.sim).z }
+    /// The momentum: the sums over all atoms of the images of `cur - prev` along x, y and z, each below 2^44 in size.
+    pub fn momentum(&self) -> [i64; 3]
+        ensures { let m = motion.momentum self.now.sim in result ≡ m.x ∷ m.y ∷ m.z ∷ [] }
     {
-        measures::momentum_of(self.prev.as_slice(), self.cur.as_slice())
+        let sum = measures::momentum_of(self.prev.as_slice(), self.cur.as_slice());
+        [sum.x, sum.y, sum.z]
     }
 
     /// The kinetic number: the sum of the squares of those images, in square ring units.
