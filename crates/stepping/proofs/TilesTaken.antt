@@ -1,4 +1,4 @@
-use Rattle.std.proofs.Common.{ℕ, ◌+◌, ◌-◌, ◌*◌, ◌<◌, ◌≤◌, ◌≡◌, ◌≢◌, Bool, true, false, cond, List, [], ◌∷◌, length, map, slice_index_or, slice_set, slice_get, count_by, Option, Some, None, inl, inr, refl, sym, ap, ◌∙◌, subst, get_or-set_other, arith}
+use Rattle.std.proofs.Common.{ℕ, ◌+◌, ◌-◌, ◌*◌, ◌<◌, ◌≤◌, ◌≡◌, ◌≢◌, Bool, true, false, nat_le, cond, List, [], ◌∷◌, length, map, slice_index_or, slice_set, slice_get, count_by, Option, Some, None, inl, inr, refl, sym, ap, ◌∙◌, subst, get_or-set_other, arith}
 use Rattle.std.specs.List.{range_with_len, AllPairs}
 use Rattle.std.specs.Option.{option_map}
 use Rattle.std.proofs.lemmas.Bool.{cases_lt, true≢false}
@@ -11,7 +11,7 @@ use Rattle.lj_tile.specs.declared.names.Label.{Label}
 use Rattle.lj_tile.specs.declared.names.Kind.TheVariants.{Force}
 use Rattle.lj_tile.specs.Tasks.{Work}
 use Rattle.lj_step.specs.Live.{Live, OpenStep}
-use Rattle.lj_step.specs.OpenSteps.{blocks, is_tile, cover, opened, number_of, task_of, task_in, task_at, AwaitsIn, Awaits, with_tile, IsWhole}
+use Rattle.lj_step.specs.OpenSteps.{blocks, is_tile, cover, opened, number_of, task_of, task_in, task_at, AwaitsIn, Awaits, with_tile, kind_of, is_whole}
 use Rattle.lj_step.proofs.Flags.{opened_flag}
 use Rattle.lj_step.proofs.Steps.{cover_tile, cover_within}
 
@@ -60,11 +60,14 @@ opened_awaits count part e = record {
       omega (arith, flags, tiles);
 }
 
+pub kind_is : (count i : ℕ) (part : Option OpenStep) → AwaitsFrom count i part → kind_of part ≡ Some Force
+kind_is count i part h = ap kind_of h.is_open
+
 -- once all tiles are in, the step is whole
-pub all_taken : (count i : ℕ) (part : Option OpenStep) → AwaitsFrom count i part → length (cover Force count) ≤ i → IsWhole Force part
+pub all_taken : (count i : ℕ) (part : Option OpenStep) → AwaitsFrom count i part → length (cover Force count) ≤ i → is_whole part ≡ true
 all_taken count i part h past =
     let none : count_by (λ awaited. awaited) h.flags ≡ 0 = omega (arith, h.left, past) in
-    subst (IsWhole Force) (sym h.is_open) (refl, none)
+    ap is_whole h.is_open ∙ ap (λ n. nat_le n 0) none
 
 set_within : (flags : List Bool) (k : ℕ) → slice_index_or flags k false ≡ true → k < length flags
 set_within flags k set =

@@ -1,4 +1,4 @@
-ghost use Rattle.std.specs.Prelude.{◌≡◌, ◌≤◌, ◌^◌, ◌+ℤ◌, length, unsigned_abs, Some};
+ghost use Rattle.std.specs.Prelude.{◌≡◌, ◌≤◌, ◌^◌, ◌+ℤ◌, length, unsigned_abs, Some, true};
 ghost use Rattle.lj_tile.specs.declared.names.Kind.TheVariants.{Force};
 ghost use Rattle.lj_step.specs.Motion as motion;
 ghost use Rattle.lj_step.specs.OpenSteps as steps;
@@ -21,7 +21,8 @@ pub fn step_alone(sim: &mut Sim, label: &Label, table: &Table)
 /// Computes the tasks of a step that has just been opened, and takes in their results.
 fn compute_all(sim: &mut Sim, label: &Label, table: &Table)
     requires { sim.old.part ≡ Some (steps.opened Force (length sim.old.sim.cur)) }
-    ensures whole { steps.IsWhole Force sim.new.part }
+    ensures kind { steps.kind_of sim.new.part ≡ Some Force }
+    ensures whole { steps.is_whole sim.new.part ≡ true }
     ensures stays { sim.new ≡ record sim.old { part = sim.new.part } }
 {
     // with 64 blocks at most, a step has no more tasks than its blocks have room for atoms

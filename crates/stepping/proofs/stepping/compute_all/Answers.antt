@@ -2,7 +2,7 @@ use Rattle.std.proofs.Common.{◌≡◌, ◌≤◌, ◌*◌, ◌+◌, length, So
 use Rattle.std.specs.Result.{OnOk}
 use Rattle.lj_step.specs.Live.{Live}
 use Rattle.lj_step.specs.OpenSteps.{blocks, with_tile, number_of}
-use Rattle.stepping.proofs.TilesTaken.{AwaitsFrom, opened_awaits, none_past, all_taken, cover_few, is_awaited, awaits_next}
+use Rattle.stepping.proofs.TilesTaken.{AwaitsFrom, opened_awaits, none_past, kind_is, all_taken, cover_few, is_awaited, awaits_next}
 use Rattle.stepping.proofs.stepping.compute_all.Goals as goal
 
 pub loop-i-init : goal.loop-i-init
@@ -12,6 +12,9 @@ loop-i-init c = record {
   most = omega (arith, c.count.ensures.value, c.next_multiple_of-i-end.ensures.lower_bound, c.next_multiple_of-i-end.ensures.multiple);
   taken = opened_awaits (length c.args.sim.now.sim.cur) c.args.sim.now.part c.requires;
 }
+
+pub returns-in_default-clause-kind : goal.returns-in_default-clause-kind
+returns-in_default-clause-kind c = kind_is (length c.loop-i.sim.sim.cur) c.loop-i.i c.loop-i.sim.part c.loop-i.invariant.taken
 
 pub returns-in_default-clause-whole : goal.returns-in_default-clause-whole
 returns-in_default-clause-whole c =
@@ -36,6 +39,9 @@ loop-i-preserved c =
       most = subst (λ (v : Live). 64 * blocks (length v.sim.cur) ≤ c.next_multiple_of-i-end.result) (sym now) c.loop-i.invariant.most;
       taken = subst (λ (v : Live). AwaitsFrom (length v.sim.cur) (c.loop-i.i + 1) v.part) (sym now) next;
     }
+
+pub returns-clause-kind : goal.returns-clause-kind
+returns-clause-kind c = kind_is (length c.loop-i.sim.sim.cur) c.loop-i.i c.loop-i.sim.part c.loop-i.invariant.taken
 
 pub returns-clause-whole : goal.returns-clause-whole
 returns-clause-whole c =
