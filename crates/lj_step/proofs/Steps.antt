@@ -3,7 +3,7 @@ use Rattle.std.specs.List.{range_with_len, filter}
 use Rattle.std.specs.Int.{w128}
 use Rattle.std.specs.Option.{option_map, option_map_or}
 use Rattle.std.proofs.lemmas.Option.{slice_get_read}
-use Rattle.std.proofs.lemmas.Bool.{cases_lt, true≢false}
+use Rattle.std.proofs.lemmas.Bool.{cases_lt, leb-true, true≢false}
 use Rattle.std.proofs.lemmas.List.{get_or_past}
 use Rattle.std.proofs.lemmas.List.Elements.{filter_passes, All-filter, All-get_or}
 use Rattle.std.proofs.lemmas.List.FromFn.{fill_by_all, get_or-range_with_len, length-range_with_len, length-map-range_with_len}
@@ -19,7 +19,7 @@ use Rattle.lj_tile.specs.Tasks.{Work, task_energy}
 use Rattle.lj_step.specs.declared.partial.Partial.{Partial}
 use Rattle.lj_step.specs.Motion.{Simulation, place_at, next_place, force, moved, next_frame, stepped, potential}
 use Rattle.lj_step.specs.Live.{Live, OpenStep}
-use Rattle.lj_step.specs.OpenSteps.{blocks, block, tile_number, number_of, is_tile, cover, task_of, task_in, task_at, awaits, awaits_in, awaits_at, AwaitsIn, Awaits, IsWhole, closed}
+use Rattle.lj_step.specs.OpenSteps.{blocks, block, tile_number, number_of, is_tile, cover, task_of, task_in, task_at, awaits, awaits_in, awaits_at, AwaitsIn, Awaits, kind_of, is_whole, closed}
 use Rattle.lj_step.specs.Sums.{HasRoom, HasAdded, IsOpen, IsPartial}
 use Rattle.lj_step.specs.Kept.{open_step_of}
 use Rattle.lj_step.proofs.PartialForces.{force_whole}
@@ -27,9 +27,12 @@ use Rattle.lj_step.proofs.PartialEnergies.{energy_whole}
 use Rattle.lj_step.proofs.Opened.{opened_is, accepted_is, one_left, size_before, open_of, partial_of}
 
 -- a whole step is open, and has no flag left
-pub whole_of : (o : Option Kind) (flags : List Bool) (kind : Kind) → IsWhole kind (open_step_of o flags) → (o ≡ Some kind) × (count_by (λ awaited. awaited) flags ≡ 0)
-whole_of None flags kind h = absurd h
-whole_of (Some k) flags kind h = (ap Some h.0, h.1)
+pub whole_of : (o : Option Kind) (flags : List Bool) (kind : Kind) → kind_of (open_step_of o flags) ≡ Some kind → is_whole (open_step_of o flags) ≡ true
+    → (o ≡ Some kind) × (count_by (λ awaited. awaited) flags ≡ 0)
+whole_of None flags kind e whole = absurd (true≢false (sym whole))
+whole_of (Some k) flags kind e whole =
+    let none : count_by (λ awaited. awaited) flags ≤ 0 = leb-true (count_by (λ awaited. awaited) flags) 0 whole in
+    (e, omega arith)
 
 -- the sums of a whole force step are the forces
 pub forces_of : (u : Units) (frame : List Place) (p : Partial) (i : ℕ) → IsPartial u frame p p.kind → (p.kind ≡ Some Force) × (count_by (λ awaited. awaited) p.awaited.items ≡ 0)

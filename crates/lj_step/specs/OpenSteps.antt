@@ -101,10 +101,10 @@ with_tile k (Some p) = Some (record { kind = p.kind; awaited = slice_set p.await
 abbrev pub left : OpenStep → ℕ
 left p = count_by (λ awaited. awaited) p.awaited
 
--- a step of this kind is open, and all its tiles are in
-abbrev pub IsWhole : Kind → Option OpenStep → Type 0
-IsWhole kind None = ⊥
-IsWhole kind (Some p) = (p.kind ≡ kind) × (left p ≡ 0)
+-- the kind of the open step, if there is one
+abbrev pub kind_of : Option OpenStep → Option Kind
+kind_of None = None
+kind_of (Some p) = Some p.kind
 
 -- a step is open, and all its tiles are in
 abbrev pub is_whole : Option OpenStep → Bool

@@ -162,6 +162,13 @@ impl Sim {
         self.partial.kind = None;
     }
 
+    /// What the open step sums; None where no step is open.
+    pub fn open_kind(&self) -> Option<Kind>
+        ensures { result ≡ steps.kind_of self.now.part }
+    {
+        self.partial.kind
+    }
+
     /// Opens a step of a kind, which awaits the results of all its tiles. A step that was open is dropped.
     pub fn open_step(&mut self, kind: Kind)
         ensures { self.new ≡ record self.old { part = Some (steps.opened kind (length self.old.sim.cur)) } }
@@ -195,6 +202,7 @@ impl Sim {
     /// none of the open step's, or that tile is already in; it is then handed back, and nothing has changed.
     pub fn accept(&mut self, label: &Label, done: Done) -> Result<(), Stray>
         ensures accepted { IsOk result ↔ steps.Awaits self.old label.now done }
+        ensures kind { steps.kind_of self.new.part ≡ steps.kind_of self.old.part }
         ensures taken { OnOk result (self.new ≡ record self.old { part = steps.with_tile (steps.number_of done) self.old.part }) }
         ensures stray { IfErr result (λ s. s.done ≡ done) }
         ensures unchanged { OnErr result (self.new ≡ self.old) }
@@ -216,7 +224,8 @@ impl Sim {
 
     /// Turns a whole force step: the motion goes one step on. No step is open afterwards.
     pub fn turn(&mut self)
-        requires whole { steps.IsWhole Force self.old.part }
+        requires kind { steps.kind_of self.old.part ≡ Some Force }
+        requires whole { steps.is_whole self.old.part ≡ true }
         requires step { unsigned_abs (self.old.sim.step +ℤ self.old.sim.dir) ≤ 10 ^ 12 }
         ensures { self.new ≡ steps.closed self.old (motion.stepped self.old.units self.old.sim) }
     {
@@ -232,7 +241,8 @@ impl Sim {
 
     /// The potential, of a whole energy step: the sum of the energies of all pairs, in units of 2^-24 ε.
     pub fn potential(&self) -> i128
-        requires { steps.IsWhole Energy self.now.part }
+        requires kind { steps.kind_of self.now.part ≡ Some Energy }
+        requires whole { steps.is_whole self.now.part ≡ true }
         ensures { result ≡ motion.potential self.now.units self.now.sim.cur }
     {
         self.partial.energy

@@ -2,13 +2,14 @@ use Rattle.std.proofs.Common.{◌≡◌, ap, ◌∙◌, subst, sym}
 use Rattle.lj_tile.specs.declared.names.Kind.TheVariants.{Energy}
 use Rattle.lj_step.specs.Motion.{potential}
 use Rattle.lj_step.specs.Live.{Live}
-use Rattle.lj_step.specs.OpenSteps.{IsWhole}
+use Rattle.lj_step.specs.OpenSteps.{kind_of, is_whole}
 use Rattle.lj_step.proofs.Steps.{whole_of, potential_is}
 use Rattle.lj_step.proofs.simulations.Sim.potential.Goals as goal
 
 pub returns : goal.returns
 returns c =
-    let P : Live → Type 0 = λ v. IsWhole Energy v.part in
-    let whole = whole_of c.self.inside.partial.kind c.self.inside.partial.awaited.items Energy (subst P (sym c.self.view_is) c.requires) in
+    let kind = ap (λ (v : Live). kind_of v.part) c.self.view_is ∙ c.requires.kind in
+    let all = ap (λ (v : Live). is_whole v.part) c.self.view_is ∙ c.requires.whole in
+    let whole = whole_of c.self.inside.partial.kind c.self.inside.partial.awaited.items Energy kind all in
     potential_is c.self.inside.scale c.self.inside.cur.items c.self.inside.partial c.self.invariant.partial whole
     ∙ ap (λ (v : Live). potential v.units v.sim.cur) c.self.view_is

@@ -4,7 +4,7 @@ use Rattle.lj_tile.specs.Pushes.{no_push}
 use Rattle.lj_step.specs.Motion.{next_frame, force, stepped}
 use Rattle.lj_step.specs.Live.{Live}
 use Rattle.lj_step.specs.Kept.{sign_of, live_of}
-use Rattle.lj_step.specs.OpenSteps.{IsWhole, closed}
+use Rattle.lj_step.specs.OpenSteps.{kind_of, is_whole, closed}
 use Rattle.lj_step.proofs.StepNumbers.{next_number}
 use Rattle.lj_step.proofs.Steps.{whole_of, forces_of, frame_is, turned_is}
 use Rattle.lj_step.proofs.simulations.Sim.turn.Goals as goal
@@ -19,8 +19,9 @@ next_step c =
 
 forces : (c : goal.After-self-3-1) (i : ℕ) → i < length c.as_slice.result.now → slice_index_or c.as_slice-2.result.now i no_push ≡ force c.self.inside.scale c.as_slice.result.now i
 forces c i h =
-    let P : Live → Type 0 = λ v. IsWhole Force v.part in
-    let whole = whole_of c.self.inside.partial.kind c.self.inside.partial.awaited.items Force (subst P (sym c.self.view_is) c.requires.whole) in
+    let kind = ap (λ (v : Live). kind_of v.part) c.self.view_is ∙ c.requires.kind in
+    let all = ap (λ (v : Live). is_whole v.part) c.self.view_is ∙ c.requires.whole in
+    let whole = whole_of c.self.inside.partial.kind c.self.inside.partial.awaited.items Force kind all in
     let within : i < length c.self.inside.cur.items = subst (λ xs. i < length xs) c.as_slice.ensures.value h in
     ap (λ xs. slice_index_or xs i no_push) c.as_slice-2.ensures.value
     ∙ forces_of c.self.inside.scale c.self.inside.cur.items c.self.inside.partial i c.self.invariant.partial whole within
