@@ -1,17 +1,10 @@
--- Which refusal a fault below becomes.
-use Rattle.lj_ring.specs.declared.units.ScaleFault.{ScaleFault}
-use Rattle.lj_ring.specs.declared.units.ScaleFault.TheVariants as scales
-use Rattle.ljserve.specs.declared.body.BodyFault.{BodyFault}
-use Rattle.ljserve.specs.declared.body.BodyFault.TheVariants as bodies
-use Rattle.ljserve.specs.declared.reply.Refusal.{Refusal}
-use Rattle.ljserve.specs.declared.reply.Refusal.TheVariants as refusals
+-- Which refusal an error of a body becomes.
+use Rattle.lj_xyz.specs.declared.fault.XyzError.{XyzError}
+use Rattle.lj_xyz.specs.declared.fault.XyzError.TheVariants as errors
+use Rattle.lj_session.specs.declared.refusal.Refusal.{Refusal}
+use Rattle.lj_session.specs.declared.refusal.Refusal.TheVariants.{Xyz, Memory}
 
-abbrev pub refusal_of_scale : ScaleFault → Refusal
-refusal_of_scale scales.Edge = refusals.Edge
-refusal_of_scale scales.Sigma = refusals.Sigma
-refusal_of_scale scales.StepFactor = refusals.StepFactor
-
--- a body that is no frame is refused at its first line
-abbrev pub refusal_of_body : BodyFault → Refusal
-refusal_of_body bodies.Form = refusals.XyzCount 1
-refusal_of_body (bodies.Memory e) = refusals.Memory
+-- a fault is that of its line
+abbrev pub body_refusal : XyzError → Refusal
+body_refusal (errors.Fault fault) = Xyz fault
+body_refusal errors.Memory = Memory

@@ -4,9 +4,9 @@ ghost use Rattle.ljserve.specs.Lines.{words_of};
 ghost use Rattle.ljserve.specs.Commands.{verb_of, load_of, name_and_number, command_of};
 
 use crate::line::Words;
-use crate::name::Name;
 use crate::number::parse_number;
 use lj_fixed::{Nano, parse_nano};
+use lj_session::Name;
 
 /// A command on the session of a name.
 #[derive(Debug, Drop)]

@@ -1,7 +1,7 @@
 //! The engine: from the bytes of a stream of commands to the bytes of their replies.
 
 use crate::item::split_item;
-use crate::session::Sessions;
+use crate::sessions::Sessions;
 use lj_table::Table;
 use std::alloc::Global;
 use std::io::{Read, Write};

@@ -1,15 +1,14 @@
 //! Runs simulations of Lennard-Jones atoms by commands on standard input, and writes its replies to standard output.
 #![tactic(auto)]
 
-mod body;
 mod command;
 mod engine;
 mod item;
 mod line;
-mod name;
 mod number;
 mod reply;
 mod session;
+mod sessions;
 #[cfg(test)]
 mod tests;
 

@@ -1,8 +1,6 @@
-//! Replies and refusals, and the text of their lines.
-ghost use Rattle.std.specs.Prelude.{Some};
-
-use crate::name::Name;
+//! Replies, and the text of their lines.
 use lj_ring::Place;
+use lj_session::{Name, Refusal};
 use std::fmt;
 
 /// What a command is answered.
@@ -23,53 +21,6 @@ pub enum Reply {
         place: Place,
     },
     Refused(Refusal),
-}
-
-/// Why an item is refused. A refusal changes nothing.
-#[derive(Clone, Copy, Debug, PartialEq, Eq)]
-pub enum Refusal {
-    /// The line is no command.
-    Command,
-    /// No session has this name.
-    NoSession,
-    /// A session has this name already.
-    Exists,
-    /// The session has no atom of this number.
-    NoAtom,
-    /// More than a million steps, or a step number beyond 10^12 in size.
-    StepRange,
-    /// The body is no frame; the line is counted from 1.
-    XyzCount { line: u64 },
-    /// The edge is not 10^6 to 10^15 nano.
-    Edge,
-    /// Sigma does not fit the edge.
-    Sigma,
-    /// The step factor is not 1 to 2^24.
-    StepFactor,
-    /// A growth was refused.
-    Memory,
-}
-
-impl fmt::Display for Refusal {
-    ghost use Rattle.std.specs.Prelude.{Some};
-    ghost use Rattle.ljserve.specs.Texts.{refusal_text};
-
-    ghost output = { λ refusal. Some (refusal_text refusal) };
-
-    fn fmt<W: fmt::Write>(&self, f: &mut fmt::Formatter<W>) -> fmt::Result {
-        match self {
-            Refusal::Command => write!(f, "ERR 06 COMMAND"),
-            Refusal::NoSession => write!(f, "ERR 10 NO_SESSION"),
-            Refusal::Exists => write!(f, "ERR 11 EXISTS"),
-            Refusal::NoAtom => write!(f, "ERR 14 NO_ATOM"),
-            Refusal::StepRange => write!(f, "ERR 23 STEP_RANGE"),
-            Refusal::XyzCount { line } => write!(f, "ERR 30 XYZ_COUNT line {line}"),
-            Refusal::Edge => write!(f, "ERR 36 EDGE"),
-            Refusal::Sigma => write!(f, "ERR 37 SIGMA"),
-            Refusal::StepFactor => write!(f, "ERR 38 STEP_FACTOR"),
-            Refusal::Memory => write!(f, "ERR 90 MEMORY"),
-        }
-    }
 }
 
 impl fmt::Display for Reply {

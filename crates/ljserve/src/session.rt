@@ -1,21 +1,17 @@
-//! The sessions of a run, and the answers to commands on them.
-ghost use Rattle.std.specs.Prelude.{◌≡◌, ◌≤◌, ◌^◌, ◌↔◌, IsTrue, IfOk, vec_len, pos, unwrap_or, unsigned_abs};
-ghost use Rattle.lj_ring.specs.Scales as scales;
+//! A session: atoms that move.
+ghost use Rattle.std.specs.Prelude.{◌≡◌, ◌≤◌, ◌<◌, ◌^◌, ◌+ℤ◌, ◌*ℤ◌, pos, unsigned_abs, IsTrue, IfOk, length, map};
+ghost use Rattle.lj_step.specs.Motion.{place_at};
 ghost use Rattle.lj_step.specs.Motion as motion;
-ghost use Rattle.lj_step.specs.Motion.{opening};
-ghost use Rattle.ljserve.specs.Advances.{MayAdvance};
+ghost use Rattle.lj_session.specs.Users.{atoms_of};
+ghost use Rattle.lj_session.specs.Loads.{opened, places_in};
+ghost use Rattle.lj_session.specs.Answers.{can_advance};
 
-use crate::body::{BodyFault, read_places};
-use crate::command::{Command, parse_command};
-use crate::item::Item;
-use crate::name::Name;
-use crate::reply::{Refusal, Reply};
-use indexmap::IndexMap;
-use lj_fixed::Nano;
-use lj_ring::{Place, Scale, ScaleFault};
+use lj_ring::{Edge, Place, Scale, place_of};
 use lj_step::{Frame, Frames, Sim};
 use lj_table::Table;
-use std::alloc::{AllocError, AllocFailed, Global};
+use lj_xyz::{Row, Symbol};
+use std::alloc::{AllocError, Global};
+use std::marker::Model;
 
 /// The most steps of one command.
 const MOST_STEPS: u64 = 1_000_000;
@@ -23,134 +19,87 @@ const MOST_STEPS: u64 = 1_000_000;
 /// The largest size of a step number.
 const MOST_STEP: u64 = 1_000_000_000_000;
 
-/// The sessions by their names, in order of loading.
+/// The symbols of some atoms, and their simulation.
 #[derive(Drop)]
-pub struct Sessions {
-    alloc: Global,
-    sims: IndexMap<Name, Sim>,
+pub struct Session {
+    symbols: Vec<Symbol>,
+    sim: Sim,
 }
 
-impl Sessions {
-    /// No session.
-    pub fn new(alloc: Global) -> Self {
-        Sessions {
-            alloc,
-            sims: IndexMap::new(alloc),
-        }
-    }
+impl Model for Session {
+    ghost use Rattle.std.specs.Prelude.{[]};
+    ghost use Rattle.lj_session.specs.Users as users;
 
-    /// Answers an item. After a refusal the sessions are as they were.
-    pub fn answer(&mut self, table: &Table, item: Item) -> Reply {
-        match self.perform(table, item) {
-            Ok(reply) => reply,
-            Err(refusal) => Reply::Refused(refusal),
-        }
-    }
+    ghost Value = { users.Session };
 
-    fn perform(&mut self, table: &Table, item: Item) -> Result<Reply, Refusal> {
-        match parse_command(item.line).ok_or(Refusal::Command)? {
-            Command::Load {
-                name,
-                edge,
-                sigma,
-                step_factor,
-            } => {
-                self.check_new(&name)?;
-                let scale = scale_of(edge, sigma, step_factor)?;
-                self.load(name, scale, item.body)
-            }
-            Command::Advance { name, steps } => self.advance(table, name, steps),
-            Command::Show { name, atom } => self.show(name, atom),
-        }
-    }
+    ghost view = { λ s. record { symbols = s.symbols.items; units = s.sim.units; sim = s.sim.sim; saved = [] } };
+}
 
-    fn check_new(&self, name: &Name) -> Result<(), Refusal> {
-        if self.sims.contains_key(name) {
-            return Err(Refusal::Exists);
-        }
-        Ok(())
-    }
-
-    fn load(&mut self, name: Name, scale: Scale, body: &[u8]) -> Result<Reply, Refusal> {
-        let places = read_places(self.alloc, body, &scale.edge())?;
-        let sim = sim_at_rest(self.alloc, places, scale)?;
-        let atoms = sim.count();
-        self.sims.insert(name.copy(), sim)?;
-        Ok(Reply::Loaded { name, atoms })
-    }
-
-    fn advance(&mut self, table: &Table, name: Name, steps: u64) -> Result<Reply, Refusal> {
-        let Some(sim) = self.sims.get_mut(&name) else {
-            return Err(Refusal::NoSession);
+impl Session {
+    /// The session that opens with a frame of 1 to 4,096 atoms at rest.
+    pub fn at_rest(alloc: Global, rows: &[Row], scale: Scale) -> Result<Session, AllocError>
+        requires some { 1 ≤ length rows.now }
+        requires most { length rows.now ≤ 4096 }
+        ensures { IfOk result (λ session. session ≡ opened scale rows.now rows.now) }
+    {
+        let symbols = symbols_of(alloc, rows)?;
+        let frames = Frames {
+            prev: Frame::new(places_of(alloc, rows, &scale.edge())?),
+            cur: Frame::new(places_of(alloc, rows, &scale.edge())?),
         };
-        if !may_advance(sim, steps) {
-            return Err(Refusal::StepRange);
+        let sim = Sim::new(alloc, frames, scale)?;
+        Ok(Session { symbols, sim })
+    }
+
+    /// How many atoms there are.
+    pub fn atoms(&self) -> usize
+        ensures value { result ≡ atoms_of self.now }
+        ensures most { result ≤ 4096 }
+    {
+        self.sim.count()
+    }
+
+    /// The step number.
+    pub fn step(&self) -> i64
+        ensures { result ≡ self.now.sim.step }
+    {
+        self.sim.step()
+    }
+
+    /// The place of an atom.
+    pub fn place(&self, atom: usize) -> Place
+        requires { atom < atoms_of self.now }
+        ensures { result ≡ place_at self.now.sim.cur atom }
+    {
+        self.sim.place(atom)
+    }
+
+    /// Whether it may go on by so many steps.
+    pub fn can_advance(&self, steps: u64) -> bool
+        ensures value { result ≡ can_advance self.now steps }
+        ensures within { unsigned_abs self.now.sim.step ≤ 10 ^ 12 }
+    {
+        let step = self.sim.step();
+        if steps > MOST_STEPS {
+            return false;
         }
-        advance(sim, steps, table);
-        let step = sim.step();
-        Ok(Reply::Advanced { name, step })
+        let target = step + self.sim.dir() * steps as i64;
+        target.unsigned_abs() <= MOST_STEP
     }
 
-    fn show(&self, name: Name, atom: u64) -> Result<Reply, Refusal> {
-        let sim = self.sims.get(&name).ok_or(Refusal::NoSession)?;
-        if atom >= sim.count() as u64 {
-            return Err(Refusal::NoAtom);
-        }
-        Ok(Reply::Shown {
-            name,
-            step: sim.step(),
-            atom,
-            place: sim.place(atom as usize),
-        })
+    /// Goes on by so many steps.
+    pub fn advance(&mut self, steps: u64, table: &Table)
+        requires allowed { IsTrue (can_advance self.old steps) }
+        requires within { unsigned_abs self.old.sim.step ≤ 10 ^ 12 }
+        ensures { self.new ≡ record self.old { sim = motion.steps self.old.units steps self.old.sim } }
+    {
+        step_on(&mut self.sim, steps, table);
     }
 }
 
-// The scale of a LOAD. A word that was no number stands for 0, which is out of range for each.
-fn scale_of(
-    edge: Option<Nano>,
-    sigma: Option<Nano>,
-    step_factor: Option<u64>,
-) -> Result<Scale, ScaleFault>
-    ensures { result ≡ scales.scale_of (unwrap_or edge (pos 0)) (unwrap_or sigma (pos 0)) (unwrap_or step_factor 0) }
-{
-    let zero = Nano::new(0).unwrap();
-    Scale::new(
-        edge.unwrap_or(zero),
-        sigma.unwrap_or(zero),
-        step_factor.unwrap_or(0),
-    )
-}
-
-// A simulation at step 0 of atoms that stand still.
-fn sim_at_rest(alloc: Global, places: Vec<Place>, scale: Scale) -> Result<Sim, AllocError>
-    requires some { 1 ≤ vec_len places }
-    requires most { vec_len places ≤ 4096 }
-    ensures { IfOk result (λ sim. sim ≡ record { units = scale; sim = opening places.items places.items }) }
-{
-    let prev = places.clone()?;
-    let frames = Frames {
-        prev: Frame::new(prev),
-        cur: Frame::new(places),
-    };
-    Sim::new(alloc, frames, scale)
-}
-
-// Whether a simulation may go on by so many steps.
-fn may_advance(sim: &Sim, steps: u64) -> bool
-    ensures allowed { IsTrue result ↔ MayAdvance sim.now.sim steps }
-    ensures within { unsigned_abs sim.now.sim.step ≤ 10 ^ 12 }
-{
-    let step = sim.step();
-    if steps > MOST_STEPS {
-        return false;
-    }
-    let target = step + sim.dir() * steps as i64;
-    target.unsigned_abs() <= MOST_STEP
-}
-
-fn advance(sim: &mut Sim, steps: u64, table: &Table)
-    requires allowed { MayAdvance sim.old.sim steps }
-    requires within { unsigned_abs sim.old.sim.step ≤ 10 ^ 12 }
+fn step_on(sim: &mut Sim, steps: u64, table: &Table)
+    requires start { unsigned_abs sim.old.sim.step ≤ 10 ^ 12 }
+    requires target { unsigned_abs (sim.old.sim.step +ℤ sim.old.sim.dir *ℤ pos steps) ≤ 10 ^ 12 }
     ensures { sim.new ≡ record sim.old { sim = motion.steps sim.old.units steps sim.old.sim } }
 {
     for _ in 0..steps {
@@ -158,49 +107,26 @@ fn advance(sim: &mut Sim, steps: u64, table: &Table)
     }
 }
 
-impl From<ScaleFault> for Refusal {
-    ghost use Rattle.ljserve.specs.Refusals.{refusal_of_scale};
-
-    ghost from_gives = { λ fault refusal. refusal ≡ refusal_of_scale fault };
-
-    fn from(fault: ScaleFault) -> Refusal {
-        match fault {
-            ScaleFault::Edge => Refusal::Edge,
-            ScaleFault::Sigma => Refusal::Sigma,
-            ScaleFault::StepFactor => Refusal::StepFactor,
-        }
+fn symbols_of(alloc: Global, rows: &[Row]) -> Result<Vec<Symbol>, AllocError>
+    ensures { IfOk result (λ symbols. symbols.items ≡ map (λ row. row.symbol) rows.now) }
+{
+    let mut symbols = Vec::with_capacity(alloc, rows.len())?;
+    for row in rows {
+        symbols.push(Symbol::new(row.symbol.as_bytes()).unwrap())?;
     }
+    Ok(symbols)
 }
 
-impl From<BodyFault> for Refusal {
-    ghost use Rattle.ljserve.specs.Refusals.{refusal_of_body};
-
-    ghost from_gives = { λ fault refusal. refusal ≡ refusal_of_body fault };
-
-    fn from(fault: BodyFault) -> Refusal {
-        match fault {
-            BodyFault::Form => Refusal::XyzCount { line: 1 },
-            BodyFault::Memory(_) => Refusal::Memory,
-        }
+fn places_of(alloc: Global, rows: &[Row], edge: &Edge) -> Result<Vec<Place>, AllocError>
+    ensures { IfOk result (λ places. places.items ≡ places_in edge.now rows.now) }
+{
+    let mut places = Vec::with_capacity(alloc, rows.len())?;
+    for row in rows {
+        places.push(Place {
+            x: place_of(row.x, edge),
+            y: place_of(row.y, edge),
+            z: place_of(row.z, edge),
+        })?;
     }
-}
-
-impl From<AllocError> for Refusal {
-    ghost use Rattle.ljserve.specs.declared.reply.Refusal.TheVariants.{Memory};
-
-    ghost from_gives = { λ _ refusal. refusal ≡ Memory };
-
-    fn from(_: AllocError) -> Refusal {
-        Refusal::Memory
-    }
-}
-
-impl<T: Drop> From<AllocFailed<T>> for Refusal {
-    ghost use Rattle.ljserve.specs.declared.reply.Refusal.TheVariants.{Memory};
-
-    ghost from_gives = { λ _ refusal. refusal ≡ Memory };
-
-    fn from(_: AllocFailed<T>) -> Refusal {
-        Refusal::Memory
-    }
+    Ok(places)
 }

@@ -89,17 +89,18 @@ fn expect_load(rt: &impl Abort, alloc: Global, words: &str, reply: &str) -> Resu
     Ok(())
 }
 
-/// A LOAD of this body is refused.
-fn expect_bad_body(rt: &impl Abort, alloc: Global, body: &str) -> Result<(), Fail> {
+/// A LOAD of this body, and the place of its first atom, are answered so.
+fn expect_body(rt: &impl Abort, alloc: Global, body: &str, replies: &str) -> Result<(), Fail> {
     let count = body.len();
     let input = format!(in alloc; "LOAD a 256 1 1 rest {count}\n{body}SHOW a 0\n")?;
-    expect_replies(
-        rt,
-        alloc,
-        input.as_str(),
-        "ERR 30 XYZ_COUNT line 1\nERR 10 NO_SESSION\n",
-    );
+    expect_replies(rt, alloc, input.as_str(), replies);
     Ok(())
+}
+
+/// A LOAD of this body is refused.
+fn expect_bad_body(rt: &impl Abort, alloc: Global, body: &str, refusal: &str) -> Result<(), Fail> {
+    let replies = format!(in alloc; "{refusal}\nERR 10 NO_SESSION\n")?;
+    expect_body(rt, alloc, body, replies.as_str())
 }
 
 #[test]
@@ -165,30 +166,51 @@ fn refuses_in_order(rt: HostRuntime) -> Result<(), Fail> {
 }
 
 #[test]
-fn refuses_bodies_that_are_no_frames(rt: HostRuntime) -> Result<(), Fail> {
-    for body in [
-        "",
-        "1",
-        "1\n",
-        "1\nc\n",
-        "0\nc\n",
-        "4097\nc\n",
-        "x\nc\nX 0 0 0\n",
-        "\n1\nc\nX 0 0 0\n",
-        "1\r\nc\nX 0 0 0\n",
-        "1\nc\nX 0 0 0",
-        "2\nc\nX 0 0 0\n",
-        "1\nc\nX 0 0 0\n\n",
-        "1\nc\nX 0 0\n",
-        "1\nc\nX 0 0 0 0\n",
-        "1\nc\nX . 0 0\n",
-        "1\nc\nX 0 1e7 0\n",
-        "1\nc\nX 0 0 NaN\n",
-        "1\nc\nabcdefghijklmnopq 0 0 0\n",
-        "1\nc\n\x7f 0 0 0\n",
-        "1\nc\nX 0 0 0\r\n",
+fn names_the_first_fault_of_a_body(rt: HostRuntime) -> Result<(), Fail> {
+    for (body, refusal) in [
+        ("", "ERR 30 XYZ_COUNT line 1"),
+        ("0\nc\n", "ERR 30 XYZ_COUNT line 1"),
+        ("4097\nc\n", "ERR 30 XYZ_COUNT line 1"),
+        ("\nx\nc\nX 0 0 0\n", "ERR 30 XYZ_COUNT line 2"),
+        ("1", "ERR 31 XYZ_SHORT line 2"),
+        ("1\nc\n", "ERR 31 XYZ_SHORT line 3"),
+        ("2\nc\nNa 0 0 0\n", "ERR 31 XYZ_SHORT line 4"),
+        ("1\nc\nX 0 0\n", "ERR 31 XYZ_SHORT line 3"),
+        (
+            "1\nc\nabcdefghijklmnopq 0 0 0\n",
+            "ERR 32 XYZ_SYMBOL line 3",
+        ),
+        ("1\nc\n\x7f 0 0 0\n", "ERR 32 XYZ_SYMBOL line 3"),
+        ("1\nn\nH . 0 0\n", "ERR 33 XYZ_NUMBER line 3"),
+        ("1\nn\nH NaN 0 0\n", "ERR 33 XYZ_NUMBER line 3"),
+        ("1\nn\nH 1. .5 1e7\n", "ERR 34 XYZ_RANGE line 3"),
     ] {
-        expect_bad_body(&rt, rt.alloc(), body)?;
+        expect_bad_body(&rt, rt.alloc(), body, refusal)?;
+    }
+    Ok(())
+}
+
+#[test]
+fn loads_bodies_of_any_form(rt: HostRuntime) -> Result<(), Fail> {
+    for (body, replies) in [
+        (
+            "1\nq\nH -0.0000000005 0 0\n",
+            "OK LOAD a 0 1\nOK SHOW a 0 0 4294967295 0 0\n",
+        ),
+        (
+            "1\nn\nH 15D-1 1.5e0 +1.5\n",
+            "OK LOAD a 0 1\nOK SHOW a 0 0 25165824 25165824 25165824\n",
+        ),
+        (
+            "2\r\nc\r\nNa 0 0 0 1.0\r\nCl 1.5 0 0 -1.0",
+            "OK LOAD a 0 2\nOK SHOW a 0 0 0 0 0\n",
+        ),
+        (
+            "2\na\nX 0 0 0\nX 1 0 0\n3\nb\nX 0 0 0\nX 1 0 0\nX 2 0 0\n",
+            "OK LOAD a 0 2\nOK SHOW a 0 0 0 0 0\n",
+        ),
+    ] {
+        expect_body(&rt, rt.alloc(), body, replies)?;
     }
     Ok(())
 }

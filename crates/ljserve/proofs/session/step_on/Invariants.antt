@@ -1,6 +1,6 @@
 use Rattle.std.proofs.Common.{◌≡◌}
 use Rattle.lj_step.specs.Motion.{steps}
-use Rattle.ljserve.proofs.session.advance.Given as goal
+use Rattle.ljserve.proofs.session.step_on.Given as goal
 
 abbrev pub invariant-loop : goal.invariant-loop
 invariant-loop l = l.sim ≡ record l.initial.sim { sim = steps l.initial.sim.units l.counter l.initial.sim.sim }
