@@ -9,6 +9,7 @@ mod number;
 mod reply;
 mod session;
 mod sessions;
+mod stepping;
 #[cfg(test)]
 mod tests;
 

@@ -6,9 +6,11 @@ ghost use Rattle.lj_session.specs.Users.{atoms_of};
 ghost use Rattle.lj_session.specs.Loads.{opened, places_in};
 ghost use Rattle.lj_session.specs.Answers.{can_advance};
 
+use crate::stepping::step_alone;
 use lj_ring::{Edge, Place, Scale, place_of};
 use lj_step::{Frame, Frames, Sim};
 use lj_table::Table;
+use lj_tile::Label;
 use lj_xyz::{Row, Symbol};
 use std::alloc::{AllocError, Global};
 use std::marker::Model;
@@ -87,23 +89,24 @@ impl Session {
         target.unsigned_abs() <= MOST_STEP
     }
 
-    /// Goes on by so many steps.
-    pub fn advance(&mut self, steps: u64, table: &Table)
+    /// Goes on by so many steps, whose tasks are computed here under a label.
+    pub fn advance(&mut self, steps: u64, label: &Label, table: &Table)
         requires allowed { IsTrue (can_advance self.old steps) }
         requires within { unsigned_abs self.old.sim.step ≤ 10 ^ 12 }
         ensures { self.new ≡ record self.old { sim = motion.steps self.old.units steps self.old.sim } }
     {
-        step_on(&mut self.sim, steps, table);
+        step_on(&mut self.sim, steps, label, table);
     }
 }
 
-fn step_on(sim: &mut Sim, steps: u64, table: &Table)
+fn step_on(sim: &mut Sim, steps: u64, label: &Label, table: &Table)
     requires start { unsigned_abs sim.old.sim.step ≤ 10 ^ 12 }
     requires target { unsigned_abs (sim.old.sim.step +ℤ sim.old.sim.dir *ℤ pos steps) ≤ 10 ^ 12 }
-    ensures { sim.new ≡ record sim.old { sim = motion.steps sim.old.units steps sim.old.sim } }
+    ensures units { sim.new.units ≡ sim.old.units }
+    ensures motion { sim.new.sim ≡ motion.steps sim.old.units steps sim.old.sim }
 {
     for _ in 0..steps {
-        sim.step_all(table);
+        step_alone(sim, label, table);
     }
 }
 

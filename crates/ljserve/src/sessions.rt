@@ -13,8 +13,12 @@ use lj_fixed::Nano;
 use lj_ring::{Scale, ScaleFault};
 use lj_session::{Name, Refusal};
 use lj_table::Table;
+use lj_tile::Label;
 use lj_xyz::{XyzError, read_rest};
 use std::alloc::Global;
+
+/// The number of the one user.
+const ONLY_USER: u8 = 0;
 
 /// The sessions by their names, in order of loading.
 #[derive(Drop)]
@@ -81,7 +85,11 @@ impl Sessions {
         if !session.can_advance(steps) {
             return Err(Refusal::StepRange);
         }
-        session.advance(steps, table);
+        let label = Label {
+            user: ONLY_USER,
+            session: name.copy(),
+        };
+        session.advance(steps, &label, table);
         let step = session.step();
         Ok(Reply::Advanced { name, step })
     }

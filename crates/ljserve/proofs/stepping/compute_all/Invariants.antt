@@ -1,7 +1,7 @@
 use Rattle.std.proofs.Common.{◌≡◌, ◌≤◌, ◌*◌, length}
 use Rattle.lj_step.specs.OpenSteps.{blocks}
-use Rattle.stepping.proofs.TilesTaken.{AwaitsFrom}
-use Rattle.stepping.proofs.stepping.compute_all.Given as goal
+use Rattle.ljserve.proofs.TilesTaken.{AwaitsFrom}
+use Rattle.ljserve.proofs.stepping.compute_all.Given as goal
 
 abbrev pub invariant-loop-i : goal.invariant-loop-i
 invariant-loop-i l = record {

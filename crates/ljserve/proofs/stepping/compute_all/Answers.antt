@@ -2,8 +2,8 @@ use Rattle.std.proofs.Common.{◌≡◌, ◌≤◌, ◌*◌, ◌+◌, length, So
 use Rattle.std.specs.Result.{OnOk}
 use Rattle.lj_step.specs.Live.{Live}
 use Rattle.lj_step.specs.OpenSteps.{blocks, with_tile, number_of}
-use Rattle.stepping.proofs.TilesTaken.{AwaitsFrom, opened_awaits, none_past, kind_is, all_taken, cover_few, is_awaited, awaits_next}
-use Rattle.stepping.proofs.stepping.compute_all.Goals as goal
+use Rattle.ljserve.proofs.TilesTaken.{AwaitsFrom, opened_awaits, none_past, kind_is, all_taken, cover_few, is_awaited, awaits_next}
+use Rattle.ljserve.proofs.stepping.compute_all.Goals as goal
 
 pub loop-i-init : goal.loop-i-init
 loop-i-init c = record {

@@ -1,3 +1,4 @@
+//! The steps of a simulation, computed on one thread.
 ghost use Rattle.std.specs.Prelude.{◌≡◌, ◌≤◌, ◌^◌, ◌+ℤ◌, length, unsigned_abs, Some, true};
 ghost use Rattle.lj_tile.specs.declared.names.Kind.TheVariants.{Force};
 ghost use Rattle.lj_step.specs.Motion as motion;
