@@ -12,3 +12,6 @@ pub use frames::{Frame, Frames};
 pub use measures::Momentum;
 pub use simulations::{Displacement, Sim, Stray};
 pub use snapshots::Snapshot;
+
+#[cfg(test)]
+mod tests;
