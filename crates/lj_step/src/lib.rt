@@ -11,3 +11,6 @@ mod snapshots;
 pub use frames::{Frame, Frames};
 pub use simulations::{Displacement, Sim, Stray};
 pub use snapshots::Snapshot;
+
+#[cfg(test)]
+mod tests;

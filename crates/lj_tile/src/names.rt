@@ -2,10 +2,9 @@
 ghost use Rattle.std.specs.Prelude.{◌≡◌, ◌↔◌, IsTrue, nat_eq, Some};
 ghost use Rattle.std.specs.List.{list_all};
 ghost use Rattle.std.specs.Cmp.{partial_equiv_from_equiv};
-ghost use Rattle.std.specs.Cmp.Lexicographic.{pointwise, nat_list_eq_equiv};
-ghost use Rattle.std.specs.Cmp.Rules.{hashing};
+ghost use Rattle.std.specs.Cmp.Lexicographic.{pointwise, nat_list_eq_equiv, bytes_decides};
 ghost use Rattle.std.specs.Hash as fed;
-ghost use Rattle.std.proofs.Common.{rules};
+ghost use Rattle.std.specs.Hash.{same_Alike};
 ghost use Rattle.lj_tile.specs.Names.{is_name_byte, is_name, name_of};
 
 use arrayvec::ArrayString;
@@ -86,7 +85,7 @@ impl Eq for Name {
 impl Hash for Name {
     ghost hash_input = { λ name. fed.str name };
 
-    ghost respects_eq = { Prim.search (hashing, rules) };
+    ghost respects_eq = { (same_Alike fed.str bytes_decides).fed };
 
     fn hash<H: Hasher>(&self, state: &mut H) {
         self.text.hash(state);
