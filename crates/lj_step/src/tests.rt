@@ -1,3 +1,5 @@
+ghost use Rattle.std.specs.Prelude.{◌≤◌, length};
+
 use crate::{Displacement, Frame, Frames, Sim};
 use lj_fixed::Nano;
 use lj_ring::{Place, Scale};
@@ -6,8 +8,6 @@ use lj_tile::{Done, Kind, Label, Name, compute};
 use std::alloc::{AllocError, AllocGlobal};
 use std::process::Abort;
 use std::test::Fail;
-
-ghost use Rattle.std.specs.Prelude.{◌≤◌, length};
 
 const ORIGIN: Place = Place { x: 0, y: 0, z: 0 };
 
@@ -142,14 +142,23 @@ fn strays_come_back_and_change_nothing(rt: HostRuntime) -> Result<(), Fail> {
     assert!(rt; sim.awaits(0));
     accept(&mut sim, 0, &rt);
     assert!(rt; !sim.awaits(0));
-    let doubled = sim.accept(&label(&rt), done.copy()).err().expect(&rt, "a stray");
+    let doubled = sim
+        .accept(&label(&rt), done.copy())
+        .err()
+        .expect(&rt, "a stray");
     assert!(rt; doubled.done.task().is(done.task()));
     turn(&mut sim, &rt);
     assert_eq!(rt; place(&sim, 0, &rt), along_x(589));
-    let closed = sim.accept(&label(&rt), done.copy()).err().expect(&rt, "a stray");
+    let closed = sim
+        .accept(&label(&rt), done.copy())
+        .err()
+        .expect(&rt, "a stray");
     assert!(rt; closed.done.task().is(done.task()));
     sim.open_step(Kind::Force);
-    let stale = sim.accept(&label(&rt), done.copy()).err().expect(&rt, "a stray");
+    let stale = sim
+        .accept(&label(&rt), done.copy())
+        .err()
+        .expect(&rt, "a stray");
     assert!(rt; stale.done.task().is(done.task()));
     assert!(rt; sim.awaits(0) && !sim.is_whole());
     Ok(())
@@ -167,7 +176,10 @@ fn another_scale_is_a_stray(rt: HostRuntime) -> Result<(), Fail> {
     sim.open_step(Kind::Force);
     other.open_step(Kind::Force);
     let done = result(&other, 0, &rt);
-    let stray = sim.accept(&label(&rt), done.copy()).err().expect(&rt, "a stray");
+    let stray = sim
+        .accept(&label(&rt), done.copy())
+        .err()
+        .expect(&rt, "a stray");
     assert!(rt; stray.done.task().is(done.task()));
     assert!(rt; sim.awaits(0));
     Ok(())
