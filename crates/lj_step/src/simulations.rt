@@ -166,7 +166,8 @@ impl Sim {
     pub fn open_kind(&self) -> Option<Kind>
         ensures { result ≡ steps.kind_of self.now.part }
     {
-        self.partial.kind
+        let partial = &self.partial;
+        partial.kind
     }
 
     /// Opens a step of a kind, which awaits the results of all its tiles. A step that was open is dropped.
