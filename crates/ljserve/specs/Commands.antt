@@ -8,7 +8,7 @@ use Rattle.ljserve.specs.declared.command.Command.{Command}
 use Rattle.ljserve.specs.declared.command.Command.TheVariants.{Load, Advance, Show}
 use Rattle.ljserve.specs.declared.command.Verb.{Verb}
 use Rattle.ljserve.specs.declared.command.Verb.TheVariants as verbs
-use Rattle.lj_session.specs.Names.{name_of}
+use Rattle.lj_tile.specs.Names.{name_of}
 use Rattle.ljserve.specs.Numbers.{number_of}
 
 -- the command that a first word begins
