@@ -1,3 +1,5 @@
+ghost use Rattle.std.specs.Prelude.{◌≡◌, IfSome, Some, length};
+
 use crate::{Block, Done, Kind, Label, Name, Task, TaskName, compute};
 use lj_fixed::Nano;
 use lj_ring::{Place, Scale};
@@ -24,7 +26,11 @@ fn scale() -> Option<Scale> {
     Scale::new(edge, Nano::new(1_000_000_000)?, 131_072).ok()
 }
 
-fn name(kind: Kind, bi: u8, bj: u8) -> Option<TaskName> {
+fn name(kind: Kind, bi: u8, bj: u8) -> Option<TaskName>
+    ensures kind { IfSome result (λ name. name.kind ≡ kind) }
+    ensures first { IfSome result (λ name. name.bi ≡ bi) }
+    ensures second { IfSome result (λ name. name.bj ≡ bj) }
+{
     let label = Label {
         user: 3,
         session: session()?,
@@ -38,12 +44,18 @@ fn name(kind: Kind, bi: u8, bj: u8) -> Option<TaskName> {
     })
 }
 
-fn diagonal(kind: Kind) -> Option<Task> {
+fn diagonal(kind: Kind) -> Option<Task>
+    ensures kind { IfSome result (λ task. task.name.kind ≡ kind) }
+    ensures count { IfSome result (λ task. length task.a ≡ 2) }
+{
     let both = Block::new(&[LEFT, RIGHT]);
     Some(Task::new(name(kind, 0, 0)?, scale()?, both.copy(), both))
 }
 
-fn off_diagonal(kind: Kind, here: Place, there: Place) -> Option<Task> {
+fn off_diagonal(kind: Kind, here: Place, there: Place) -> Option<Task>
+    ensures kind { IfSome result (λ task. task.name.kind ≡ kind) }
+    ensures count { IfSome result (λ task. length task.a ≡ 1) }
+{
     Some(Task::new(
         name(kind, 1, 2)?,
         scale()?,
@@ -52,7 +64,9 @@ fn off_diagonal(kind: Kind, here: Place, there: Place) -> Option<Task> {
     ))
 }
 
-fn done_of(task: Option<Task>, rt: &impl Abort) -> Done {
+fn done_of(task: Option<Task>, rt: &impl Abort) -> Done
+    ensures { task ≡ Some result }
+{
     compute(task.expect(rt, "a task"), &Table::new())
 }
 
