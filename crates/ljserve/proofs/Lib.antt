@@ -2,3 +2,4 @@ pub mod Lines
 pub mod Numbers
 pub mod Items
 pub mod Advances
+pub mod Performing

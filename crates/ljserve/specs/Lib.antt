@@ -4,3 +4,4 @@ pub mod Items
 pub mod Commands
 pub mod Texts
 pub mod Refusals
+pub mod Answers

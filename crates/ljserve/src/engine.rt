@@ -1,7 +1,10 @@
 //! The engine: from the bytes of a stream of commands to the bytes of their replies.
 
+use crate::command::parse_command;
 use crate::item::split_item;
+use crate::reply::Reply;
 use crate::sessions::Sessions;
+use lj_session::Refusal;
 use lj_table::Table;
 use std::alloc::Global;
 use std::io::{Read, Write};
@@ -34,7 +37,10 @@ pub fn run_thin<R: Read, W: Write>(
     let mut sessions = Sessions::new(alloc);
     let mut rest = input.as_slice();
     while let Some((item, behind)) = split_item(rest) {
-        let reply = sessions.answer(&table, item);
+        let reply = match parse_command(item.line) {
+            Some(command) => sessions.answer(&table, command, item.body),
+            None => Reply::Refused(Refusal::Command),
+        };
         writeln!(writer, "{reply}").map_err(|_| ThinFault::Write)?;
         rest = behind;
     }

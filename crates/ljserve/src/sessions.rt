@@ -1,11 +1,15 @@
 //! The sessions of a run, and the answers to commands on them.
-ghost use Rattle.std.specs.Prelude.{◌≡◌, pos, unwrap_or};
+ghost use Rattle.std.specs.Prelude.{◌≡◌, ◌≤◌, [], Bool, Some, None, Ok, Err, pos, unwrap_or};
 ghost use Rattle.lj_ring.specs.Scales as scales;
+ghost use Rattle.lj_session.specs.declared.command.Command.TheVariants as commands;
+ghost use Rattle.lj_session.specs.declared.command.Mode.TheVariants.{Rest};
+ghost use Rattle.lj_session.specs.Users.{Quota, named};
 ghost use Rattle.lj_session.specs.Loads.{scale_refusal};
+ghost use Rattle.lj_session.specs.Answers.{performed};
 ghost use Rattle.ljserve.specs.Refusals.{body_refusal};
+ghost use Rattle.ljserve.specs.Answers.{HasRoom, Answers, Performs, StaysAtErr, user_of, outcome, command_with, reply_of};
 
-use crate::command::{Command, parse_command};
-use crate::item::Item;
+use crate::command::Command;
 use crate::reply::Reply;
 use crate::session::Session;
 use indexmap::IndexMap;
@@ -15,6 +19,7 @@ use lj_session::{Name, Refusal};
 use lj_table::Table;
 use lj_xyz::{XyzError, read_rest};
 use std::alloc::Global;
+use std::marker::Model;
 
 /// The sessions by their names, in order of loading.
 #[derive(Drop)]
@@ -23,58 +28,92 @@ pub struct Sessions {
     sessions: IndexMap<Name, Session>,
 }
 
+impl Model for Sessions {
+    ghost use Rattle.ljserve.specs.Answers.{Named};
+
+    ghost Value = { Named };
+
+    ghost view = { λ s. s.sessions.entries };
+}
+
 impl Sessions {
     /// No session.
-    pub fn new(alloc: Global) -> Self {
+    pub fn new(alloc: Global) -> Self
+        ensures { result ≡ [] }
+    {
         Sessions {
             alloc,
             sessions: IndexMap::new(alloc),
         }
     }
 
-    /// Answers an item. After a refusal the sessions are as they were.
-    pub fn answer(&mut self, table: &Table, item: Item) -> Reply {
-        match self.perform(table, item) {
+    /// Answers a command, with the body behind its line. After a refusal the sessions are as they
+    /// were.
+    pub fn answer(&mut self, table: &Table, command: Command, body: &[u8]) -> Reply
+        ensures { (quota : Quota) → HasRoom (user_of quota self.old) →
+            Answers quota self.old (command_with command body.now) (reply_of result) self.new }
+    {
+        match self.perform(table, command, body) {
             Ok(reply) => reply,
             Err(refusal) => Reply::Refused(refusal),
         }
     }
 
-    fn perform(&mut self, table: &Table, item: Item) -> Result<Reply, Refusal> {
-        match parse_command(item.line).ok_or(Refusal::Command)? {
+    fn perform(&mut self, table: &Table, command: Command, body: &[u8]) -> Result<Reply, Refusal>
+        ensures performs { (quota : Quota) → HasRoom (user_of quota self.old) →
+            Performs quota self.old (command_with command body.now) result self.new }
+        ensures stays { StaysAtErr result self.old self.new }
+    {
+        match command {
             Command::Load {
                 name,
                 edge,
                 sigma,
                 step_factor,
-            } => {
-                self.check_new(&name)?;
-                let scale = scale_of(edge, sigma, step_factor).map_err(scale_refusal)?;
-                self.load(name, scale, item.body)
-            }
+            } => self.load(name, edge, sigma, step_factor, body),
             Command::Advance { name, steps } => self.advance(table, name, steps),
             Command::Show { name, atom } => self.show(name, atom),
         }
     }
 
-    fn check_new(&self, name: &Name) -> Result<(), Refusal> {
-        if self.sessions.contains_key(name) {
+    fn load(
+        &mut self,
+        name: Name,
+        edge: Option<Nano>,
+        sigma: Option<Nano>,
+        step_factor: Option<u64>,
+        body: &[u8],
+    ) -> Result<Reply, Refusal>
+        ensures performs { (quota : Quota) → HasRoom (user_of quota self.old) →
+            Performs quota self.old (commands.Load name edge sigma step_factor Rest (Some body.now)) result self.new }
+        ensures stays { StaysAtErr result self.old self.new }
+    {
+        if self.sessions.contains_key(&name) {
             return Err(Refusal::Exists);
         }
-        Ok(())
-    }
-
-    fn load(&mut self, name: Name, scale: Scale, body: &[u8]) -> Result<Reply, Refusal> {
-        let rows = read_rest(self.alloc, body).map_err(body_refusal)?;
-        let session = Session::at_rest(self.alloc, rows.as_slice(), scale);
-        let session = session.map_err(|_| Refusal::Memory)?;
+        let scale = match scale_of(edge, sigma, step_factor) {
+            Ok(scale) => scale,
+            Err(fault) => return Err(scale_refusal(fault)),
+        };
+        let rows = match read_rest(self.alloc, body) {
+            Ok(rows) => rows,
+            Err(error) => return Err(body_refusal(error)),
+        };
+        let Ok(session) = Session::at_rest(self.alloc, rows.as_slice(), scale) else {
+            return Err(Refusal::Memory);
+        };
         let atoms = session.atoms();
-        let inserted = self.sessions.insert(name.copy(), session);
-        inserted.map_err(|_| Refusal::Memory)?;
+        let Ok(_) = self.sessions.insert(name.copy(), session) else {
+            return Err(Refusal::Memory);
+        };
         Ok(Reply::Loaded { name, atoms })
     }
 
-    fn advance(&mut self, table: &Table, name: Name, steps: u64) -> Result<Reply, Refusal> {
+    fn advance(&mut self, table: &Table, name: Name, steps: u64) -> Result<Reply, Refusal>
+        ensures performs { (quota : Quota) (mark : Bool) →
+            performed (user_of quota self.old) (commands.Advance name steps) mark ≡ outcome quota result self.new }
+        ensures stays { StaysAtErr result self.old self.new }
+    {
         let Some(session) = self.sessions.get_mut(&name) else {
             return Err(Refusal::NoSession);
         };
@@ -86,8 +125,14 @@ impl Sessions {
         Ok(Reply::Advanced { name, step })
     }
 
-    fn show(&self, name: Name, atom: u64) -> Result<Reply, Refusal> {
-        let session = self.sessions.get(&name).ok_or(Refusal::NoSession)?;
+    #[tactic(auto, unfolding(lj_session::specs::Answers::performed))]
+    fn show(&self, name: Name, atom: u64) -> Result<Reply, Refusal>
+        ensures { (quota : Quota) (mark : Bool) →
+            performed (user_of quota self.now) (commands.Show name atom) mark ≡ outcome quota result self.now }
+    {
+        let Some(session) = self.sessions.get(&name) else {
+            return Err(Refusal::NoSession);
+        };
         if atom >= session.atoms() as u64 {
             return Err(Refusal::NoAtom);
         }
