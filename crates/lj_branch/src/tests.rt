@@ -74,7 +74,7 @@ fn what_is_saved_comes_back(rt: HostRuntime) -> Result<(), Fail> {
         assert_eq!(rt; (sim.step(), sim.dir(), sim.kinetic()), (0, 1, 0));
         assert_eq!(rt; restore(&branches, "tugged", &mut sim, &rt), Ok(()));
         assert_eq!(rt; sim.kinetic(), 25);
-        assert_eq!(rt; sim.momentum().x, 5);
+        assert_eq!(rt; sim.momentum()[0], 5);
         sim.reverse();
     }
     assert_eq!(rt; restore(&branches, "other", &mut sim, &rt), Err(NoBranch));
