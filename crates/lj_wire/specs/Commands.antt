@@ -1,8 +1,8 @@
--- The item that a line is, with the body that follows it where it is a LOAD line.
+-- The item that a line is, with the body that follows it where it is a LOAD line. The body may be left out.
 use Rattle.std.specs.Prelude.{ℕ, Bool, nat_le, nat_lt, List, [], ◌∷◌, length, Option, Some, None, if◌then◌else◌, codes}
 use Rattle.std.specs.List.{last_or}
 use Rattle.std.specs.Map.{lookup}
-use Rattle.std.specs.Option.{unwrap_or}
+use Rattle.std.specs.Option.{option_map, unwrap_or}
 use Rattle.std.specs.Result.{result_ok}
 use Rattle.std.specs.Str.{bytes_eq}
 use Rattle.std.specs.Str.Lines.{strip_carriage_return}
@@ -34,27 +34,37 @@ plain command [] = Some command
 plain command words = None
 
 -- `s`
-abbrev pub on_session : (List ℕ → Command) → Words → Option Command
-on_session command (s ∷ []) = do
-  name ← name_of s
-  Some (command name)
-on_session command words = None
+abbrev pub one_name : Words → Option (List ℕ)
+one_name (s ∷ []) = name_of s
+one_name words = None
 
 -- `s b`
-abbrev pub on_branch : (List ℕ → List ℕ → Command) → Words → Option Command
-on_branch command (s ∷ b ∷ []) = do
+abbrev pub two_names : Words → Option (List ℕ × List ℕ)
+two_names (s ∷ b ∷ []) = do
   name ← name_of s
   branch ← name_of b
-  Some (command name branch)
-on_branch command words = None
+  Some (name, branch)
+two_names words = None
 
 -- `s N`
-abbrev pub on_number : (List ℕ → ℕ → Command) → Words → Option Command
-on_number command (s ∷ n ∷ []) = do
+abbrev pub name_and_number : Words → Option (List ℕ × ℕ)
+name_and_number (s ∷ n ∷ []) = do
   name ← name_of s
   number ← number_of n
-  Some (command name number)
-on_number command words = None
+  Some (name, number)
+name_and_number words = None
+
+-- a command on a session
+abbrev pub on_session : (List ℕ → Command) → Words → Option Command
+on_session command words = option_map command (one_name words)
+
+-- a command on what is saved in a session
+abbrev pub on_branch : (List ℕ → List ℕ → Command) → Words → Option Command
+on_branch command words = option_map (λ p. command p.0 p.1) (two_names words)
+
+-- a command on a session, with a number
+abbrev pub on_number : (List ℕ → ℕ → Command) → Words → Option Command
+on_number command words = option_map (λ p. command p.0 p.1) (name_and_number words)
 
 -- `s N D D D`
 abbrev pub tug : Words → Option Command
@@ -96,11 +106,11 @@ mode_of word =
     else (if bytes_eq word (codes "pair") then Some Pair else None)
 
 -- `s edge sigma h mode bytes`, of which edge, sigma and h may be any words
-abbrev pub load : List ℕ → Words → Option Command
+abbrev pub load : Option (List ℕ) → Words → Option Command
 load body (s ∷ edge ∷ sigma ∷ h ∷ mode ∷ bytes ∷ []) = do
   name ← name_of s
   mode ← mode_of mode
-  Some (command.Load name (result_ok (nano_of edge)) (result_ok (nano_of sigma)) (number_of h) mode (Some body))
+  Some (command.Load name (result_ok (nano_of edge)) (result_ok (nano_of sigma)) (number_of h) mode body)
 load body words = None
 
 -- the number that a word of at most 7 digits says, where it is at most 1,048,576
@@ -123,7 +133,7 @@ abbrev pub is_load : List ℕ → Bool
 is_load verb = bytes_eq verb (codes "LOAD")
 
 -- the item of a LOAD line with this count
-abbrev pub load_item : Option ℕ → List ℕ → Words → Item
+abbrev pub load_item : Option ℕ → Option (List ℕ) → Words → Item
 load_item (Some count) body words = or_syntax (load body words)
 load_item None body words = item.Last fault.Body
 
@@ -133,7 +143,7 @@ other_item (Some command) words = or_syntax (command words)
 other_item None words = item.Bad fault.Command
 
 -- the item of a line of these words
-unfoldable pub item_of_words : Words → List ℕ → Item
+unfoldable pub item_of_words : Words → Option (List ℕ) → Item
 item_of_words [] body = item.Bad fault.Syntax
 item_of_words (verb ∷ words) body =
     if is_load verb then load_item (last_count words) body words
@@ -156,6 +166,10 @@ words_in line = words_of (strip_carriage_return line)
 abbrev pub announced : List ℕ → ℕ
 announced line = if is_over line then 0 else body_len (words_in line)
 
+-- the item of a line with its body, or with none where that is left out
+abbrev pub item_with : List ℕ → Option (List ℕ) → Item
+item_with line body = if is_over line then item.Bad fault.Line else item_of_words (words_in line) body
+
 -- the item of a line and its body
 abbrev pub item_of : List ℕ → List ℕ → Item
-item_of line body = if is_over line then item.Bad fault.Line else item_of_words (words_in line) body
+item_of line body = item_with line (Some body)

@@ -1,6 +1,6 @@
--- Items of a stream: those that end the connection, and the refusal that a fault is answered.
-use Rattle.std.specs.Prelude.{Bool, true, false}
-use Rattle.lj_session.specs.declared.command.Command.TheVariants.{Bye}
+-- Items of a stream: those that end the connection, the body put into a LOAD, and the refusal that a fault is answered.
+use Rattle.std.specs.Prelude.{ℕ, Bool, true, false, List, Some}
+use Rattle.lj_session.specs.declared.command.Command.TheVariants.{Bye, Load}
 use Rattle.lj_session.specs.declared.refusal.Refusal.{Refusal}
 use Rattle.lj_session.specs.declared.refusal.Refusal.TheVariants as refusal
 use Rattle.lj_wire.specs.declared.item.Fault.{Fault}
@@ -23,3 +23,10 @@ ends (Command Bye) = true
 ends (Command _) = false
 ends (Bad fault) = false
 ends (Last fault) = true
+
+-- the item with this body, where it is a LOAD
+abbrev pub filled : Item → List ℕ → Item
+filled (Command (Load name edge sigma step_factor mode _)) body = Command (Load name edge sigma step_factor mode (Some body))
+filled (Command command) body = Command command
+filled (Bad fault) body = Bad fault
+filled (Last fault) body = Last fault

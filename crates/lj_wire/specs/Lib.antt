@@ -1,6 +1,7 @@
 pub mod Items
 pub mod Numbers
 pub mod Commands
+pub mod Parsing
 pub mod Texts
 pub mod Told
 pub mod Runs

@@ -1,8 +1,10 @@
 //! Items of a stream of bytes.
 ghost use Rattle.std.specs.Prelude.{◌≡◌};
-ghost use Rattle.lj_wire.specs.Items.{refusal_of, ends};
+ghost use Rattle.std.specs.Prelude.{List, ℕ, None};
+ghost use Rattle.lj_wire.specs.Items.{refusal_of, ends, filled};
+ghost use Rattle.lj_wire.specs.Commands.{item_with, item_of};
 
-use lj_session::{Command, Refusal};
+use lj_session::{Body, Command, Refusal};
 
 /// What is wrong with an item that is no command.
 #[derive(Clone, Copy, Debug, PartialEq, Eq)]
@@ -54,6 +56,31 @@ impl Item {
         match self {
             Item::Command(Command::Bye) | Item::Last(_) => true,
             Item::Command(_) | Item::Bad(_) => false,
+        }
+    }
+
+    /// The item with this body, where it is a LOAD.
+    pub fn with_body(self, body: Body) -> Item
+        ensures filled { result ≡ filled self body }
+        ensures whole { (line : List ℕ) → self ≡ item_with line None → result ≡ item_of line body }
+    {
+        match self {
+            Item::Command(Command::Load {
+                name,
+                edge,
+                sigma,
+                step_factor,
+                mode,
+                body: _,
+            }) => Item::Command(Command::Load {
+                name,
+                edge,
+                sigma,
+                step_factor,
+                mode,
+                body: Some(body),
+            }),
+            item => item,
         }
     }
 }

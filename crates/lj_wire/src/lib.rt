@@ -1,11 +1,20 @@
 //! The line protocol: items of a stream, and the texts of replies.
 #![tactic(auto)]
 
+mod command;
 mod item;
 mod laws;
+mod line;
+mod number;
+mod verb;
+mod words;
 
+pub use command::{announced, parse_command};
 pub use item::{Fault, Item};
 pub use laws::{
     mark_is_told, one_splitting, running_goes_on, some_splitting, turn_keeps_told,
     turn_lowers_turns,
 };
+pub use line::split_line;
+pub use number::{parse_displacement, parse_number};
+pub use words::Words;
