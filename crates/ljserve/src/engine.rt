@@ -1,4 +1,5 @@
 //! The engine: from the bytes of a stream of commands to the bytes of their replies.
+ghost use Rattle.std.specs.Prelude.{◌≡◌, ◌≤◌, IfOk, IfSome, length};
 
 use crate::item::split_item;
 use crate::sessions::Sessions;
@@ -42,7 +43,9 @@ pub fn run_thin<R: Read, W: Write>(
 }
 
 // All bytes of the reader. The room is made beforehand, so each later error is the reader's.
-fn read_input<R: Read>(alloc: Global, reader: &mut R) -> Result<Vec<u8>, ThinFault> {
+fn read_input<R: Read>(alloc: Global, reader: &mut R) -> Result<Vec<u8>, ThinFault>
+    ensures { IfOk result (λ input. IfSome (R.remaining reader.old) (λ bytes. input.items ≡ bytes)) }
+{
     let room = MOST_INPUT_BYTES as usize + 2;
     let mut input = Vec::with_capacity(alloc, room).map_err(|_| ThinFault::Memory)?;
     let mut front = reader.take(MOST_INPUT_BYTES + 1);
