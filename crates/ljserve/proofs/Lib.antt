@@ -3,3 +3,4 @@ pub mod Numbers
 pub mod Items
 pub mod Advances
 pub mod TilesTaken
+pub mod Performing

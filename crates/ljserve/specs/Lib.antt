@@ -4,3 +4,5 @@ pub mod Items
 pub mod Commands
 pub mod Texts
 pub mod Refusals
+pub mod Thin
+pub mod Answers

@@ -63,7 +63,8 @@ impl Session {
 
     /// The step number.
     pub fn step(&self) -> i64
-        ensures { result ≡ self.now.sim.step }
+        ensures value { result ≡ self.now.sim.step }
+        ensures most { unsigned_abs result ≤ 10 ^ 12 }
     {
         self.sim.step()
     }

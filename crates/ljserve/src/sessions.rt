@@ -1,21 +1,27 @@
 //! The sessions of a run, and the answers to commands on them.
-ghost use Rattle.std.specs.Prelude.{◌≡◌, pos, unwrap_or};
+ghost use Rattle.std.specs.Prelude.{◌≡◌, [], Bool, false, Err, IsTrue, pos, unwrap_or};
 ghost use Rattle.lj_ring.specs.Scales as scales;
+ghost use Rattle.lj_session.specs.declared.command.Command.TheVariants as commands;
+ghost use Rattle.lj_session.specs.declared.command.Mode.TheVariants.{Rest};
+ghost use Rattle.lj_session.specs.declared.refusal.Refusal.TheVariants as refusals;
+ghost use Rattle.lj_session.specs.declared.reply.Reply.TheVariants as replies;
+ghost use Rattle.lj_session.specs.Users.{Quota};
 ghost use Rattle.lj_session.specs.Loads.{scale_refusal};
+ghost use Rattle.lj_session.specs.Answers.{performed};
 ghost use Rattle.ljserve.specs.Refusals.{body_refusal};
+ghost use Rattle.ljserve.specs.Thin.{is_thin};
+ghost use Rattle.ljserve.specs.Answers.{Answers, PassesNoQuota, Performs, StaysAtErr, user_of, outcome};
 
-use crate::command::{Command, parse_command};
-use crate::item::Item;
-use crate::reply::Reply;
 use crate::session::Session;
 use indexmap::IndexMap;
 use lj_fixed::Nano;
 use lj_ring::{Scale, ScaleFault};
-use lj_session::{Name, Refusal};
+use lj_session::{Body, Command, Mode, Name, Refusal, Reply};
 use lj_table::Table;
 use lj_tile::Label;
 use lj_xyz::{XyzError, read_rest};
 use std::alloc::Global;
+use std::marker::Model;
 
 /// The number of the one user.
 const ONLY_USER: u8 = 0;
@@ -27,58 +33,101 @@ pub struct Sessions {
     sessions: IndexMap<Name, Session>,
 }
 
+impl Model for Sessions {
+    ghost use Rattle.ljserve.specs.Answers.{Named};
+
+    ghost Value = { Named };
+
+    ghost view = { λ s. s.sessions.entries };
+}
+
 impl Sessions {
     /// No session.
-    pub fn new(alloc: Global) -> Self {
+    pub fn new(alloc: Global) -> Self
+        ensures { result ≡ [] }
+    {
         Sessions {
             alloc,
             sessions: IndexMap::new(alloc),
         }
     }
 
-    /// Answers an item. After a refusal the sessions are as they were.
-    pub fn answer(&mut self, table: &Table, item: Item) -> Reply {
-        match self.perform(table, item) {
+    /// Answers a command. LOAD of atoms at rest, ADVANCE and SHOW are served, and any other is refused as no command.
+    /// After a refusal the sessions are as they were.
+    pub fn answer(&mut self, table: &Table, command: Command) -> Reply
+        ensures thin { (quota : Quota) → IsTrue (is_thin command) → PassesNoQuota (user_of quota self.old) command →
+            Answers quota self.old command result self.new }
+        ensures other { is_thin command ≡ false → (result ≡ replies.Refused refusals.Command) × (self.new ≡ self.old) }
+    {
+        match self.perform(table, command) {
             Ok(reply) => reply,
             Err(refusal) => Reply::Refused(refusal),
         }
     }
 
-    fn perform(&mut self, table: &Table, item: Item) -> Result<Reply, Refusal> {
-        match parse_command(item.line).ok_or(Refusal::Command)? {
+    fn perform(&mut self, table: &Table, command: Command) -> Result<Reply, Refusal>
+        ensures thin { (quota : Quota) → IsTrue (is_thin command) → PassesNoQuota (user_of quota self.old) command →
+            Performs quota self.old command result self.new }
+        ensures other { is_thin command ≡ false → result ≡ Err refusals.Command }
+        ensures stays { StaysAtErr result self.old self.new }
+    {
+        match command {
             Command::Load {
                 name,
                 edge,
                 sigma,
                 step_factor,
-            } => {
-                self.check_new(&name)?;
-                let scale = scale_of(edge, sigma, step_factor).map_err(scale_refusal)?;
-                self.load(name, scale, item.body)
-            }
+                mode: Mode::Rest,
+                body,
+            } => self.load(name, edge, sigma, step_factor, body),
             Command::Advance { name, steps } => self.advance(table, name, steps),
             Command::Show { name, atom } => self.show(name, atom),
+            _ => Err(Refusal::Command),
         }
     }
 
-    fn check_new(&self, name: &Name) -> Result<(), Refusal> {
-        if self.sessions.contains_key(name) {
+    fn load(
+        &mut self,
+        name: Name,
+        edge: Option<Nano>,
+        sigma: Option<Nano>,
+        step_factor: Option<u64>,
+        body: Option<Body>,
+    ) -> Result<Reply, Refusal>
+        ensures performs { (quota : Quota) →
+            PassesNoQuota (user_of quota self.old) (commands.Load name edge sigma step_factor Rest body) →
+            Performs quota self.old (commands.Load name edge sigma step_factor Rest body) result self.new }
+        ensures stays { StaysAtErr result self.old self.new }
+    {
+        if self.sessions.contains_key(&name) {
             return Err(Refusal::Exists);
         }
-        Ok(())
-    }
-
-    fn load(&mut self, name: Name, scale: Scale, body: &[u8]) -> Result<Reply, Refusal> {
-        let rows = read_rest(self.alloc, body).map_err(body_refusal)?;
-        let session = Session::at_rest(self.alloc, rows.as_slice(), scale);
-        let session = session.map_err(|_| Refusal::Memory)?;
+        let scale = match scale_of(edge, sigma, step_factor) {
+            Ok(scale) => scale,
+            Err(fault) => return Err(scale_refusal(fault)),
+        };
+        let Some(body) = body else {
+            return Err(Refusal::Memory);
+        };
+        let rows = match read_rest(self.alloc, body.as_slice()) {
+            Ok(rows) => rows,
+            Err(error) => return Err(body_refusal(error)),
+        };
+        let Ok(session) = Session::at_rest(self.alloc, rows.as_slice(), scale) else {
+            return Err(Refusal::Memory);
+        };
         let atoms = session.atoms();
-        let inserted = self.sessions.insert(name.copy(), session);
-        inserted.map_err(|_| Refusal::Memory)?;
+        let Ok(_) = self.sessions.insert(name.copy(), session) else {
+            return Err(Refusal::Memory);
+        };
         Ok(Reply::Loaded { name, atoms })
     }
 
-    fn advance(&mut self, table: &Table, name: Name, steps: u64) -> Result<Reply, Refusal> {
+    fn advance(&mut self, table: &Table, name: Name, steps: u64) -> Result<Reply, Refusal>
+        ensures performs { (quota : Quota) (mark : Bool) →
+            performed (user_of quota self.old) (commands.Advance name steps) mark ≡ outcome quota result self.new }
+        ensures stays { StaysAtErr result self.old self.new }
+    {
         let Some(session) = self.sessions.get_mut(&name) else {
             return Err(Refusal::NoSession);
         };
@@ -94,8 +143,14 @@ impl Sessions {
         Ok(Reply::Advanced { name, step })
     }
 
-    fn show(&self, name: Name, atom: u64) -> Result<Reply, Refusal> {
-        let session = self.sessions.get(&name).ok_or(Refusal::NoSession)?;
+    #[tactic(auto, unfolding(lj_session::specs::Answers::performed))]
+    fn show(&self, name: Name, atom: u64) -> Result<Reply, Refusal>
+        ensures { (quota : Quota) (mark : Bool) →
+            performed (user_of quota self.now) (commands.Show name atom) mark ≡ outcome quota result self.now }
+    {
+        let Some(session) = self.sessions.get(&name) else {
+            return Err(Refusal::NoSession);
+        };
         if atom >= session.atoms() as u64 {
             return Err(Refusal::NoAtom);
         }
