@@ -1,5 +1,5 @@
-mod Splitting
-mod Marks
+pub mod Splitting
+pub mod Marks
 mod Turns
 mod Existence
 pub mod Progressing

@@ -20,7 +20,7 @@ no_feed : (bytes : List ℕ) → LacksLineFeed (10 ∷ bytes) → ⊥
 no_feed bytes h = let e : true ≡ false = h in cc
 
 -- where a line feed stands behind a line, the line does not go on
-no_feed_within : (line behind : List ℕ) → LacksLineFeed (line ++ 10 ∷ behind) → ⊥
+pub no_feed_within : (line behind : List ℕ) → LacksLineFeed (line ++ 10 ∷ behind) → ⊥
 no_feed_within [] behind h = no_feed behind h
 no_feed_within (byte ∷ line) behind h = no_feed_within line behind (tail_of byte (line ++ 10 ∷ behind) h)
 
@@ -31,7 +31,7 @@ tails : (a b : ℕ) (xs ys : List ℕ) → a ∷ xs ≡ b ∷ ys → xs ≡ ys
 tails a b xs ys e = cc
 
 -- the first line feed ends the first line
-same_line : (line other behind after : List ℕ) → LacksLineFeed line → LacksLineFeed other → line ++ 10 ∷ behind ≡ other ++ 10 ∷ after
+pub same_line : (line other behind after : List ℕ) → LacksLineFeed line → LacksLineFeed other → line ++ 10 ∷ behind ≡ other ++ 10 ∷ after
     → (line ≡ other) × (behind ≡ after)
 same_line [] [] behind after h k e = (refl, tails 10 10 behind after e)
 same_line [] (b ∷ other) behind after h k e =
@@ -52,7 +52,7 @@ no_feed_beyond (a ∷ line) behind (b ∷ long) after e h l =
     no_feed_beyond line behind long after (tails a b (line ++ 10 ∷ behind) (long ++ after) e) (tail_of b long h) (omega (arith, l))
 
 -- fronts of one length are one
-same_front : (front other behind after : List ℕ) → length front ≡ length other → front ++ behind ≡ other ++ after
+pub same_front : (front other behind after : List ℕ) → length front ≡ length other → front ++ behind ≡ other ++ after
     → (front ≡ other) × (behind ≡ after)
 same_front [] [] behind after l e = (refl, e)
 same_front [] (b ∷ other) behind after l e = absurd (omega (arith, l))
@@ -63,7 +63,7 @@ same_front (a ∷ front) (b ∷ other) behind after l e =
     (ap (λ x. x ∷ front) first ∙ ap (λ x. b ∷ x) next.0, next.1)
 
 -- the line of an item at the front, and what stands behind its line feed
-at_line : {bytes : List ℕ} {item : Item} (behind : List ℕ) (i : IsLineItem bytes item) → bytes ++ behind ≡ i.line ++ 10 ∷ (i.body ++ behind)
+pub at_line : {bytes : List ℕ} {item : Item} (behind : List ℕ) (i : IsLineItem bytes item) → bytes ++ behind ≡ i.line ++ 10 ∷ (i.body ++ behind)
 at_line behind i = ap (λ x. x ++ behind) i.whole ∙ append_assoc i.line (10 ∷ i.body) behind
 
 line_line : (front other behind after : List ℕ) (item next : Item) → front ++ behind ≡ other ++ after → IsLineItem front item → IsLineItem other next

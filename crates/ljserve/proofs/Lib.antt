@@ -1,6 +1,5 @@
-pub mod Lines
-pub mod Numbers
-pub mod Items
 pub mod Advances
 pub mod TilesTaken
 pub mod Performing
+pub mod Unheld
+pub mod Serving

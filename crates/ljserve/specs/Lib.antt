@@ -1,8 +1,5 @@
-pub mod Lines
-pub mod Numbers
-pub mod Items
-pub mod Commands
-pub mod Texts
 pub mod Refusals
 pub mod Thin
 pub mod Answers
+pub mod Replies
+pub mod Streams

@@ -1,12 +1,16 @@
 //! The engine: from the bytes of a stream of commands to the bytes of their replies.
-ghost use Rattle.std.specs.Prelude.{◌≡◌, ◌≤◌, IfOk, IfSome, length};
+ghost use Rattle.std.specs.Prelude.{◌≡◌, IfOk, IfSome, OnOk, IsTrue};
+ghost use Rattle.lj_session.specs.Users.{Quota};
+ghost use Rattle.ljserve.specs.Answers.{user_of};
+ghost use Rattle.ljserve.specs.Replies.{is_one_line};
+ghost use Rattle.ljserve.specs.Streams.{Served, AnswersItem, PassesItem, is_served};
 
-use crate::command::{Command, parse_command};
-use crate::item::{Item, split_item};
-use crate::reply::Reply;
+use crate::item::split_item;
+use crate::reply::write_reply;
 use crate::sessions::Sessions;
-use lj_session::{Body, Mode, Refusal};
+use lj_session::{Refusal, Reply};
 use lj_table::Table;
+use lj_wire::Item;
 use std::alloc::Global;
 use std::io::{Read, Write};
 use thiserror::Error;
@@ -26,73 +30,26 @@ pub enum ThinFault {
     Memory,
 }
 
-/// Reads the commands of `reader` to its end, and writes the replies to `writer`. After a fault
-/// the replies to the first items may have been written.
+/// Reads the commands of `reader` to its end, and writes the replies to `writer`. Where all items are LOAD of atoms at
+/// rest, ADVANCE and SHOW, and none passes the quota, what is written is the dialogue of the bytes read, from a user
+/// without sessions. After a fault the replies to the first items may have been written.
 pub fn run_thin<R: Read, W: Write>(
     alloc: Global,
     reader: &mut R,
     writer: &mut W,
-) -> Result<(), ThinFault> {
+) -> Result<(), ThinFault>
+    ensures { OnOk result (IfSome (R.remaining reader.old) (Served (W.contents writer.old) (W.contents writer.new))) }
+{
     let input = read_input(alloc, reader)?;
     let table = Table::new();
     let mut sessions = Sessions::new(alloc);
     let mut rest = input.as_slice();
-    while let Some((item, behind)) = split_item(rest) {
-        let reply = match command_in(alloc, item) {
-            Some(command) => reply_of(sessions.answer(&table, command)),
-            None => Reply::Refused(Refusal::Command),
-        };
-        writeln!(writer, "{reply}").map_err(|_| ThinFault::Write)?;
+    while let Some((item, behind)) = split_item(alloc, rest) {
+        let reply = answer(&mut sessions, &table, item);
+        write_reply(writer, &reply).map_err(|_| ThinFault::Write)?;
         rest = behind;
     }
     writer.flush().map_err(|_| ThinFault::Write)
-}
-
-// The command of an item; a body for which no memory is found is left out.
-fn command_in(alloc: Global, item: Item) -> Option<lj_session::Command> {
-    match parse_command(item.line)? {
-        Command::Load {
-            name,
-            edge,
-            sigma,
-            step_factor,
-        } => Some(lj_session::Command::Load {
-            name,
-            edge,
-            sigma,
-            step_factor,
-            mode: Mode::Rest,
-            body: body_in(alloc, item.body),
-        }),
-        Command::Advance { name, steps } => Some(lj_session::Command::Advance { name, steps }),
-        Command::Show { name, atom } => Some(lj_session::Command::Show { name, atom }),
-    }
-}
-
-fn body_in(alloc: Global, bytes: &[u8]) -> Option<Body> {
-    let mut body = Vec::with_capacity(alloc, bytes.len()).ok()?;
-    body.extend_from_slice(bytes).ok()?;
-    Some(Body::new(body))
-}
-
-fn reply_of(reply: lj_session::Reply) -> Reply {
-    match reply {
-        lj_session::Reply::Loaded { name, atoms } => Reply::Loaded { name, atoms },
-        lj_session::Reply::Advanced { name, step } => Reply::Advanced { name, step },
-        lj_session::Reply::Shown {
-            name,
-            step,
-            atom,
-            place,
-        } => Reply::Shown {
-            name,
-            step,
-            atom,
-            place,
-        },
-        lj_session::Reply::Refused(refusal) => Reply::Refused(refusal),
-        _ => Reply::Refused(Refusal::Command),
-    }
 }
 
 // All bytes of the reader. The room is made beforehand, so each later error is the reader's.
@@ -107,4 +64,16 @@ fn read_input<R: Read>(alloc: Global, reader: &mut R) -> Result<Vec<u8>, ThinFau
         return Err(ThinFault::Read);
     }
     Ok(input)
+}
+
+// An item that is no command is refused, and changes nothing.
+fn answer(sessions: &mut Sessions, table: &Table, item: Item) -> Reply
+    ensures served { (quota : Quota) → IsTrue (is_served item) → PassesItem (user_of quota sessions.old) item →
+        AnswersItem (user_of quota sessions.old) item result (user_of quota sessions.new) }
+    ensures line { IsTrue (is_one_line result) }
+{
+    match item {
+        Item::Command(command) => sessions.answer(table, command),
+        Item::Bad(_) | Item::Last(_) => Reply::Refused(Refusal::Command),
+    }
 }

@@ -1,11 +1,8 @@
 //! Runs simulations of Lennard-Jones atoms by commands on standard input, and writes its replies to standard output.
 #![tactic(auto)]
 
-mod command;
 mod engine;
 mod item;
-mod line;
-mod number;
 mod reply;
 mod session;
 mod sessions;

@@ -1,0 +1,233 @@
+-- From item to item of a stream that is served, and to its end.
+use Rattle.std.proofs.Common.{◌≡◌, ℕ, ◌+◌, ◌<◌, Bool, true, false, List, [], ◌∷◌, ◌++◌, length, Option, Some, None, ◌⊎◌, inl, inr, refl, sym, ap, ◌∙◌, subst, arith}
+use Rattle.std.specs.Prelude.{All}
+use Rattle.std.specs.Io.KnownBytes.{Appends, Keeps}
+use Rattle.std.proofs.KnownBytes.{Appends-nil, Appends-trans, Appends-kept}
+use Rattle.std.proofs.lemmas.List.{append_assoc, length-append}
+use Rattle.lj_session.specs.declared.command.Command.TheVariants.{Load, Advance, Reverse, Branch, Restore, Forget, Tug, Measure, Show, Dump, List as ListSessions, ListBranches, Unload, Bye}
+use Rattle.lj_session.specs.declared.reply.Reply.{Reply}
+use Rattle.lj_session.specs.declared.reply.Reply.TheVariants as replies
+use Rattle.lj_session.specs.Users.{Quota, User, fresh}
+use Rattle.lj_wire.specs.declared.item.Fault.{Fault}
+use Rattle.lj_wire.specs.declared.item.Fault.TheVariants.{Long, Enough}
+use Rattle.lj_wire.specs.declared.item.Item.{Item}
+use Rattle.lj_wire.specs.declared.item.Item.TheVariants.{Command, Bad, Last}
+use Rattle.lj_wire.specs.Items.{ends}
+use Rattle.lj_wire.specs.Commands.{announced, item_of, item_with}
+use Rattle.lj_wire.specs.Texts.{text, is_memory}
+use Rattle.lj_wire.specs.Told.{answered, told}
+use Rattle.lj_wire.specs.Streams.{LacksLineFeed, IsLine, IsLineItem, IsLongItem, IsItem, IsOpenBody, IsPart, Splits, Dialogue, most_items}
+use Rattle.lj_wire.specs.Progress.{Progress}
+use Rattle.lj_wire.proofs.Splitting.{no_feed_within, same_line, same_front, at_line}
+use Rattle.lj_wire.proofs.Marks.{marked}
+use Rattle.lj_wire.proofs.Progressing.{Progress-start, Progress-more, Dialogue-part}
+use Rattle.ljserve.specs.Answers.{Named, user_of}
+use Rattle.ljserve.specs.Replies.{is_one_line, reply_text}
+use Rattle.ljserve.specs.Streams.{Begins, LacksBody, EndsHere, BeginsWithNone, is_served, PassesItem, AnswersItem, PassesAll, IsThinStream, Served, Going, Serving}
+use Rattle.ljserve.proofs.Unheld.{either-served, either-passes, either-answers}
+
+-- the items that are served
+abbrev AllServed : List Item → Type 0
+AllServed items = All (λ item. is_served item ≡ true) items
+
+-- what is served does not end the connection
+served-goes_on : (item : Item) → is_served item ≡ true → ends item ≡ false
+served-goes_on (Command (Load a b c d e f)) h = refl
+served-goes_on (Command (Advance a b)) h = refl
+served-goes_on (Command (Reverse a)) h = refl
+served-goes_on (Command (Branch a b)) h = refl
+served-goes_on (Command (Restore a b)) h = refl
+served-goes_on (Command (Forget a b)) h = refl
+served-goes_on (Command (Tug a b c d e)) h = refl
+served-goes_on (Command (Measure a)) h = refl
+served-goes_on (Command (Show a b)) h = refl
+served-goes_on (Command (Dump a)) h = refl
+served-goes_on (Command ListSessions) h = refl
+served-goes_on (Command (ListBranches a)) h = refl
+served-goes_on (Command (Unload a)) h = refl
+served-goes_on (Command Bye) h = cc
+served-goes_on (Bad fault) h = refl
+served-goes_on (Last fault) h = cc
+
+-- a last fault is not served
+not_last : (fault : Fault) (item : Item) → item ≡ Last fault → is_served item ≡ true → ⊥
+not_last fault item e h = let differ : false ≡ true = sym (ap is_served e) ∙ h in cc
+
+-- a reply of one line is told by that line
+told-line : (user : User) (reply : Reply) → is_one_line reply ≡ true → text user reply ≡ reply_text reply
+unfolding text
+told-line user (replies.Loaded a b) h = refl
+told-line user (replies.Advanced a b) h = refl
+told-line user (replies.Reversed a b) h = cc
+told-line user (replies.Branched a b c) h = cc
+told-line user (replies.Restored a b c) h = cc
+told-line user (replies.Forgotten a b) h = cc
+told-line user (replies.Tugged a b c) h = cc
+told-line user (replies.Measured a b c d e f) h = cc
+told-line user (replies.Shown a b c d) h = refl
+told-line user (replies.Dumped a) h = cc
+told-line user replies.Listed h = cc
+told-line user (replies.ListedBranches a) h = cc
+told-line user (replies.Unloaded a) h = cc
+told-line user replies.Bye h = cc
+told-line user (replies.Refused a) h = refl
+
+-- the line and the body that a stream begins with are those of its first item
+record First (n : ℕ) (left line body behind : List ℕ) (items : List Item) (rest : List ℕ) : Type 0 where
+  others : List Item
+  items_are : items ≡ item_of line body ∷ others
+  front : List ℕ
+  whole : left ≡ front ++ behind
+  is_item : IsItem n front (item_of line body)
+  onward : ends (item_of line body) ≡ false → Splits (n + 1) behind others rest
+
+module _ (n : ℕ) (left line body behind rest : List ℕ) (whole : left ≡ line ++ 10 ∷ (body ++ behind)) (lacks : LacksLineFeed line)
+    (announces : length body ≡ announced line) where
+  no_part : IsPart n left → ⊥
+  no_part (below, inl is_line) = no_feed_within line (body ++ behind) (subst LacksLineFeed whole is_line.0)
+  no_part (below, inr o) =
+      let s = same_line line o.line (body ++ behind) o.body lacks o.is_line.0 (sym whole ∙ o.whole) in
+      omega (arith, length-append body behind, ap length s.1, announces, ap announced s.0, o.announces)
+
+  first-line : (front after : List ℕ) (item : Item) (others : List Item) → left ≡ front ++ after → n < most_items → IsLineItem front item
+      → (ends item ≡ false → Splits (n + 1) after others rest) → First n left line body behind (item ∷ others) rest
+  first-line front after item others e below i onward =
+      let s = same_line line i.line (body ++ behind) (i.body ++ after) lacks i.is_line.0 (sym whole ∙ e ∙ at_line after i) in
+      let b = same_front body i.body behind after (announces ∙ ap announced s.0 ∙ sym i.announces) s.1 in
+      let means : item ≡ item_of line body = i.means ∙ sym (ap (λ x. item_of x i.body) s.0) ∙ sym (ap (item_of line) b.0) in
+      record {
+        others = others;
+        items_are = ap (λ x. x ∷ others) means;
+        front = front;
+        whole = e ∙ ap (λ x. front ++ x) (sym b.1);
+        is_item = subst (IsItem n front) means (inl (below, inl i));
+        onward = λ goes. subst (λ x. Splits (n + 1) x others rest) (sym b.1) (onward (ap ends means ∙ goes));
+      }
+
+  first-item : (items : List Item) → Splits n left items rest → AllServed items → First n left line body behind items rest
+  first-item [] s served = absurd (no_part (subst (IsPart n) (sym s.0) s.1))
+  first-item (item ∷ others) s served = of_kind s.3
+    where
+      of_kind : IsItem n s.0 item → First n left line body behind (item ∷ others) rest
+      of_kind (inl (below, inl i)) = first-line s.0 s.1 item others s.2 below i s.5
+      of_kind (inl (below, inr i)) = absurd (not_last Long item i.means served.0)
+      of_kind (inr last) = absurd (not_last Enough item last.2 served.0)
+
+-- the run begins with nothing written
+pub serving-start : (old : Option (List ℕ)) (input : List ℕ) → Serving old old input input []
+serving-start old input = record {
+  written = [];
+  appends = Appends-nil old;
+  going = λ quota thin. record {
+      count = 0;
+      progress = Progress-start (fresh quota) input;
+      items = thin.items;
+      rest = thin.rest;
+      splits = thin.splits;
+      served = thin.served;
+      passes = thin.passes;
+  };
+}
+
+-- what is told is the line of the reply, under the mark that it tells
+record Told (user next : User) (whole : Item) (line : List ℕ) : Type 0 where
+  mark : Bool
+  tells : told user whole mark ≡ (line, next)
+  only : mark ≡ true → is_memory (told user whole mark).0 ≡ true
+
+told-answer : (user next : User) (whole : Item) (reply : Reply) → is_one_line reply ≡ true → AnswersItem user whole reply next
+    → Told user next whole (reply_text reply)
+told-answer user next whole reply line answers =
+    let first : told user whole answers.0 ≡ (reply_text reply, next) = ap (λ a. (text a.1 a.0, a.1)) answers.1 ∙ ap (λ t. (t, next)) (told-line next reply line) in
+    let mark = is_memory (told user whole answers.0).0 in
+    let same : told user whole mark ≡ told user whole answers.0 = sym (marked user whole answers.0) in
+    record {
+      mark = mark;
+      tells = same ∙ first;
+      only = λ marks. ap (λ t. is_memory t.0) same ∙ marks;
+    }
+
+-- one item more of a stream that is served
+module _ (quota : Quota) (input written left line body behind : List ℕ) (sessions after : Named) (reply : Reply)
+    (whole : left ≡ line ++ 10 ∷ (body ++ behind)) (lacks : LacksLineFeed line) (announces : length body ≡ announced line)
+    (one_line : is_one_line reply ≡ true)
+    (answers : is_served (item_of line body) ≡ true → PassesItem (user_of quota sessions) (item_of line body)
+        → AnswersItem (user_of quota sessions) (item_of line body) reply (user_of quota after)) where
+  item : Item
+  item = item_of line body
+
+  going-first : (g : Going quota input written left sessions) (f : First g.count left line body behind g.items g.rest)
+      → AllServed (item ∷ f.others) → PassesAll (user_of quota sessions) (item ∷ f.others)
+      → Going quota input (written ++ reply_text reply) behind after
+  going-first g f served passes =
+      let answer = answers served.0 (λ mark. (passes mark).0) in
+      let told = told-answer (user_of quota sessions) (user_of quota after) item reply one_line answer in
+      let goes = served-goes_on item served.0 in
+      let next = Progress-more (fresh quota) input g.count written left (user_of quota sessions) f.front behind item told.mark g.progress f.whole f.is_item goes told.only in
+      record {
+        count = g.count + 1;
+        progress = subst (λ t. Progress (fresh quota) input (g.count + 1) (written ++ t.0) behind t.1) told.tells next;
+        items = f.others;
+        rest = g.rest;
+        splits = f.onward goes;
+        served = served.1;
+        passes = subst (λ a. PassesAll a.1 f.others) answer.1 (passes answer.0).1;
+      }
+
+  going-more : Going quota input written left sessions → Going quota input (written ++ reply_text reply) behind after
+  going-more g =
+      let f = first-item g.count left line body behind g.rest whole lacks announces g.items g.splits g.served in
+      going-first g f (subst AllServed f.items_are g.served) (subst (PassesAll (user_of quota sessions)) f.items_are g.passes)
+
+-- one item more is answered
+pub serving-more : (old now next : Option (List ℕ)) (input left behind : List ℕ) (sessions after : Named) (item : Item) (reply : Reply)
+    → Serving old now input left sessions → Begins left item behind → is_one_line reply ≡ true
+    → ((quota : Quota) → is_served item ≡ true → PassesItem (user_of quota sessions) item → AnswersItem (user_of quota sessions) item reply (user_of quota after))
+    → Appends now next (reply_text reply) → Serving old next input behind after
+serving-more old now next input left behind sessions after item reply s b one_line answers appends = record {
+  written = s.written ++ reply_text reply;
+  appends = Appends-trans old now next s.written (reply_text reply) s.appends appends;
+  going = λ quota thin.
+      let user = user_of quota sessions in
+      let last = user_of quota after in
+      going-more quota input s.written left b.line b.body behind sessions after reply b.whole b.lacks b.announces one_line
+      (λ served passes. either-answers user last b.body reply b.line item b.means
+          (answers quota (either-served user last b.body reply b.line item b.means served) (either-passes user last b.body reply b.line item b.means passes)))
+      (s.going quota thin);
+}
+
+-- where a stream begins with no item that is answered, no item that is served is left
+module _ (n : ℕ) (left rest : List ℕ) where
+  no_line : (front after : List ℕ) (item : Item) → left ≡ front ++ after → IsLineItem front item → is_served item ≡ true → BeginsWithNone left → ⊥
+  no_line front after item e i served (inl none) = no_feed_within i.line (i.body ++ after) (subst LacksLineFeed (e ∙ at_line after i) none)
+  no_line front after item e i served (inr (inl short)) =
+      let s = same_line i.line short.line (i.body ++ after) short.rest i.is_line.0 short.lacks (sym (at_line after i) ∙ sym e ∙ short.whole) in
+      omega (arith, length-append i.body after, ap length s.1, i.announces, ap announced s.0, short.short)
+  no_line front after item e i served (inr (inr ending)) =
+      let s = same_line i.line ending.line (i.body ++ after) ending.rest i.is_line.0 ending.lacks (sym (at_line after i) ∙ sym e ∙ ending.whole) in
+      let less : is_served (item_with ending.line None) ≡ true =
+      either-served (fresh (record { sessions = 0; atoms = 0; branches = 0 })) (fresh (record { sessions = 0; atoms = 0; branches = 0 })) i.body replies.Bye ending.line (item_with ending.line None) (inr refl)
+      (sym (ap (λ x. is_served (item_of x i.body)) s.0) ∙ sym (ap is_served i.means) ∙ served) in
+      not_last ending.fault (item_with ending.line None) ending.means less
+
+  part-left : (items : List Item) → Splits n left items rest → AllServed items → BeginsWithNone left → IsPart n left
+  part-left [] s served none = subst (IsPart n) (sym s.0) s.1
+  part-left (item ∷ others) s served none = of_kind s.3
+    where
+      of_kind : IsItem n s.0 item → IsPart n left
+      of_kind (inl (below, inl i)) = absurd (no_line s.0 s.1 item s.2 i served.0 none)
+      of_kind (inl (below, inr i)) = absurd (not_last Long item i.means served.0)
+      of_kind (inr last) = absurd (not_last Enough item last.2 served.0)
+
+-- no item is left that is answered, and the run is at its end
+pub serving-end : (old now last : Option (List ℕ)) (input left : List ℕ) (sessions : Named) → Serving old now input left sessions → BeginsWithNone left
+    → Keeps now last → Served old last input
+serving-end old now last input left sessions s none kept = record {
+  written = s.written;
+  appends = Appends-kept old now last s.written s.appends kept;
+  dialogue = λ quota thin.
+      let g = s.going quota thin in (
+        user_of quota sessions,
+        Dialogue-part (fresh quota) input g.count s.written left (user_of quota sessions) g.progress (part-left g.count left g.rest g.items g.splits g.served none),
+      );
+}
