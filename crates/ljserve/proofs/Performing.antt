@@ -1,11 +1,9 @@
 -- What LOAD and ADVANCE come to, case by case.
-use Rattle.std.proofs.Common.{◌≡◌, ℕ, ◌+◌, ◌<◌, ◌≤◌, Bool, true, false, ℤ, pos, List, [], ◌∷◌, length, map, Option, Some, None, Result, Ok, Err, nat_le, nat_lt, refl, sym, ◌∙◌, ap, arith}
+use Rattle.std.proofs.Common.{◌≡◌, ℕ, ◌+◌, Bool, true, false, ℤ, List, [], ◌∷◌, Option, Some, None, Result, Ok, Err, nat_le, nat_lt, refl, sym, ◌∙◌, ap}
 use Rattle.std.specs.Prelude.{is_some}
 use Rattle.std.specs.Option.{unwrap_or}
 use Rattle.std.specs.Str.{bytes_eq}
 use Rattle.std.specs.Map.{set_value}
-use Rattle.std.proofs.lemmas.Bool.{le-leb, lt-ltb}
-use Rattle.std.proofs.lemmas.List.{length-map}
 use Rattle.lj_ring.specs.declared.units.ScaleFault.{ScaleFault}
 use Rattle.lj_ring.specs.Scales.{Units, scale_of}
 use Rattle.lj_step.specs.Motion.{steps}
@@ -20,10 +18,10 @@ use Rattle.lj_session.specs.declared.command.Command.TheVariants.{Load, Advance}
 use Rattle.lj_session.specs.declared.refusal.Refusal.{Refusal}
 use Rattle.lj_session.specs.declared.refusal.Refusal.TheVariants.{NoSession, Exists, QuotaSessions, QuotaAtoms, StepRange, Xyz, Memory}
 use Rattle.lj_session.specs.declared.reply.Reply.{Reply}
-use Rattle.lj_session.specs.declared.reply.Reply.TheVariants.{Loaded, Advanced, Refused}
+use Rattle.lj_session.specs.declared.reply.Reply.TheVariants.{Loaded, Advanced}
 use Rattle.lj_session.specs.Users.{Quota, Session, User, named, put, with_session, atoms_of, atoms_used, sessions_used}
 use Rattle.lj_session.specs.Loads.{nano_or_zero, scale_refusal, admitted, opened}
-use Rattle.lj_session.specs.Answers.{can_advance, with_sim, performed, settled, answer}
+use Rattle.lj_session.specs.Answers.{can_advance, with_sim, performed, settled}
 use Rattle.lj_xyz.specs.declared.fault.XyzError.{XyzError}
 use Rattle.lj_xyz.specs.declared.fault.XyzError.TheVariants as errors
 use Rattle.lj_xyz.specs.Reading.{Fails}

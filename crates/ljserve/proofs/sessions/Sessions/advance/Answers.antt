@@ -1,6 +1,5 @@
-use Rattle.std.proofs.Common.{◌≡◌, Some, sym, ap, ◌∙◌, subst, refl}
+use Rattle.std.proofs.Common.{sym, ap, ◌∙◌, w64, arith}
 use Rattle.lj_session.specs.Users.{named, put}
-use Rattle.std.proofs.Common.{w64, arith}
 use Rattle.std.proofs.lemmas.Int.{to_z-of_z, fits_signed_from_abs}
 use Rattle.ljserve.specs.Answers.{user_of}
 use Rattle.ljserve.proofs.Performing.{set-put, set-same, advance-none, advance-far, advance-on}
