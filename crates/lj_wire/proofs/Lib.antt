@@ -3,3 +3,5 @@ pub mod Marks
 mod Turns
 mod Existence
 pub mod Progressing
+mod Numbers
+pub mod Filling

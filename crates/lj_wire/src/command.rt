@@ -64,7 +64,7 @@ fn or_syntax(command: Option<Command>) -> Item
 
 // The count that a LOAD line ends with.
 fn last_count(words: Words) -> Option<usize>
-    ensures { result ≡ last_count words }
+    ensures { result ≡ last_count words.entry }
 {
     parse_count(words.last()?)
 }
@@ -85,7 +85,7 @@ fn parse_count(word: &[u8]) -> Option<usize>
 
 // The command that a first word and those behind it say.
 fn parse_words(verb: Verb, words: Words) -> Option<Command>
-    ensures { result ≡ command_of verb words }
+    ensures { result ≡ command_of verb words.entry }
 {
     match verb {
         Verb::Load => parse_load(words),
@@ -216,7 +216,7 @@ fn parse_list(mut words: Words) -> Option<Command>
 }
 
 fn parse_bye(words: Words) -> Option<Command>
-    ensures { result ≡ plain command.Bye words }
+    ensures { result ≡ plain command.Bye words.entry }
 {
     words.end()?;
     Some(Command::Bye)

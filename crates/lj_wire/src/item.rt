@@ -71,7 +71,7 @@ impl Item {
                 sigma,
                 step_factor,
                 mode,
-                body: _,
+                body: _none,
             }) => Item::Command(Command::Load {
                 name,
                 edge,

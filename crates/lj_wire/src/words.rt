@@ -38,7 +38,7 @@ impl<'a> Words<'a> {
 
     /// Whether no word is left: `None` where one is.
     pub fn end(mut self) -> Option<()>
-        ensures { MatchOption result (self ≢ []) (λ _. self ≡ []) }
+        ensures { MatchOption result (self.entry ≢ []) (λ _. self.entry ≡ []) }
     {
         match self.next() {
             None => Some(()),
