@@ -1,5 +1,5 @@
 //! The sessions of a run, and the answers to commands on them.
-ghost use Rattle.std.specs.Prelude.{◌≡◌, [], Bool, false, Err, IsTrue, pos, unwrap_or};
+ghost use Rattle.std.specs.Prelude.{◌≡◌, [], Bool, false, Err, IsTrue, IfOk, pos, unwrap_or};
 ghost use Rattle.lj_ring.specs.Scales as scales;
 ghost use Rattle.lj_session.specs.declared.command.Command.TheVariants as commands;
 ghost use Rattle.lj_session.specs.declared.command.Mode.TheVariants.{Rest};
@@ -10,6 +10,7 @@ ghost use Rattle.lj_session.specs.Loads.{scale_refusal};
 ghost use Rattle.lj_session.specs.Answers.{performed};
 ghost use Rattle.ljserve.specs.Refusals.{body_refusal};
 ghost use Rattle.ljserve.specs.Thin.{is_thin};
+ghost use Rattle.ljserve.specs.Replies.{is_one_line};
 ghost use Rattle.ljserve.specs.Answers.{Answers, PassesNoQuota, Performs, StaysAtErr, user_of, outcome};
 
 use crate::session::Session;
@@ -58,6 +59,7 @@ impl Sessions {
         ensures thin { (quota : Quota) → IsTrue (is_thin command) → PassesNoQuota (user_of quota self.old) command →
             Answers quota self.old command result self.new }
         ensures other { is_thin command ≡ false → (result ≡ replies.Refused refusals.Command) × (self.new ≡ self.old) }
+        ensures line { IsTrue (is_one_line result) }
     {
         match self.perform(table, command) {
             Ok(reply) => reply,
@@ -70,6 +72,7 @@ impl Sessions {
             Performs quota self.old command result self.new }
         ensures other { is_thin command ≡ false → result ≡ Err refusals.Command }
         ensures stays { StaysAtErr result self.old self.new }
+        ensures line { IfOk result (λ reply. IsTrue (is_one_line reply)) }
     {
         match command {
             Command::Load {
@@ -98,6 +101,7 @@ impl Sessions {
             PassesNoQuota (user_of quota self.old) (commands.Load name edge sigma step_factor Rest body) →
             Performs quota self.old (commands.Load name edge sigma step_factor Rest body) result self.new }
         ensures stays { StaysAtErr result self.old self.new }
+        ensures line { IfOk result (λ reply. IsTrue (is_one_line reply)) }
     {
         if self.sessions.contains_key(&name) {
             return Err(Refusal::Exists);
@@ -127,6 +131,7 @@ impl Sessions {
         ensures performs { (quota : Quota) (mark : Bool) →
             performed (user_of quota self.old) (commands.Advance name steps) mark ≡ outcome quota result self.new }
         ensures stays { StaysAtErr result self.old self.new }
+        ensures line { IfOk result (λ reply. IsTrue (is_one_line reply)) }
     {
         let Some(session) = self.sessions.get_mut(&name) else {
             return Err(Refusal::NoSession);
@@ -145,8 +150,9 @@ impl Sessions {
 
     #[tactic(auto, unfolding(lj_session::specs::Answers::performed))]
     fn show(&self, name: Name, atom: u64) -> Result<Reply, Refusal>
-        ensures { (quota : Quota) (mark : Bool) →
+        ensures performs { (quota : Quota) (mark : Bool) →
             performed (user_of quota self.now) (commands.Show name atom) mark ≡ outcome quota result self.now }
+        ensures line { IfOk result (λ reply. IsTrue (is_one_line reply)) }
     {
         let Some(session) = self.sessions.get(&name) else {
             return Err(Refusal::NoSession);

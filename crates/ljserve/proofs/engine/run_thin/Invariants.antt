@@ -3,7 +3,7 @@ use Rattle.ljserve.specs.Streams.{Serving}
 use Rattle.ljserve.proofs.engine.run_thin.Given as goal
 
 abbrev pub invariant-loop-item : goal.invariant-loop-item
-invariant-loop-item g l = Serving (g.W.Write.contents l.initial.writer) (g.W.Write.contents l.writer) l.input.items l.rest.now l.sessions
+invariant-loop-item g l = Serving (g.W.Write.contents l.initial.writer) (g.W.Write.contents l.writer) l.initial.rest l.rest l.sessions
 
 abbrev pub decreases-loop-item : goal.decreases-loop-item
-decreases-loop-item g l = length l.rest.now
+decreases-loop-item g l = length l.rest
