@@ -1,6 +1,6 @@
 -- From item to item of a stream that is served, and to its end.
-use Rattle.std.proofs.Common.{◌≡◌, ℕ, ◌+◌, ◌<◌, Bool, true, false, List, [], ◌∷◌, ◌++◌, length, Option, Some, None, ◌⊎◌, inl, inr, refl, sym, ap, ◌∙◌, subst, arith}
-use Rattle.std.specs.Prelude.{All}
+use Rattle.std.proofs.Common.{◌≡◌, ℕ, ◌+◌, ◌<◌, Bool, true, false, List, [], ◌∷◌, ◌++◌, length, Option, Some, None, Result, Ok, Err, ◌⊎◌, inl, inr, refl, sym, ap, ◌∙◌, subst, arith}
+use Rattle.std.specs.Prelude.{IfSome, OnOk}
 use Rattle.std.specs.Io.KnownBytes.{Appends, Keeps}
 use Rattle.std.proofs.KnownBytes.{Appends-nil, Appends-trans, Appends-kept}
 use Rattle.std.proofs.lemmas.List.{append_assoc, length-append}
@@ -23,12 +23,8 @@ use Rattle.lj_wire.proofs.Marks.{marked}
 use Rattle.lj_wire.proofs.Progressing.{Progress-start, Progress-more, Dialogue-part}
 use Rattle.ljserve.specs.Answers.{Named, user_of}
 use Rattle.ljserve.specs.Replies.{is_one_line, reply_text}
-use Rattle.ljserve.specs.Streams.{Begins, LacksBody, EndsHere, BeginsWithNone, is_served, PassesItem, AnswersItem, PassesAll, IsThinStream, Served, Going, Serving}
+use Rattle.ljserve.specs.Streams.{Begins, LacksBody, EndsHere, BeginsWithNone, is_served, AreServed, PassesItem, AnswersItem, PassesAll, IsThinStream, Served, Going, Serving}
 use Rattle.ljserve.proofs.Unheld.{either-served, either-passes, either-answers}
-
--- the items that are served
-abbrev AllServed : List Item → Type 0
-AllServed items = All (λ item. is_served item ≡ true) items
 
 -- what is served does not end the connection
 served-goes_on : (item : Item) → is_served item ≡ true → ends item ≡ false
@@ -104,7 +100,7 @@ module _ (n : ℕ) (left line body behind rest : List ℕ) (whole : left ≡ lin
         onward = λ goes. subst (λ x. Splits (n + 1) x others rest) (sym b.1) (onward (ap ends means ∙ goes));
       }
 
-  first-item : (items : List Item) → Splits n left items rest → AllServed items → First n left line body behind items rest
+  first-item : (items : List Item) → Splits n left items rest → AreServed items → First n left line body behind items rest
   first-item [] s served = absurd (no_part (subst (IsPart n) (sym s.0) s.1))
   first-item (item ∷ others) s served = of_kind s.3
     where
@@ -153,11 +149,11 @@ module _ (quota : Quota) (input written left line body behind : List ℕ) (sessi
     (one_line : is_one_line reply ≡ true)
     (answers : is_served (item_of line body) ≡ true → PassesItem (user_of quota sessions) (item_of line body)
         → AnswersItem (user_of quota sessions) (item_of line body) reply (user_of quota after)) where
-  item : Item
+  abbrev item : Item
   item = item_of line body
 
   going-first : (g : Going quota input written left sessions) (f : First g.count left line body behind g.items g.rest)
-      → AllServed (item ∷ f.others) → PassesAll (user_of quota sessions) (item ∷ f.others)
+      → AreServed (item ∷ f.others) → PassesAll (user_of quota sessions) (item ∷ f.others)
       → Going quota input (written ++ reply_text reply) behind after
   going-first g f served passes =
       let answer = answers served.0 (λ mark. (passes mark).0) in
@@ -177,7 +173,7 @@ module _ (quota : Quota) (input written left line body behind : List ℕ) (sessi
   going-more : Going quota input written left sessions → Going quota input (written ++ reply_text reply) behind after
   going-more g =
       let f = first-item g.count left line body behind g.rest whole lacks announces g.items g.splits g.served in
-      going-first g f (subst AllServed f.items_are g.served) (subst (PassesAll (user_of quota sessions)) f.items_are g.passes)
+      going-first g f (subst AreServed f.items_are g.served) (subst (PassesAll (user_of quota sessions)) f.items_are g.passes)
 
 -- one item more is answered
 pub serving-more : (old now next : Option (List ℕ)) (input left behind : List ℕ) (sessions after : Named) (item : Item) (reply : Reply)
@@ -210,7 +206,7 @@ module _ (n : ℕ) (left rest : List ℕ) where
       (sym (ap (λ x. is_served (item_of x i.body)) s.0) ∙ sym (ap is_served i.means) ∙ served) in
       not_last ending.fault (item_with ending.line None) ending.means less
 
-  part-left : (items : List Item) → Splits n left items rest → AllServed items → BeginsWithNone left → IsPart n left
+  part-left : (items : List Item) → Splits n left items rest → AreServed items → BeginsWithNone left → IsPart n left
   part-left [] s served none = subst (IsPart n) (sym s.0) s.1
   part-left (item ∷ others) s served none = of_kind s.3
     where
@@ -231,3 +227,13 @@ serving-end old now last input left sessions s none kept = record {
         Dialogue-part (fresh quota) input g.count s.written left (user_of quota sessions) g.progress (part-left g.count left g.rest g.items g.splits g.served none),
       );
 }
+
+-- the bytes that were read are those that the reader had
+pub served-bytes : (known old new : Option (List ℕ)) (input : List ℕ) → IfSome known (λ bytes. input ≡ bytes) → Served old new input → IfSome known (Served old new)
+served-bytes None old new input same served = tt
+served-bytes (Some bytes) old new input same served = subst (Served old new) same served
+
+-- what holds holds of a run that ends well
+pub on_ok-always : {T E : Type 0} (result : Result T E) (P : Type 0) → P → OnOk result P
+on_ok-always (Ok value) P p = p
+on_ok-always (Err error) P p = tt

@@ -6,6 +6,7 @@ use Rattle.std.specs.Result.{result_ok}
 use Rattle.lj_fixed.specs.Decimal.{nano_of}
 use Rattle.lj_tile.specs.Names.{name_of}
 use Rattle.lj_session.specs.declared.command.Mode.{Mode}
+use Rattle.lj_session.specs.declared.command.Mode.TheVariants.{Rest, Pair}
 use Rattle.lj_session.specs.declared.command.Command.TheVariants.{Load}
 use Rattle.lj_session.specs.declared.reply.Reply.{Reply}
 use Rattle.lj_session.specs.Users.{User}
@@ -69,14 +70,11 @@ module _ (body : List ℕ) where
 module _ (user next : User) (body : List ℕ) (reply : Reply) where
   served-either : (less whole : Item) → Unheld body less whole → is_served whole ≡ true → is_served less ≡ true
   served-either less whole (inl same) served = ap is_served same ∙ served
-  served-either less whole (inr p) served = by_mode p.4 (ap is_served p.5) (sym (ap is_served p.6) ∙ served)
+  served-either less whole (inr p) served = ap is_served p.5 ∙ same p.4 ∙ sym (ap is_served p.6) ∙ served
     where
-      by_mode : (mode : Mode) → is_served less ≡ is_served (Command (Load p.0 p.1 p.2 p.3 mode None))
-          → is_served (Command (Load p.0 p.1 p.2 p.3 mode (Some body))) ≡ true → is_served less ≡ true
-      by_mode mode e h = e ∙ same mode ∙ h
-        where
-          same : (mode : Mode) → is_served (Command (Load p.0 p.1 p.2 p.3 mode None)) ≡ is_served (Command (Load p.0 p.1 p.2 p.3 mode (Some body)))
-          same mode = search rules
+      same : (mode : Mode) → is_served (Command (Load p.0 p.1 p.2 p.3 mode None)) ≡ is_served (Command (Load p.0 p.1 p.2 p.3 mode (Some body)))
+      same Rest = refl
+      same Pair = refl
 
   passes-either : (less whole : Item) → Unheld body less whole → PassesItem user whole → PassesItem user less
   passes-either less whole (inl same) passes = λ mark. ap (λ item. is_quota_refusal (answered user item mark).0) same ∙ passes mark

@@ -1,5 +1,5 @@
 -- Streams of LOAD, ADVANCE and SHOW, and what is written for them.
-use Rattle.std.specs.Prelude.{◌≡◌, ℕ, ◌<◌, Bool, true, false, List, [], ◌∷◌, ◌++◌, length, All, Option, None, ◌⊎◌}
+use Rattle.std.specs.Prelude.{◌≡◌, ℕ, ◌<◌, Bool, true, false, List, [], ◌∷◌, ◌++◌, length, Option, None, ◌⊎◌}
 use Rattle.std.specs.Io.KnownBytes.{Appends}
 use Rattle.lj_session.specs.declared.reply.Reply.{Reply}
 use Rattle.lj_session.specs.Users.{Quota, User, fresh}
@@ -50,6 +50,11 @@ is_served (Command command) = is_thin command
 is_served (Bad fault) = false
 is_served (Last fault) = false
 
+-- items that are served
+abbrev pub AreServed : List Item → Type 0
+AreServed [] = Unit {0}
+AreServed (item ∷ items) = (is_served item ≡ true) × AreServed items
+
 -- with memory or without, an item is not refused for the quota
 abbrev pub PassesItem : User → Item → Type 0
 PassesItem user item = (mark : Bool) → is_quota_refusal (answered user item mark).0 ≡ false
@@ -69,7 +74,7 @@ pub record IsThinStream (quota : Quota) (input : List ℕ) : Type 0 where
   pub items : List Item
   pub rest : List ℕ
   pub splits : Splits 0 input items rest
-  pub served : All (λ item. is_served item ≡ true) items
+  pub served : AreServed items
   pub passes : PassesAll (fresh quota) items
 
 -- What is written for an input: where that is a stream of items that are served and passes no quota, the dialogue.
@@ -85,7 +90,7 @@ pub record Going (quota : Quota) (input written left : List ℕ) (sessions : Nam
   pub items : List Item
   pub rest : List ℕ
   pub splits : Splits count left items rest
-  pub served : All (λ item. is_served item ≡ true) items
+  pub served : AreServed items
   pub passes : PassesAll (user_of quota sessions) items
 
 -- the run between two items

@@ -1,5 +1,6 @@
 //! Items of a stream, one after the other.
-ghost use Rattle.std.specs.Prelude.{◌≡◌, ◌<◌, length, MatchOption, IfSome, IfOk};
+ghost use Rattle.std.specs.Prelude.{◌≡◌, ◌<◌, length, MatchOption, List, ℕ, None, ◌⊎◌, IfSome, IfOk};
+ghost use Rattle.lj_wire.specs.Commands.{item_of, item_with};
 ghost use Rattle.ljserve.specs.Streams.{Begins, BeginsWithNone};
 
 use lj_session::Body;
@@ -24,7 +25,10 @@ pub fn split_item(alloc: Global, stream: &[u8]) -> Option<(Item, &[u8])>
     }
 }
 
+// The item of a line, with its body where there is memory for that.
 fn with_body(alloc: Global, item: Item, bytes: &[u8]) -> Item
+    ensures { (line : List ℕ) → item ≡ item_with line None →
+        (result ≡ item_of line bytes.now) ⊎ (result ≡ item_with line None) }
 {
     match copy_body(alloc, bytes) {
         Ok(body) => item.with_body(body),
