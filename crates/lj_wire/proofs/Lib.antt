@@ -4,4 +4,7 @@ mod Turns
 mod Existence
 pub mod Progressing
 mod Numbers
+mod Lines
+mod Counts
+mod Parsing
 pub mod Filling

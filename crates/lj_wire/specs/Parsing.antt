@@ -1,18 +1,17 @@
--- The first words of commands, and the command that each begins.
-use Rattle.std.specs.Prelude.{ℕ, List, [], ◌∷◌, Option, None, codes}
+-- The first words of commands other than LOAD, and the command that each begins.
+use Rattle.std.specs.Prelude.{ℕ, List, [], ◌∷◌, Option, codes}
 use Rattle.std.specs.Map.{lookup}
 use Rattle.std.specs.Str.{bytes_eq}
 use Rattle.lj_session.specs.declared.command.Command.{Command}
 use Rattle.lj_session.specs.declared.command.Command.TheVariants as command
 use Rattle.lj_wire.specs.declared.verb.Verb.{Verb}
 use Rattle.lj_wire.specs.declared.verb.Verb.TheVariants as verb
-use Rattle.lj_wire.specs.Commands.{Words, plain, on_session, on_branch, on_number, tug, list, load}
+use Rattle.lj_wire.specs.Commands.{Words, plain, on_session, on_branch, on_number, tug, list}
 
--- the first word of each command
+-- the first word of each command but LOAD
 abbrev pub verbs : List (List ℕ × Verb)
 verbs =
-    (codes "LOAD", verb.Load)
-    ∷ (codes "ADVANCE", verb.Advance)
+    (codes "ADVANCE", verb.Advance)
     ∷ (codes "REVERSE", verb.Reverse)
     ∷ (codes "BRANCH", verb.Branch)
     ∷ (codes "RESTORE", verb.Restore)
@@ -30,18 +29,17 @@ verbs =
 abbrev pub verb_of : List ℕ → Option Verb
 verb_of word = lookup (bytes_eq word) verbs
 
--- what a first word and the others say, the body of a LOAD left out
+-- what a first word and those behind it say
 abbrev pub command_of : Verb → Words → Option Command
-command_of verb.Load words = load None words
-command_of verb.Advance words = on_number command.Advance words
-command_of verb.Reverse words = on_session command.Reverse words
-command_of verb.Branch words = on_branch command.Branch words
-command_of verb.Restore words = on_branch command.Restore words
-command_of verb.Forget words = on_branch command.Forget words
-command_of verb.Tug words = tug words
-command_of verb.Measure words = on_session command.Measure words
-command_of verb.Show words = on_number command.Show words
-command_of verb.Dump words = on_session command.Dump words
-command_of verb.List words = list words
-command_of verb.Unload words = on_session command.Unload words
-command_of verb.Bye words = plain command.Bye words
+command_of verb.Advance = on_number command.Advance
+command_of verb.Reverse = on_session command.Reverse
+command_of verb.Branch = on_branch command.Branch
+command_of verb.Restore = on_branch command.Restore
+command_of verb.Forget = on_branch command.Forget
+command_of verb.Tug = tug
+command_of verb.Measure = on_session command.Measure
+command_of verb.Show = on_number command.Show
+command_of verb.Dump = on_session command.Dump
+command_of verb.List = list
+command_of verb.Unload = on_session command.Unload
+command_of verb.Bye = plain command.Bye

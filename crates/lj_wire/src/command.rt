@@ -1,6 +1,6 @@
 //! Commands as the lines that say them.
 ghost use Rattle.std.specs.Prelude.{◌≡◌, None};
-ghost use Rattle.lj_wire.specs.Commands.{one_name, two_names, name_and_number, plain, tug, list, mode_of, load, count_of, last_count, or_syntax, announced, item_with};
+ghost use Rattle.lj_wire.specs.Commands.{one_name, two_names, name_and_number, plain, tug, list, mode_of, load, count_of, last_count, or_syntax, is_load, load_item, announced, item_with};
 ghost use Rattle.lj_wire.specs.Parsing.{command_of};
 ghost use Rattle.lj_session.specs.declared.command.Command.TheVariants as command;
 
@@ -27,10 +27,13 @@ pub fn announced(line: &[u8]) -> usize
         return 0;
     }
     let mut words = words_in(line);
-    match words.next().and_then(Verb::parse) {
-        Some(Verb::Load) => last_count(words).unwrap_or(0),
-        _ => 0,
+    let Some(word) = words.next() else {
+        return 0;
+    };
+    if !is_load(word) {
+        return 0;
     }
+    last_count(words).unwrap_or(0)
 }
 
 /// The item of a line, which is given without its line feed. A LOAD has no body yet.
@@ -44,13 +47,28 @@ pub fn parse_command(line: &[u8]) -> Item
     let Some(word) = words.next() else {
         return Item::Bad(Fault::Syntax);
     };
-    let Some(verb) = Verb::parse(word) else {
-        return Item::Bad(Fault::Command);
-    };
-    if verb == Verb::Load && last_count(words.copy()).is_none() {
-        return Item::Last(Fault::Body);
+    if is_load(word) {
+        return load_item(words);
     }
-    or_syntax(parse_words(verb, words))
+    match Verb::parse(word) {
+        Some(verb) => or_syntax(parse_words(verb, words)),
+        None => Item::Bad(Fault::Command),
+    }
+}
+
+fn is_load(word: &[u8]) -> bool
+    ensures { result ≡ is_load word.now }
+{
+    word == b"LOAD".as_slice()
+}
+
+fn load_item(words: Words) -> Item
+    ensures { result ≡ load_item (last_count words.entry) None words.entry }
+{
+    match last_count(words.copy()) {
+        Some(_count) => or_syntax(parse_load(words)),
+        None => Item::Last(Fault::Body),
+    }
 }
 
 fn or_syntax(command: Option<Command>) -> Item
@@ -88,7 +106,6 @@ fn parse_words(verb: Verb, words: Words) -> Option<Command>
     ensures { result ≡ command_of verb words.entry }
 {
     match verb {
-        Verb::Load => parse_load(words),
         Verb::Advance => {
             let (name, steps) = name_and_number(words)?;
             Some(Command::Advance { name, steps })

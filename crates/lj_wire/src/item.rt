@@ -65,14 +65,16 @@ impl Item {
         ensures whole { (line : List ℕ) → self ≡ item_with line None → result ≡ item_of line body }
     {
         match self {
-            Item::Command(Command::Load {
-                name,
-                edge,
-                sigma,
-                step_factor,
-                mode,
-                body: _none,
-            }) => Item::Command(Command::Load {
+            Item::Command(
+                Command::Load {
+                    name,
+                    edge,
+                    sigma,
+                    step_factor,
+                    mode,
+                    body: _none,
+                },
+            ) => Item::Command(Command::Load {
                 name,
                 edge,
                 sigma,

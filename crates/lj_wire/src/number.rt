@@ -28,12 +28,12 @@ pub fn parse_displacement(word: &[u8]) -> Option<i32>
 }
 
 // The value of an optional `-` and 1 to 19 digits.
-fn parse_integer(word: &[u8]) -> Option<i64>
+fn parse_integer(word: &[u8]) -> Option<i128>
     ensures { result ≡ integer_of word.now }
 {
     match word {
-        [b'-', digits @ ..] => Some(-(parse_number(digits)? as i64)),
-        _ => Some(parse_number(word)? as i64),
+        [b'-', digits @ ..] => Some(-i128::from(parse_number(digits)?)),
+        _ => Some(i128::from(parse_number(word)?)),
     }
 }
 

@@ -1,11 +1,10 @@
-//! The first words of commands.
+//! The first words of commands other than LOAD.
 ghost use Rattle.std.specs.Prelude.{◌≡◌};
 ghost use Rattle.lj_wire.specs.Parsing.{verb_of};
 
-/// The first word of a command.
+/// The first word of a command other than LOAD.
 #[derive(Clone, Copy, Debug, PartialEq, Eq)]
 pub enum Verb {
-    Load,
     Advance,
     Reverse,
     Branch,
@@ -26,7 +25,6 @@ impl Verb {
         ensures { result ≡ verb_of word.now }
     {
         let verb = match word {
-            b"LOAD" => Verb::Load,
             b"ADVANCE" => Verb::Advance,
             b"REVERSE" => Verb::Reverse,
             b"BRANCH" => Verb::Branch,

@@ -1,4 +1,4 @@
-use Rattle.std.proofs.Common.{◌≡◌, codes, sym, refl, rules, arith}
+use Rattle.std.proofs.Common.{◌≡◌, codes, refl, rules}
 use Rattle.std.proofs.lemmas.Slice.Eq.{text_from_reads}
 use Rattle.lj_wire.proofs.verb.Verb.parse.Goals as goal
 

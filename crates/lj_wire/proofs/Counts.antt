@@ -1,0 +1,40 @@
+-- The count that a word says, and the last of some words.
+use Rattle.std.proofs.Common.{◌≡◌, ℕ, ◌≤◌, ◌<◌, List, [], ◌∷◌, length, map, Option, Some, None, cond, nat_le, ap, ◌∙◌, Bor, refl}
+use Rattle.std.specs.List.{last_or}
+use Rattle.std.specs.Option.{option_map}
+use Rattle.std.specs.Iterator.{Drains, YieldsFirstRef}
+use Rattle.std.proofs.lemmas.Bool.{le-leb, lt-leb}
+use Rattle.lj_wire.specs.Numbers.{number_of}
+use Rattle.lj_wire.specs.Commands.{◌>>=◌, Words, count_of}
+
+count_of-at : (word : List ℕ) (number : Option ℕ) → length word ≤ 7 → number_of word ≡ number
+    → count_of word ≡ (number >>= λ count. cond (nat_le count 1048576) (Some count) None)
+unfolding count_of
+count_of-at word number h e = rw (le-leb (length word) 7 h, e) refl
+
+pub count_of-none : (word : List ℕ) → length word ≤ 7 → number_of word ≡ None → count_of word ≡ None
+count_of-none word h e = count_of-at word None h e
+
+pub count_of-over : (word : List ℕ) (count : ℕ) → length word ≤ 7 → number_of word ≡ Some count → 1048576 < count → count_of word ≡ None
+count_of-over word count h e over = count_of-at word (Some count) h e ∙ rw (lt-leb count 1048576 over) refl
+
+pub count_of-within : (word : List ℕ) (count : ℕ) → length word ≤ 7 → number_of word ≡ Some count → count ≤ 1048576 → count_of word ≡ Some count
+count_of-within word count h e within = count_of-at word (Some count) h e ∙ rw (le-leb count 1048576 within) refl
+
+-- the words that an iterator yields to its end are those that it has left
+words-drained : (words : Words) (items : List (Bor (List ℕ))) → Drains (YieldsFirstRef (λ (w : Words). w)) words items → words ≡ map (λ item. item.now) items
+words-drained words [] d =
+    let stays : words ≡ d.1.0 = d.1.1 in
+    stays ∙ d.1.2.0
+words-drained words (item ∷ items) d =
+    let next = d.1.1 in
+    next.1 ∙ ap (λ (ws : Words). item.now ∷ ws) (words-drained next.0 items (d.0, (d.1.0, next.2, d.1.2)))
+
+last_or-map : (first : Option (Bor (List ℕ))) (items : List (Bor (List ℕ)))
+    → last_or (option_map (λ item. item.now) first) (map (λ item. item.now) items) ≡ option_map (λ item. item.now) (last_or first items)
+last_or-map first [] = refl
+last_or-map first (item ∷ items) = last_or-map (Some item) items
+
+pub last_word : (words : Words) (items : List (Bor (List ℕ))) → Drains (YieldsFirstRef (λ (w : Words). w)) words items
+    → last_or None words ≡ option_map (λ item. item.now) (last_or None items)
+last_word words items d = ap (last_or None) (words-drained words items d) ∙ last_or-map None items
