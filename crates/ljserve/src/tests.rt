@@ -110,6 +110,52 @@ fn runs_the_dimer(rt: HostRuntime) -> Result<(), Fail> {
     Ok(())
 }
 
+/// The items of the dimer's run, each with its reply.
+const ITEMS: [(&str, &str); 7] = [
+    (LOAD, "OK LOAD a 0 2\n"),
+    ("ADVANCE a 1\n", "OK ADVANCE a 1\n"),
+    ("SHOW a 0\n", "OK SHOW a 1 0 589 0 0\n"),
+    ("SHOW a 1\r\n", "OK SHOW a 1 1 25165235 0 0\n"),
+    ("ADVANCE a 1\n", "OK ADVANCE a 2\n"),
+    ("SHOW a 0\n", "OK SHOW a 2 0 1774 0 0\n"),
+    ("SHOW a 1\n", "OK SHOW a 2 1 25164050 0 0\n"),
+];
+
+#[test]
+fn answers_just_the_whole_items_of_a_cut_stream(rt: HostRuntime) -> Result<(), Fail> {
+    let alloc = rt.alloc();
+    let mut input = String::new(alloc);
+    let mut replies = String::new(alloc);
+    for (item, reply) in ITEMS {
+        let before = input.len();
+        input.push_str(item)?;
+        for end in before..input.len() {
+            let mut output = Output::new();
+            assert!(rt; run_thin(alloc, &mut &input.as_bytes()[..end], &mut output).is_ok());
+            assert_eq!(rt; output.as_slice(), replies.as_bytes(), "cut at {end}");
+        }
+        replies.push_str(reply)?;
+    }
+    expect_replies(&rt, alloc, input.as_str(), replies.as_str());
+    Ok(())
+}
+
+#[test]
+fn moves_atoms_at_one_place_and_at_half_the_box(rt: HostRuntime) {
+    expect_replies(
+        &rt,
+        rt.alloc(),
+        "LOAD c 256 1 131072 rest 20\n2\nz\nX 1 1 1\nX 1 1 1\nADVANCE c 3\nSHOW c 0\n",
+        "OK LOAD c 0 2\nOK ADVANCE c 3\nOK SHOW c 3 0 16777216 16777216 16777216\n",
+    );
+    expect_replies(
+        &rt,
+        rt.alloc(),
+        "LOAD d 5 1 131072 rest 22\n2\nh\nX 0 0 0\nX 2.5 0 0\nADVANCE d 1\nSHOW d 1\nLOAD e 4.99 1 131072 rest 22\n2\nh\nX 0 0 0\nX 2.5 0 0\n",
+        "OK LOAD d 0 2\nOK ADVANCE d 1\nOK SHOW d 1 1 2147483648 0 0\nERR 37 SIGMA\n",
+    );
+}
+
 #[test]
 fn refuses_lines_that_are_no_commands(rt: HostRuntime) -> Result<(), Fail> {
     for line in [
