@@ -1,9 +1,9 @@
 -- From item to item of a stream that is served, and to its end.
-use Rattle.std.proofs.Common.{◌≡◌, ℕ, ◌+◌, ◌<◌, Bool, true, false, List, [], ◌∷◌, ◌++◌, length, Option, Some, None, Result, Ok, Err, ◌⊎◌, inl, inr, refl, sym, ap, ◌∙◌, subst, arith}
+use Rattle.std.proofs.Common.{◌≡◌, ℕ, ◌+◌, ◌<◌, Bool, true, false, List, [], ◌∷◌, ◌++◌, length, Option, Some, None, Result, Ok, Err, inl, inr, refl, sym, ap, ◌∙◌, subst, arith}
 use Rattle.std.specs.Prelude.{IfSome, OnOk}
 use Rattle.std.specs.Io.KnownBytes.{Appends, Keeps}
 use Rattle.std.proofs.KnownBytes.{Appends-nil, Appends-trans, Appends-kept}
-use Rattle.std.proofs.lemmas.List.{append_assoc, length-append}
+use Rattle.std.proofs.lemmas.List.{length-append}
 use Rattle.lj_session.specs.declared.command.Command.TheVariants.{Load, Advance, Reverse, Branch, Restore, Forget, Tug, Measure, Show, Dump, List as ListSessions, ListBranches, Unload, Bye}
 use Rattle.lj_session.specs.declared.reply.Reply.{Reply}
 use Rattle.lj_session.specs.declared.reply.Reply.TheVariants as replies
@@ -15,15 +15,15 @@ use Rattle.lj_wire.specs.declared.item.Item.TheVariants.{Command, Bad, Last}
 use Rattle.lj_wire.specs.Items.{ends}
 use Rattle.lj_wire.specs.Commands.{announced, item_of, item_with}
 use Rattle.lj_wire.specs.Texts.{text, is_memory}
-use Rattle.lj_wire.specs.Told.{answered, told}
-use Rattle.lj_wire.specs.Streams.{LacksLineFeed, IsLine, IsLineItem, IsLongItem, IsItem, IsOpenBody, IsPart, Splits, Dialogue, most_items}
+use Rattle.lj_wire.specs.Told.{told}
+use Rattle.lj_wire.specs.Streams.{LacksLineFeed, IsLineItem, IsItem, IsPart, Splits, most_items}
 use Rattle.lj_wire.specs.Progress.{Progress}
 use Rattle.lj_wire.proofs.Splitting.{no_feed_within, same_line, same_front, at_line}
 use Rattle.lj_wire.proofs.Marks.{marked}
 use Rattle.lj_wire.proofs.Progressing.{Progress-start, Progress-more, Dialogue-part}
 use Rattle.ljserve.specs.Answers.{Named, user_of}
 use Rattle.ljserve.specs.Replies.{is_one_line, reply_text}
-use Rattle.ljserve.specs.Streams.{Begins, LacksBody, EndsHere, BeginsWithNone, is_served, AreServed, PassesItem, AnswersItem, PassesAll, IsThinStream, Served, Going, Serving}
+use Rattle.ljserve.specs.Streams.{Begins, BeginsWithNone, is_served, AreServed, PassesItem, AnswersItem, PassesAll, Served, Going, Serving}
 use Rattle.ljserve.proofs.Unheld.{either-served, either-passes, either-answers}
 
 -- what is served does not end the connection
@@ -115,13 +115,13 @@ serving-start old input = record {
   written = [];
   appends = Appends-nil old;
   going = λ quota thin. record {
-      count = 0;
-      progress = Progress-start (fresh quota) input;
-      items = thin.items;
-      rest = thin.rest;
-      splits = thin.splits;
-      served = thin.served;
-      passes = thin.passes;
+    count = 0;
+    progress = Progress-start (fresh quota) input;
+    items = thin.items;
+    rest = thin.rest;
+    splits = thin.splits;
+    served = thin.served;
+    passes = thin.passes;
   };
 }
 
@@ -148,7 +148,7 @@ module _ (quota : Quota) (input written left line body behind : List ℕ) (sessi
     (whole : left ≡ line ++ 10 ∷ (body ++ behind)) (lacks : LacksLineFeed line) (announces : length body ≡ announced line)
     (one_line : is_one_line reply ≡ true)
     (answers : is_served (item_of line body) ≡ true → PassesItem (user_of quota sessions) (item_of line body)
-        → AnswersItem (user_of quota sessions) (item_of line body) reply (user_of quota after)) where
+    → AnswersItem (user_of quota sessions) (item_of line body) reply (user_of quota after)) where
   abbrev item : Item
   item = item_of line body
 
@@ -188,7 +188,7 @@ serving-more old now next input left behind sessions after item reply s b one_li
       let last = user_of quota after in
       going-more quota input s.written left b.line b.body behind sessions after reply b.whole b.lacks b.announces one_line
       (λ served passes. either-answers user last b.body reply b.line item b.means
-          (answers quota (either-served user last b.body reply b.line item b.means served) (either-passes user last b.body reply b.line item b.means passes)))
+      (answers quota (either-served user last b.body reply b.line item b.means served) (either-passes user last b.body reply b.line item b.means passes)))
       (s.going quota thin);
 }
 

@@ -1,7 +1,5 @@
 -- An item whose body was not held, beside the item with its body.
 use Rattle.std.proofs.Common.{◌≡◌, ℕ, Bool, true, false, ℤ, List, [], ◌∷◌, Option, Some, None, ◌⊎◌, inl, inr, refl, sym, ap, ◌∙◌, subst}
-use Rattle.std.specs.Map.{lookup}
-use Rattle.std.specs.Str.{bytes_eq}
 use Rattle.std.specs.Result.{result_ok}
 use Rattle.lj_fixed.specs.Decimal.{nano_of}
 use Rattle.lj_tile.specs.Names.{name_of}
@@ -14,7 +12,7 @@ use Rattle.lj_session.specs.Answers.{settled}
 use Rattle.lj_wire.specs.declared.item.Item.{Item}
 use Rattle.lj_wire.specs.declared.item.Item.TheVariants.{Command}
 use Rattle.lj_wire.specs.Numbers.{number_of}
-use Rattle.lj_wire.specs.Commands.{◌>>=◌, Words, load, load_item, other_item, or_syntax, is_load, last_count, commands, mode_of, item_of_words, item_with, item_of, is_over, words_in}
+use Rattle.lj_wire.specs.Commands.{◌>>=◌, Words, load, load_item, or_syntax, is_load, last_count, mode_of, item_of_words, item_with, item_of, is_over, words_in}
 use Rattle.lj_wire.specs.Told.{answered}
 use Rattle.ljserve.specs.Answers.{is_quota_refusal}
 use Rattle.ljserve.specs.Streams.{is_served, PassesItem, AnswersItem}
@@ -88,8 +86,8 @@ module _ (user next : User) (body : List ℕ) (reply : Reply) where
   answers-either less whole (inr p) answers = (
     true,
     ap (λ item. answered user item true) p.6
-    ∙ sym (ap (settled user) (load-unheld user p.0 p.1 p.2 p.3 p.4 body answers.0))
-    ∙ sym (ap (λ item. answered user item answers.0) p.5) ∙ answers.1,
+        ∙ sym (ap (settled user) (load-unheld user p.0 p.1 p.2 p.3 p.4 body answers.0))
+        ∙ sym (ap (λ item. answered user item answers.0) p.5) ∙ answers.1,
   )
 
   pub either-served : (line : List ℕ) (item : Item) → (item ≡ item_of line body) ⊎ (item ≡ item_with line None) → is_served (item_of line body) ≡ true → is_served item ≡ true

@@ -1,4 +1,3 @@
-use Rattle.std.proofs.Common.{sym, ap, subst}
 use Rattle.ljserve.proofs.engine.answer.Goals as goal
 
 pub returns-in-Command-clause-served : goal.returns-in-Command-clause-served

@@ -1,4 +1,4 @@
-use Rattle.std.proofs.Common.{◌≡◌, sym, ap, ◌∙◌, subst, rules}
+use Rattle.std.proofs.Common.{subst, rules}
 use Rattle.std.specs.Prelude.{IfSome}
 use Rattle.ljserve.specs.Streams.{Served}
 use Rattle.ljserve.proofs.Serving.{serving-start, serving-more, serving-end, served-bytes, on_ok-always}
