@@ -8,3 +8,4 @@ mod Lines
 mod Counts
 mod Parsing
 pub mod Filling
+mod Bodies

@@ -1,8 +1,9 @@
 -- Laws of streams and of answers, each proved on the function of its name.
-use Rattle.std.specs.Prelude.{◌≡◌, ℕ, ◌+◌, ◌<◌, Bool, false, List}
+use Rattle.std.specs.Prelude.{◌≡◌, ℕ, ◌+◌, ◌<◌, Bool, true, false, List, None}
 use Rattle.lj_session.specs.Users.{User}
 use Rattle.lj_wire.specs.declared.item.Item.{Item}
 use Rattle.lj_wire.specs.Items.{ends}
+use Rattle.lj_wire.specs.Commands.{announced, item_with, item_of}
 use Rattle.lj_wire.specs.Texts.{is_memory}
 use Rattle.lj_wire.specs.Told.{told}
 use Rattle.lj_wire.specs.Runs.{item_turns, user_turned, item_left}
@@ -34,3 +35,8 @@ TurnLowersTurns = (user : User) (item : Item) → 1 < item_turns user item
 -- What runs does not end the connection, and what is left of it does not either.
 abbrev pub RunningGoesOn : Type 0
 RunningGoesOn = (user : User) (item : Item) → 0 < item_turns user item → (ends item ≡ false) × (ends (item_left item) ≡ false)
+
+-- A line whose body found no memory is told what it is told where memory is refused to it.
+abbrev pub BodyMissingIsMarked : Type 0
+BodyMissingIsMarked = (user : User) (line body : List ℕ) (mark : Bool) → 0 < announced line
+    → told user (item_with line None) mark ≡ told user (item_of line body) true

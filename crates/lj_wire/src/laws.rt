@@ -1,5 +1,5 @@
 //! Laws of streams and of answers: functions that do nothing, whose contracts are the laws.
-ghost use Rattle.lj_wire.specs.Laws.{OneSplitting, SomeSplitting, MarkIsTold, TurnKeepsTold, TurnLowersTurns, RunningGoesOn};
+ghost use Rattle.lj_wire.specs.Laws.{OneSplitting, SomeSplitting, MarkIsTold, TurnKeepsTold, TurnLowersTurns, RunningGoesOn, BodyMissingIsMarked};
 
 /// A stream has one splitting into items and a rest.
 pub fn one_splitting()
@@ -29,4 +29,9 @@ pub fn turn_lowers_turns()
 /// What runs does not end the connection.
 pub fn running_goes_on()
     ensures { RunningGoesOn }
+{}
+
+/// A line whose body found no memory is told what it is told where memory is refused to it.
+pub fn body_missing_is_marked()
+    ensures { BodyMissingIsMarked }
 {}
