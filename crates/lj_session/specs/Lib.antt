@@ -3,3 +3,8 @@ pub mod Users
 pub mod Loads
 pub mod Answers
 pub mod Turns
+pub mod States
+pub mod Kept
+pub mod Totals
+pub mod Openings
+pub mod Faults

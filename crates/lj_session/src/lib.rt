@@ -3,11 +3,17 @@
 
 mod body;
 mod command;
+mod conversions;
+mod opening;
 mod refusal;
 mod reply;
+mod session;
+mod sessions;
+mod state;
 
 pub use body::Body;
 pub use command::{Command, Mode};
 pub use lj_tile::Name;
 pub use refusal::Refusal;
 pub use reply::Reply;
+pub use state::UserState;
