@@ -1,0 +1,6 @@
+pub mod Entries
+pub mod Holding
+pub mod Reaching
+pub mod Performing
+pub mod Saving
+pub mod Loading

@@ -46,7 +46,7 @@ pub enum Reply {
         atoms: usize,
         momentum: [i64; 3],
         kinetic: u128,
-        potential: i64,
+        potential: i128,
     },
     Shown {
         name: Name,

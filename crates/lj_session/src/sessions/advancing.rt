@@ -80,7 +80,7 @@ impl Sessions {
             atoms: sim.count(),
             momentum: sim.momentum(),
             kinetic: sim.kinetic(),
-            potential: sim.potential() as i64,
+            potential: sim.potential(),
             name,
         }
     }
