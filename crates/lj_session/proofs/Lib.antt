@@ -4,3 +4,4 @@ pub mod Reaching
 pub mod Performing
 pub mod Saving
 pub mod Loading
+pub mod Turning

@@ -32,9 +32,12 @@ module _ (user : User) (name branch : List ℕ) where
     pub new-admitted : branch_admitted user name branch ≡ Ok tt → (is_some (named branch session.saved) ≡ false) × (nat_lt (branches_used user) user.quota.branches ≡ true)
     new-admitted admitted = by_test (is_some (named branch session.saved))
         (λ taken. absurd (refused BranchExists (sym (admitted-exists taken) ∙ admitted)))
-        (λ new. (new, by_test (nat_lt (branches_used user) user.quota.branches)
-        (λ room. room)
-        (λ over. absurd (refused QuotaBranches (sym (admitted-over new over) ∙ admitted)))))
+        (λ new. (
+          new,
+          by_test (nat_lt (branches_used user) user.quota.branches)
+              (λ room. room)
+              (λ over. absurd (refused QuotaBranches (sym (admitted-over new over) ∙ admitted))),
+        ))
       where
         refused : (refusal : Refusal) → ◌≡◌ {A = Result (Unit {0}) Refusal} (Err refusal) (Ok tt) → ⊥
         refused refusal e = cc

@@ -8,3 +8,7 @@ pub mod Kept
 pub mod Totals
 pub mod Openings
 pub mod Faults
+pub mod Owners
+pub mod Running
+pub mod Begins
+pub mod KeptOwners

@@ -1,6 +1,6 @@
 -- What the code holds of a user, open steps and all, and the user of the definition that it stands for.
-use Rattle.std.specs.Prelude.{◌≡◌, ℕ, ◌+◌, ◌-◌, ◌<◌, Bool, true, false, List, [], ◌∷◌, length, map, slice_get, Option, Some, None, Result, Ok, Err, not, nat_lt, is_some}
-use Rattle.std.specs.Option.{option_map, option_and_then}
+use Rattle.std.specs.Prelude.{◌≡◌, ℕ, ◌+◌, ◌-◌, ◌<◌, ◌≤◌, ◌^◌, unsigned_abs, Bool, true, false, List, [], ◌∷◌, length, map, slice_get, Option, Some, None, Result, Ok, Err, not, nat_lt, is_some}
+use Rattle.std.specs.Option.{ForSome, option_map, option_and_then}
 use Rattle.std.specs.List.{find, range_with_len}
 use Rattle.lj_xyz.specs.Atoms.{◌>>=◌}
 use Rattle.lj_tile.specs.declared.names.Label.{Label}
@@ -13,6 +13,7 @@ use Rattle.lj_step.specs.OpenSteps.{opened, closed, task_at, awaits_at, tiles_of
 use Rattle.lj_quota.specs.declared.Quota.{Quota}
 use Rattle.lj_quota.specs.declared.Used.{Used}
 use Rattle.lj_session.specs.declared.command.Command.{Command}
+use Rattle.lj_session.specs.declared.command.Command.TheVariants.{Advance}
 use Rattle.lj_session.specs.declared.refusal.Refusal.{Refusal}
 use Rattle.lj_session.specs.declared.refusal.Refusal.TheVariants.{BranchExists, QuotaBranches, Memory}
 use Rattle.lj_session.specs.declared.reply.Reply.{Reply}
@@ -134,14 +135,19 @@ abbrev pub turned_on : Held → Held
 turned_on held = record held { live = closed held.live (stepped held.live.units held.live.sim) }
 
 -- a whole step of a kind is open
-pub record IsWhole (kind : Kind) (held : Held) : Type 0 where
-  pub kind : kind_of held.live.part ≡ Some kind
+pub record IsWhole (expected : Kind) (held : Held) : Type 0 where
+  pub kind : kind_of held.live.part ≡ Some expected
   pub whole : is_whole held.live.part ≡ true
 
 -- a step may be turned: a whole force step is open, and the next step number is in range
 pub record CanTurn (held : Held) : Type 0 where
   pub whole : IsWhole Force held
   pub near : can_advance (as_session held) 1 ≡ true
+
+-- the step number of the session that an ADVANCE is of is in range
+abbrev pub IsHere : Owned → Command → Type 0
+IsHere owned (Advance name n) = ForSome (held_in owned name) (λ held. unsigned_abs held.live.sim.step ≤ 10 ^ 12)
+IsHere owned _ = Unit {0}
 
 -- what a command comes to: a reply with the user after it, or a refusal
 abbrev pub outcome : Result Reply Refusal → User → Result (Reply × User) Refusal

@@ -1,5 +1,5 @@
 //! A session as it is held.
-ghost use Rattle.std.specs.Prelude.{◌≡◌, ◌↔◌, ◌≤◌, ◌<◌, ◌^◌, length, slice_get, unsigned_abs, Some, IsOk, IsSome, IsErrOf, IfOk, IfErr, IfSome, OnOk, OnErr};
+ghost use Rattle.std.specs.Prelude.{◌≡◌, ◌↔◌, ◌≤◌, ◌<◌, ◌^◌, length, slice_get, unsigned_abs, Some, IsOk, IsSome, IsTrue, IsErrOf, IfOk, IfErr, IfSome, OnOk, OnErr};
 ghost use Rattle.lj_tile.specs.declared.names.Kind.TheVariants.{Energy};
 ghost use Rattle.lj_branch.specs.declared.faults.SaveFault.TheVariants.{Exists};
 ghost use Rattle.lj_step.specs.Motion as motion;
@@ -81,7 +81,8 @@ impl Session {
 
     /// Whether it may go on by so many steps.
     pub fn can_advance(&self, steps: u64) -> bool
-        ensures { result ≡ can_advance (as_session self.now) steps }
+        ensures value { result ≡ can_advance (as_session self.now) steps }
+        ensures here { IsTrue result → unsigned_abs self.now.live.sim.step ≤ 10 ^ 12 }
     {
         if steps > MOST_STEPS {
             return false;

@@ -9,7 +9,7 @@ ghost use Rattle.lj_session.specs.declared.command.Command.TheVariants.{Advance,
 ghost use Rattle.lj_session.specs.Answers.{performed};
 ghost use Rattle.lj_session.specs.Turns.{turns, turned};
 ghost use Rattle.lj_session.specs.States as states;
-ghost use Rattle.lj_session.specs.States.{Reached, Performs, CanTurn, IsWhole, IsAwaited, empty, user_of, used_by, names, held_in, held_at, changed, with_step, with_posted, with_tile_in, turned_on, is_whole_in};
+ghost use Rattle.lj_session.specs.States.{Reached, IsHere, Performs, CanTurn, IsWhole, IsAwaited, empty, user_of, used_by, names, held_in, held_at, changed, with_step, with_posted, with_tile_in, turned_on, is_whole_in};
 
 use crate::command::Command;
 use crate::refusal::Refusal;
@@ -123,7 +123,8 @@ impl UserState {
 
     /// How many turns a command takes. One that takes none is answered at once.
     pub(crate) fn turns(&self, command: &Command) -> u64
-        ensures { result ≡ turns (user_of self.now) command.now }
+        ensures value { result ≡ turns (user_of self.now) command.now }
+        ensures here { 0 < result → IsHere self.now command.now }
     {
         self.sessions.turns(command)
     }

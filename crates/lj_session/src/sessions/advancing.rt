@@ -1,11 +1,11 @@
 //! ADVANCE and MEASURE: how many turns they take, and what is answered without one.
-ghost use Rattle.std.specs.Prelude.{◌≡◌, Bool, Ok, IsSome};
+ghost use Rattle.std.specs.Prelude.{◌≡◌, ◌<◌, Bool, Ok, IsSome};
 ghost use Rattle.std.specs.Option.{ForSome};
 ghost use Rattle.lj_tile.specs.declared.names.Kind.TheVariants.{Energy};
 ghost use Rattle.lj_session.specs.declared.command.Command.TheVariants as commands;
 ghost use Rattle.lj_session.specs.Answers.{performed};
 ghost use Rattle.lj_session.specs.Turns as definition;
-ghost use Rattle.lj_session.specs.States.{IsWhole, outcome, user_of, held_in};
+ghost use Rattle.lj_session.specs.States.{IsHere, IsWhole, outcome, user_of, held_in};
 
 use crate::command::Command;
 use crate::refusal::Refusal;
@@ -17,7 +17,8 @@ use lj_tile::Name;
 impl Sessions {
     /// How many turns a command takes.
     pub fn turns(&self, command: &Command) -> u64
-        ensures { result ≡ definition.turns (user_of self.now) command.now }
+        ensures value { result ≡ definition.turns (user_of self.now) command.now }
+        ensures here { 0 < result → IsHere self.now command.now }
     {
         match command {
             Command::Advance { name, steps } => self.advance_turns(name, *steps),
@@ -27,7 +28,8 @@ impl Sessions {
     }
 
     fn advance_turns(&self, name: &Name, steps: u64) -> u64
-        ensures { result ≡ definition.turns (user_of self.now) (commands.Advance name.now steps) }
+        ensures value { result ≡ definition.turns (user_of self.now) (commands.Advance name.now steps) }
+        ensures here { 0 < result → IsHere self.now (commands.Advance name.now steps) }
     {
         match self.sessions.get(name) {
             Some(session) if session.can_advance(steps) => steps,
