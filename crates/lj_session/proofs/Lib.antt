@@ -5,3 +5,4 @@ pub mod Performing
 pub mod Saving
 pub mod Loading
 pub mod Turning
+pub mod Owning

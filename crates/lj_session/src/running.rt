@@ -77,6 +77,7 @@ impl Running {
         requires whole { is_whole_in state.old (session_of self) ≡ true }
         ensures last { IfReplied result (λ _. turns (user_of state.old) (command_of self) ≡ 1) }
         ensures replied { IfReplied result (λ reply. (mark : Bool) → (reply, user_of state.new) ≡ answer (user_of state.old) (command_of self) mark) }
+        ensures more { IfGoes result (λ _. 1 < turns (user_of state.old) (command_of self)) }
         ensures left { IfGoes result (λ left. command_of left ≡ rest_of (command_of self)) }
         ensures fewer { IfGoes result (λ left. turns (user_of state.new) (command_of left) + 1 ≡ turns (user_of state.old) (command_of self)) }
         ensures user { IfGoes result (λ _. user_of state.new ≡ turned (user_of state.old) (command_of self)) }
@@ -96,6 +97,7 @@ fn advance(state: &mut UserState, name: Name, steps: u64) -> Turned
     requires whole { is_whole_in state.old name ≡ true }
     ensures last { IfReplied result (λ _. turns (user_of state.old) (commands.Advance name steps) ≡ 1) }
     ensures replied { IfReplied result (λ reply. (mark : Bool) → (reply, user_of state.new) ≡ answer (user_of state.old) (commands.Advance name steps) mark) }
+    ensures more { IfGoes result (λ _. 1 < steps) }
     ensures left { IfGoes result (λ left. left ≡ Advance name (steps - 1)) }
     ensures fewer { IfGoes result (λ _. turns (user_of state.new) (commands.Advance name (steps - 1)) + 1 ≡ turns (user_of state.old) (commands.Advance name steps)) }
     ensures user { IfGoes result (λ _. user_of state.new ≡ turned (user_of state.old) (commands.Advance name steps)) }
