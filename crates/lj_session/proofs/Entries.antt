@@ -53,6 +53,12 @@ module _ {A : Type 0} (name : List ℕ) where
       (λ t. rw t refl)
       (λ t. rw t (ap (λ n. n + 1) (length-put es v w (rw t at h))))
 
+  pub length-new : (es : List (List ℕ × A)) (v : A) → named name es ≡ None → length (put name v es) ≡ length es + 1
+  length-new [] v h = refl
+  length-new (e ∷ es) v h = by_test (bytes_eq name e.0)
+      (λ t. absurd (none-some e.1 (sym (rw t at h))))
+      (λ t. rw t (ap (λ n. n + 1) (length-new es v (rw t at h))))
+
   pub length-taken : (es : List (List ℕ × A)) (v : A) → named name es ≡ Some v → length (taken_out name es) + 1 ≡ length es
   length-taken [] v h = absurd (none-some v h)
   length-taken (e ∷ es) v h = by_test (bytes_eq name e.0)

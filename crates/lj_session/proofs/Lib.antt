@@ -4,3 +4,7 @@ pub mod Reaching
 pub mod Performing
 pub mod Saving
 pub mod Loading
+pub mod Tiles
+pub mod Outcomes
+pub mod Totals
+pub mod Counts

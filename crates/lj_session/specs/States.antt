@@ -134,8 +134,8 @@ abbrev pub turned_on : Held → Held
 turned_on held = record held { live = closed held.live (stepped held.live.units held.live.sim) }
 
 -- a whole step of a kind is open
-pub record IsWhole (kind : Kind) (held : Held) : Type 0 where
-  pub kind : kind_of held.live.part ≡ Some kind
+pub record IsWhole (expected : Kind) (held : Held) : Type 0 where
+  pub kind : kind_of held.live.part ≡ Some expected
   pub whole : is_whole held.live.part ≡ true
 
 -- a step may be turned: a whole force step is open, and the next step number is in range
