@@ -6,3 +6,7 @@ pub mod Saving
 pub mod Loading
 pub mod Turning
 pub mod Owning
+pub mod Tiles
+pub mod Outcomes
+pub mod Totals
+pub mod Counts

@@ -106,7 +106,8 @@ impl Sim {
 
     /// Turns the motion back: the frames change places. An open step is closed.
     pub fn reverse(&mut self)
-        ensures { self.new ≡ steps.closed self.old (motion.reversed self.old.sim) }
+        ensures value { self.new ≡ steps.closed self.old (motion.reversed self.old.sim) }
+        ensures count { length self.new.sim.cur ≡ length self.old.sim.cur }
     {
         mem::swap(&mut self.prev, &mut self.cur);
         self.step -= self.dir.sign();

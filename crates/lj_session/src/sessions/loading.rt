@@ -1,9 +1,10 @@
 //! LOAD.
-ghost use Rattle.std.specs.Prelude.{◌≡◌, ◌≤◌, Option, Some, Ok, Err, pos, map, length, IfOk, OnErr};
+ghost use Rattle.std.specs.Prelude.{◌≡◌, OnErr};
+ghost use Rattle.std.specs.Option.{unwrap_or};
 ghost use Rattle.lj_ring.specs.Scales as scales;
 ghost use Rattle.lj_session.specs.declared.command.Command.TheVariants as commands;
-ghost use Rattle.lj_session.specs.Loads.{admitted, nano_or_zero, unwrap_or, opened};
-ghost use Rattle.lj_session.specs.States.{Performs, user_of, outcome};
+ghost use Rattle.lj_session.specs.Loads.{admitted, nano_or_zero};
+ghost use Rattle.lj_session.specs.States.{Performs, user_of};
 
 use crate::body::Body;
 use crate::command::Mode;

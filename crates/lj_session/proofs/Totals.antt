@@ -1,0 +1,64 @@
+-- What is used of a quota where a session is put, new or changed, or taken out.
+use Rattle.std.proofs.Common.{◌≡◌, ℕ, ◌+◌, List, length, map, Option, Some, None, refl, sym, ap, ◌∙◌, arith}
+use Rattle.std.proofs.lemmas.List.{length-map}
+use Rattle.lj_quota.specs.declared.Used.{Used}
+use Rattle.lj_session.specs.Users.{Session, User, named, put, taken_out, with_session, atoms_of, sessions_used, atoms_used, branches_used}
+use Rattle.lj_session.specs.States.{Held, Owned, as_session, user_of, used_by, held_in, with_held}
+use Rattle.lj_session.proofs.Entries.{length-put, length-new, length-taken, sum-put, sum-new, sum-taken}
+use Rattle.lj_session.proofs.Holding.{named-held, named-absent, user_of-put, user_of-taken}
+
+-- totals are equal where each part is
+pub same_used : (a b : Used) → a.sessions ≡ b.sessions → a.atoms ≡ b.atoms → a.branches ≡ b.branches → a ≡ b
+same_used a b s t u = λ j. record { sessions = s j; atoms = t j; branches = u j }
+
+abbrev saved_of : Session → ℕ
+saved_of session = length session.saved
+
+module _ (old : Owned) (name : List ℕ) (new : Held) where
+  user_used : User → Used
+  user_used user = record { sessions = sessions_used user; atoms = atoms_used user; branches = branches_used user }
+
+  put_used : used_by (with_held name new old) ≡ user_used (with_session name (as_session new) (user_of old))
+  put_used = ap user_used (user_of-put old name new)
+
+  -- a session changed
+  module _ (held : Held) (found : held_in old name ≡ Some held) where
+    session : named name (user_of old).sessions ≡ Some (as_session held)
+    session = named-held old name held found
+
+    pub sessions-changed : (used_by (with_held name new old)).sessions ≡ (used_by old).sessions
+    sessions-changed = ap (λ (u : Used). u.sessions) put_used ∙ length-put name (user_of old).sessions (as_session held) (as_session new) session
+
+    pub atoms-changed : (used_by (with_held name new old)).atoms + length held.live.sim.cur ≡ (used_by old).atoms + length new.live.sim.cur
+    atoms-changed = ap (λ (u : Used). u.atoms + length held.live.sim.cur) put_used ∙ sum-put name atoms_of (user_of old).sessions (as_session held) (as_session new) session
+
+    pub branches-changed : (used_by (with_held name new old)).branches + length held.saved ≡ (used_by old).branches + length new.saved
+    branches-changed = ap (λ (u : Used). u.branches + length held.saved) put_used ∙ sum-put name saved_of (user_of old).sessions (as_session held) (as_session new) session
+
+    -- with as many atoms and as many saved simulations as before
+    pub used-same : length new.live.sim.cur ≡ length held.live.sim.cur → length new.saved ≡ length held.saved → used_by (with_held name new old) ≡ used_by old
+    used-same atoms saved = same_used (used_by (with_held name new old)) (used_by old) sessions-changed
+        (let a = atoms-changed in omega (arith, a, atoms)) (let b = branches-changed in omega (arith, b, saved))
+
+    pub sessions-taken : (used_by (record old { sessions = taken_out name old.sessions })).sessions + 1 ≡ (used_by old).sessions
+    sessions-taken = ap (λ (u : User). sessions_used u + 1) (user_of-taken old name) ∙ length-taken name (user_of old).sessions (as_session held) session
+
+    pub atoms-taken : (used_by (record old { sessions = taken_out name old.sessions })).atoms + length held.live.sim.cur ≡ (used_by old).atoms
+    atoms-taken = ap (λ (u : User). atoms_used u + length held.live.sim.cur) (user_of-taken old name) ∙ sum-taken name atoms_of (user_of old).sessions (as_session held) session
+
+    pub branches-taken : (used_by (record old { sessions = taken_out name old.sessions })).branches + length held.saved ≡ (used_by old).branches
+    branches-taken = ap (λ (u : User). branches_used u + length held.saved) (user_of-taken old name) ∙ sum-taken name saved_of (user_of old).sessions (as_session held) session
+
+  -- a new session
+  module _ (absent : held_in old name ≡ None) where
+    none : named name (user_of old).sessions ≡ None
+    none = named-absent old name absent
+
+    pub sessions-new : (used_by (with_held name new old)).sessions ≡ (used_by old).sessions + 1
+    sessions-new = ap (λ (u : Used). u.sessions) put_used ∙ length-new name (user_of old).sessions (as_session new) none
+
+    pub atoms-new : (used_by (with_held name new old)).atoms ≡ (used_by old).atoms + length new.live.sim.cur
+    atoms-new = ap (λ (u : Used). u.atoms) put_used ∙ sum-new name atoms_of (user_of old).sessions (as_session new) none
+
+    pub branches-new : (used_by (with_held name new old)).branches ≡ (used_by old).branches + length new.saved
+    branches-new = ap (λ (u : Used). u.branches) put_used ∙ sum-new name saved_of (user_of old).sessions (as_session new) none
