@@ -126,3 +126,87 @@ here_after session h =
     let near = leb-true (unsigned_abs (sim.step +ℤ sim.dir *ℤ pos 1)) (10 ^ 12) p.1 in
     let same : sim.step +ℤ sim.dir *ℤ pos 1 ≡ sim.step +ℤ sim.dir = omega (arith, ints) in
     rw same at near
+
+-- an ADVANCE with turns left may be made, and has a step left
+record Going (session : Session) (n : ℕ) : Type 0 where
+  less : ℕ
+  is_more : n ≡ suc less
+  can : can_advance session n ≡ true
+
+going_from : (session : Session) (n : ℕ) → 0 < advance_turns (Some session) n → Going session n
+going_from session n h = by_test (can_advance session n) refl n refl
+  where
+    by_test : (test : Bool) → can_advance session n ≡ test → (m : ℕ) → n ≡ m → Going session n
+    by_test false e m f = absurd (omega (arith, (rw e at h)))
+    by_test true e zero f = absurd (omega (arith, f, (rw e at h)))
+    by_test true e (suc m) f = record { less = m; is_more = f; can = e }
+
+advance_keeps : (user : User) (name : List ℕ) (n : ℕ) (mark : Bool) (found : Option Session) → named name user.sessions ≡ found
+    → 1 < advance_turns found n → answer (session_turned user name found) (Advance name (n - 1)) mark ≡ answer user (Advance name n) mark
+advance_keeps user name n mark None e h = absurd (omega (arith, h))
+advance_keeps user name n mark (Some session) e h =
+    let r = going_from session n (omega (arith, h)) in
+    let less : n - 1 ≡ r.less = omega (arith, r.is_more) in
+    rw less (advance_on user name session r.less mark e (subst (λ m. can_advance session m ≡ true) r.is_more r.can)
+    ∙ ap (λ m. answer user (Advance name m) mark) (sym r.is_more))
+
+lowers_on : (user : User) (name : List ℕ) (session : Session) (less : ℕ) → can_advance session (suc less) ≡ true
+    → advance_turns (named name (user_after name session user).sessions) less + 1 ≡ advance_turns (Some session) (suc less)
+lowers_on user name session less can =
+    let after = session_after session in
+    let next = can_go_on session less can in
+    rw (named-put name after user.sessions, next, can) (omega arith)
+
+advance_lowers : (user : User) (name : List ℕ) (n : ℕ) (found : Option Session)
+    → 1 < advance_turns found n → advance_turns (named name (session_turned user name found).sessions) (n - 1) + 1 ≡ advance_turns found n
+advance_lowers user name n None h = absurd (omega (arith, h))
+advance_lowers user name n (Some session) h = lowered (going_from session n (omega (arith, h)))
+  where
+    lowered : Going session n
+        → advance_turns (named name (session_turned user name (Some session)).sessions) (n - 1) + 1 ≡ advance_turns (Some session) n
+    lowered r =
+        let less : r.less ≡ n - 1 = omega (arith, r.is_more) in
+        let step = lowers_on user name session r.less (subst (λ m. can_advance session m ≡ true) r.is_more r.can) in
+        subst (λ m. advance_turns (named name (user_after name session user).sessions) m + 1 ≡ advance_turns (Some session) n) less
+        (step ∙ ap (advance_turns (Some session)) (sym r.is_more))
+
+measure_once : (found : Option Session) → 1 < measure_turns found → ⊥
+measure_once None h = omega (arith, h)
+measure_once (Some session) h = omega (arith, h)
+
+-- while more than one turn is left, a turn does not change what is answered in the end
+pub command_keeps : (user : User) (command : Command) (mark : Bool) → 1 < turns user command
+    → answer (turned user command) (rest_of command) mark ≡ answer user command mark
+unfolding turns turned rest_of
+command_keeps user (Advance name n) mark h = advance_keeps user name n mark (named name user.sessions) refl h
+command_keeps user (Measure name) mark h = refl
+command_keeps user (Load name edge sigma step_factor mode body) mark h = refl
+command_keeps user (Reverse name) mark h = refl
+command_keeps user (Branch name branch) mark h = refl
+command_keeps user (Restore name branch) mark h = refl
+command_keeps user (Forget name branch) mark h = refl
+command_keeps user (Tug name atom x y z) mark h = refl
+command_keeps user (Show name atom) mark h = refl
+command_keeps user (Dump name) mark h = refl
+command_keeps user ListSessions mark h = refl
+command_keeps user (ListBranches name) mark h = refl
+command_keeps user (Unload name) mark h = refl
+command_keeps user Bye mark h = refl
+
+-- a turn lowers the number of turns by one, while more than one is left
+pub command_lowers : (user : User) (command : Command) → 1 < turns user command → turns (turned user command) (rest_of command) + 1 ≡ turns user command
+unfolding turns turned rest_of
+command_lowers user (Advance name n) h = advance_lowers user name n (named name user.sessions) h
+command_lowers user (Measure name) h = absurd (measure_once (named name user.sessions) h)
+command_lowers user (Load name edge sigma step_factor mode body) h = absurd (omega (arith, h))
+command_lowers user (Reverse name) h = absurd (omega (arith, h))
+command_lowers user (Branch name branch) h = absurd (omega (arith, h))
+command_lowers user (Restore name branch) h = absurd (omega (arith, h))
+command_lowers user (Forget name branch) h = absurd (omega (arith, h))
+command_lowers user (Tug name atom x y z) h = absurd (omega (arith, h))
+command_lowers user (Show name atom) h = absurd (omega (arith, h))
+command_lowers user (Dump name) h = absurd (omega (arith, h))
+command_lowers user ListSessions h = absurd (omega (arith, h))
+command_lowers user (ListBranches name) h = absurd (omega (arith, h))
+command_lowers user (Unload name) h = absurd (omega (arith, h))
+command_lowers user Bye h = absurd (omega (arith, h))

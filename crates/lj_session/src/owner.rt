@@ -2,7 +2,6 @@
 ghost use Rattle.std.specs.Prelude.{◌≡◌, ◌↔◌, ◌<◌, ◌+◌, ℕ, Bool, true, Some, None, IsOk, IsSome, IsTrue, IfSome, IfErr, OnOk, OnErr, OnSome, IfNone};
 ghost use Rattle.lj_session.specs.Answers.{answer};
 ghost use Rattle.lj_session.specs.Turns.{turns, turned, rest_of};
-ghost use Rattle.lj_session.specs.States.{Reached, user_of};
 ghost use Rattle.lj_session.specs.Owners.{IsAnswered, IsReplied, IsWanted, user_in, turns_left, begun, label_in, task_in, with_task_posted, with_task_in, is_ready, turned_from};
 ghost use Rattle.lj_session.specs.Begins.{IfAnswered, OnRunning, reply_of};
 
@@ -128,6 +127,7 @@ impl Owner {
         ensures idle { OnSome result (self.new.rest ≡ None) }
         ensures opened { IfNone result (IfSome self.old.rest (λ command. self.new ≡ turned_from command self.old)) }
         ensures turned { IfNone result (IfSome self.old.rest (λ command. user_in self.new ≡ turned (user_in self.old) command)) }
+        ensures kept { IfNone result (IfSome self.old.rest (λ command. (mark : Bool) → answer (user_in self.new) (rest_of command) mark ≡ answer (user_in self.old) command mark)) }
         ensures fewer { IfNone result (turns_left self.new + 1 ≡ turns_left self.old) }
         ensures number { self.new.number ≡ self.old.number }
     {
@@ -150,8 +150,7 @@ impl Owner {
     /// Hands the state back.
     pub fn into_state(self) -> UserState
         requires { self.rest ≡ None }
-        ensures value { result ≡ self.state }
-        ensures reached { Reached result }
+        ensures { result ≡ self.state }
     {
         self.state
     }

@@ -81,6 +81,7 @@ impl Running {
         ensures left { IfGoes result (λ left. command_of left ≡ rest_of (command_of self)) }
         ensures fewer { IfGoes result (λ left. turns (user_of state.new) (command_of left) + 1 ≡ turns (user_of state.old) (command_of self)) }
         ensures user { IfGoes result (λ _. user_of state.new ≡ turned (user_of state.old) (command_of self)) }
+        ensures kept { IfGoes result (λ left. (mark : Bool) → answer (user_of state.new) (command_of left) mark ≡ answer (user_of state.old) (command_of self) mark) }
         ensures opened { IfGoes result (λ left. state.new ≡ opened_for (step_of (command_of left)) (changed_in (step_of (command_of self)) turned_on state.old)) }
         ensures runs { IfGoes result (Runs state.new) }
     {
