@@ -8,3 +8,4 @@ pub mod Tiles
 pub mod Outcomes
 pub mod Totals
 pub mod Counts
+pub mod Results

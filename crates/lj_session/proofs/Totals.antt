@@ -17,7 +17,7 @@ abbrev saved_of : Session → ℕ
 saved_of session = length session.saved
 
 module _ (old : Owned) (name : List ℕ) (new : Held) where
-  user_used : User → Used
+  abbrev user_used : User → Used
   user_used user = record { sessions = sessions_used user; atoms = atoms_used user; branches = branches_used user }
 
   put_used : used_by (with_held name new old) ≡ user_used (with_session name (as_session new) (user_of old))

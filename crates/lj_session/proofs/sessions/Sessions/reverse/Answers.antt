@@ -1,9 +1,8 @@
-use Rattle.std.proofs.Common.{◌≡◌, Some, None, true, false, refl, sym, ap, ◌∙◌}
+use Rattle.std.proofs.Common.{Some, None, false, length, ap, ◌∙◌}
 use Rattle.lj_step.specs.Live.{Live}
 use Rattle.lj_session.specs.declared.reply.Reply.TheVariants as reply
-use Rattle.std.proofs.Common.{length}
-use Rattle.lj_session.specs.States.{Held, Owned, user_of, held_in, with_held}
-use Rattle.lj_session.proofs.Holding.{named-held, named-absent, looked_up, written, unwritten}
+use Rattle.lj_session.specs.States.{Held, user_of, with_held}
+use Rattle.lj_session.proofs.Holding.{named-absent, looked_up, written}
 use Rattle.lj_session.proofs.Performing as performing
 use Rattle.lj_session.proofs.Outcomes as outcomes
 use Rattle.lj_session.proofs.Outcomes.{stated, read-step}
@@ -34,5 +33,5 @@ returns-clause-performs c =
     let new = c.reverse.new.self in
     stated old _ _ _ (reply.Reversed c.args.name) _ _
     (outcomes.reverse old c.args.name held found)
-    (read-step c.step-step.result c.step-step.ensures.most ∙ (c.step-step.ensures.value ∙ ap (λ (l : Live). l.sim.step) c.sim.ensures ∙ ap (λ (h : Held). h.live.sim.step) c.reverse.ensures.value))
-    (written c.self.inside old c.self.view_is c.args.name held c.in-Some.ensures.value _ new (c.get_mut.follows.holds new).0 ∙ ap (λ (h : Held). with_held c.args.name h old) c.reverse.ensures.value)
+    (read-step c.step-step.result c.step-step.ensures.most ∙ (c.step-step.ensures.value ∙ ap (λ (l : Live). l.sim.step) c.sim.ensures ∙ ap (λ (h : Held). h.live.sim.step) (c.reverse.ensures.value)))
+    ((written c.self.inside old c.self.view_is c.args.name held c.in-Some.ensures.value _ new (c.get_mut.follows.holds new).0) ∙ ap (λ (h : Held). with_held c.args.name h old) (c.reverse.ensures.value))
