@@ -10,3 +10,4 @@ pub mod Tiles
 pub mod Outcomes
 pub mod Totals
 pub mod Counts
+pub mod Results

@@ -1,8 +1,10 @@
 -- What each command that changes a session comes to, of what is held.
-use Rattle.std.proofs.Common.{◌≡◌, ℕ, ◌+◌, Bool, true, false, ℤ, List, [], ◌∷◌, length, Option, Some, None, Result, Ok, Err, nat_lt, refl, sym, ap, ◌∙◌}
-use Rattle.std.specs.Prelude.{is_some}
+use Rattle.std.proofs.Common.{◌≡◌, ℕ, ◌<◌, ◌≤◌, ◌^◌, Bool, true, false, ℤ, unsigned_abs, List, length, Some, Result, Ok, Err, nat_lt, refl, sym, ap, ◌∙◌, arith, w64, to_z, of_z}
+use Rattle.std.proofs.lemmas.Int.{to_z-of_z, fits_signed_from_abs}
+use Rattle.std.proofs.lemmas.Bool.{lt-ltb, le-ltb}
 use Rattle.lj_step.specs.Motion.{Simulation, reversed, tugged}
 use Rattle.lj_step.specs.OpenSteps.{closed}
+use Rattle.lj_session.specs.declared.command.Command.{Command}
 use Rattle.lj_session.specs.declared.command.Command.TheVariants.{Advance, Reverse, Branch, Restore, Forget, Tug, Unload}
 use Rattle.lj_session.specs.declared.refusal.Refusal.{Refusal}
 use Rattle.lj_session.specs.declared.refusal.Refusal.TheVariants.{Memory}
@@ -91,3 +93,23 @@ module _ (old : Owned) (name : List ℕ) (held : Held) (found : held_in old name
   turned-answer near =
       ap (λ r. (settled (user_of old) r).1) (performing.advance-on (user_of old) name false (as_session held) (named-held old name held found) 1 near)
       ∙ sym (user_of-put old name (turned_on held))
+
+-- a reply that names the step, read as the code has it
+pub stated : (old new new' : Owned) (command : Command) (made : ℤ → Reply) (step step' : ℤ) → Performs old command (Ok (made step)) new → step' ≡ step → new' ≡ new
+    → Performs old command (Ok (made step')) new'
+stated old new new' command made step step' performs same next = rw (same, next) performs
+
+-- a step number fits its word
+pub read-step : (step : ℤ) → unsigned_abs step ≤ 10 ^ 12 → to_z w64 (of_z w64 step) ≡ step
+read-step step most = to_z-of_z w64 step (fits_signed_from_abs w64 step (omega (arith, most)))
+
+-- an atom of the session, and one past its last
+pub there : (atom count : ℕ) → atom < count → nat_lt atom count ≡ true
+there atom count below = lt-ltb atom count below
+
+pub past : (atom count : ℕ) → count ≤ atom → nat_lt atom count ≡ false
+past atom count above = le-ltb atom count above
+
+-- what is held, read as the code has it
+pub written-to : (old new new' : Owned) (command : Command) (result : Result Reply Refusal) → Performs old command result new → new' ≡ new → Performs old command result new'
+written-to old new new' command result performs next = rw next performs

@@ -45,11 +45,14 @@ module _ (user : User) (name branch : List ℕ) where
     pub branch-refused : (mark : Bool) (refusal : Refusal) → branch_admitted user name branch ≡ Err refusal → performed user (Branch name branch) mark ≡ Err refusal
     unfolding performed
     branch-refused mark refusal e = by_test (is_some (named branch session.saved))
-        (λ taken. rw (found, taken) (sym (admitted-exists taken) ∙ e))
+        (λ taken. rw (found, taken) (ap Err (same_refusal BranchExists refusal (sym (admitted-exists taken) ∙ e))))
         (λ new. by_test (nat_lt (branches_used user) user.quota.branches)
         (λ room. absurd (admitted (sym (admitted-room new room) ∙ e)))
-        (λ over. rw (found, new, over) (sym (admitted-over new over) ∙ e)))
+        (λ over. rw (found, new, over) (ap Err (same_refusal QuotaBranches refusal (sym (admitted-over new over) ∙ e)))))
       where
+        same_refusal : (a b : Refusal) → ◌≡◌ {A = Result (Unit {0}) Refusal} (Err a) (Err b) → a ≡ b
+        same_refusal a b e = cc
+
         admitted : ◌≡◌ {A = Result (Unit {0}) Refusal} (Ok tt) (Err refusal) → ⊥
         admitted e = cc
 
@@ -62,3 +65,15 @@ module _ (user : User) (name branch : List ℕ) where
           ≡ Ok (reply.Branched name branch session.sim.step, with_session name (record session { saved = put branch session.sim session.saved }) user)
       unfolding performed
       branch-done = rw (found, new, room) refl
+
+same_refusal : (a b : Refusal) → ◌≡◌ {A = Result (Unit {0}) Refusal} (Err a) (Err b) → a ≡ b
+same_refusal a b e = cc
+
+-- what is not admitted is refused so
+pub branch-not_admitted : (user : User) (name branch : List ℕ) (mark : Bool) (refusal : Refusal) → branch_admitted user name branch ≡ Err refusal
+    → performed user (Branch name branch) mark ≡ Err refusal
+branch-not_admitted user name branch mark refusal e = by (named name user.sessions) refl
+  where
+    by : (o : Option Session) → named name user.sessions ≡ o → performed user (Branch name branch) mark ≡ Err refusal
+    by None absent = branch-none user name branch mark absent ∙ ap Err (same_refusal NoSession refusal (sym (admitted-none user name branch absent) ∙ e))
+    by (Some session) found = branch-refused user name branch session found mark refusal e

@@ -1,5 +1,5 @@
 -- The first tile that is awaited, looked for from a place of the cover on.
-use Rattle.std.proofs.Common.{◌≡◌, ℕ, suc, ◌+◌, ◌-◌, ◌<◌, ◌≤◌, Bool, cond, List, Option, Some, None, refl, arith}
+use Rattle.std.proofs.Common.{◌≡◌, ℕ, suc, ◌+◌, ◌-◌, ◌<◌, ◌≤◌, Bool, false, cond, List, Option, Some, None, refl, sym, ap, ◌∙◌, arith}
 use Rattle.std.specs.List.{find, range_with_len}
 
 pub find-step : (test : ℕ → Bool) (i n : ℕ) → i < n
@@ -8,3 +8,9 @@ find-step test i n below = let e : n - i ≡ suc (n - (i + 1)) = omega arith in 
 
 pub find-end : (test : ℕ → Bool) (i n : ℕ) → n ≤ i → find test (range_with_len i (n - i)) ≡ None
 find-end test i n past = let e : n - i ≡ 0 = omega arith in rw e refl
+
+-- a tile that is not awaited is passed over
+pub find-on : (test : ℕ → Bool) (i n : ℕ) (o : Option ℕ) → i < n → test i ≡ false → find test (range_with_len i (n - i)) ≡ o
+    → find test (range_with_len (i + 1) (n - (i + 1))) ≡ o
+find-on test i n o below fails found =
+    sym (find-step test i n below ∙ ap (λ b. cond b (Some i) (find test (range_with_len (i + 1) (n - (i + 1))))) fails) ∙ found

@@ -1,5 +1,5 @@
 //! A session as it is held.
-ghost use Rattle.std.specs.Prelude.{◌≡◌, ◌↔◌, ◌<◌, [], length, slice_get, Some, IsOk, IsSome, IsErrOf, IfErr, IfSome, OnOk, OnErr, ◌≤◌, ◌^◌, unsigned_abs, IsTrue, IfOk};
+ghost use Rattle.std.specs.Prelude.{◌≡◌, ◌↔◌, ◌<◌, ◌+◌, ◌^◌, [], length, slice_get, Some, IsOk, IsSome, IsErrOf, IfErr, IfSome, OnOk, OnErr, ◌≤◌, unsigned_abs, IsTrue, IfOk};
 ghost use Rattle.lj_tile.specs.declared.names.Kind.TheVariants.{Energy};
 ghost use Rattle.lj_branch.specs.declared.faults.SaveFault.TheVariants.{Exists};
 ghost use Rattle.lj_step.specs.Motion as motion;
@@ -93,7 +93,8 @@ impl Session {
 
     /// Turns the motion back. No step is open then.
     pub fn reverse(&mut self)
-        ensures { self.new ≡ record self.old { live = steps.closed self.old.live (motion.reversed self.old.live.sim) } }
+        ensures value { self.new ≡ record self.old { live = steps.closed self.old.live (motion.reversed self.old.live.sim) } }
+        ensures count { length self.new.live.sim.cur ≡ length self.old.live.sim.cur }
     {
         self.sim.reverse();
     }
@@ -125,6 +126,7 @@ impl Session {
     pub fn restore(&mut self, branch: &Name) -> Result<(), NoBranch>
         ensures found { IsOk result ↔ IsSome (named branch.now self.old.saved) }
         ensures restored { OnOk result (IfSome (named branch.now self.old.saved) (λ sim. self.new ≡ record self.old { live = steps.closed self.old.live sim })) }
+        ensures count { length self.new.live.sim.cur ≡ length self.old.live.sim.cur }
         ensures unchanged { OnErr result (self.new ≡ self.old) }
     {
         self.branches.restore_into(branch, &mut self.sim)
@@ -152,7 +154,8 @@ impl Session {
 
     /// The place in the cover of the first tile that is neither posted nor in.
     fn next_tile(&self) -> Option<usize>
-        ensures { result ≡ states.next_tile self.now }
+        ensures value { result ≡ states.next_tile self.now }
+        ensures small { IfSome result (λ i. i + 1 < 2 ^ 64) }
     {
         for i in self.passed..self.sim.tiles() {
             if self.sim.awaits(i) {
@@ -173,9 +176,10 @@ impl Session {
     pub fn post(&mut self)
         ensures { self.new ≡ states.with_posted self.old }
     {
-        if let Some(i) = self.next_tile() {
-            self.passed = i + 1;
-        }
+        let Some(i) = self.next_tile() else {
+            return;
+        };
+        self.passed = i + 1;
     }
 
     /// Takes in the result of a tile that the open step awaits. Another is handed back, and nothing has changed.

@@ -1,9 +1,10 @@
 //! The sessions of a user, and what each command does to them.
 ghost use Rattle.std.specs.Prelude.{◌≡◌, ◌<◌, length, slice_get, position, Some, Err, OnErr};
 ghost use Rattle.std.specs.List.{IsDistinct};
+ghost use Rattle.std.specs.Option.{option_copied};
 ghost use Rattle.std.specs.Str.{bytes_eq};
 ghost use Rattle.lj_session.specs.Turns.{turns};
-ghost use Rattle.lj_session.specs.States.{Performs, empty, user_of, used_by, names, held_at};
+ghost use Rattle.lj_session.specs.States.{Performs, empty, user_of, used_by, names, held_in, held_at};
 
 mod advancing;
 mod loading;
@@ -95,6 +96,13 @@ impl Sessions {
         ensures { held_at self.now i ≡ Some result.now }
     {
         self.sessions.get_index(i).unwrap().1
+    }
+
+    /// The session of a name, if there is one.
+    fn find(&self, name: &Name) -> Option<&Session>
+        ensures { option_copied result ≡ held_in self.now name.now }
+    {
+        self.sessions.get(name)
     }
 
     /// Performs a command that takes no turn.

@@ -22,7 +22,7 @@ impl Sessions {
     {
         match command {
             Command::Advance { name, steps } => self.advance_turns(name, *steps),
-            Command::Measure { name } => u64::from(self.sessions.contains_key(name)),
+            Command::Measure { name } => u64::from(self.find(name).is_some()),
             _ => 0,
         }
     }
@@ -31,7 +31,7 @@ impl Sessions {
         ensures value { result ≡ definition.turns (user_of self.now) (commands.Advance name.now steps) }
         ensures here { 0 < result → IsHere self.now (commands.Advance name.now steps) }
     {
-        match self.sessions.get(name) {
+        match self.find(name) {
             Some(session) if session.can_advance(steps) => steps,
             _ => 0,
         }
@@ -43,7 +43,7 @@ impl Sessions {
         ensures { (mark : Bool) →
             performed (user_of self.now) (commands.Advance name steps) mark ≡ outcome result (user_of self.now) }
     {
-        let Some(session) = self.sessions.get(&name) else {
+        let Some(session) = self.find(&name) else {
             return Err(Refusal::NoSession);
         };
         if !session.can_advance(steps) {
@@ -92,6 +92,6 @@ impl Sessions {
         requires { IsSome (held_in self.now name.now) }
         ensures { held_in self.now name.now ≡ Some result.now }
     {
-        self.sessions.get(name).unwrap()
+        self.find(name).unwrap()
     }
 }

@@ -56,7 +56,7 @@ impl Sessions {
     ) -> Result<Scale, Refusal>
         ensures { result ≡ admitted (user_of self.now) name.now edge sigma step_factor }
     {
-        if self.sessions.contains_key(name) {
+        if self.find(name).is_some() {
             return Err(Refusal::Exists);
         }
         may_session(&self.quota, &self.used)?;

@@ -30,7 +30,7 @@ impl Sessions {
     fn admit_branch(&self, name: &Name, branch: &Name) -> Result<(), Refusal>
         ensures { result ≡ branch_admitted (user_of self.now) name.now branch.now }
     {
-        let Some(session) = self.sessions.get(name) else {
+        let Some(session) = self.find(name) else {
             return Err(Refusal::NoSession);
         };
         if session.branches().count_of(branch).is_some() {

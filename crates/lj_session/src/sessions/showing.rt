@@ -15,7 +15,7 @@ impl Sessions {
         ensures { (mark : Bool) →
             performed (user_of self.now) (commands.Show name atom) mark ≡ outcome result (user_of self.now) }
     {
-        let Some(session) = self.sessions.get(&name) else {
+        let Some(session) = self.find(&name) else {
             return Err(Refusal::NoSession);
         };
         let sim = session.sim();
@@ -35,7 +35,7 @@ impl Sessions {
         ensures { (mark : Bool) →
             performed (user_of self.now) (commands.Dump name) mark ≡ outcome result (user_of self.now) }
     {
-        if !self.sessions.contains_key(&name) {
+        if self.find(&name).is_none() {
             return Err(Refusal::NoSession);
         }
         Ok(Reply::Dumped { name })
@@ -46,7 +46,7 @@ impl Sessions {
         ensures { (mark : Bool) →
             performed (user_of self.now) (commands.ListBranches name) mark ≡ outcome result (user_of self.now) }
     {
-        if !self.sessions.contains_key(&name) {
+        if self.find(&name).is_none() {
             return Err(Refusal::NoSession);
         }
         Ok(Reply::ListedBranches { name })

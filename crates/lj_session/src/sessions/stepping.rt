@@ -17,16 +17,17 @@ impl Sessions {
         ensures opened { self.new ≡ changed name.now (with_step kind) self.old }
         ensures user { user_of self.new ≡ user_of self.old }
     {
-        if let Some(session) = self.sessions.get_mut(name) {
-            session.open_step(kind);
-        }
+        let Some(session) = self.sessions.get_mut(name) else {
+            return;
+        };
+        session.open_step(kind);
     }
 
     /// The task of the first tile of a session's open step that is neither posted nor in.
     pub fn next_task(&self, label: &Label) -> Option<Task>
         ensures { result ≡ states.next_task self.now label.now }
     {
-        self.sessions.get(&label.session)?.next_task(label)
+        self.find(&label.session)?.next_task(label)
     }
 
     /// Notes that tile as posted.
@@ -34,9 +35,10 @@ impl Sessions {
         ensures posted { self.new ≡ changed name.now with_posted self.old }
         ensures user { user_of self.new ≡ user_of self.old }
     {
-        if let Some(session) = self.sessions.get_mut(name) {
-            session.post();
-        }
+        let Some(session) = self.sessions.get_mut(name) else {
+            return;
+        };
+        session.post();
     }
 
     /// Takes in the result of a tile that a session's open step awaits. Another is handed back, and nothing has changed.
@@ -57,7 +59,7 @@ impl Sessions {
     pub fn is_whole(&self, name: &Name) -> bool
         ensures { result ≡ is_whole_in self.now name.now }
     {
-        match self.sessions.get(name) {
+        match self.find(name) {
             Some(session) => session.sim().is_whole(),
             None => false,
         }
@@ -70,8 +72,9 @@ impl Sessions {
         ensures turned { self.new ≡ changed name.now turned_on self.old }
         ensures user { (n : ℕ) → user_of self.new ≡ turned (user_of self.old) (Advance name.now n) }
     {
-        if let Some(session) = self.sessions.get_mut(name) {
-            session.turn();
-        }
+        let Some(session) = self.sessions.get_mut(name) else {
+            return;
+        };
+        session.turn();
     }
 }
