@@ -95,6 +95,7 @@ advance_can owned name n some here = by (held_in owned name) refl
       able = record { some = rw (named-held owned name held e, t) at some; here = here held e; there = t };
     }
     by_test held e false t = absurd (let none = rw (named-held owned name held e, t) at some in omega (arith, none))
+
     by : (o : Option Held) → held_in owned name ≡ o → CanRun owned (Advance name n)
     by None e = absurd (let none = rw (named-absent owned name e) at some in omega (arith, none))
     by (Some held) e = by_test held e (can_advance (as_session held) n) refl

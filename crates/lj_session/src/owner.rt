@@ -176,3 +176,6 @@ fn replied(outcome: Result<Reply, Refusal>) -> Reply
 {
     outcome.unwrap_or_else(Reply::Refused)
 }
+
+#[cfg(test)]
+mod tests;
