@@ -9,3 +9,5 @@ pub mod Outcomes
 pub mod Totals
 pub mod Counts
 pub mod Results
+pub mod Limits
+pub mod Turning
