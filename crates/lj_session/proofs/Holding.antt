@@ -1,6 +1,9 @@
 -- What is held, and the user that it is: a session looked up, put and taken out in both.
 use Rattle.std.proofs.Common.{◌≡◌, ℕ, ◌+◌, Bool, true, false, List, [], ◌∷◌, length, Option, Some, None, refl, sym, ap, ◌∙◌, arith}
-use Rattle.std.specs.Option.{option_map}
+use Rattle.std.proofs.Common.{Bor}
+use Rattle.std.specs.Prelude.{is_some, is_none}
+use Rattle.std.proofs.lemmas.Bool.{true≢false, false≢true}
+use Rattle.std.specs.Option.{option_map, option_copied}
 use Rattle.std.specs.List.{AllByRecursion}
 use Rattle.std.specs.Str.{bytes_eq}
 use Rattle.std.specs.Map.{set_value}
@@ -53,3 +56,22 @@ module _ (a : Inside) (old : Owned) (view : owned_of a ≡ old) (name : List ℕ
     pub unwritten : new ≡ held → record { quota = a.quota; sessions = entries } ≡ old
     unwritten same = written ∙ ap (λ (h : Held). with_held name h old) same
         ∙ ap (λ (es : List (List ℕ × Held)). record { quota = old.quota; sessions = es }) (put-same name old.sessions held (looked_up (Some held) found))
+
+-- a look-up by reference, and what is there
+pub present : (owned : Owned) (name : List ℕ) (o : Option (Bor Held)) → option_copied o ≡ held_in owned name → is_some (named name (user_of owned).sessions) ≡ is_some o
+present owned name None h = ap is_some (named-absent owned name (sym h))
+present owned name (Some held) h = ap is_some (named-held owned name held.now (sym h))
+
+pub absent-at : (owned : Owned) (name : List ℕ) (o : Option (Bor Held)) → option_copied o ≡ held_in owned name → is_none o ≡ true → held_in owned name ≡ None
+absent-at owned name None h none = sym h
+absent-at owned name (Some held) h none = absurd (false≢true none)
+
+pub held-at : (owned : Owned) (name : List ℕ) (o : Option (Bor Held)) → option_copied o ≡ held_in owned name → is_none o ≡ false → (held : Held) × (held_in owned name ≡ Some held)
+held-at owned name None h some = absurd (true≢false some)
+held-at owned name (Some held) h some = (held.now, sym h)
+
+-- a session taken out of the map
+pub taken-of : (a : Inside) (old : Owned) → owned_of a ≡ old → (name : List ℕ) (entries : List (List ℕ × Held)) → entries ≡ taken_out name a.sessions.entries
+    → record { quota = a.quota; sessions = entries } ≡ record old { sessions = taken_out name old.sessions }
+taken-of a old view name entries is =
+    ap (λ (es : List (List ℕ × Held)). record { quota = a.quota; sessions = es }) is ∙ ap (λ (o : Owned). record { quota = o.quota; sessions = taken_out name o.sessions }) view

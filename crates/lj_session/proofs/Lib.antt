@@ -5,9 +5,11 @@ pub mod Performing
 pub mod Saving
 pub mod Loading
 pub mod Turning
-pub mod Owning
 pub mod Tiles
 pub mod Outcomes
 pub mod Totals
 pub mod Counts
 pub mod Results
+pub mod Limits
+pub mod Advancing
+pub mod Owning

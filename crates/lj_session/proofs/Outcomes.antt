@@ -1,7 +1,9 @@
 -- What each command that changes a session comes to, of what is held.
 use Rattle.std.proofs.Common.{◌≡◌, ℕ, ◌<◌, ◌≤◌, ◌^◌, Bool, true, false, ℤ, unsigned_abs, List, length, Some, Result, Ok, Err, nat_lt, refl, sym, ap, ◌∙◌, arith, w64, to_z, of_z}
+use Rattle.std.specs.Int.{w128}
 use Rattle.std.proofs.lemmas.Int.{to_z-of_z, fits_signed_from_abs}
 use Rattle.std.proofs.lemmas.Bool.{lt-ltb, le-ltb}
+use Rattle.lj_ring.specs.declared.coordinates.Place.{Place}
 use Rattle.lj_step.specs.Motion.{Simulation, reversed, tugged}
 use Rattle.lj_step.specs.OpenSteps.{closed}
 use Rattle.lj_session.specs.declared.command.Command.{Command}
@@ -113,3 +115,17 @@ past atom count above = le-ltb atom count above
 -- what is held, read as the code has it
 pub written-to : (old new new' : Owned) (command : Command) (result : Result Reply Refusal) → Performs old command result new → new' ≡ new → Performs old command result new'
 written-to old new new' command result performs next = rw next performs
+
+-- a potential fits its word
+pub read-potential : (potential : ℤ) → unsigned_abs potential < 2 ^ 127 → to_z w128 (of_z w128 potential) ≡ potential
+read-potential potential most = to_z-of_z w128 potential (fits_signed_from_abs w128 potential (omega (arith, most)))
+
+-- replies, read as the code has them
+pub shown : (user : User) (name : List ℕ) (atom : ℕ) (step step' : ℤ) (place place' : Place) → step' ≡ step → place' ≡ place
+    → ◌≡◌ {A = Result (Reply × User) Refusal} (Ok (reply.Shown name step atom place, user)) (Ok (reply.Shown name step' atom place', user))
+shown user name atom step step' place place' s p = rw (s, p) refl
+
+pub measured : (user : User) (name : List ℕ) (step step' : ℤ) (atoms atoms' : ℕ) (momentum momentum' : List ℤ) (kinetic kinetic' : ℕ) (potential potential' : ℤ)
+    → step' ≡ step → atoms' ≡ atoms → momentum' ≡ momentum → kinetic' ≡ kinetic → potential' ≡ potential
+    → ◌≡◌ {A = Result (Reply × User) Refusal} (Ok (reply.Measured name step atoms momentum kinetic potential, user)) (Ok (reply.Measured name step' atoms' momentum' kinetic' potential', user))
+measured user name step step' atoms atoms' momentum momentum' kinetic kinetic' potential potential' s a m k p = rw (s, a, m, k, p) refl

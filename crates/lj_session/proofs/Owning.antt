@@ -24,7 +24,7 @@ use Rattle.lj_session.specs.Running.{CanGo, CanTake, CanRun, Runs, IfGoes, comma
 use Rattle.lj_session.specs.Owners.{label_in}
 use Rattle.lj_session.proofs.Entries as entries
 use Rattle.lj_session.proofs.Holding.{named-held, named-absent}
-use Rattle.lj_session.proofs.Turning.{can_go_on, can_go_less, here_after, advance_on, advance_takes, measure_takes, advance_turned, answered, command_keeps}
+use Rattle.lj_session.proofs.Advancing.{can_go_on, can_go_less, here_after, advance_on, advance_takes, measure_takes, advance_turned, answered, command_keeps}
 
 same_Some : {A : Type 0} (x y : A) → Some x ≡ Some y → x ≡ y
 same_Some x y e = cc

@@ -1,5 +1,8 @@
 -- Results of calls, by their cases.
-use Rattle.std.proofs.Common.{◌≡◌, ℕ, ◌+◌, ◌<◌, ◌≤◌, Bool, true, false, List, Option, Some, None, Result, Ok, Err, nat_lt, refl, sym, ap, ◌∙◌, subst, arith}
+use Rattle.std.proofs.Common.{◌≡◌, ℕ, ◌+◌, ◌<◌, ◌≤◌, Bool, true, false, List, length, Option, Some, None, Result, Ok, Err, nat_lt, refl, sym, ap, ◌∙◌, subst, arith}
+use Rattle.std.specs.Option.{option_map}
+use Rattle.lj_step.specs.Motion.{Simulation}
+use Rattle.lj_session.specs.Users.{named}
 use Rattle.std.specs.Prelude.{is_some, IsSome, IfSome, IsErrAnd, OnErr, ◌↔◌}
 use Rattle.std.proofs.lemmas.Bool.{true≢false, false≢true, lt-ltb, le-ltb}
 use Rattle.lj_branch.specs.declared.faults.SaveFault.{SaveFault}
@@ -53,3 +56,12 @@ not-saved save.Memory taken h new = refl
 -- a fault that is want of memory
 pub performs-starved : (old new : Owned) (command : Command) (fault : Refusal) → fault ≡ Memory → performed (user_of old) command true ≡ Err Memory → Performs old command (Err fault) new
 performs-starved old new command fault is h = record { mark = true; performs = h ∙ ap Err (sym is); only_memory = λ marked. ap Err is }
+
+-- what is saved under a name is found by its count of atoms
+pub is_some-counted : (name : List ℕ) (saved seen : List (List ℕ × Simulation)) (count : Option ℕ) → seen ≡ saved
+    → count ≡ option_map (λ (s : Simulation). length s.cur) (named name seen) → is_some (named name saved) ≡ is_some count
+is_some-counted name saved seen count same is = ap (λ l. is_some (named name l)) (sym same) ∙ sym (ap is_some is ∙ mapped (named name seen))
+  where
+    mapped : (o : Option Simulation) → is_some (option_map (λ (s : Simulation). length s.cur) o) ≡ is_some o
+    mapped None = refl
+    mapped (Some s) = refl

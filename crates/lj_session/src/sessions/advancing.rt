@@ -31,10 +31,13 @@ impl Sessions {
         ensures value { result ≡ definition.turns (user_of self.now) (commands.Advance name.now steps) }
         ensures here { 0 < result → IsHere self.now (commands.Advance name.now steps) }
     {
-        match self.find(name) {
-            Some(session) if session.can_advance(steps) => steps,
-            _ => 0,
+        let Some(session) = self.find(name) else {
+            return 0;
+        };
+        if !session.can_advance(steps) {
+            return 0;
         }
+        steps
     }
 
     /// An ADVANCE that takes no turn: it is refused, or by 0.
