@@ -558,11 +558,7 @@ fn stale_results_after_a_session_is_loaded_again(rt: HostRuntime) -> Result<(), 
 }
 
 /// A LOAD of a dimer, or of a frame and the same one step later.
-fn load_of(
-    rt: &(impl Abort + AllocGlobal),
-    word: &str,
-    mode: Mode,
-) -> Result<Command, AllocError> {
+fn load_of(rt: &(impl Abort + AllocGlobal), word: &str, mode: Mode) -> Result<Command, AllocError> {
     let body = "2\np\nAr 0 0 0\nAr 1.5 0 0\n2\nc\nAr 0 0 0\nAr 1.5 0 0\n";
     load(rt, word, EDGE, FACTOR, mode, body)
 }
