@@ -1,7 +1,7 @@
 -- What is held, and the user that it is: a session looked up, put and taken out in both.
 use Rattle.std.proofs.Common.{◌≡◌, ℕ, ◌+◌, Bool, true, false, List, [], ◌∷◌, length, Option, Some, None, refl, sym, ap, ◌∙◌, arith}
 use Rattle.std.proofs.Common.{Bor}
-use Rattle.std.specs.Prelude.{is_some, is_none}
+use Rattle.std.specs.Prelude.{is_some}
 use Rattle.std.proofs.lemmas.Bool.{true≢false, false≢true}
 use Rattle.std.specs.Option.{option_map, option_copied}
 use Rattle.std.specs.List.{AllByRecursion}
@@ -62,12 +62,12 @@ pub present : (owned : Owned) (name : List ℕ) (o : Option (Bor Held)) → opti
 present owned name None h = ap is_some (named-absent owned name (sym h))
 present owned name (Some held) h = ap is_some (named-held owned name held.now (sym h))
 
-pub absent-at : (owned : Owned) (name : List ℕ) (o : Option (Bor Held)) → option_copied o ≡ held_in owned name → is_none o ≡ true → held_in owned name ≡ None
+pub absent-at : (owned : Owned) (name : List ℕ) (o : Option (Bor Held)) → option_copied o ≡ held_in owned name → is_some o ≡ false → held_in owned name ≡ None
 absent-at owned name None h none = sym h
-absent-at owned name (Some held) h none = absurd (false≢true none)
+absent-at owned name (Some held) h none = absurd (true≢false none)
 
-pub held-at : (owned : Owned) (name : List ℕ) (o : Option (Bor Held)) → option_copied o ≡ held_in owned name → is_none o ≡ false → (held : Held) × (held_in owned name ≡ Some held)
-held-at owned name None h some = absurd (true≢false some)
+pub held-at : (owned : Owned) (name : List ℕ) (o : Option (Bor Held)) → option_copied o ≡ held_in owned name → is_some o ≡ true → (held : Held) × (held_in owned name ≡ Some held)
+held-at owned name None h some = absurd (false≢true some)
 held-at owned name (Some held) h some = (held.now, sym h)
 
 -- a session taken out of the map
@@ -75,3 +75,23 @@ pub taken-of : (a : Inside) (old : Owned) → owned_of a ≡ old → (name : Lis
     → record { quota = a.quota; sessions = entries } ≡ record old { sessions = taken_out name old.sessions }
 taken-of a old view name entries is =
     ap (λ (es : List (List ℕ × Held)). record { quota = a.quota; sessions = es }) is ∙ ap (λ (o : Owned). record { quota = o.quota; sessions = taken_out name o.sessions }) view
+
+-- a new session in the map
+pub inserted : (a : Inside) (old : Owned) → owned_of a ≡ old → (name copy : List ℕ) → copy ≡ name → (entries : List (List ℕ × Held)) (new made : Held) → new ≡ made
+    → entries ≡ put copy new a.sessions.entries → record { quota = a.quota; sessions = entries } ≡ with_held name made old
+inserted a old view name copy same entries new made is put_in =
+    ap (λ (es : List (List ℕ × Held)). record { quota = a.quota; sessions = es }) (put_in ∙ ap (λ n. put n new a.sessions.entries) same ∙ ap (λ (h : Held). put name h a.sessions.entries) is)
+    ∙ ap (with_held name made) view
+
+-- where there is no such session, nothing is changed
+pub changed-none : (owned : Owned) (name : List ℕ) (change : Held → Held) → held_in owned name ≡ None → changed name change owned ≡ owned
+changed-none owned name change absent = rw absent refl
+
+pub changed-some : (owned : Owned) (name : List ℕ) (change : Held → Held) (held : Held) → held_in owned name ≡ Some held → changed name change owned ≡ with_held name (change held) owned
+changed-some owned name change held found = rw found refl
+
+-- a session put that is the same session leaves the user
+pub user_of-kept : (owned : Owned) (name : List ℕ) (held new : Held) → held_in owned name ≡ Some held → as_session new ≡ as_session held → user_of (with_held name new owned) ≡ user_of owned
+user_of-kept owned name held new found same =
+    user_of-put owned name new ∙ ap (λ (s : Session). with_session name s (user_of owned)) same
+    ∙ ap (λ (s : List (List ℕ × Session)). record { quota = owned.quota; sessions = s }) (put-same name (user_of owned).sessions (as_session held) (named-held owned name held found))

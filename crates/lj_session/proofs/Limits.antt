@@ -1,6 +1,6 @@
 -- Whether the quota has room, by the running totals.
 use Rattle.std.proofs.Common.{◌≡◌, ℕ, ◌+◌, ◌<◌, ◌≤◌, Bool, true, false, Result, Ok, Err, nat_lt, nat_le, refl, sym, ap, ◌∙◌, arith}
-use Rattle.std.proofs.lemmas.Bool.{false≢true, lt-ltb, le-ltb, le-leb, lt-leb, leb-true, leb-false}
+use Rattle.std.proofs.lemmas.Bool.{false≢true, lt-ltb, le-ltb, le-leb, lt-leb, ltb-true, leb-true, leb-false}
 use Rattle.lj_quota.specs.declared.Used.{Used}
 use Rattle.lj_quota.specs.declared.Over.{Over}
 use Rattle.lj_session.specs.declared.sessions.Sessions.TheInside.{Inside}
@@ -33,6 +33,13 @@ module _ (a : Inside) (old : Owned) (view : owned_of a ≡ old) (counted : a.use
       let u = ap (λ (v : Used). v.sessions) before in
       let q = ap (λ (o : Owned). o.quota.sessions) view in
       lt-ltb (sessions_used (user_of old)) old.quota.sessions (omega (arith, h, u, q))
+
+  pub sessions-within : nat_lt (sessions_used (user_of old)) old.quota.sessions ≡ true → a.used.sessions + 1 ≤ a.quota.sessions
+  sessions-within room =
+      let u = ap (λ (v : Used). v.sessions) before in
+      let q = ap (λ (o : Owned). o.quota.sessions) view in
+      let h = ltb-true (sessions_used (user_of old)) old.quota.sessions room in
+      omega (arith, h, u, q)
 
   pub branches-over : a.quota.branches < a.used.branches + 1 → nat_lt (branches_used (user_of old)) old.quota.branches ≡ false
   branches-over h =

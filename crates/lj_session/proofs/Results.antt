@@ -3,7 +3,7 @@ use Rattle.std.proofs.Common.{◌≡◌, ℕ, ◌+◌, ◌<◌, ◌≤◌, Bool,
 use Rattle.std.specs.Option.{option_map}
 use Rattle.lj_step.specs.Motion.{Simulation}
 use Rattle.lj_session.specs.Users.{named}
-use Rattle.std.specs.Prelude.{is_some, IsSome, IfSome, IsErrAnd, OnErr, ◌↔◌}
+use Rattle.std.specs.Prelude.{is_some, IsSome, IfSome, IsErrAnd, OnOk, OnErr}
 use Rattle.std.proofs.lemmas.Bool.{true≢false, false≢true, lt-ltb, le-ltb}
 use Rattle.lj_branch.specs.declared.faults.SaveFault.{SaveFault}
 use Rattle.lj_branch.specs.declared.faults.SaveFault.TheVariants as save
@@ -65,3 +65,17 @@ is_some-counted name saved seen count same is = ap (λ l. is_some (named name l)
     mapped : (o : Option Simulation) → is_some (option_map (λ (s : Simulation). length s.cur) o) ≡ is_some o
     mapped None = refl
     mapped (Some s) = refl
+
+module _ {A E : Type 0} where
+  pub on_ok-then : {P Q : Type 0} (r : Result A E) → (P → Q) → OnOk r P → OnOk r Q
+  on_ok-then (Ok x) f p = f p
+  on_ok-then (Err e) f p = tt
+
+  pub on_err-then : {P Q : Type 0} (r : Result A E) → (P → Q) → OnErr r P → OnErr r Q
+  on_err-then (Ok x) f p = tt
+  on_err-then (Err e) f p = f p
+
+  -- what is seen alike of both outcomes
+  pub same-either : {B C : Type 0} (r : Result A E) (see : B → C) (new old taken : B) → OnOk r (new ≡ taken) → OnErr r (new ≡ old) → see taken ≡ see old → see new ≡ see old
+  same-either (Ok x) see new old taken is same alike = ap see is ∙ alike
+  same-either (Err e) see new old taken is same alike = ap see same

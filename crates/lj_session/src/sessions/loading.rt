@@ -34,7 +34,9 @@ impl Sessions {
         ensures stays { OnErr result (self.new ≡ self.old) }
     {
         let scale = self.admit(&name, edge, sigma, step_factor)?;
-        let body = body.ok_or(Refusal::Memory)?;
+        let Some(body) = body else {
+            return Err(Refusal::Memory);
+        };
         let alloc = *self.sessions.allocator();
         let opening = Opening::read(alloc, mode, &body)?;
         let atoms = opening.count();
