@@ -1,0 +1,15 @@
+pub mod Entries
+pub mod Holding
+pub mod Reaching
+pub mod Performing
+pub mod Saving
+pub mod Loading
+pub mod Turning
+pub mod Tiles
+pub mod Outcomes
+pub mod Totals
+pub mod Counts
+pub mod Results
+pub mod Limits
+pub mod Advancing
+pub mod Owning

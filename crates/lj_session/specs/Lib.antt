@@ -3,3 +3,12 @@ pub mod Users
 pub mod Loads
 pub mod Answers
 pub mod Turns
+pub mod States
+pub mod Kept
+pub mod Totals
+pub mod Openings
+pub mod Faults
+pub mod Owners
+pub mod Running
+pub mod Begins
+pub mod KeptOwners

@@ -6,12 +6,7 @@ use Rattle.std.specs.Map.{lookup, remove_entry}
 use Rattle.indexmap.specs.IndexMap.{insert_entry}
 use Rattle.lj_ring.specs.Scales.{Units}
 use Rattle.lj_step.specs.Motion.{Simulation}
-
--- how many sessions a user may have, and how many atoms and saved simulations over all of them
-pub record Quota : Type 0 where
-  pub sessions : ℕ
-  pub atoms : ℕ
-  pub branches : ℕ
+use Rattle.lj_quota.specs.declared.Quota.{Quota}
 
 -- a session: the symbols of its atoms, its scale, its simulation, and simulations saved under names, in order of saving
 pub record Session : Type 0 where

@@ -3,11 +3,20 @@
 
 mod body;
 mod command;
+mod conversions;
+mod opening;
+mod owner;
 mod refusal;
 mod reply;
+mod running;
+mod session;
+mod sessions;
+mod state;
 
 pub use body::Body;
 pub use command::{Command, Mode};
 pub use lj_tile::Name;
+pub use owner::{Begin, Owner};
 pub use refusal::Refusal;
 pub use reply::Reply;
+pub use state::UserState;

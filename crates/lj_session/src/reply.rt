@@ -5,7 +5,7 @@ use lj_ring::Place;
 use lj_tile::Name;
 
 /// What an item is answered. A reply names the step that it describes.
-#[derive(Debug, Drop)]
+#[derive(Debug, PartialEq, Eq, Drop)]
 pub enum Reply {
     Loaded {
         name: Name,
@@ -46,7 +46,7 @@ pub enum Reply {
         atoms: usize,
         momentum: [i64; 3],
         kinetic: u128,
-        potential: i64,
+        potential: i128,
     },
     Shown {
         name: Name,

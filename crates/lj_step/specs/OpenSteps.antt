@@ -38,6 +38,14 @@ is_tile kind count k = nat_lt (second_block k) (blocks count) && in_order kind k
 abbrev pub cover : Kind → ℕ → List ℕ
 cover kind count = filter (is_tile kind count) (range_with_len 0 (64 * blocks count))
 
+-- how many tiles the open step has
+abbrev pub tiles_in : ℕ → Option OpenStep → ℕ
+tiles_in count None = 0
+tiles_in count (Some p) = length (cover p.kind count)
+
+abbrev pub tiles_of : Live → ℕ
+tiles_of live = tiles_in (length live.sim.cur) live.part
+
 -- the pairs of atoms that a tile covers
 abbrev pub tile_of : Kind → ℕ → Tile
 tile_of Force k = force_tile (first_block k) (second_block k)

@@ -9,7 +9,7 @@ use crate::frames::{Frames, next_place, overwrite};
 use crate::measures::{self, Momentum};
 use crate::partial::Partial;
 use crate::snapshots::Snapshot;
-use lj_ring::{Place, Scale};
+use lj_ring::{Edge, Place, Scale};
 use lj_tile::{BLOCK, Block, Done, Kind, Label, Push, Task, TaskName};
 use std::alloc::{AllocError, Global};
 use std::marker::Model;
@@ -106,7 +106,8 @@ impl Sim {
 
     /// Turns the motion back: the frames change places. An open step is closed.
     pub fn reverse(&mut self)
-        ensures { self.new ≡ steps.closed self.old (motion.reversed self.old.sim) }
+        ensures value { self.new ≡ steps.closed self.old (motion.reversed self.old.sim) }
+        ensures count { length self.new.sim.cur ≡ length self.old.sim.cur }
     {
         mem::swap(&mut self.prev, &mut self.cur);
         self.step -= self.dir.sign();
@@ -175,6 +176,16 @@ impl Sim {
         ensures { self.new ≡ record self.old { part = Some (steps.opened kind (length self.old.sim.cur)) } }
     {
         self.partial.open(kind, self.cur.as_slice().len());
+    }
+
+    /// How many tiles the open step has; 0 where no step is open.
+    pub fn tiles(&self) -> usize
+        ensures { result ≡ steps.tiles_of self.now }
+    {
+        match self.partial.kind {
+            Some(_) => self.partial.tiles.len(),
+            None => 0,
+        }
     }
 
     /// The task of the i-th tile of the open step's cover; None past the last one, and where no step is open.
@@ -303,6 +314,13 @@ impl Sim {
         ensures { result ≡ motion.place_at self.now.sim.cur i }
     {
         self.cur[i]
+    }
+
+    /// The edge of the box.
+    pub fn edge(&self) -> Edge
+        ensures { result ≡ self.now.units.edge }
+    {
+        self.scale.edge()
     }
 
     /// The step number, of size at most 10^12.

@@ -13,7 +13,8 @@ use Rattle.lj_xyz.specs.Lines.{is_line_feed, lines_of, words_of}
 use Rattle.lj_xyz.specs.Atoms as atoms
 use Rattle.lj_xyz.specs.Reading.{head_in, behind_comment, next_row, rows_in, frame_in, reading}
 use Rattle.lj_tile.specs.Names.{name_of}
-use Rattle.lj_session.specs.Users.{Quota, User, fresh}
+use Rattle.lj_quota.specs.declared.Quota.{Quota}
+use Rattle.lj_session.specs.Users.{User, fresh}
 use Rattle.lj_session.specs.Answers.{performed}
 use Rattle.lj_wire.specs.declared.item.Item.{Item}
 use Rattle.lj_wire.specs.Items.{ends}

@@ -2,7 +2,8 @@
 use Rattle.std.specs.Prelude.{ℕ, Bool, false, List, [], ◌∷◌}
 use Rattle.lj_session.specs.declared.reply.Reply.{Reply}
 use Rattle.lj_session.specs.declared.reply.Reply.TheVariants.{Refused}
-use Rattle.lj_session.specs.Users.{Quota, User, fresh}
+use Rattle.lj_quota.specs.declared.Quota.{Quota}
+use Rattle.lj_session.specs.Users.{User, fresh}
 use Rattle.lj_session.specs.Answers.{answer}
 use Rattle.lj_wire.specs.declared.item.Item.{Item}
 use Rattle.lj_wire.specs.declared.item.Item.TheVariants.{Command, Bad, Last}

@@ -1,0 +1,128 @@
+-- Values under names: a value put, set or taken out, and sums over them.
+use Rattle.std.proofs.Common.{◌≡◌, ℕ, suc, ◌+◌, Bool, true, false, List, [], ◌∷◌, ◌++◌, length, map, Option, Some, None, refl, sym, ap, ◌∙◌, arith, true≢false}
+use Rattle.std.specs.Prelude.{is_some, cond}
+use Rattle.std.specs.List.{sum_by}
+use Rattle.std.proofs.lemmas.List.Sums.{sum_by-cons}
+use Rattle.std.specs.Option.{option_map}
+use Rattle.std.specs.Str.{bytes_eq}
+use Rattle.std.specs.Map.{set_value}
+use Rattle.lj_session.specs.Users.{named, put, taken_out}
+
+-- a test that is known either way
+pub by_test : {P : Type 0} (b : Bool) → (b ≡ true → P) → (b ≡ false → P) → P
+by_test true t f = t refl
+by_test false t f = f refl
+
+module _ {A : Type 0} (name : List ℕ) where
+  none-some : (x : A) → None ≡ Some x → ⊥
+  none-some x e = cc
+
+  same_Some : (x y : A) → Some x ≡ Some y → x ≡ y
+  same_Some x y e = cc
+
+  -- a value set where its name stands is put under the name
+  pub set-put : (es : List (List ℕ × A)) (v w : A) → named name es ≡ Some v → set_value (bytes_eq name) es w ≡ put name w es
+  set-put [] v w h = absurd (none-some v h)
+  set-put (e ∷ es) v w h = by_test (bytes_eq name e.0)
+      (λ t. rw t refl)
+      (λ t. rw t (ap (λ l. e ∷ l) (set-put es v w (rw t at h))))
+
+  -- the value that stands there, put once more, changes nothing
+  pub put-same : (es : List (List ℕ × A)) (v : A) → named name es ≡ Some v → put name v es ≡ es
+  put-same [] v h = absurd (none-some v h)
+  put-same (e ∷ es) v h = by_test (bytes_eq name e.0)
+      (λ t. rw (t, same_Some e.1 v (rw t at h)) refl)
+      (λ t. rw t (ap (λ l. e ∷ l) (put-same es v (rw t at h))))
+
+  -- a new name goes last
+  pub put-new : (es : List (List ℕ × A)) (v : A) → named name es ≡ None → put name v es ≡ es ++ (name, v) ∷ []
+  put-new [] v h = refl
+  put-new (e ∷ es) v h = by_test (bytes_eq name e.0)
+      (λ t. absurd (none-some e.1 (sym (rw t at h))))
+      (λ t. rw t (ap (λ l. e ∷ l) (put-new es v (rw t at h))))
+
+  -- where a name stands its value is put, and is found again
+  pub named-put : (es : List (List ℕ × A)) (v w : A) → named name es ≡ Some v → named name (put name w es) ≡ Some w
+  named-put [] v w h = absurd (none-some v h)
+  named-put (e ∷ es) v w h = by_test (bytes_eq name e.0)
+      (λ t. rw (t, t) refl)
+      (λ t. rw (t, t) (named-put es v w (rw t at h)))
+
+  pub length-put : (es : List (List ℕ × A)) (v w : A) → named name es ≡ Some v → length (put name w es) ≡ length es
+  length-put [] v w h = absurd (none-some v h)
+  length-put (e ∷ es) v w h = by_test (bytes_eq name e.0)
+      (λ t. rw t refl)
+      (λ t. rw t (ap suc (length-put es v w (rw t at h))))
+
+  pub length-new : (es : List (List ℕ × A)) (v : A) → named name es ≡ None → length (put name v es) ≡ length es + 1
+  length-new [] v h = refl
+  length-new (e ∷ es) v h = by_test (bytes_eq name e.0)
+      (λ t. absurd (none-some e.1 (sym (rw t at h))))
+      (λ t. let below = length-new es v (rw t at h) in rw t (omega (arith, below)))
+
+  pub length-taken : (es : List (List ℕ × A)) (v : A) → named name es ≡ Some v → length (taken_out name es) + 1 ≡ length es
+  length-taken [] v h = absurd (none-some v h)
+  length-taken (e ∷ es) v h = by_test (bytes_eq name e.0)
+      (λ t. rw t (omega arith))
+      (λ t. let below = length-taken es v (rw t at h) in rw t (omega (arith, below)))
+
+  -- a name that does not stand is not taken out
+  pub taken-none : (es : List (List ℕ × A)) → named name es ≡ None → taken_out name es ≡ es
+  taken-none [] h = refl
+  taken-none (e ∷ es) h = by_test (bytes_eq name e.0)
+      (λ t. absurd (none-some e.1 (sym (rw t at h))))
+      (λ t. rw t (ap (λ l. e ∷ l) (taken-none es (rw t at h))))
+
+  -- sums over the values
+  module _ (f : A → ℕ) where
+    abbrev value_of : List ℕ × A → ℕ
+    value_of e = f e.1
+
+    pub sum-put : (es : List (List ℕ × A)) (v w : A) → named name es ≡ Some v
+        → sum_by value_of (put name w es) + f v ≡ sum_by value_of es + f w
+    sum-put [] v w h = absurd (none-some v h)
+    sum-put (e ∷ es) v w h = by_test (bytes_eq name e.0)
+        (λ t. let same = ap f (same_Some e.1 v (rw t at h)) in
+        let new = sum_by-cons value_of (e.0, w) es in
+        let old = sum_by-cons value_of e es in
+        rw t (omega (arith, same, new, old)))
+        (λ t. let below = sum-put es v w (rw t at h) in
+        let new = sum_by-cons value_of e (put name w es) in
+        let old = sum_by-cons value_of e es in
+        rw t (omega (arith, below, new, old)))
+
+    pub sum-new : (es : List (List ℕ × A)) (w : A) → named name es ≡ None
+        → sum_by value_of (put name w es) ≡ sum_by value_of es + f w
+    sum-new [] w h = omega arith
+    sum-new (e ∷ es) w h = by_test (bytes_eq name e.0)
+        (λ t. absurd (none-some e.1 (sym (rw t at h))))
+        (λ t. let below = sum-new es w (rw t at h) in
+        let new = sum_by-cons value_of e (put name w es) in
+        let old = sum_by-cons value_of e es in
+        rw t (omega (arith, below, new, old)))
+
+    pub sum-taken : (es : List (List ℕ × A)) (v : A) → named name es ≡ Some v
+        → sum_by value_of (taken_out name es) + f v ≡ sum_by value_of es
+    sum-taken [] v h = absurd (none-some v h)
+    sum-taken (e ∷ es) v h = by_test (bytes_eq name e.0)
+        (λ t. let same = ap f (same_Some e.1 v (rw t at h)) in
+        let old = sum_by-cons value_of e es in
+        rw t (omega (arith, same, old)))
+        (λ t. let below = sum-taken es v (rw t at h) in
+        let new = sum_by-cons value_of e (taken_out name es) in
+        let old = sum_by-cons value_of e es in
+        rw t (omega (arith, below, new, old)))
+
+-- entries whose values are seen by a function: the names stand where they stood
+module _ {A B : Type 0} (f : A → B) (name : List ℕ) where
+  pub named-seen : (es : List (List ℕ × A)) → named name (map (λ e. (e.0, f e.1)) es) ≡ option_map f (named name es)
+  named-seen [] = refl
+  named-seen (e ∷ es) = by_test (bytes_eq name e.0) (λ t. rw t refl) (λ t. rw t (named-seen es))
+
+  pub put-seen : (es : List (List ℕ × A)) (v : A) → put name (f v) (map (λ e. (e.0, f e.1)) es) ≡ map (λ e. (e.0, f e.1)) (put name v es)
+  put-seen [] v = refl
+  put-seen (e ∷ es) v = by_test (bytes_eq name e.0) (λ t. rw t refl) (λ t. rw t (ap (λ l. (e.0, f e.1) ∷ l) (put-seen es v)))
+
+  pub taken-seen : (es : List (List ℕ × A)) → taken_out name (map (λ e. (e.0, f e.1)) es) ≡ map (λ e. (e.0, f e.1)) (taken_out name es)
+  taken-seen [] = refl
+  taken-seen (e ∷ es) = by_test (bytes_eq name e.0) (λ t. rw t refl) (λ t. rw t (ap (λ l. (e.0, f e.1) ∷ l) (taken-seen es)))

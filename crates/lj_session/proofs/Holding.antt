@@ -1,0 +1,97 @@
+-- What is held, and the user that it is: a session looked up, put and taken out in both.
+use Rattle.std.proofs.Common.{◌≡◌, ℕ, ◌+◌, Bool, true, false, List, [], ◌∷◌, length, Option, Some, None, refl, sym, ap, ◌∙◌, arith}
+use Rattle.std.proofs.Common.{Bor}
+use Rattle.std.specs.Prelude.{is_some}
+use Rattle.std.proofs.lemmas.Bool.{true≢false, false≢true}
+use Rattle.std.specs.Option.{option_map, option_copied}
+use Rattle.std.specs.List.{AllByRecursion}
+use Rattle.std.specs.Str.{bytes_eq}
+use Rattle.std.specs.Map.{set_value}
+use Rattle.lj_step.specs.Motion.{Simulation}
+use Rattle.lj_quota.specs.declared.Quota.{Quota}
+use Rattle.lj_session.specs.Users.{Session, User, named, put, taken_out, with_session}
+use Rattle.lj_session.specs.States.{Held, Owned, HasCount, as_session, user_of, used_by, held_in, with_held, changed}
+use Rattle.lj_session.specs.declared.sessions.Sessions.TheInside.{Inside}
+use Rattle.lj_session.specs.Totals.{owned_of}
+use Rattle.lj_session.proofs.Entries.{named-seen, put-seen, taken-seen, put-same, set-put}
+
+-- a session that is held is one of the user
+pub named-held : (owned : Owned) (name : List ℕ) (held : Held) → held_in owned name ≡ Some held → named name (user_of owned).sessions ≡ Some (as_session held)
+named-held owned name held h = named-seen as_session name owned.sessions ∙ ap (option_map as_session) h
+
+pub named-absent : (owned : Owned) (name : List ℕ) → held_in owned name ≡ None → named name (user_of owned).sessions ≡ None
+named-absent owned name h = named-seen as_session name owned.sessions ∙ ap (option_map as_session) h
+
+-- a session put among those that are held is put among those of the user
+pub user_of-put : (owned : Owned) (name : List ℕ) (held : Held) → user_of (with_held name held owned) ≡ with_session name (as_session held) (user_of owned)
+user_of-put owned name held = ap (λ (s : List (List ℕ × Session)). record { quota = owned.quota; sessions = s }) (sym (put-seen as_session name owned.sessions held))
+
+pub user_of-taken : (owned : Owned) (name : List ℕ)
+    → user_of (record owned { sessions = taken_out name owned.sessions }) ≡ record (user_of owned) { sessions = taken_out name (user_of owned).sessions }
+user_of-taken owned name = ap (λ (s : List (List ℕ × Session)). record { quota = owned.quota; sessions = s }) (sym (taken-seen as_session name owned.sessions))
+
+-- a change that leaves the session leaves the user
+pub user_of-changed : (owned : Owned) (name : List ℕ) (change : Held → Held) → ((held : Held) → as_session (change held) ≡ as_session held)
+    → user_of (changed name change owned) ≡ user_of owned
+user_of-changed owned name change same = by (held_in owned name) refl
+  where
+    by : (o : Option Held) → held_in owned name ≡ o → user_of (changed name change owned) ≡ user_of owned
+    by None e = rw e refl
+    by (Some held) e = rw e (user_of-put owned name (change held) ∙ (rw (same held) (ap (λ (s : List (List ℕ × Session)). record { quota = owned.quota; sessions = s }) (put-same name (user_of owned).sessions (as_session held) (named-held owned name held e)))))
+
+-- The map of names in the code, and what is held.
+module _ (a : Inside) (old : Owned) (view : owned_of a ≡ old) (name : List ℕ) where
+  pub looked_up : (o : Option Held) → o ≡ named name a.sessions.entries → held_in old name ≡ o
+  looked_up o h = ap (λ (w : Owned). held_in w name) (sym view) ∙ sym h
+
+  module _ (held : Held) (found : Some held ≡ named name a.sessions.entries) (entries : List (List ℕ × Held)) (new : Held)
+      (set : entries ≡ set_value (bytes_eq name) a.sessions.entries new) where
+    -- a session written through the map
+    pub written : record { quota = a.quota; sessions = entries } ≡ with_held name new old
+    written =
+        ap (λ (es : List (List ℕ × Held)). record { quota = a.quota; sessions = es }) (set ∙ set-put name a.sessions.entries held new (sym found))
+        ∙ ap (with_held name new) view
+
+    -- the session that stood there, written once more
+    pub unwritten : new ≡ held → record { quota = a.quota; sessions = entries } ≡ old
+    unwritten same = written ∙ ap (λ (h : Held). with_held name h old) same
+        ∙ ap (λ (es : List (List ℕ × Held)). record { quota = old.quota; sessions = es }) (put-same name old.sessions held (looked_up (Some held) found))
+
+-- a look-up by reference, and what is there
+pub present : (owned : Owned) (name : List ℕ) (o : Option (Bor Held)) → option_copied o ≡ held_in owned name → is_some (named name (user_of owned).sessions) ≡ is_some o
+present owned name None h = ap is_some (named-absent owned name (sym h))
+present owned name (Some held) h = ap is_some (named-held owned name held.now (sym h))
+
+pub absent-at : (owned : Owned) (name : List ℕ) (o : Option (Bor Held)) → option_copied o ≡ held_in owned name → is_some o ≡ false → held_in owned name ≡ None
+absent-at owned name None h none = sym h
+absent-at owned name (Some held) h none = absurd (true≢false none)
+
+pub held-at : (owned : Owned) (name : List ℕ) (o : Option (Bor Held)) → option_copied o ≡ held_in owned name → is_some o ≡ true → (held : Held) × (held_in owned name ≡ Some held)
+held-at owned name None h some = absurd (false≢true some)
+held-at owned name (Some held) h some = (held.now, sym h)
+
+-- a session taken out of the map
+pub taken-of : (a : Inside) (old : Owned) → owned_of a ≡ old → (name : List ℕ) (entries : List (List ℕ × Held)) → entries ≡ taken_out name a.sessions.entries
+    → record { quota = a.quota; sessions = entries } ≡ record old { sessions = taken_out name old.sessions }
+taken-of a old view name entries is =
+    ap (λ (es : List (List ℕ × Held)). record { quota = a.quota; sessions = es }) is ∙ ap (λ (o : Owned). record { quota = o.quota; sessions = taken_out name o.sessions }) view
+
+-- a new session in the map
+pub inserted : (a : Inside) (old : Owned) → owned_of a ≡ old → (name copy : List ℕ) → copy ≡ name → (entries : List (List ℕ × Held)) (new made : Held) → new ≡ made
+    → entries ≡ put copy new a.sessions.entries → record { quota = a.quota; sessions = entries } ≡ with_held name made old
+inserted a old view name copy same entries new made is put_in =
+    ap (λ (es : List (List ℕ × Held)). record { quota = a.quota; sessions = es }) (put_in ∙ ap (λ n. put n new a.sessions.entries) same ∙ ap (λ (h : Held). put name h a.sessions.entries) is)
+    ∙ ap (with_held name made) view
+
+-- where there is no such session, nothing is changed
+pub changed-none : (owned : Owned) (name : List ℕ) (change : Held → Held) → held_in owned name ≡ None → changed name change owned ≡ owned
+changed-none owned name change absent = rw absent refl
+
+pub changed-some : (owned : Owned) (name : List ℕ) (change : Held → Held) (held : Held) → held_in owned name ≡ Some held → changed name change owned ≡ with_held name (change held) owned
+changed-some owned name change held found = rw found refl
+
+-- a session put that is the same session leaves the user
+pub user_of-kept : (owned : Owned) (name : List ℕ) (held new : Held) → held_in owned name ≡ Some held → as_session new ≡ as_session held → user_of (with_held name new owned) ≡ user_of owned
+user_of-kept owned name held new found same =
+    user_of-put owned name new ∙ ap (λ (s : Session). with_session name s (user_of owned)) same
+    ∙ ap (λ (s : List (List ℕ × Session)). record { quota = owned.quota; sessions = s }) (put-same name (user_of owned).sessions (as_session held) (named-held owned name held found))

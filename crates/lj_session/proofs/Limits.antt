@@ -1,0 +1,67 @@
+-- Whether the quota has room, by the running totals.
+use Rattle.std.proofs.Common.{◌≡◌, ℕ, ◌+◌, ◌<◌, ◌≤◌, Bool, true, false, Result, Ok, Err, nat_lt, nat_le, refl, sym, ap, ◌∙◌, arith}
+use Rattle.std.proofs.lemmas.Bool.{false≢true, lt-ltb, le-ltb, le-leb, lt-leb, ltb-true, leb-true, leb-false}
+use Rattle.lj_quota.specs.declared.Used.{Used}
+use Rattle.lj_quota.specs.declared.Over.{Over}
+use Rattle.lj_session.specs.declared.sessions.Sessions.TheInside.{Inside}
+use Rattle.lj_session.specs.Totals.{owned_of}
+use Rattle.lj_session.specs.Users.{sessions_used, atoms_used, branches_used}
+use Rattle.lj_session.specs.States.{Owned, user_of, used_by}
+use Rattle.lj_session.proofs.Entries.{by_test}
+
+-- what is not within a limit is over it
+pub over-limit : (total limit : ℕ) → (total ≤ limit → false ≡ true) → limit < total
+over-limit total limit h = by_test (nat_le total limit)
+    (λ t. absurd (false≢true (h (leb-true total limit t))))
+    (λ f. leb-false total limit f)
+
+pub same_over : (a b : Over) → ◌≡◌ {A = Result (Unit {0}) Over} (Err a) (Err b) → a ≡ b
+same_over a b e = cc
+
+module _ (a : Inside) (old : Owned) (view : owned_of a ≡ old) (counted : a.used ≡ used_by (owned_of a)) where
+  before : a.used ≡ used_by old
+  before = counted ∙ ap used_by view
+
+  pub sessions-over : a.quota.sessions < a.used.sessions + 1 → nat_lt (sessions_used (user_of old)) old.quota.sessions ≡ false
+  sessions-over h =
+      let u = ap (λ (v : Used). v.sessions) before in
+      let q = ap (λ (o : Owned). o.quota.sessions) view in
+      le-ltb (sessions_used (user_of old)) old.quota.sessions (omega (arith, h, u, q))
+
+  pub sessions-room : a.used.sessions + 1 ≤ a.quota.sessions → nat_lt (sessions_used (user_of old)) old.quota.sessions ≡ true
+  sessions-room h =
+      let u = ap (λ (v : Used). v.sessions) before in
+      let q = ap (λ (o : Owned). o.quota.sessions) view in
+      lt-ltb (sessions_used (user_of old)) old.quota.sessions (omega (arith, h, u, q))
+
+  pub sessions-within : nat_lt (sessions_used (user_of old)) old.quota.sessions ≡ true → a.used.sessions + 1 ≤ a.quota.sessions
+  sessions-within room =
+      let u = ap (λ (v : Used). v.sessions) before in
+      let q = ap (λ (o : Owned). o.quota.sessions) view in
+      let h = ltb-true (sessions_used (user_of old)) old.quota.sessions room in
+      omega (arith, h, u, q)
+
+  pub branches-over : a.quota.branches < a.used.branches + 1 → nat_lt (branches_used (user_of old)) old.quota.branches ≡ false
+  branches-over h =
+      let u = ap (λ (v : Used). v.branches) before in
+      let q = ap (λ (o : Owned). o.quota.branches) view in
+      le-ltb (branches_used (user_of old)) old.quota.branches (omega (arith, h, u, q))
+
+  pub branches-room : a.used.branches + 1 ≤ a.quota.branches → nat_lt (branches_used (user_of old)) old.quota.branches ≡ true
+  branches-room h =
+      let u = ap (λ (v : Used). v.branches) before in
+      let q = ap (λ (o : Owned). o.quota.branches) view in
+      lt-ltb (branches_used (user_of old)) old.quota.branches (omega (arith, h, u, q))
+
+  module _ (atoms count : ℕ) (same : atoms ≡ count) where
+    pub atoms-over : a.quota.atoms < a.used.atoms + atoms → nat_le (atoms_used (user_of old) + count) old.quota.atoms ≡ false
+    atoms-over h =
+        let u = ap (λ (v : Used). v.atoms) before in
+        let q = ap (λ (o : Owned). o.quota.atoms) view in
+        lt-leb (atoms_used (user_of old) + count) old.quota.atoms (omega (arith, h, u, q, same))
+
+    pub atoms-room : a.used.atoms + atoms ≤ a.quota.atoms → nat_le (atoms_used (user_of old) + count) old.quota.atoms ≡ true
+    atoms-room h =
+        let u = ap (λ (v : Used). v.atoms) before in
+        let q = ap (λ (o : Owned). o.quota.atoms) view in
+        le-leb (atoms_used (user_of old) + count) old.quota.atoms (omega (arith, h, u, q, same))

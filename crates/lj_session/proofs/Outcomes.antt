@@ -1,0 +1,131 @@
+-- What each command that changes a session comes to, of what is held.
+use Rattle.std.proofs.Common.{◌≡◌, ℕ, ◌<◌, ◌≤◌, ◌^◌, Bool, true, false, ℤ, unsigned_abs, List, length, Some, Result, Ok, Err, nat_lt, refl, sym, ap, ◌∙◌, arith, w64, to_z, of_z}
+use Rattle.std.specs.Int.{w128}
+use Rattle.std.proofs.lemmas.Int.{to_z-of_z, fits_signed_from_abs}
+use Rattle.std.proofs.lemmas.Bool.{lt-ltb, le-ltb}
+use Rattle.lj_ring.specs.declared.coordinates.Place.{Place}
+use Rattle.lj_step.specs.Motion.{Simulation, reversed, tugged}
+use Rattle.lj_step.specs.OpenSteps.{closed}
+use Rattle.lj_session.specs.declared.command.Command.{Command}
+use Rattle.lj_session.specs.declared.command.Command.TheVariants.{Advance, Reverse, Branch, Restore, Forget, Tug, Unload}
+use Rattle.lj_session.specs.declared.refusal.Refusal.{Refusal}
+use Rattle.lj_session.specs.declared.refusal.Refusal.TheVariants.{Memory}
+use Rattle.lj_session.specs.declared.reply.Reply.{Reply}
+use Rattle.lj_session.specs.declared.reply.Reply.TheVariants as reply
+use Rattle.lj_session.specs.Users.{Session, User, named, put, taken_out, with_session, atoms_of}
+use Rattle.lj_session.specs.Answers.{performed, answer, settled, can_advance}
+use Rattle.lj_session.specs.Turns.{turned}
+use Rattle.lj_session.specs.States.{Held, Owned, Performs, as_session, user_of, held_in, with_held, changed, turned_on, branch_admitted}
+use Rattle.lj_session.proofs.Entries.{put-same}
+use Rattle.lj_session.proofs.Holding.{named-held, user_of-put, user_of-taken}
+use Rattle.lj_session.proofs.Performing as performing
+use Rattle.lj_session.proofs.Saving as saving
+
+-- a session with another simulation, and no step open
+abbrev pub moved_to : Held → Simulation → Held
+moved_to held sim = record held { live = closed held.live sim }
+
+-- with other saved simulations
+abbrev pub keeping : Held → List (List ℕ × Simulation) → Held
+keeping held saved = record held { saved = saved }
+
+module _ (old : Owned) (name : List ℕ) (held : Held) (found : held_in old name ≡ Some held) where
+  -- a reply with the user that a put session makes
+  put_with : (made : Reply) (new : Held) → ◌≡◌ {A = Result (Reply × User) Refusal} (Ok (made, with_session name (as_session new) (user_of old))) (Ok (made, user_of (with_held name new old)))
+  put_with made new = ap (λ (u : User). Ok (made, u)) (sym (user_of-put old name new))
+
+  pub reverse : Performs old (Reverse name) (Ok (reply.Reversed name (reversed held.live.sim).step)) (with_held name (moved_to held (reversed held.live.sim)) old)
+  reverse = performing.told old _ _ _
+      (performing.reverse-done (user_of old) name false (as_session held) (named-held old name held found)
+      ∙ put_with (reply.Reversed name (reversed held.live.sim).step) (moved_to held (reversed held.live.sim)))
+
+  pub tug : (atom : ℕ) (x y z : ℤ) → nat_lt atom (length held.live.sim.cur) ≡ true
+      → Performs old (Tug name atom x y z) (Ok (reply.Tugged name atom held.live.sim.step)) (with_held name (moved_to held (tugged atom (record { x = x; y = y; z = z }) held.live.sim)) old)
+  tug atom x y z there = performing.told old _ _ _
+      (performing.tug-done (user_of old) name false (as_session held) (named-held old name held found) atom x y z there
+      ∙ put_with (reply.Tugged name atom held.live.sim.step) (moved_to held (tugged atom (record { x = x; y = y; z = z }) held.live.sim)))
+
+  pub restore : (branch : List ℕ) (sim : Simulation) → named branch held.saved ≡ Some sim
+      → Performs old (Restore name branch) (Ok (reply.Restored name branch sim.step)) (with_held name (moved_to held sim) old)
+  restore branch sim saved = performing.told old _ _ _
+      (performing.restore-done (user_of old) name false (as_session held) (named-held old name held found) branch sim saved
+      ∙ put_with (reply.Restored name branch sim.step) (moved_to held sim))
+
+  pub forget : (branch : List ℕ) (sim : Simulation) → named branch held.saved ≡ Some sim
+      → Performs old (Forget name branch) (Ok (reply.Forgotten name branch)) (with_held name (keeping held (taken_out branch held.saved)) old)
+  forget branch sim saved = performing.told old _ _ _
+      (performing.forget-done (user_of old) name false (as_session held) (named-held old name held found) branch sim saved
+      ∙ put_with (reply.Forgotten name branch) (keeping held (taken_out branch held.saved)))
+
+  pub branch-ok : (branch : List ℕ) → branch_admitted (user_of old) name branch ≡ Ok tt
+      → Performs old (Branch name branch) (Ok (reply.Branched name branch held.live.sim.step)) (with_held name (keeping held (put branch held.live.sim held.saved)) old)
+  branch-ok branch admitted =
+      let session = named-held old name held found in
+      let may = saving.new-admitted (user_of old) name branch (as_session held) session admitted in
+      performing.told old _ _ _
+      (saving.branch-done (user_of old) name branch (as_session held) session may.0 may.1
+      ∙ put_with (reply.Branched name branch held.live.sim.step) (keeping held (put branch held.live.sim held.saved)))
+
+  pub branch-starved : (branch : List ℕ) → branch_admitted (user_of old) name branch ≡ Ok tt → Performs old (Branch name branch) (Err Memory) old
+  branch-starved branch admitted =
+      let session = named-held old name held found in
+      let may = saving.new-admitted (user_of old) name branch (as_session held) session admitted in
+      performing.starved old old _ (saving.branch-memory (user_of old) name branch (as_session held) session may.0 may.1)
+
+  pub unload : Performs old (Unload name) (Ok (reply.Unloaded name)) (record old { sessions = taken_out name old.sessions })
+  unload = performing.told old _ _ _
+      (performing.unload-done (user_of old) name false (as_session held) (named-held old name held found)
+      ∙ ap (λ (u : User). Ok (reply.Unloaded name, u)) (sym (user_of-taken old name)))
+
+  -- an ADVANCE by 0 leaves the user
+  pub advance-nothing : can_advance (as_session held) 0 ≡ true → (mark : Bool)
+      → performed (user_of old) (Advance name 0) mark ≡ Ok (reply.Advanced name held.live.sim.step, user_of old)
+  advance-nothing near mark =
+      let session = named-held old name held found in
+      performing.advance-on (user_of old) name mark (as_session held) session 0 near
+      ∙ ap (λ (s : List (List ℕ × Session)). Ok (reply.Advanced name held.live.sim.step, record { quota = old.quota; sessions = s }))
+      (put-same name (user_of old).sessions (as_session held) session)
+
+  -- one turn is the ADVANCE by 1
+  pub turned-user : (n : ℕ) → user_of (with_held name (turned_on held) old) ≡ turned (user_of old) (Advance name n)
+  unfolding turned
+  turned-user n = user_of-put old name (turned_on held) ∙ sym (rw (named-held old name held found) refl)
+
+  pub turned-answer : can_advance (as_session held) 1 ≡ true → (answer (user_of old) (Advance name 1) false).1 ≡ user_of (with_held name (turned_on held) old)
+  turned-answer near =
+      ap (λ r. (settled (user_of old) r).1) (performing.advance-on (user_of old) name false (as_session held) (named-held old name held found) 1 near)
+      ∙ sym (user_of-put old name (turned_on held))
+
+-- a reply that names the step, read as the code has it
+pub stated : (old new new' : Owned) (command : Command) (made : ℤ → Reply) (step step' : ℤ) → Performs old command (Ok (made step)) new → step' ≡ step → new' ≡ new
+    → Performs old command (Ok (made step')) new'
+stated old new new' command made step step' performs same next = rw (same, next) performs
+
+-- a step number fits its word
+pub read-step : (step : ℤ) → unsigned_abs step ≤ 10 ^ 12 → to_z w64 (of_z w64 step) ≡ step
+read-step step most = to_z-of_z w64 step (fits_signed_from_abs w64 step (omega (arith, most)))
+
+-- an atom of the session, and one past its last
+pub there : (atom count : ℕ) → atom < count → nat_lt atom count ≡ true
+there atom count below = lt-ltb atom count below
+
+pub past : (atom count : ℕ) → count ≤ atom → nat_lt atom count ≡ false
+past atom count above = le-ltb atom count above
+
+-- what is held, read as the code has it
+pub written-to : (old new new' : Owned) (command : Command) (result : Result Reply Refusal) → Performs old command result new → new' ≡ new → Performs old command result new'
+written-to old new new' command result performs next = rw next performs
+
+-- a potential fits its word
+pub read-potential : (potential : ℤ) → unsigned_abs potential < 2 ^ 127 → to_z w128 (of_z w128 potential) ≡ potential
+read-potential potential most = to_z-of_z w128 potential (fits_signed_from_abs w128 potential (omega (arith, most)))
+
+-- replies, read as the code has them
+pub shown : (user : User) (name : List ℕ) (atom : ℕ) (step step' : ℤ) (place place' : Place) → step' ≡ step → place' ≡ place
+    → ◌≡◌ {A = Result (Reply × User) Refusal} (Ok (reply.Shown name step atom place, user)) (Ok (reply.Shown name step' atom place', user))
+shown user name atom step step' place place' s p = rw (s, p) refl
+
+pub measured : (user : User) (name : List ℕ) (step step' : ℤ) (atoms atoms' : ℕ) (momentum momentum' : List ℤ) (kinetic kinetic' : ℕ) (potential potential' : ℤ)
+    → step' ≡ step → atoms' ≡ atoms → momentum' ≡ momentum → kinetic' ≡ kinetic → potential' ≡ potential
+    → ◌≡◌ {A = Result (Reply × User) Refusal} (Ok (reply.Measured name step atoms momentum kinetic potential, user)) (Ok (reply.Measured name step' atoms' momentum' kinetic' potential', user))
+measured user name step step' atoms atoms' momentum momentum' kinetic kinetic' potential potential' s a m k p = rw (s, a, m, k, p) refl

@@ -1,0 +1,132 @@
+-- What each command comes to, case by case.
+use Rattle.std.proofs.Common.{◌≡◌, ℕ, ◌+◌, ◌<◌, ◌≤◌, Bool, true, false, ℤ, List, [], ◌∷◌, length, Option, Some, None, Result, Ok, Err, nat_lt, nat_le, not, refl, sym, ap, ◌∙◌}
+use Rattle.std.specs.Prelude.{is_some}
+use Rattle.lj_step.specs.Motion.{Simulation, Displacement, place_at, steps, stepped, reversed, tugged, momentum, kinetic, potential}
+use Rattle.lj_session.specs.declared.command.Command.{Command}
+use Rattle.lj_session.specs.declared.command.Command.TheVariants.{Advance, Reverse, Branch, Restore, Forget, Tug, Measure, Show, Dump, ListBranches, Unload}
+use Rattle.lj_session.specs.declared.refusal.Refusal.{Refusal}
+use Rattle.lj_session.specs.declared.refusal.Refusal.TheVariants.{NoSession, NoBranch, NoAtom, StepRange, Memory}
+use Rattle.lj_session.specs.declared.reply.Reply.{Reply}
+use Rattle.lj_session.specs.declared.reply.Reply.TheVariants as reply
+use Rattle.lj_session.specs.Users.{Session, User, named, put, taken_out, with_session, atoms_of, branches_used}
+use Rattle.lj_session.specs.Answers.{performed, can_advance, with_sim}
+use Rattle.lj_session.specs.States.{Owned, Performs, outcome, user_of, branch_admitted}
+
+-- a command that is answered without the mark
+pub told : (old new : Owned) (command : Command) (result : Result Reply Refusal)
+    → performed (user_of old) command false ≡ outcome result (user_of new) → Performs old command result new
+told old new command result h = record { mark = false; performs = h; only_memory = λ marked. cc }
+
+-- a command that memory was refused to
+pub starved : (old new : Owned) (command : Command) → performed (user_of old) command true ≡ Err Memory → Performs old command (Err Memory) new
+starved old new command h = record { mark = true; performs = h; only_memory = λ marked. refl }
+
+module _ (user : User) (name : List ℕ) (mark : Bool) where
+  module _ (absent : named name user.sessions ≡ None) where
+    pub advance-none : (n : ℕ) → performed user (Advance name n) mark ≡ Err NoSession
+    unfolding performed
+    advance-none n = rw absent refl
+
+    pub reverse-none : performed user (Reverse name) mark ≡ Err NoSession
+    unfolding performed
+    reverse-none = rw absent refl
+
+    pub restore-none : (branch : List ℕ) → performed user (Restore name branch) mark ≡ Err NoSession
+    unfolding performed
+    restore-none branch = rw absent refl
+
+    pub forget-none : (branch : List ℕ) → performed user (Forget name branch) mark ≡ Err NoSession
+    unfolding performed
+    forget-none branch = rw absent refl
+
+    pub tug-none : (atom : ℕ) (x y z : ℤ) → performed user (Tug name atom x y z) mark ≡ Err NoSession
+    unfolding performed
+    tug-none atom x y z = rw absent refl
+
+    pub measure-none : performed user (Measure name) mark ≡ Err NoSession
+    unfolding performed
+    measure-none = rw absent refl
+
+    pub show-none : (atom : ℕ) → performed user (Show name atom) mark ≡ Err NoSession
+    unfolding performed
+    show-none atom = rw absent refl
+
+    pub dump-none : performed user (Dump name) mark ≡ Err NoSession
+    unfolding performed
+    dump-none = rw absent refl
+
+    pub list_branches-none : performed user (ListBranches name) mark ≡ Err NoSession
+    unfolding performed
+    list_branches-none = rw absent refl
+
+    pub unload-none : performed user (Unload name) mark ≡ Err NoSession
+    unfolding performed
+    unload-none = rw absent refl
+
+  module _ (session : Session) (found : named name user.sessions ≡ Some session) where
+    pub advance-far : (n : ℕ) → can_advance session n ≡ false → performed user (Advance name n) mark ≡ Err StepRange
+    unfolding performed
+    advance-far n far = rw (found, far) refl
+
+    pub advance-on : (n : ℕ) → can_advance session n ≡ true
+        → performed user (Advance name n) mark ≡ Ok (reply.Advanced name (steps session.units n session.sim).step, with_sim name session (steps session.units n session.sim) user)
+    unfolding performed
+    advance-on n near = rw (found, near) refl
+
+    pub reverse-done : performed user (Reverse name) mark ≡ Ok (reply.Reversed name (reversed session.sim).step, with_sim name session (reversed session.sim) user)
+    unfolding performed
+    reverse-done = rw found refl
+
+    pub restore-no_branch : (branch : List ℕ) → named branch session.saved ≡ None → performed user (Restore name branch) mark ≡ Err NoBranch
+    unfolding performed
+    restore-no_branch branch none = rw (found, none) refl
+
+    pub restore-done : (branch : List ℕ) (sim : Simulation) → named branch session.saved ≡ Some sim
+        → performed user (Restore name branch) mark ≡ Ok (reply.Restored name branch sim.step, with_sim name session sim user)
+    unfolding performed
+    restore-done branch sim saved = rw (found, saved) refl
+
+    pub forget-no_branch : (branch : List ℕ) → named branch session.saved ≡ None → performed user (Forget name branch) mark ≡ Err NoBranch
+    unfolding performed
+    forget-no_branch branch none = rw (found, none) refl
+
+    pub forget-done : (branch : List ℕ) (sim : Simulation) → named branch session.saved ≡ Some sim
+        → performed user (Forget name branch) mark ≡ Ok (reply.Forgotten name branch, with_session name (record session { saved = taken_out branch session.saved }) user)
+    unfolding performed
+    forget-done branch sim saved = rw (found, saved) refl
+
+    pub tug-no_atom : (atom : ℕ) (x y z : ℤ) → nat_lt atom (atoms_of session) ≡ false → performed user (Tug name atom x y z) mark ≡ Err NoAtom
+    unfolding performed
+    tug-no_atom atom x y z past = rw (found, past) refl
+
+    pub tug-done : (atom : ℕ) (x y z : ℤ) → nat_lt atom (atoms_of session) ≡ true
+        → performed user (Tug name atom x y z) mark
+        ≡ Ok (reply.Tugged name atom session.sim.step, with_sim name session (tugged atom (record { x = x; y = y; z = z }) session.sim) user)
+    unfolding performed
+    tug-done atom x y z there = rw (found, there) refl
+
+    pub measure-done : performed user (Measure name) mark
+        ≡ Ok (reply.Measured name session.sim.step (atoms_of session) (let m = momentum session.sim in m.x ∷ m.y ∷ m.z ∷ []) (kinetic session.sim) (potential session.units session.sim.cur), user)
+    unfolding performed
+    measure-done = rw found refl
+
+    pub show-no_atom : (atom : ℕ) → nat_lt atom (atoms_of session) ≡ false → performed user (Show name atom) mark ≡ Err NoAtom
+    unfolding performed
+    show-no_atom atom past = rw (found, past) refl
+
+    pub show-done : (atom : ℕ) → nat_lt atom (atoms_of session) ≡ true
+        → performed user (Show name atom) mark ≡ Ok (reply.Shown name session.sim.step atom (place_at session.sim.cur atom), user)
+    unfolding performed
+    show-done atom there = rw (found, there) refl
+
+    pub dump-done : performed user (Dump name) mark ≡ Ok (reply.Dumped name, user)
+    unfolding performed
+    dump-done = rw found refl
+
+    pub list_branches-done : performed user (ListBranches name) mark ≡ Ok (reply.ListedBranches name, user)
+    unfolding performed
+    list_branches-done = rw found refl
+
+    pub unload-done : performed user (Unload name) mark ≡ Ok (reply.Unloaded name, record user { sessions = taken_out name user.sessions })
+    unfolding performed
+    unload-done = rw found refl

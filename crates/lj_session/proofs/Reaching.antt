@@ -1,0 +1,53 @@
+-- The last user of some commands, and of one command more.
+use Rattle.std.proofs.Common.{◌≡◌, Bool, true, false, List, [], ◌∷◌, ◌++◌, Result, Ok, Err, refl, sym, ap, ◌∙◌}
+use Rattle.std.specs.Prelude.{OnErr}
+use Rattle.lj_quota.specs.declared.Quota.{Quota}
+use Rattle.lj_session.specs.declared.command.Command.{Command}
+use Rattle.lj_session.specs.declared.refusal.Refusal.{Refusal}
+use Rattle.lj_session.specs.declared.reply.Reply.{Reply}
+use Rattle.lj_session.specs.Users.{User, fresh}
+use Rattle.lj_session.specs.Answers.{answer, settled}
+use Rattle.lj_session.specs.States.{Owned, Reached, Performs, empty, user_of, user_after}
+
+-- as many marks as commands: a missing one is not set
+abbrev full : List Command → List Bool → List Bool
+full [] marks = []
+full (command ∷ commands) [] = false ∷ full commands []
+full (command ∷ commands) (mark ∷ marks) = mark ∷ full commands marks
+
+after-one_more : (user : User) (commands : List Command) (marks : List Bool) (command : Command) (mark : Bool)
+    → user_after user (commands ++ command ∷ []) (full commands marks ++ mark ∷ []) ≡ (answer (user_after user commands marks) command mark).1
+after-one_more user [] marks command mark = refl
+after-one_more user (first ∷ commands) [] command mark = after-one_more (answer user first false).1 commands [] command mark
+after-one_more user (first ∷ commands) (set ∷ marks) command mark = after-one_more (answer user first set).1 commands marks command mark
+
+-- no command leads to no sessions
+pub reached-empty : (quota : Quota) → Reached (empty quota)
+reached-empty quota = record { commands = []; marks = []; leads = refl }
+
+-- one command more
+pub reached-answer : (old new : Owned) → Reached old → (command : Command) (mark : Bool) → new.quota ≡ old.quota
+    → (answer (user_of old) command mark).1 ≡ user_of new → Reached new
+reached-answer old new before command mark quota next = record {
+  commands = before.commands ++ command ∷ [];
+  marks = full before.commands before.marks ++ mark ∷ [];
+  leads = sym next
+      ∙ ap (λ user. (answer user command mark).1) before.leads
+      ∙ sym (after-one_more (fresh old.quota) before.commands before.marks command mark)
+      ∙ ap (λ quota. user_after (fresh quota) (before.commands ++ command ∷ []) (full before.commands before.marks ++ mark ∷ [])) (sym quota);
+}
+
+-- the same user
+pub reached-same : (old new : Owned) → Reached old → user_of new ≡ user_of old → Reached new
+reached-same old new before same = record {
+  commands = before.commands;
+  marks = before.marks;
+  leads = same ∙ before.leads ∙ ap (λ (user : User). user_after (fresh user.quota) before.commands before.marks) (sym same);
+}
+
+-- a command that is performed
+pub reached-performs : (old new : Owned) → Reached old → (command : Command) (result : Result Reply Refusal) → Performs old command result new
+    → new.quota ≡ old.quota → OnErr result (new ≡ old) → Reached new
+reached-performs old new before command (Ok reply) performs quota stays =
+    reached-answer old new before command performs.mark quota (ap (λ r. (settled (user_of old) r).1) performs.performs)
+reached-performs old new before command (Err refusal) performs quota stays = reached-same old new before (ap user_of stays)

@@ -1,0 +1,152 @@
+-- What is used of a quota where a session is put, new or changed, or taken out.
+use Rattle.std.proofs.Common.{◌≡◌, ℕ, ◌+◌, ◌-◌, ◌≤◌, List, length, map, Option, Some, None, refl, sym, ap, ◌∙◌, arith}
+use Rattle.std.proofs.lemmas.List.{length-map}
+use Rattle.lj_quota.specs.declared.Used.{Used}
+use Rattle.lj_session.specs.Users.{Session, User, named, put, taken_out, with_session, atoms_of, sessions_used, atoms_used, branches_used}
+use Rattle.lj_session.specs.States.{Held, Owned, as_session, user_of, used_by, held_in, with_held}
+use Rattle.lj_session.specs.declared.sessions.Sessions.TheInside.{Inside}
+use Rattle.lj_session.specs.Totals.{owned_of}
+use Rattle.lj_session.proofs.Entries.{length-put, length-new, length-taken, sum-put, sum-new, sum-taken}
+use Rattle.lj_session.proofs.Holding.{named-held, named-absent, user_of-put, user_of-taken}
+
+-- totals are equal where each part is
+pub same_used : (a b : Used) → a.sessions ≡ b.sessions → a.atoms ≡ b.atoms → a.branches ≡ b.branches → a ≡ b
+same_used a b s t u = λ j. record { sessions = s j; atoms = t j; branches = u j }
+
+abbrev saved_of : Session → ℕ
+saved_of session = length session.saved
+
+module _ (old : Owned) (name : List ℕ) (new : Held) where
+  abbrev user_used : User → Used
+  user_used user = record { sessions = sessions_used user; atoms = atoms_used user; branches = branches_used user }
+
+  put_used : used_by (with_held name new old) ≡ user_used (with_session name (as_session new) (user_of old))
+  put_used = ap user_used (user_of-put old name new)
+
+  -- a session changed
+  module _ (held : Held) (found : held_in old name ≡ Some held) where
+    session : named name (user_of old).sessions ≡ Some (as_session held)
+    session = named-held old name held found
+
+    pub sessions-changed : (used_by (with_held name new old)).sessions ≡ (used_by old).sessions
+    sessions-changed = ap (λ (u : Used). u.sessions) put_used ∙ length-put name (user_of old).sessions (as_session held) (as_session new) session
+
+    pub atoms-changed : (used_by (with_held name new old)).atoms + length held.live.sim.cur ≡ (used_by old).atoms + length new.live.sim.cur
+    atoms-changed = ap (λ (u : Used). u.atoms + length held.live.sim.cur) put_used ∙ sum-put name atoms_of (user_of old).sessions (as_session held) (as_session new) session
+
+    pub branches-changed : (used_by (with_held name new old)).branches + length held.saved ≡ (used_by old).branches + length new.saved
+    branches-changed = ap (λ (u : Used). u.branches + length held.saved) put_used ∙ sum-put name saved_of (user_of old).sessions (as_session held) (as_session new) session
+
+    -- with as many atoms and as many saved simulations as before
+    pub used-same : length new.live.sim.cur ≡ length held.live.sim.cur → length new.saved ≡ length held.saved → used_by (with_held name new old) ≡ used_by old
+    used-same atoms saved = same_used (used_by (with_held name new old)) (used_by old) sessions-changed
+        (let a = atoms-changed in omega (arith, a, atoms)) (let b = branches-changed in omega (arith, b, saved))
+
+    pub sessions-taken : (used_by (record old { sessions = taken_out name old.sessions })).sessions + 1 ≡ (used_by old).sessions
+    sessions-taken = ap (λ (u : User). sessions_used u + 1) (user_of-taken old name) ∙ length-taken name (user_of old).sessions (as_session held) session
+
+    pub atoms-taken : (used_by (record old { sessions = taken_out name old.sessions })).atoms + length held.live.sim.cur ≡ (used_by old).atoms
+    atoms-taken = ap (λ (u : User). atoms_used u + length held.live.sim.cur) (user_of-taken old name) ∙ sum-taken name atoms_of (user_of old).sessions (as_session held) session
+
+    pub branches-taken : (used_by (record old { sessions = taken_out name old.sessions })).branches + length held.saved ≡ (used_by old).branches
+    branches-taken = ap (λ (u : User). branches_used u + length held.saved) (user_of-taken old name) ∙ sum-taken name saved_of (user_of old).sessions (as_session held) session
+
+  -- a new session
+  module _ (absent : held_in old name ≡ None) where
+    none : named name (user_of old).sessions ≡ None
+    none = named-absent old name absent
+
+    pub sessions-new : (used_by (with_held name new old)).sessions ≡ (used_by old).sessions + 1
+    sessions-new = ap (λ (u : Used). u.sessions) put_used ∙ length-new name (user_of old).sessions (as_session new) none
+
+    pub atoms-new : (used_by (with_held name new old)).atoms ≡ (used_by old).atoms + length new.live.sim.cur
+    atoms-new = ap (λ (u : Used). u.atoms) put_used ∙ sum-new name atoms_of (user_of old).sessions (as_session new) none
+
+    pub branches-new : (used_by (with_held name new old)).branches ≡ (used_by old).branches + length new.saved
+    branches-new = ap (λ (u : Used). u.branches) put_used ∙ sum-new name saved_of (user_of old).sessions (as_session new) none
+
+-- The running totals, where what is held becomes `next`.
+module _ (a : Inside) (old : Owned) (view : owned_of a ≡ old) (counted : a.used ≡ used_by (owned_of a)) (name : List ℕ) (held : Held)
+    (found : held_in old name ≡ Some held) (next : Owned) where
+  pub used-old : a.used ≡ used_by old
+  used-old = counted ∙ ap used_by view
+
+  module _ (new : Held) (is : next ≡ with_held name new old) (atoms : length new.live.sim.cur ≡ length held.live.sim.cur) where
+    -- the session has as many atoms and saved simulations as before
+    pub used-kept : length new.saved ≡ length held.saved → a.used ≡ used_by next
+    used-kept saved = used-old ∙ sym (used-same old name new held found atoms saved) ∙ ap used_by (sym is)
+
+    -- it has one saved simulation more
+    pub used-saved : length new.saved ≡ length held.saved + 1 → record { sessions = a.used.sessions; atoms = a.used.atoms; branches = a.used.branches + 1 } ≡ used_by next
+    used-saved saved =
+        let s = sessions-changed old name new held found in
+        let t = atoms-changed old name new held found in
+        let u = branches-changed old name new held found in
+        let before = used-old in
+        same_used (record { sessions = a.used.sessions; atoms = a.used.atoms; branches = a.used.branches + 1 }) (used_by (with_held name new old))
+        (ap (λ (v : Used). v.sessions) before ∙ sym s)
+        (let b = ap (λ (v : Used). v.atoms) before in omega (arith, b, t, atoms))
+        (let b = ap (λ (v : Used). v.branches) before in omega (arith, b, u, saved))
+        ∙ ap used_by (sym is)
+
+    -- it has one less
+    pub used-forgotten : length new.saved + 1 ≡ length held.saved → record { sessions = a.used.sessions; atoms = a.used.atoms; branches = a.used.branches - 1 } ≡ used_by next
+    used-forgotten saved =
+        let s = sessions-changed old name new held found in
+        let t = atoms-changed old name new held found in
+        let u = branches-changed old name new held found in
+        let before = used-old in
+        same_used (record { sessions = a.used.sessions; atoms = a.used.atoms; branches = a.used.branches - 1 }) (used_by (with_held name new old))
+        (ap (λ (v : Used). v.sessions) before ∙ sym s)
+        (let b = ap (λ (v : Used). v.atoms) before in omega (arith, b, t, atoms))
+        (let b = ap (λ (v : Used). v.branches) before in omega (arith, b, u, saved))
+        ∙ ap used_by (sym is)
+
+    -- so there was one
+    pub one-saved : length new.saved + 1 ≡ length held.saved → 1 ≤ a.used.branches
+    one-saved saved =
+        let u = branches-changed old name new held found in
+        let b = ap (λ (v : Used). v.branches) used-old in
+        omega (arith, b, u, saved)
+
+  -- the session is taken out
+  module _ (is : next ≡ record old { sessions = taken_out name old.sessions }) where
+    pub used-less : (sessions atoms branches : ℕ) → sessions ≡ 1 → atoms ≡ length held.live.sim.cur → branches ≡ length held.saved
+        → record { sessions = a.used.sessions - sessions; atoms = a.used.atoms - atoms; branches = a.used.branches - branches } ≡ used_by next
+    used-less sessions atoms branches one its saved =
+        let s = sessions-taken old name held held found in
+        let t = atoms-taken old name held held found in
+        let u = branches-taken old name held held found in
+        let before = used-old in
+        same_used (record { sessions = a.used.sessions - sessions; atoms = a.used.atoms - atoms; branches = a.used.branches - branches }) (used_by (record old { sessions = taken_out name old.sessions }))
+        (let b = ap (λ (v : Used). v.sessions) before in omega (arith, b, s, one))
+        (let b = ap (λ (v : Used). v.atoms) before in omega (arith, b, t, its))
+        (let b = ap (λ (v : Used). v.branches) before in omega (arith, b, u, saved))
+        ∙ ap used_by (sym is)
+
+  pub atoms-within : length held.live.sim.cur ≤ a.used.atoms
+  atoms-within =
+      let t = atoms-taken old name held held found in
+      let b = ap (λ (v : Used). v.atoms) used-old in
+      omega (arith, b, t)
+
+  pub saved-within : length held.saved ≤ a.used.branches
+  saved-within =
+      let u = branches-taken old name held held found in
+      let b = ap (λ (v : Used). v.branches) used-old in
+      omega (arith, b, u)
+
+-- a session is new
+pub used-more : (a : Inside) (old : Owned) → owned_of a ≡ old → a.used ≡ used_by (owned_of a) → (name : List ℕ) → held_in old name ≡ None
+    → (next : Owned) (new : Held) → next ≡ with_held name new old → (atoms : ℕ) → atoms ≡ length new.live.sim.cur → length new.saved ≡ 0
+    → record { sessions = a.used.sessions + 1; atoms = a.used.atoms + atoms; branches = a.used.branches } ≡ used_by next
+used-more a old view counted name absent next new is atoms its none =
+    let before : a.used ≡ used_by old = counted ∙ ap used_by view in
+    let s = sessions-new old name new absent in
+    let t = atoms-new old name new absent in
+    let u = branches-new old name new absent in
+    same_used (record { sessions = a.used.sessions + 1; atoms = a.used.atoms + atoms; branches = a.used.branches }) (used_by (with_held name new old))
+    (let b = ap (λ (v : Used). v.sessions) before in omega (arith, b, s))
+    (let b = ap (λ (v : Used). v.atoms) before in omega (arith, b, t, its))
+    (let b = ap (λ (v : Used). v.branches) before in omega (arith, b, u, none))
+    ∙ ap used_by (sym is)

@@ -1,0 +1,43 @@
+-- How many turns ADVANCE and MEASURE take, case by case.
+use Rattle.std.proofs.Common.{◌≡◌, ℕ, ◌+◌, ◌≤◌, ◌^◌, Bool, true, false, ℤ, pos, ◌+ℤ◌, ◌*ℤ◌, unsigned_abs, List, Option, Some, None, nat_le, ◌&&◌, refl, sym, ap, ◌∙◌, arith}
+use Rattle.std.proofs.lemmas.Int.{ints}
+use Rattle.std.proofs.lemmas.Bool.{le-leb, and_from}
+use Rattle.lj_session.specs.declared.command.Command.TheVariants.{Advance, Measure}
+use Rattle.lj_session.specs.Users.{Session, User, named}
+use Rattle.lj_session.specs.Answers.{can_advance}
+use Rattle.lj_session.specs.Turns.{turns}
+
+module _ (user : User) (name : List ℕ) where
+  pub advance-turns-none : (n : ℕ) → named name user.sessions ≡ None → turns user (Advance name n) ≡ 0
+  unfolding turns
+  advance-turns-none n absent = rw absent refl
+
+  pub advance-turns-far : (n : ℕ) (session : Session) → named name user.sessions ≡ Some session → can_advance session n ≡ false → turns user (Advance name n) ≡ 0
+  unfolding turns
+  advance-turns-far n session found far = rw (found, far) refl
+
+  pub advance-turns-near : (n : ℕ) (session : Session) → named name user.sessions ≡ Some session → can_advance session n ≡ true → turns user (Advance name n) ≡ n
+  unfolding turns
+  advance-turns-near n session found near = rw (found, near) refl
+
+  pub measure-turns-none : named name user.sessions ≡ None → turns user (Measure name) ≡ 0
+  unfolding turns
+  measure-turns-none absent = rw absent refl
+
+  pub measure-turns-one : (session : Session) → named name user.sessions ≡ Some session → turns user (Measure name) ≡ 1
+  unfolding turns
+  measure-turns-one session found = rw found refl
+
+  -- where MEASURE takes no turn, there is no such session
+  pub measure-nothing : turns user (Measure name) ≡ 0 → named name user.sessions ≡ None
+  measure-nothing none = by (named name user.sessions) refl
+    where
+      by : (o : Option Session) → named name user.sessions ≡ o → o ≡ None
+      by None e = refl
+      by (Some session) e = let one = measure-turns-one session e in absurd (omega (arith, one, none))
+
+-- a session may go on by no step
+pub near-nothing : (session : Session) → unsigned_abs session.sim.step ≤ 10 ^ 12 → can_advance session 0 ≡ true
+near-nothing session most =
+    let same : session.sim.step +ℤ session.sim.dir *ℤ pos 0 ≡ session.sim.step = omega (arith, ints) in
+    le-leb (unsigned_abs (session.sim.step +ℤ session.sim.dir *ℤ pos 0)) (10 ^ 12) (rw same most)

@@ -1,0 +1,27 @@
+use Rattle.std.proofs.Common.{length, sym, ap, ◌∙◌, subst}
+use Rattle.std.specs.List.{AllByRecursion}
+use Rattle.lj_session.specs.Users.{named}
+use Rattle.lj_session.specs.States.{Held, HasCount}
+use Rattle.lj_session.proofs.Counts.{counts-named, count-restored}
+use Rattle.lj_session.proofs.session.Session.restore.Goals as goal
+
+pub restore_into-requires : goal.restore_into-requires
+restore_into-requires c = λ sim saved. counts-named (length c.self.inside.sim.sim.cur) c.args.branch.now c.self.inside.branches sim c.self.invariant.saved saved
+
+pub invariant_of-self : goal.invariant_of-self
+invariant_of-self c =
+    let n = length c.self.inside.sim.sim.cur in
+    let same = count-restored c.restore_into.result (named c.args.branch.now c.self.inside.branches) c.self.inside.sim c.restore_into.new.sim
+    c.restore_into.ensures.found c.restore_into.ensures.restored c.restore_into.ensures.unchanged
+    (λ sim saved. counts-named n c.args.branch.now c.self.inside.branches sim c.self.invariant.saved saved) in
+    record {
+      symbols = c.self.invariant.symbols ∙ sym same;
+      saved = subst (λ m. AllByRecursion (HasCount m) c.self.inside.branches) (sym same) c.self.invariant.saved;
+    }
+
+pub returns-clause-count : goal.returns-clause-count
+returns-clause-count c =
+    let same = count-restored c.restore_into.result (named c.args.branch.now c.self.inside.branches) c.self.inside.sim c.restore_into.new.sim
+    c.restore_into.ensures.found c.restore_into.ensures.restored c.restore_into.ensures.unchanged
+    (λ sim saved. counts-named (length c.self.inside.sim.sim.cur) c.args.branch.now c.self.inside.branches sim c.self.invariant.saved saved) in
+    same ∙ ap (λ (h : Held). length h.live.sim.cur) c.self.view_is

@@ -1,0 +1,50 @@
+use Rattle.std.proofs.Common.{Some, None, false, length, refl, ap, ◌∙◌, arith}
+use Rattle.lj_step.specs.Live.{Live}
+use Rattle.lj_session.specs.Users.{taken_out}
+use Rattle.lj_session.proofs.Holding.{named-absent, looked_up, taken-of}
+use Rattle.lj_session.proofs.Performing as performing
+use Rattle.lj_session.proofs.Outcomes as outcomes
+use Rattle.lj_session.proofs.Outcomes.{written-to}
+use Rattle.lj_session.proofs.Totals.{used-less, atoms-within, saved-within}
+use Rattle.lj_session.specs.States.{user_of}
+use Rattle.lj_session.proofs.sessions.Sessions.unload.Goals as goal
+
+pub returns-in_default-clause-performs : goal.returns-in_default-clause-performs
+returns-in_default-clause-performs c =
+    let old = c.args.self.now in
+    let absent = looked_up c.self.inside old c.self.view_is c.args.name None c.in_default.ensures.value in
+    performing.told old _ _ _ (performing.unload-none (user_of old) c.args.name false (named-absent old c.args.name absent))
+
+pub overflow_sub-self-2 : goal.overflow_sub-self-2
+overflow_sub-self-2 c =
+    let old = c.args.self.now in
+    let held = c.in-Some.session in
+    let found = looked_up c.self.inside old c.self.view_is c.args.name (Some held) c.in-Some.ensures.value in
+    let most = atoms-within c.self.inside old c.self.view_is c.self.invariant c.args.name held found old in
+    let n = c.count.ensures.value ∙ ap (λ (l : Live). length l.sim.cur) c.sim.ensures in
+    omega (arith, most, n)
+
+pub overflow_sub-self-3 : goal.overflow_sub-self-3
+overflow_sub-self-3 c =
+    let old = c.args.self.now in
+    let held = c.in-Some.session in
+    let found = looked_up c.self.inside old c.self.view_is c.args.name (Some held) c.in-Some.ensures.value in
+    let most = saved-within c.self.inside old c.self.view_is c.self.invariant c.args.name held found old in
+    let n = c.len.ensures.value ∙ ap length c.branches.ensures in
+    omega (arith, most, n)
+
+pub invariant_of-self-2 : goal.invariant_of-self-2
+invariant_of-self-2 c =
+    let old = c.args.self.now in
+    let held = c.in-Some.session in
+    let found = looked_up c.self.inside old c.self.view_is c.args.name (Some held) c.in-Some.ensures.value in
+    used-less c.self.inside old c.self.view_is c.self.invariant c.args.name held found _
+    (taken-of c.self.inside old c.self.view_is c.args.name _ c.in-Some.ensures.entries) 1 c.count.result c.len.result refl
+    (c.count.ensures.value ∙ ap (λ (l : Live). length l.sim.cur) c.sim.ensures) (c.len.ensures.value ∙ ap length c.branches.ensures)
+
+pub returns-clause-performs : goal.returns-clause-performs
+returns-clause-performs c =
+    let old = c.args.self.now in
+    let held = c.in-Some.session in
+    let found = looked_up c.self.inside old c.self.view_is c.args.name (Some held) c.in-Some.ensures.value in
+    written-to old _ _ _ _ (outcomes.unload old c.args.name held found) (taken-of c.self.inside old c.self.view_is c.args.name _ c.in-Some.ensures.entries)

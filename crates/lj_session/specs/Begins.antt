@@ -1,0 +1,22 @@
+-- What the beginning of a command comes to.
+use Rattle.std.specs.Prelude.{Result, Ok, Err}
+use Rattle.lj_session.specs.declared.owner.Begin.{Begin}
+use Rattle.lj_session.specs.declared.owner.Begin.TheVariants.{Answered, Running}
+use Rattle.lj_session.specs.declared.refusal.Refusal.{Refusal}
+use Rattle.lj_session.specs.declared.reply.Reply.{Reply}
+use Rattle.lj_session.specs.declared.reply.Reply.TheVariants.{Refused}
+
+-- a fact of the reply, where the command is answered at once
+abbrev pub IfAnswered : Begin → (Reply → Type 0) → Type 0
+IfAnswered (Answered reply) P = P reply
+IfAnswered Running P = Unit {0}
+
+-- a fact where the command runs
+abbrev pub OnRunning : Begin → Type 0 → Type 0
+OnRunning (Answered reply) P = Unit {0}
+OnRunning Running P = P
+
+-- the reply to a command: a refusal is replied
+abbrev pub reply_of : Result Reply Refusal → Reply
+reply_of (Ok reply) = reply
+reply_of (Err refusal) = Refused refusal

@@ -1,0 +1,25 @@
+-- The faults of the crates below as refusals.
+use Rattle.lj_xyz.specs.declared.fault.XyzError.{XyzError}
+use Rattle.lj_xyz.specs.declared.fault.XyzError.TheVariants as xyz
+use Rattle.lj_branch.specs.declared.faults.SaveFault.{SaveFault}
+use Rattle.lj_branch.specs.declared.faults.SaveFault.TheVariants as save
+use Rattle.lj_quota.specs.declared.Over.{Over}
+use Rattle.lj_quota.specs.declared.Over.TheVariants as over
+use Rattle.lj_session.specs.declared.refusal.Refusal.{Refusal}
+use Rattle.lj_session.specs.declared.refusal.Refusal.TheVariants.{Xyz, Memory, BranchExists, QuotaSessions, QuotaAtoms, QuotaBranches}
+
+-- of a body
+abbrev pub xyz_refusal : XyzError → Refusal
+xyz_refusal (xyz.Fault fault) = Xyz fault
+xyz_refusal xyz.Memory = Memory
+
+-- of a simulation that is not saved
+abbrev pub save_refusal : SaveFault → Refusal
+save_refusal save.Exists = BranchExists
+save_refusal save.Memory = Memory
+
+-- of a quota
+abbrev pub quota_refusal : Over → Refusal
+quota_refusal over.Sessions = QuotaSessions
+quota_refusal over.Atoms = QuotaAtoms
+quota_refusal over.Branches = QuotaBranches

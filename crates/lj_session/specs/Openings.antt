@@ -1,0 +1,26 @@
+-- The frames that a LOAD opens a session with, and the session as it is held then.
+use Rattle.std.specs.Prelude.{List, [], ◌∷◌, map, Option, Some, None}
+use Rattle.lj_xyz.specs.declared.row.Row.{Row}
+use Rattle.lj_ring.specs.Scales.{Units}
+use Rattle.lj_step.specs.Motion.{opening}
+use Rattle.lj_session.specs.Loads.{places_in}
+use Rattle.lj_session.specs.States.{Held}
+
+-- the frames that were read: one, or two
+abbrev pub frames_of : List Row → Option (List Row) → List (List Row)
+frames_of first None = first ∷ []
+frames_of first (Some second) = first ∷ second ∷ []
+
+-- the last of them
+abbrev pub last_of : List Row → Option (List Row) → List Row
+last_of first None = first
+last_of first (Some second) = second
+
+-- the session that opens with two frames, under the symbols of the first
+abbrev pub session_of : Units → List Row → List Row → Held
+session_of units first last = record {
+  symbols = map (λ row. row.symbol) first;
+  live = record { units = units; sim = opening (places_in units.edge first) (places_in units.edge last); part = None };
+  passed = 0;
+  saved = [];
+}

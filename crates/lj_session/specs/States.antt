@@ -1,0 +1,180 @@
+-- What the code holds of a user, open steps and all, and the user of the definition that it stands for.
+use Rattle.std.specs.Prelude.{◌≡◌, ℕ, ◌+◌, ◌-◌, ◌<◌, ◌≤◌, ◌^◌, unsigned_abs, Bool, true, false, List, [], ◌∷◌, length, map, slice_get, Option, Some, None, Result, Ok, Err, not, nat_lt, is_some}
+use Rattle.std.specs.Option.{ForSome, option_map, option_and_then}
+use Rattle.std.specs.List.{find, range_with_len}
+use Rattle.lj_xyz.specs.Atoms.{◌>>=◌}
+use Rattle.lj_tile.specs.declared.names.Label.{Label}
+use Rattle.lj_tile.specs.declared.names.Kind.{Kind}
+use Rattle.lj_tile.specs.declared.names.Kind.TheVariants.{Force, Energy}
+use Rattle.lj_tile.specs.Tasks.{Work}
+use Rattle.lj_step.specs.Motion.{Simulation, stepped}
+use Rattle.lj_step.specs.Live.{Live, OpenStep}
+use Rattle.lj_step.specs.OpenSteps.{opened, closed, task_at, awaits_at, tiles_of, with_tile, kind_of, is_whole, AwaitsIn, Awaits}
+use Rattle.lj_quota.specs.declared.Quota.{Quota}
+use Rattle.lj_quota.specs.declared.Used.{Used}
+use Rattle.lj_session.specs.declared.command.Command.{Command}
+use Rattle.lj_session.specs.declared.command.Command.TheVariants.{Advance}
+use Rattle.lj_session.specs.declared.refusal.Refusal.{Refusal}
+use Rattle.lj_session.specs.declared.refusal.Refusal.TheVariants.{BranchExists, QuotaBranches, Memory}
+use Rattle.lj_session.specs.declared.reply.Reply.{Reply}
+use Rattle.lj_session.specs.Users.{Session, User, fresh, named, put, sessions_used, atoms_used, branches_used}
+use Rattle.lj_session.specs.Loads.{unless}
+use Rattle.lj_session.specs.Answers.{session_of, performed, answer, can_advance}
+
+-- A session as it is held: the symbols of its atoms, its simulation with its scale and its open step, and what is saved
+-- in it. The first `passed` tiles of the open step's cover have been posted, or were in when their turn came.
+pub record Held : Type 0 where
+  pub symbols : List (List ℕ)
+  pub live : Live
+  pub passed : ℕ
+  pub saved : List (List ℕ × Simulation)
+
+-- a saved simulation has so many atoms
+abbrev pub HasCount : ℕ → List ℕ × Simulation → Type 0
+HasCount count entry = length entry.1.cur ≡ count
+
+-- what is held of a user: the quota, and sessions under names, in order of loading
+pub record Owned : Type 0 where
+  pub quota : Quota
+  pub sessions : List (List ℕ × Held)
+
+-- nothing but a quota
+abbrev pub empty : Quota → Owned
+empty quota = record { quota = quota; sessions = [] }
+
+-- the session that is held, where its open step is forgotten
+abbrev pub as_session : Held → Session
+as_session held = record { symbols = held.symbols; units = held.live.units; sim = held.live.sim; saved = held.saved }
+
+abbrev pub as_entry : List ℕ × Held → List ℕ × Session
+as_entry entry = (entry.0, as_session entry.1)
+
+-- the user that is held
+abbrev pub user_of : Owned → User
+user_of owned = record { quota = owned.quota; sessions = map as_entry owned.sessions }
+
+-- what the user has of each part of the quota
+abbrev pub used_by : Owned → Used
+used_by owned = record {
+  sessions = sessions_used (user_of owned);
+  atoms = atoms_used (user_of owned);
+  branches = branches_used (user_of owned);
+}
+
+-- the session of a name, if there is one
+abbrev pub held_in : Owned → List ℕ → Option Held
+held_in owned name = named name owned.sessions
+
+-- the i-th session, in order of loading
+abbrev pub held_at : Owned → ℕ → Option Held
+held_at owned i = option_map (λ entry. entry.1) (slice_get owned.sessions i)
+
+-- the names, in order of loading
+abbrev pub names : Owned → List (List ℕ)
+names owned = map (λ entry. entry.0) owned.sessions
+
+-- with another value under the name of a session
+abbrev pub with_held : List ℕ → Held → Owned → Owned
+with_held name held owned = record owned { sessions = put name held owned.sessions }
+
+abbrev pub changed_to : List ℕ → (Held → Held) → Option Held → Owned → Owned
+changed_to name change None owned = owned
+changed_to name change (Some held) owned = with_held name (change held) owned
+
+-- with the session of a name changed, if there is one
+abbrev pub changed : List ℕ → (Held → Held) → Owned → Owned
+changed name change owned = changed_to name change (held_in owned name) owned
+
+-- a step of a kind opened, of which no tile is posted or in
+abbrev pub with_step : Kind → Held → Held
+with_step kind held =
+    record held { live = record held.live { part = Some (opened kind (length held.live.sim.cur)) }; passed = 0 }
+
+-- the place in the cover of the first tile that is neither posted nor in
+abbrev pub next_tile : Held → Option ℕ
+next_tile held = find (awaits_at held.live) (range_with_len held.passed (tiles_of held.live - held.passed))
+
+-- the task of that tile
+abbrev pub next_of : Label → Option Held → Option Work
+next_of label None = None
+next_of label (Some held) = option_and_then (task_at held.live label) (next_tile held)
+
+abbrev pub next_task : Owned → Label → Option Work
+next_task owned label = next_of label (held_in owned label.session)
+
+abbrev pub passed_to : Option ℕ → Held → Held
+passed_to None held = held
+passed_to (Some i) held = record held { passed = i + 1 }
+
+-- that tile noted as posted
+abbrev pub with_posted : Held → Held
+with_posted held = passed_to (next_tile held) held
+
+-- the task is that of a tile that the open step of its session awaits
+abbrev pub AwaitsOf : Label → Work → Option Held → Type 0
+AwaitsOf label work None = ⊥
+AwaitsOf label work (Some held) = Awaits held.live label work
+
+abbrev pub IsAwaited : Owned → Label → Work → Type 0
+IsAwaited owned label work = AwaitsOf label work (held_in owned label.session)
+
+-- one tile more is in
+abbrev pub with_tile_in : ℕ → Held → Held
+with_tile_in k held = record held { live = record held.live { part = with_tile k held.live.part } }
+
+-- whether a step is open in a session and all its tiles are in
+abbrev pub whole_of : Option Held → Bool
+whole_of None = false
+whole_of (Some held) = is_whole held.live.part
+
+abbrev pub is_whole_in : Owned → List ℕ → Bool
+is_whole_in owned name = whole_of (held_in owned name)
+
+-- one step on, and no step open
+abbrev pub turned_on : Held → Held
+turned_on held = record held { live = closed held.live (stepped held.live.units held.live.sim) }
+
+-- a whole step of a kind is open
+pub record IsWhole (expected : Kind) (held : Held) : Type 0 where
+  pub kind : kind_of held.live.part ≡ Some expected
+  pub whole : is_whole held.live.part ≡ true
+
+-- a step may be turned: a whole force step is open, and the next step number is in range
+pub record CanTurn (held : Held) : Type 0 where
+  pub whole : IsWhole Force held
+  pub near : can_advance (as_session held) 1 ≡ true
+
+-- the step number of the session that an ADVANCE is of is in range
+abbrev pub IsHere : Owned → Command → Type 0
+IsHere owned (Advance name n) = ForSome (held_in owned name) (λ held. unsigned_abs held.live.sim.step ≤ 10 ^ 12)
+IsHere owned _ = Unit {0}
+
+-- what a command comes to: a reply with the user after it, or a refusal
+abbrev pub outcome : Result Reply Refusal → User → Result (Reply × User) Refusal
+outcome (Ok reply) next = Ok (reply, next)
+outcome (Err refusal) next = Err refusal
+
+-- whether a BRANCH may save, as far as memory is found for it: else its first refusal
+abbrev pub branch_admitted : User → List ℕ → List ℕ → Result (Unit {0}) Refusal
+branch_admitted user name branch = do
+  session ← session_of user name
+  new ← unless (not (is_some (named branch session.saved))) BranchExists
+  unless (nat_lt (branches_used user) user.quota.branches) QuotaBranches
+
+-- A command is performed as the definition says, under some mark, which is set only for the memory refusal.
+pub record Performs (old : Owned) (command : Command) (result : Result Reply Refusal) (new : Owned) : Type 0 where
+  pub mark : Bool
+  pub performs : performed (user_of old) command mark ≡ outcome result (user_of new)
+  pub only_memory : mark ≡ true → result ≡ Err Memory
+
+-- the user after commands with marks, where a missing mark is not set
+abbrev pub user_after : User → List Command → List Bool → User
+user_after user [] marks = user
+user_after user (command ∷ commands) [] = user_after (answer user command false).1 commands []
+user_after user (command ∷ commands) (mark ∷ marks) = user_after (answer user command mark).1 commands marks
+
+-- the user is the last one of some commands with marks, from no sessions
+pub record Reached (owned : Owned) : Type 0 where
+  pub commands : List Command
+  pub marks : List Bool
+  pub leads : user_of owned ≡ user_after (fresh owned.quota) commands marks

@@ -1,0 +1,82 @@
+//! The faults of the crates below as refusals.
+ghost use Rattle.std.specs.Prelude.{◌≡◌};
+ghost use Rattle.lj_session.specs.declared.refusal.Refusal.TheVariants.{Memory, NoBranch as no_branch};
+ghost use Rattle.lj_session.specs.Loads.{scale_refusal};
+ghost use Rattle.lj_session.specs.Faults.{xyz_refusal, save_refusal, quota_refusal};
+
+use crate::refusal::Refusal;
+use lj_branch::{NoBranch, SaveFault};
+use lj_quota::Over;
+use lj_ring::ScaleFault;
+use lj_xyz::XyzError;
+use std::alloc::{AllocError, AllocFailed};
+
+impl From<ScaleFault> for Refusal {
+    ghost from_gives = { λ fault refusal. refusal ≡ scale_refusal fault };
+
+    fn from(fault: ScaleFault) -> Refusal {
+        match fault {
+            ScaleFault::Edge => Refusal::Edge,
+            ScaleFault::Sigma => Refusal::Sigma,
+            ScaleFault::StepFactor => Refusal::StepFactor,
+        }
+    }
+}
+
+impl From<XyzError> for Refusal {
+    ghost from_gives = { λ error refusal. refusal ≡ xyz_refusal error };
+
+    fn from(error: XyzError) -> Refusal {
+        match error {
+            XyzError::Fault(fault) => Refusal::Xyz(fault),
+            XyzError::Memory => Refusal::Memory,
+        }
+    }
+}
+
+impl From<SaveFault> for Refusal {
+    ghost from_gives = { λ fault refusal. refusal ≡ save_refusal fault };
+
+    fn from(fault: SaveFault) -> Refusal {
+        match fault {
+            SaveFault::Exists => Refusal::BranchExists,
+            SaveFault::Memory => Refusal::Memory,
+        }
+    }
+}
+
+impl From<NoBranch> for Refusal {
+    ghost from_gives = { λ _ refusal. refusal ≡ no_branch };
+
+    fn from(_fault: NoBranch) -> Refusal {
+        Refusal::NoBranch
+    }
+}
+
+impl From<Over> for Refusal {
+    ghost from_gives = { λ over refusal. refusal ≡ quota_refusal over };
+
+    fn from(over: Over) -> Refusal {
+        match over {
+            Over::Sessions => Refusal::QuotaSessions,
+            Over::Atoms => Refusal::QuotaAtoms,
+            Over::Branches => Refusal::QuotaBranches,
+        }
+    }
+}
+
+impl From<AllocError> for Refusal {
+    ghost from_gives = { λ _ refusal. refusal ≡ Memory };
+
+    fn from(_error: AllocError) -> Refusal {
+        Refusal::Memory
+    }
+}
+
+impl<T: Drop> From<AllocFailed<T>> for Refusal {
+    ghost from_gives = { λ _ refusal. refusal ≡ Memory };
+
+    fn from(_failed: AllocFailed<T>) -> Refusal {
+        Refusal::Memory
+    }
+}

@@ -1,0 +1,102 @@
+//! The frames that a LOAD opens a session with.
+ghost use Rattle.std.specs.Prelude.{◌≡◌, ◌≤◌, length, map, Some, None, IfOk, IsTrue};
+ghost use Rattle.lj_xyz.specs.Atoms.{is_count};
+ghost use Rattle.lj_xyz.specs.Lines.{lines_of};
+ghost use Rattle.lj_xyz.specs.Reading.{reading, Gives};
+ghost use Rattle.lj_session.specs.Loads.{reading_mode, places_in};
+ghost use Rattle.lj_session.specs.Openings.{frames_of, last_of, session_of};
+
+use crate::body::Body;
+use crate::command::Mode;
+use crate::session::Session;
+use lj_branch::Branches;
+use lj_ring::{Edge, Place, Scale, place_of};
+use lj_step::{Frame, Frames, Sim};
+use lj_xyz::{Row, Rows, Symbol, XyzError, read_pair, read_rest};
+use std::alloc::{AllocError, Global};
+
+/// The atoms of one frame, or of two one step apart.
+#[derive(Drop)]
+pub(crate) struct Opening {
+    first: Rows,
+    second: Option<Rows>,
+    ghost count: { IsTrue (is_count (length first)) },
+    ghost same: { length (last_of first second) ≡ length first },
+}
+
+impl Opening {
+    /// Reads what a mode asks for.
+    pub fn read(alloc: Global, mode: Mode, body: &Body) -> Result<Opening, XyzError>
+        ensures { Gives (λ opening. frames_of opening.first opening.second) result (reading (reading_mode mode) (lines_of body.now)) }
+    {
+        match mode {
+            Mode::Rest => Ok(Opening {
+                first: read_rest(alloc, body.as_slice())?,
+                second: None,
+            }),
+            Mode::Pair => {
+                let pair = read_pair(alloc, body.as_slice())?;
+                Ok(Opening {
+                    first: pair.first,
+                    second: Some(pair.second),
+                })
+            }
+        }
+    }
+
+    /// How many atoms there are, 1 to 4,096.
+    pub fn count(&self) -> usize
+        ensures value { result ≡ length self.now.first }
+        ensures most { result ≤ 4096 }
+    {
+        self.first.len()
+    }
+
+    /// The session that opens with these frames. Of one frame both are made, so that the atoms are at rest.
+    pub fn session(&self, alloc: Global, scale: Scale) -> Result<Session, AllocError>
+        ensures { IfOk result (λ session. session ≡ session_of scale self.now.first (last_of self.now.first self.now.second)) }
+    {
+        let edge = scale.edge();
+        let frames = Frames {
+            prev: Frame::new(places_of(alloc, self.first.as_slice(), &edge)?),
+            cur: Frame::new(places_of(alloc, self.last(), &edge)?),
+        };
+        let symbols = symbols_of(alloc, self.first.as_slice())?;
+        let sim = Sim::new(alloc, frames, scale)?;
+        Ok(Session::new(symbols, sim, Branches::new(alloc)))
+    }
+
+    /// The frame that stands at the opening.
+    fn last(&self) -> &[Row]
+        ensures { result.now ≡ last_of self.now.first self.now.second }
+    {
+        match &self.second {
+            Some(second) => second.as_slice(),
+            None => self.first.as_slice(),
+        }
+    }
+}
+
+fn symbols_of(alloc: Global, rows: &[Row]) -> Result<Vec<Symbol>, AllocError>
+    ensures { IfOk result (λ symbols. symbols.items ≡ map (λ row. row.symbol) rows.now) }
+{
+    let mut symbols = Vec::with_capacity(alloc, rows.len())?;
+    for row in rows {
+        symbols.push(Symbol::new(row.symbol.as_bytes()).unwrap())?;
+    }
+    Ok(symbols)
+}
+
+fn places_of(alloc: Global, rows: &[Row], edge: &Edge) -> Result<Vec<Place>, AllocError>
+    ensures { IfOk result (λ places. places.items ≡ places_in edge.now rows.now) }
+{
+    let mut places = Vec::with_capacity(alloc, rows.len())?;
+    for row in rows {
+        places.push(Place {
+            x: place_of(row.x, edge),
+            y: place_of(row.y, edge),
+            z: place_of(row.z, edge),
+        })?;
+    }
+    Ok(places)
+}

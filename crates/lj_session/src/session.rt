@@ -1,0 +1,202 @@
+//! A session as it is held.
+ghost use Rattle.std.specs.Prelude.{◌≡◌, ◌↔◌, ◌<◌, ◌+◌, ◌^◌, [], length, slice_get, Some, IsOk, IsSome, IsErrOf, IfErr, IfSome, OnOk, OnErr, ◌≤◌, unsigned_abs, IsTrue, IfOk};
+ghost use Rattle.lj_tile.specs.declared.names.Kind.TheVariants.{Energy};
+ghost use Rattle.lj_branch.specs.declared.faults.SaveFault.TheVariants.{Exists};
+ghost use Rattle.lj_step.specs.Motion as motion;
+ghost use Rattle.lj_step.specs.OpenSteps as steps;
+ghost use Rattle.lj_session.specs.Users.{named, put, taken_out, atoms_of};
+ghost use Rattle.lj_session.specs.Answers.{can_advance};
+ghost use Rattle.lj_session.specs.States as states;
+ghost use Rattle.lj_session.specs.States.{as_session, IsWhole, CanTurn};
+
+use lj_branch::{Branches, NoBranch, SaveFault};
+use lj_step::{Displacement, Sim, Stray};
+use lj_tile::{Done, Kind, Label, Name, Task};
+use lj_xyz::Symbol;
+use std::marker::Model;
+
+/// The most steps of one command.
+const MOST_STEPS: u64 = 1_000_000;
+
+/// The largest size of a step number.
+const MOST_STEP: u64 = 1_000_000_000_000;
+
+/// The symbols of some atoms, their simulation, and what is saved of it.
+#[derive(Drop)]
+pub(crate) struct Session {
+    symbols: Vec<Symbol>,
+    sim: Sim,
+    passed: usize,
+    branches: Branches,
+}
+
+impl Model for Session {
+    ghost use Rattle.lj_session.specs.States.{Held};
+
+    ghost Value = { Held };
+
+    ghost use Rattle.lj_session.specs.Kept.{held_of, IsHeld};
+
+    ghost view = { held_of };
+
+    ghost invariant = { IsHeld };
+}
+
+impl Session {
+    /// A session of which nothing is saved and no step is open.
+    pub fn new(symbols: Vec<Symbol>, sim: Sim, branches: Branches) -> Session
+        requires symbols { length symbols.items ≡ length sim.sim.cur }
+        requires branches { branches ≡ [] }
+        ensures { result ≡ record { symbols = symbols.items; live = sim; passed = 0; saved = [] } }
+    {
+        Session {
+            symbols,
+            sim,
+            passed: 0,
+            branches,
+        }
+    }
+
+    /// The simulation.
+    pub fn sim(&self) -> &Sim
+        ensures { result.now ≡ self.now.live }
+    {
+        &self.sim
+    }
+
+    /// What is saved.
+    pub fn branches(&self) -> &Branches
+        ensures { result.now ≡ self.now.saved }
+    {
+        &self.branches
+    }
+
+    /// The symbol of an atom.
+    pub fn symbol(&self, atom: usize) -> &Symbol
+        requires { atom < length self.now.live.sim.cur }
+        ensures { slice_get self.now.symbols atom ≡ Some result.now }
+    {
+        &self.symbols[atom]
+    }
+
+    /// Whether it may go on by so many steps.
+    pub fn can_advance(&self, steps: u64) -> bool
+        ensures value { result ≡ can_advance (as_session self.now) steps }
+        ensures here { IsTrue result → unsigned_abs self.now.live.sim.step ≤ 10 ^ 12 }
+    {
+        if steps > MOST_STEPS {
+            return false;
+        }
+        let target = self.sim.step() + self.sim.dir() * steps as i64;
+        target.unsigned_abs() <= MOST_STEP
+    }
+
+    /// Turns the motion back. No step is open then.
+    pub fn reverse(&mut self)
+        ensures value { self.new ≡ record self.old { live = steps.closed self.old.live (motion.reversed self.old.live.sim) } }
+        ensures count { length self.new.live.sim.cur ≡ length self.old.live.sim.cur }
+    {
+        self.sim.reverse();
+    }
+
+    /// Gives an atom a displacement more for each step. No step is open then.
+    pub fn tug(&mut self, atom: usize, by: Displacement)
+        requires { atom < length self.old.live.sim.cur }
+        ensures { self.new ≡ record self.old { live = steps.closed self.old.live (motion.tugged atom (record { x = by.x; y = by.y; z = by.z }) self.old.live.sim) } }
+    {
+        self.sim.tug(atom, by);
+    }
+
+    /// Saves a copy of the simulation under a new name.
+    ///
+    /// # Errors
+    /// `Exists` where the name is taken, else `Memory`. Nothing has changed then.
+    pub fn save(&mut self, branch: Name) -> Result<(), SaveFault>
+        ensures exists { IsErrOf result Exists ↔ IsSome (named branch self.old.saved) }
+        ensures saved { OnOk result (self.new ≡ record self.old { saved = put branch self.old.live.sim self.old.saved }) }
+        ensures unchanged { OnErr result (self.new ≡ self.old) }
+    {
+        self.branches.save(branch, &self.sim)
+    }
+
+    /// Goes back to what is saved under a name, which stays saved. No step is open then.
+    ///
+    /// # Errors
+    /// `NoBranch` where nothing is saved under it. Nothing has changed then.
+    pub fn restore(&mut self, branch: &Name) -> Result<(), NoBranch>
+        ensures found { IsOk result ↔ IsSome (named branch.now self.old.saved) }
+        ensures restored { OnOk result (IfSome (named branch.now self.old.saved) (λ sim. self.new ≡ record self.old { live = steps.closed self.old.live sim })) }
+        ensures count { length self.new.live.sim.cur ≡ length self.old.live.sim.cur }
+        ensures unchanged { OnErr result (self.new ≡ self.old) }
+    {
+        self.branches.restore_into(branch, &mut self.sim)
+    }
+
+    /// Takes out what is saved under a name.
+    ///
+    /// # Errors
+    /// `NoBranch` where nothing is saved under it. Nothing has changed then.
+    pub fn forget(&mut self, branch: &Name) -> Result<(), NoBranch>
+        ensures found { IsOk result ↔ IsSome (named branch.now self.old.saved) }
+        ensures taken { OnOk result (self.new ≡ record self.old { saved = taken_out branch.now self.old.saved }) }
+        ensures unchanged { OnErr result (self.new ≡ self.old) }
+    {
+        self.branches.forget(branch)
+    }
+
+    /// Opens a step of a kind. No tile of it is posted or in.
+    pub fn open_step(&mut self, kind: Kind)
+        ensures { self.new ≡ states.with_step kind self.old }
+    {
+        self.sim.open_step(kind);
+        self.passed = 0;
+    }
+
+    /// The place in the cover of the first tile that is neither posted nor in.
+    fn next_tile(&self) -> Option<usize>
+        ensures value { result ≡ states.next_tile self.now }
+        ensures small { IfSome result (λ i. i + 1 < 2 ^ 64) }
+    {
+        for i in self.passed..self.sim.tiles() {
+            if self.sim.awaits(i) {
+                return Some(i);
+            }
+        }
+        None
+    }
+
+    /// The task of that tile.
+    pub fn next_task(&self, label: &Label) -> Option<Task>
+        ensures { result ≡ states.next_of label.now (Some self.now) }
+    {
+        self.sim.task(self.next_tile()?, label)
+    }
+
+    /// Notes that tile as posted.
+    pub fn post(&mut self)
+        ensures { self.new ≡ states.with_posted self.old }
+    {
+        let Some(i) = self.next_tile() else {
+            return;
+        };
+        self.passed = i + 1;
+    }
+
+    /// Takes in the result of a tile that the open step awaits. Another is handed back, and nothing has changed.
+    pub fn accept(&mut self, label: &Label, done: Done) -> Result<(), Stray>
+        ensures accepted { IsOk result ↔ steps.Awaits self.old.live label.now done }
+        ensures taken { OnOk result (self.new ≡ states.with_tile_in (steps.number_of done) self.old) }
+        ensures stray { IfErr result (λ s. s.done ≡ done) }
+        ensures unchanged { OnErr result (self.new ≡ self.old) }
+    {
+        self.sim.accept(label, done)
+    }
+
+    /// Turns the whole force step: the motion goes one step on, and no step is open.
+    pub fn turn(&mut self)
+        requires { CanTurn self.old }
+        ensures { self.new ≡ states.turned_on self.old }
+    {
+        self.sim.turn();
+    }
+}

@@ -1,0 +1,43 @@
+//! REVERSE and TUG.
+ghost use Rattle.std.specs.Prelude.{◌≡◌, OnErr};
+ghost use Rattle.lj_session.specs.declared.command.Command.TheVariants as commands;
+ghost use Rattle.lj_session.specs.States.{Performs};
+
+use crate::refusal::Refusal;
+use crate::reply::Reply;
+use crate::sessions::Sessions;
+use lj_step::Displacement;
+use lj_tile::Name;
+
+impl Sessions {
+    /// Turns the motion of a session back.
+    pub fn reverse(&mut self, name: Name) -> Result<Reply, Refusal>
+        ensures performs { Performs self.old (commands.Reverse name) result self.new }
+        ensures quota { self.new.quota ≡ self.old.quota }
+        ensures stays { OnErr result (self.new ≡ self.old) }
+    {
+        let Some(session) = self.sessions.get_mut(&name) else {
+            return Err(Refusal::NoSession);
+        };
+        session.reverse();
+        let step = session.sim().step();
+        Ok(Reply::Reversed { name, step })
+    }
+
+    /// Gives an atom of a session a displacement more for each step.
+    pub fn tug(&mut self, name: Name, atom: u64, by: Displacement) -> Result<Reply, Refusal>
+        ensures performs { Performs self.old (commands.Tug name atom by.x by.y by.z) result self.new }
+        ensures quota { self.new.quota ≡ self.old.quota }
+        ensures stays { OnErr result (self.new ≡ self.old) }
+    {
+        let Some(session) = self.sessions.get_mut(&name) else {
+            return Err(Refusal::NoSession);
+        };
+        if atom >= session.sim().count() as u64 {
+            return Err(Refusal::NoAtom);
+        }
+        session.tug(atom as usize, by);
+        let step = session.sim().step();
+        Ok(Reply::Tugged { name, atom, step })
+    }
+}

@@ -1,0 +1,69 @@
+//! SHOW, DUMP, LIST of a session, and DROP.
+ghost use Rattle.std.specs.Prelude.{◌≡◌, Bool, OnErr};
+ghost use Rattle.lj_session.specs.declared.command.Command.TheVariants as commands;
+ghost use Rattle.lj_session.specs.Answers.{performed};
+ghost use Rattle.lj_session.specs.States.{Performs, outcome, user_of};
+
+use crate::refusal::Refusal;
+use crate::reply::Reply;
+use crate::sessions::Sessions;
+use lj_tile::Name;
+
+impl Sessions {
+    /// Shows the place of an atom of a session.
+    pub fn show(&self, name: Name, atom: u64) -> Result<Reply, Refusal>
+        ensures { (mark : Bool) →
+            performed (user_of self.now) (commands.Show name atom) mark ≡ outcome result (user_of self.now) }
+    {
+        let Some(session) = self.find(&name) else {
+            return Err(Refusal::NoSession);
+        };
+        let sim = session.sim();
+        if atom >= sim.count() as u64 {
+            return Err(Refusal::NoAtom);
+        }
+        Ok(Reply::Shown {
+            name,
+            step: sim.step(),
+            atom,
+            place: sim.place(atom as usize),
+        })
+    }
+
+    /// Writes out the frame of a session.
+    pub fn dump(&self, name: Name) -> Result<Reply, Refusal>
+        ensures { (mark : Bool) →
+            performed (user_of self.now) (commands.Dump name) mark ≡ outcome result (user_of self.now) }
+    {
+        if self.find(&name).is_none() {
+            return Err(Refusal::NoSession);
+        }
+        Ok(Reply::Dumped { name })
+    }
+
+    /// Lists what is saved in a session.
+    pub fn list_branches(&self, name: Name) -> Result<Reply, Refusal>
+        ensures { (mark : Bool) →
+            performed (user_of self.now) (commands.ListBranches name) mark ≡ outcome result (user_of self.now) }
+    {
+        if self.find(&name).is_none() {
+            return Err(Refusal::NoSession);
+        }
+        Ok(Reply::ListedBranches { name })
+    }
+
+    /// Gives up a session. The others keep their order.
+    pub fn unload(&mut self, name: Name) -> Result<Reply, Refusal>
+        ensures performs { Performs self.old (commands.Unload name) result self.new }
+        ensures quota { self.new.quota ≡ self.old.quota }
+        ensures stays { OnErr result (self.new ≡ self.old) }
+    {
+        let Some(session) = self.sessions.shift_remove(&name) else {
+            return Err(Refusal::NoSession);
+        };
+        self.used.sessions -= 1;
+        self.used.atoms -= session.sim().count() as u64;
+        self.used.branches -= session.branches().len() as u64;
+        Ok(Reply::Unloaded { name })
+    }
+}

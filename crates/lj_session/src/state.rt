@@ -1,0 +1,212 @@
+//! The state of a user, which every command goes through.
+ghost use Rattle.std.specs.Prelude.{◌≡◌, ◌↔◌, ◌<◌, ℕ, Bool, IsTrue, true, Some, Ok, length, slice_get, position, option_map, IsOk, IsSome, IfSome, IfErr, OnOk, OnErr};
+ghost use Rattle.std.specs.List.{IsDistinct};
+ghost use Rattle.std.specs.Option.{ForSome};
+ghost use Rattle.std.specs.Str.{bytes_eq};
+ghost use Rattle.lj_tile.specs.declared.names.Kind.TheVariants.{Energy};
+ghost use Rattle.lj_step.specs.OpenSteps.{number_of};
+ghost use Rattle.lj_session.specs.declared.command.Command.TheVariants.{Advance, Measure};
+ghost use Rattle.lj_session.specs.Answers.{performed};
+ghost use Rattle.lj_session.specs.Turns.{turns, turned};
+ghost use Rattle.lj_session.specs.States as states;
+ghost use Rattle.lj_session.specs.States.{Reached, IsHere, Performs, CanTurn, IsWhole, IsAwaited, empty, user_of, used_by, names, held_in, held_at, changed, with_step, with_posted, with_tile_in, turned_on, is_whole_in};
+
+use crate::command::Command;
+use crate::refusal::Refusal;
+use crate::reply::Reply;
+use crate::sessions::Sessions;
+use lj_branch::Branches;
+use lj_quota::{Quota, Used};
+use lj_ring::Edge;
+use lj_step::{Sim, Stray};
+use lj_tile::{Done, Kind, Label, Name, Task};
+use lj_xyz::Symbol;
+use std::alloc::Global;
+use std::marker::Model;
+
+/// A user's quota and sessions. It is always the last user of some list of commands, begun without sessions.
+#[derive(Drop)]
+pub struct UserState {
+    sessions: Sessions,
+}
+
+impl Model for UserState {
+    ghost use Rattle.lj_session.specs.States.{Owned, Reached};
+
+    ghost Value = { Owned };
+
+    ghost view = { λ a. a.sessions };
+
+    ghost invariant = { λ a. Reached a.sessions };
+}
+
+impl UserState {
+    /// No sessions.
+    pub fn new(alloc: Global, quota: Quota) -> UserState
+        ensures { result ≡ empty quota }
+    {
+        UserState {
+            sessions: Sessions::new(alloc, quota),
+        }
+    }
+
+    /// How many sessions there are.
+    pub fn len(&self) -> usize
+        ensures value { result ≡ length self.now.sessions }
+        ensures distinct { IsDistinct bytes_eq (names self.now) }
+        ensures reached { Reached self.now }
+    {
+        self.sessions.len()
+    }
+
+    /// Whether there are none.
+    pub fn is_empty(&self) -> bool
+        ensures { IsTrue result ↔ (length self.now.sessions ≡ 0) }
+    {
+        self.sessions.len() == 0
+    }
+
+    /// What the user has of each part of the quota.
+    pub fn used(&self) -> Used
+        ensures { result ≡ used_by self.now }
+    {
+        self.sessions.used()
+    }
+
+    /// The place of a session in the order of loading; None where no session has the name.
+    pub fn index_of(&self, name: &Name) -> Option<usize>
+        ensures { result ≡ position (bytes_eq name.now) (names self.now) }
+    {
+        self.sessions.index_of(name)
+    }
+
+    /// The name of the i-th session, in order of loading.
+    pub fn name_at(&self, i: usize) -> &Name
+        requires { i < length self.now.sessions }
+        ensures { slice_get (names self.now) i ≡ Some result.now }
+    {
+        self.sessions.name_at(i)
+    }
+
+    /// The simulation of the i-th session.
+    pub fn sim_at(&self, i: usize) -> &Sim
+        requires { i < length self.now.sessions }
+        ensures { option_map (λ held. held.live) (held_at self.now i) ≡ Some result.now }
+    {
+        self.sessions.at(i).sim()
+    }
+
+    /// The edge of the i-th session's box.
+    pub fn edge_at(&self, i: usize) -> Edge
+        requires { i < length self.now.sessions }
+        ensures { option_map (λ held. held.live.units.edge) (held_at self.now i) ≡ Some result }
+    {
+        self.sessions.at(i).sim().edge()
+    }
+
+    /// The symbol of an atom of the i-th session.
+    pub fn symbol_at(&self, i: usize, atom: usize) -> &Symbol
+        requires session { i < length self.now.sessions }
+        requires atom { ForSome (held_at self.now i) (λ held. atom < length held.live.sim.cur) }
+        ensures { IfSome (held_at self.now i) (λ held. slice_get held.symbols atom ≡ Some result.now) }
+    {
+        self.sessions.at(i).symbol(atom)
+    }
+
+    /// What is saved in the i-th session.
+    pub fn branches_at(&self, i: usize) -> &Branches
+        requires { i < length self.now.sessions }
+        ensures { option_map (λ held. held.saved) (held_at self.now i) ≡ Some result.now }
+    {
+        self.sessions.at(i).branches()
+    }
+
+    /// How many turns a command takes. One that takes none is answered at once.
+    pub(crate) fn turns(&self, command: &Command) -> u64
+        ensures value { result ≡ turns (user_of self.now) command.now }
+        ensures here { 0 < result → IsHere self.now command.now }
+    {
+        self.sessions.turns(command)
+    }
+
+    /// Performs a command that takes no turn.
+    ///
+    /// # Errors
+    /// The command's first refusal. The user is as before then. `Memory` comes only from LOAD and BRANCH.
+    pub(crate) fn perform(&mut self, command: Command) -> Result<Reply, Refusal>
+        requires { turns (user_of self.old) command ≡ 0 }
+        ensures performs { Performs self.old command result self.new }
+        ensures quota { self.new.quota ≡ self.old.quota }
+        ensures stays { OnErr result (self.new ≡ self.old) }
+    {
+        self.sessions.perform(command)
+    }
+
+    /// Opens a step of a kind in a session. No tile of it is posted or in.
+    pub(crate) fn open_step(&mut self, name: &Name, kind: Kind)
+        ensures opened { self.new ≡ changed name.now (with_step kind) self.old }
+        ensures user { user_of self.new ≡ user_of self.old }
+    {
+        self.sessions.open_step(name, kind);
+    }
+
+    /// The task of the first tile of a session's open step that is neither posted nor in.
+    pub(crate) fn next_task(&self, label: &Label) -> Option<Task>
+        ensures { result ≡ states.next_task self.now label.now }
+    {
+        self.sessions.next_task(label)
+    }
+
+    /// Notes that tile as posted.
+    pub(crate) fn post(&mut self, name: &Name)
+        ensures posted { self.new ≡ changed name.now with_posted self.old }
+        ensures user { user_of self.new ≡ user_of self.old }
+    {
+        self.sessions.post(name);
+    }
+
+    /// Takes in the result of a tile that a session's open step awaits. Another is handed back, and nothing has changed.
+    pub(crate) fn accept(&mut self, label: &Label, done: Done) -> Result<(), Stray>
+        ensures accepted { IsOk result ↔ IsAwaited self.old label.now done }
+        ensures taken { OnOk result (self.new ≡ changed label.now.session (with_tile_in (number_of done)) self.old) }
+        ensures user { user_of self.new ≡ user_of self.old }
+        ensures stray { IfErr result (λ s. s.done ≡ done) }
+        ensures unchanged { OnErr result (self.new ≡ self.old) }
+    {
+        self.sessions.accept(label, done)
+    }
+
+    /// Whether a step is open in a session and all its tiles are in.
+    pub(crate) fn is_whole(&self, name: &Name) -> bool
+        ensures { result ≡ is_whole_in self.now name.now }
+    {
+        self.sessions.is_whole(name)
+    }
+
+    /// Turns the whole force step of a session: its motion goes one step on, and no step is open in it.
+    pub(crate) fn turn(&mut self, name: &Name)
+        requires session { IsSome (held_in self.old name.now) }
+        requires may { ForSome (held_in self.old name.now) CanTurn }
+        ensures turned { self.new ≡ changed name.now turned_on self.old }
+        ensures user { (n : ℕ) → user_of self.new ≡ turned (user_of self.old) (Advance name.now n) }
+    {
+        self.sessions.turn(name);
+    }
+
+    /// The reply to an ADVANCE that has no step left to go.
+    pub(crate) fn advanced(&self, name: Name) -> Reply
+        requires { IsSome (held_in self.now name) }
+        ensures { (mark : Bool) → performed (user_of self.now) (Advance name 0) mark ≡ Ok (result, user_of self.now) }
+    {
+        self.sessions.advanced(name)
+    }
+
+    /// The reply to a MEASURE, by the whole energy step of the session.
+    pub(crate) fn measured(&self, name: Name) -> Reply
+        requires session { IsSome (held_in self.now name) }
+        requires whole { ForSome (held_in self.now name) (IsWhole Energy) }
+        ensures { (mark : Bool) → performed (user_of self.now) (Measure name) mark ≡ Ok (result, user_of self.now) }
+    {
+        self.sessions.measured(name)
+    }
+}
