@@ -1,5 +1,5 @@
-pub mod Advances
+pub mod OneLine
 pub mod TilesTaken
-pub mod Performing
+pub mod Taking
 pub mod Unheld
 pub mod Serving

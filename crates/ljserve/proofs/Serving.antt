@@ -7,7 +7,7 @@ use Rattle.std.proofs.lemmas.List.{length-append}
 use Rattle.lj_session.specs.declared.command.Command.TheVariants.{Load, Advance, Reverse, Branch, Restore, Forget, Tug, Measure, Show, Dump, List as ListSessions, ListBranches, Unload, Bye}
 use Rattle.lj_session.specs.declared.reply.Reply.{Reply}
 use Rattle.lj_session.specs.declared.reply.Reply.TheVariants as replies
-use Rattle.lj_session.specs.Users.{Quota, User, fresh}
+use Rattle.lj_session.specs.Users.{User}
 use Rattle.lj_wire.specs.declared.item.Fault.{Fault}
 use Rattle.lj_wire.specs.declared.item.Fault.TheVariants.{Long, Enough}
 use Rattle.lj_wire.specs.declared.item.Item.{Item}
@@ -21,10 +21,9 @@ use Rattle.lj_wire.specs.Progress.{Progress}
 use Rattle.lj_wire.proofs.Splitting.{no_feed_within, same_line, same_front, at_line}
 use Rattle.lj_wire.proofs.Marks.{marked}
 use Rattle.lj_wire.proofs.Progressing.{Progress-start, Progress-more, Dialogue-part}
-use Rattle.ljserve.specs.Answers.{Named, user_of}
 use Rattle.ljserve.specs.Replies.{is_one_line, reply_text}
 use Rattle.ljserve.specs.Streams.{Begins, BeginsWithNone, is_served, AreServed, PassesItem, AnswersItem, PassesAll, Served, Going, Serving}
-use Rattle.ljserve.proofs.Unheld.{either-served, either-passes, either-answers}
+use Rattle.ljserve.proofs.Unheld.{either-served, either-answers}
 
 -- what is served does not end the connection
 served-goes_on : (item : Item) → is_served item ≡ true → ends item ≡ false
@@ -110,7 +109,7 @@ module _ (n : ℕ) (left line body behind rest : List ℕ) (whole : left ≡ lin
       of_kind (inr last) = absurd (not_last Enough item last.2 served.0)
 
 -- the run begins with nothing written
-pub serving-start : (old : Option (List ℕ)) (input : List ℕ) → Serving old old input input []
+pub serving-start : (old : Option (List ℕ)) (input : List ℕ) → Serving old old input input newcomer
 serving-start old input = record {
   written = [];
   appends = Appends-nil old;
@@ -144,52 +143,45 @@ told-answer user next whole reply line answers =
     }
 
 -- one item more of a stream that is served
-module _ (quota : Quota) (input written left line body behind : List ℕ) (sessions after : Named) (reply : Reply)
+module _ (input written left line body behind : List ℕ) (user next : User) (reply : Reply)
     (whole : left ≡ line ++ 10 ∷ (body ++ behind)) (lacks : LacksLineFeed line) (announces : length body ≡ announced line)
     (one_line : is_one_line reply ≡ true)
-    (answers : is_served (item_of line body) ≡ true → PassesItem (user_of quota sessions) (item_of line body)
-    → AnswersItem (user_of quota sessions) (item_of line body) reply (user_of quota after)) where
+    (answers : is_served (item_of line body) ≡ true → AnswersItem user (item_of line body) reply next) where
   abbrev item : Item
   item = item_of line body
 
-  going-first : (g : Going quota input written left sessions) (f : First g.count left line body behind g.items g.rest)
-      → AreServed (item ∷ f.others) → PassesAll (user_of quota sessions) (item ∷ f.others)
-      → Going quota input (written ++ reply_text reply) behind after
-  going-first g f served passes =
-      let answer = answers served.0 (λ mark. (passes mark).0) in
-      let told = told-answer (user_of quota sessions) (user_of quota after) item reply one_line answer in
+  going-first : (g : Going input written left user) (f : First g.count left line body behind g.items g.rest)
+      → AreServed (item ∷ f.others) → Going input (written ++ reply_text reply) behind next
+  going-first g f served =
+      let told = told-answer user next item reply one_line (answers served.0) in
       let goes = served-goes_on item served.0 in
-      let next = Progress-more (fresh quota) input g.count written left (user_of quota sessions) f.front behind item told.mark g.progress f.whole f.is_item goes told.only in
+      let more = Progress-more newcomer input g.count written left user f.front behind item told.mark g.progress f.whole f.is_item goes told.only in
       record {
         count = g.count + 1;
-        progress = subst (λ t. Progress (fresh quota) input (g.count + 1) (written ++ t.0) behind t.1) told.tells next;
+        progress = subst (λ t. Progress newcomer input (g.count + 1) (written ++ t.0) behind t.1) told.tells more;
         items = f.others;
         rest = g.rest;
         splits = f.onward goes;
         served = served.1;
-        passes = subst (λ a. PassesAll a.1 f.others) answer.1 (passes answer.0).1;
       }
 
-  going-more : Going quota input written left sessions → Going quota input (written ++ reply_text reply) behind after
+  going-more : Going input written left user → Going input (written ++ reply_text reply) behind next
   going-more g =
       let f = first-item g.count left line body behind g.rest whole lacks announces g.items g.splits g.served in
-      going-first g f (subst AreServed f.items_are g.served) (subst (PassesAll (user_of quota sessions)) f.items_are g.passes)
+      going-first g f (subst AreServed f.items_are g.served)
 
 -- one item more is answered
-pub serving-more : (old now next : Option (List ℕ)) (input left behind : List ℕ) (sessions after : Named) (item : Item) (reply : Reply)
-    → Serving old now input left sessions → Begins left item behind → is_one_line reply ≡ true
-    → ((quota : Quota) → is_served item ≡ true → PassesItem (user_of quota sessions) item → AnswersItem (user_of quota sessions) item reply (user_of quota after))
-    → Appends now next (reply_text reply) → Serving old next input behind after
-serving-more old now next input left behind sessions after item reply s b one_line answers appends = record {
+pub serving-more : (old now new : Option (List ℕ)) (input left behind : List ℕ) (user next : User) (item : Item) (reply : Reply)
+    → Serving old now input left user → Begins left item behind → is_one_line reply ≡ true
+    → (is_served item ≡ true → AnswersItem user item reply next)
+    → Appends now new (reply_text reply) → Serving old new input behind next
+serving-more old now new input left behind user next item reply s b one_line answers appends = record {
   written = s.written ++ reply_text reply;
-  appends = Appends-trans old now next s.written (reply_text reply) s.appends appends;
-  going = λ quota thin.
-      let user = user_of quota sessions in
-      let last = user_of quota after in
-      going-more quota input s.written left b.line b.body behind sessions after reply b.whole b.lacks b.announces one_line
-      (λ served passes. either-answers user last b.body reply b.line item b.means
-      (answers quota (either-served user last b.body reply b.line item b.means served) (either-passes user last b.body reply b.line item b.means passes)))
-      (s.going quota thin);
+  appends = Appends-trans old now new s.written (reply_text reply) s.appends appends;
+  going = λ thin.
+      going-more input s.written left b.line b.body behind user next reply b.whole b.lacks b.announces one_line
+      (λ served. either-answers user next b.body reply b.line item b.means (answers (either-served user next b.body reply b.line item b.means served)))
+      (s.going thin);
 }
 
 -- where a stream begins with no item that is answered, no item that is served is left
@@ -202,7 +194,7 @@ module _ (n : ℕ) (left rest : List ℕ) where
   no_line front after item e i served (inr (inr ending)) =
       let s = same_line i.line ending.line (i.body ++ after) ending.rest i.is_line.0 ending.lacks (sym (at_line after i) ∙ sym e ∙ ending.whole) in
       let less : is_served (item_with ending.line None) ≡ true =
-      either-served (fresh (record { sessions = 0; atoms = 0; branches = 0 })) (fresh (record { sessions = 0; atoms = 0; branches = 0 })) i.body replies.Bye ending.line (item_with ending.line None) (inr refl)
+      either-served newcomer newcomer i.body replies.Bye ending.line (item_with ending.line None) (inr refl)
       (sym (ap (λ x. is_served (item_of x i.body)) s.0) ∙ sym (ap is_served i.means) ∙ served) in
       not_last ending.fault (item_with ending.line None) ending.means less
 
@@ -216,16 +208,14 @@ module _ (n : ℕ) (left rest : List ℕ) where
       of_kind (inr last) = absurd (not_last Enough item last.2 served.0)
 
 -- no item is left that is answered, and the run is at its end
-pub serving-end : (old now last : Option (List ℕ)) (input left : List ℕ) (sessions : Named) → Serving old now input left sessions → BeginsWithNone left
+pub serving-end : (old now last : Option (List ℕ)) (input left : List ℕ) (user : User) → Serving old now input left user → BeginsWithNone left
     → Keeps now last → Served old last input
-serving-end old now last input left sessions s none kept = record {
+serving-end old now last input left user s none kept = record {
   written = s.written;
   appends = Appends-kept old now last s.written s.appends kept;
-  dialogue = λ quota thin.
-      let g = s.going quota thin in (
-        user_of quota sessions,
-        Dialogue-part (fresh quota) input g.count s.written left (user_of quota sessions) g.progress (part-left g.count left g.rest g.items g.splits g.served none),
-      );
+  dialogue = λ thin.
+      let g = s.going thin in
+      (user, Dialogue-part newcomer input g.count s.written left user g.progress (part-left g.count left g.rest g.items g.splits g.served none));
 }
 
 -- the bytes that were read are those that the reader had

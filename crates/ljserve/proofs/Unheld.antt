@@ -14,9 +14,8 @@ use Rattle.lj_wire.specs.declared.item.Item.TheVariants.{Command}
 use Rattle.lj_wire.specs.Numbers.{number_of}
 use Rattle.lj_wire.specs.Commands.{◌>>=◌, Words, load, load_item, or_syntax, is_load, last_count, mode_of, item_of_words, item_with, item_of, is_over, words_in}
 use Rattle.lj_wire.specs.Told.{answered}
-use Rattle.ljserve.specs.Answers.{is_quota_refusal}
-use Rattle.ljserve.specs.Streams.{is_served, PassesItem, AnswersItem}
-use Rattle.ljserve.proofs.Performing.{load-unheld}
+use Rattle.ljserve.specs.Streams.{is_served, AnswersItem}
+use Rattle.lj_session.specs.Answers.{performed}
 
 -- one item, or a LOAD without its body and the same with it
 abbrev Unheld : List ℕ → Item → Item → Type 0
@@ -24,6 +23,12 @@ Unheld body less whole =
     (less ≡ whole)
     ⊎ ((name : List ℕ) × (edge : Option ℤ) × (sigma : Option ℤ) × (step_factor : Option ℕ) × (mode : Mode)
     × (less ≡ Command (Load name edge sigma step_factor mode None)) × (whole ≡ Command (Load name edge sigma step_factor mode (Some body))))
+
+-- a LOAD whose body was not held comes to what any body comes to without memory
+load-unheld : (user : User) (name : List ℕ) (edge sigma : Option ℤ) (step_factor : Option ℕ) (mode : Mode) (body : List ℕ) (mark : Bool)
+    → performed user (Load name edge sigma step_factor mode None) mark ≡ performed user (Load name edge sigma step_factor mode (Some body)) true
+unfolding performed
+load-unheld user name edge sigma step_factor mode body mark = refl
 
 module _ (body : List ℕ) where
   unheld-load : (words : Words) → Unheld body (or_syntax (load None words)) (or_syntax (load (Some body) words))
@@ -64,7 +69,7 @@ module _ (body : List ℕ) where
       by_length true e = rw e (inl refl)
       by_length false e = rw e (unheld-words (words_in line))
 
--- a LOAD is served, passes the quota, and is answered without its body where it is with it
+-- a LOAD is served and answered without its body where it is with it
 module _ (user next : User) (body : List ℕ) (reply : Reply) where
   served-either : (less whole : Item) → Unheld body less whole → is_served whole ≡ true → is_served less ≡ true
   served-either less whole (inl same) served = ap is_served same ∙ served
@@ -73,13 +78,6 @@ module _ (user next : User) (body : List ℕ) (reply : Reply) where
       same : (mode : Mode) → is_served (Command (Load p.0 p.1 p.2 p.3 mode None)) ≡ is_served (Command (Load p.0 p.1 p.2 p.3 mode (Some body)))
       same Rest = refl
       same Pair = refl
-
-  passes-either : (less whole : Item) → Unheld body less whole → PassesItem user whole → PassesItem user less
-  passes-either less whole (inl same) passes = λ mark. ap (λ item. is_quota_refusal (answered user item mark).0) same ∙ passes mark
-  passes-either less whole (inr p) passes = λ mark.
-      ap (λ item. is_quota_refusal (answered user item mark).0) p.5
-      ∙ ap (λ outcome. is_quota_refusal (settled user outcome).0) (load-unheld user p.0 p.1 p.2 p.3 p.4 body mark)
-      ∙ sym (ap (λ item. is_quota_refusal (answered user item true).0) p.6) ∙ passes true
 
   answers-either : (less whole : Item) → Unheld body less whole → AnswersItem user less reply next → AnswersItem user whole reply next
   answers-either less whole (inl same) answers = (answers.0, ap (λ item. answered user item answers.0) (sym same) ∙ answers.1)
@@ -93,10 +91,6 @@ module _ (user next : User) (body : List ℕ) (reply : Reply) where
   pub either-served : (line : List ℕ) (item : Item) → (item ≡ item_of line body) ⊎ (item ≡ item_with line None) → is_served (item_of line body) ≡ true → is_served item ≡ true
   either-served line item (inl e) served = ap is_served e ∙ served
   either-served line item (inr e) served = ap is_served e ∙ served-either (item_with line None) (item_of line body) (unheld body line) served
-
-  pub either-passes : (line : List ℕ) (item : Item) → (item ≡ item_of line body) ⊎ (item ≡ item_with line None) → PassesItem user (item_of line body) → PassesItem user item
-  either-passes line item (inl e) passes = subst (PassesItem user) (sym e) passes
-  either-passes line item (inr e) passes = subst (PassesItem user) (sym e) (passes-either (item_with line None) (item_of line body) (unheld body line) passes)
 
   pub either-answers : (line : List ℕ) (item : Item) → (item ≡ item_of line body) ⊎ (item ≡ item_with line None) → AnswersItem user item reply next
       → AnswersItem user (item_of line body) reply next

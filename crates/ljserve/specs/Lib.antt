@@ -1,5 +1,4 @@
-pub mod Refusals
 pub mod Thin
-pub mod Answers
 pub mod Replies
 pub mod Streams
+pub mod Taking

@@ -2,7 +2,8 @@
 use Rattle.std.specs.Prelude.{◌≡◌, ℕ, ◌<◌, Bool, true, false, List, [], ◌∷◌, ◌++◌, length, Option, None, ◌⊎◌}
 use Rattle.std.specs.Io.KnownBytes.{Appends}
 use Rattle.lj_session.specs.declared.reply.Reply.{Reply}
-use Rattle.lj_session.specs.Users.{Quota, User, fresh}
+use Rattle.lj_quota.specs.declared.Quota.{Quota}
+use Rattle.lj_session.specs.Users.{User, fresh}
 use Rattle.lj_wire.specs.declared.item.Fault.{Fault}
 use Rattle.lj_wire.specs.declared.item.Item.{Item}
 use Rattle.lj_wire.specs.declared.item.Item.TheVariants.{Command, Bad, Last}
@@ -11,7 +12,6 @@ use Rattle.lj_wire.specs.Told.{answered}
 use Rattle.lj_wire.specs.Streams.{LacksLineFeed, Splits, Dialogue}
 use Rattle.lj_wire.specs.Progress.{Progress}
 use Rattle.ljserve.specs.Thin.{is_thin}
-use Rattle.ljserve.specs.Answers.{Named, is_quota_refusal, user_of}
 
 -- A stream begins with this item: a line, and as many bytes of body as it announces, which are left out of the item
 -- where there was no memory for them.
@@ -55,46 +55,42 @@ abbrev pub AreServed : List Item → Type 0
 AreServed [] = Unit {0}
 AreServed (item ∷ items) = (is_served item ≡ true) × AreServed items
 
--- with memory or without, an item is not refused for the quota
-abbrev pub PassesItem : User → Item → Type 0
-PassesItem user item = (mark : Bool) → is_quota_refusal (answered user item mark).0 ≡ false
-
 -- an item of a user is answered by a reply, which leaves the next user, under some mark
 abbrev pub AnswersItem : User → Item → Reply → User → Type 0
 AnswersItem user item reply next = (mark : Bool) × (answered user item mark ≡ (reply, next))
 
--- no item of a user is refused for the quota, whichever are refused memory
-abbrev pub PassesAll : User → List Item → Type 0
-PassesAll user [] = Unit {0}
-PassesAll user (item ∷ items) =
-    (mark : Bool) → (is_quota_refusal (answered user item mark).0 ≡ false) × PassesAll (answered user item mark).1 items
+-- the quota of the program: 8 sessions, 16,384 atoms and 16 saved simulations
+abbrev pub usual : Quota
+usual = record { sessions = 8; atoms = 16384; branches = 16 }
 
--- A stream of items that are served, behind which less than an item may stand, and which passes no quota.
-pub record IsThinStream (quota : Quota) (input : List ℕ) : Type 0 where
+-- the user without sessions
+abbrev pub newcomer : User
+newcomer = fresh usual
+
+-- A stream of items that are served, behind which less than an item may stand.
+pub record IsThinStream (input : List ℕ) : Type 0 where
   pub items : List Item
   pub rest : List ℕ
   pub splits : Splits 0 input items rest
   pub served : AreServed items
-  pub passes : PassesAll (fresh quota) items
 
--- What is written for an input: where that is a stream of items that are served and passes no quota, the dialogue.
+-- What is written for an input: where that is a stream of items that are served, the dialogue.
 pub record Served (old new : Option (List ℕ)) (input : List ℕ) : Type 0 where
   pub written : List ℕ
   pub appends : Appends old new written
-  pub dialogue : (quota : Quota) → IsThinStream quota input → (next : User) × Dialogue (fresh quota) input written next
+  pub dialogue : IsThinStream input → (next : User) × Dialogue newcomer input written next
 
--- some items of a stream are answered, and those to come are served and pass no quota
-pub record Going (quota : Quota) (input written left : List ℕ) (sessions : Named) : Type 0 where
+-- some items of a stream are answered, and those to come are served
+pub record Going (input written left : List ℕ) (user : User) : Type 0 where
   pub count : ℕ
-  pub progress : Progress (fresh quota) input count written left (user_of quota sessions)
+  pub progress : Progress newcomer input count written left user
   pub items : List Item
   pub rest : List ℕ
   pub splits : Splits count left items rest
   pub served : AreServed items
-  pub passes : PassesAll (user_of quota sessions) items
 
 -- the run between two items
-pub record Serving (old now : Option (List ℕ)) (input left : List ℕ) (sessions : Named) : Type 0 where
+pub record Serving (old now : Option (List ℕ)) (input left : List ℕ) (user : User) : Type 0 where
   pub written : List ℕ
   pub appends : Appends old now written
-  pub going : (quota : Quota) → IsThinStream quota input → Going quota input written left sessions
+  pub going : IsThinStream input → Going input written left user

@@ -1,14 +1,15 @@
 //! The engine: from the bytes of a stream of commands to the bytes of their replies.
-ghost use Rattle.std.specs.Prelude.{◌≡◌, IfOk, IfSome, OnOk, IsTrue};
-ghost use Rattle.lj_session.specs.Users.{Quota};
-ghost use Rattle.ljserve.specs.Answers.{user_of};
+ghost use Rattle.std.specs.Prelude.{◌≡◌, None, IfOk, IfSome, OnOk, IsTrue};
+ghost use Rattle.lj_session.specs.Owners.{user_in};
 ghost use Rattle.ljserve.specs.Replies.{is_one_line};
-ghost use Rattle.ljserve.specs.Streams.{Served, AnswersItem, PassesItem, is_served};
+ghost use Rattle.ljserve.specs.Streams.{Served, AnswersItem, is_served, newcomer};
+ghost use Rattle.ljserve.specs.Thin.{is_thin};
 
 use crate::item::split_item;
 use crate::reply::write_reply;
-use crate::sessions::Sessions;
-use lj_session::{Refusal, Reply};
+use crate::running::answer_alone;
+use lj_quota::Quota;
+use lj_session::{Command, Mode, Owner, Refusal, Reply, UserState};
 use lj_table::Table;
 use lj_wire::Item;
 use std::alloc::Global;
@@ -17,6 +18,16 @@ use thiserror::Error;
 
 /// The most bytes of an input.
 const MOST_INPUT_BYTES: u64 = 4_194_304;
+
+/// What the one user may have.
+const QUOTA: Quota = Quota {
+    sessions: 8,
+    atoms: 16_384,
+    branches: 16,
+};
+
+/// The number of the one user.
+const ONLY_USER: u8 = 0;
 
 /// Why a run did not come to its end.
 #[derive(Debug, Drop, Error)]
@@ -31,8 +42,7 @@ pub enum ThinFault {
 }
 
 /// Reads the commands of `reader` to its end, and writes the replies to `writer`. Where all items are LOAD of atoms at
-/// rest, ADVANCE and SHOW, and none passes the quota, what is written is the dialogue of the bytes read, from a user
-/// without sessions. After a fault the replies to the first items may have been written.
+/// rest, ADVANCE and SHOW, what is written is the dialogue of the bytes read, from a user without sessions. After a fault the replies to the first items may have been written.
 pub fn run_thin<R: Read, W: Write>(
     alloc: Global,
     reader: &mut R,
@@ -42,10 +52,10 @@ pub fn run_thin<R: Read, W: Write>(
 {
     let input = read_input(alloc, reader)?;
     let table = Table::new();
-    let mut sessions = Sessions::new(alloc);
+    let mut owner = new_owner(alloc);
     let mut rest = input.as_slice();
     while let Some((item, behind)) = split_item(alloc, rest) {
-        let reply = answer(&mut sessions, &table, item);
+        let reply = answer(&mut owner, &table, item);
         write_reply(writer, &reply).map_err(|_| ThinFault::Write)?;
         rest = behind;
     }
@@ -66,14 +76,36 @@ fn read_input<R: Read>(alloc: Global, reader: &mut R) -> Result<Vec<u8>, ThinFau
     Ok(input)
 }
 
-// An item that is no command is refused, and changes nothing.
-fn answer(sessions: &mut Sessions, table: &Table, item: Item) -> Reply
-    ensures served { (quota : Quota) → IsTrue (is_served item) → PassesItem (user_of quota sessions.old) item →
-        AnswersItem (user_of quota sessions.old) item result (user_of quota sessions.new) }
+// The owner of the state of a user without sessions.
+fn new_owner(alloc: Global) -> Owner
+    ensures user { user_in result ≡ newcomer }
+    ensures idle { result.rest ≡ None }
+{
+    Owner::new(UserState::new(alloc, QUOTA), ONLY_USER)
+}
+
+// An item that is not served is refused, and changes nothing.
+fn answer(owner: &mut Owner, table: &Table, item: Item) -> Reply
+    requires { owner.old.rest ≡ None }
+    ensures served { IsTrue (is_served item) → AnswersItem (user_in owner.old) item result (user_in owner.new) }
+    ensures idle { owner.new.rest ≡ None }
     ensures line { IsTrue (is_one_line result) }
 {
     match item {
-        Item::Command(command) => sessions.answer(table, command),
-        Item::Bad(_) | Item::Last(_) => Reply::Refused(Refusal::Command),
+        Item::Command(command) if is_thin(&command) => answer_alone(owner, table, command),
+        _ => Reply::Refused(Refusal::Command),
     }
+}
+
+// Whether a command is one of the three that the engine answers.
+fn is_thin(command: &Command) -> bool
+    ensures { result ≡ is_thin command.now }
+{
+    matches!(
+        command,
+        Command::Load {
+            mode: Mode::Rest,
+            ..
+        } | Command::Advance { .. } | Command::Show { .. }
+    )
 }

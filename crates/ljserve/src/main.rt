@@ -4,9 +4,7 @@
 mod engine;
 mod item;
 mod reply;
-mod session;
-mod sessions;
-mod stepping;
+mod running;
 #[cfg(test)]
 mod tests;
 

@@ -1,0 +1,8 @@
+use Rattle.ljserve.specs.Taking.{IsTaking, SameRun}
+use Rattle.ljserve.proofs.running.compute_all.Given as goal
+
+abbrev pub invariant-loop-task : goal.invariant-loop-task
+invariant-loop-task l = record {
+  taking : IsTaking l.owner;
+  same : SameRun l.initial.owner l.owner;
+}
