@@ -1,5 +1,5 @@
 -- What each command that changes a session comes to, of what is held.
-use Rattle.std.proofs.Common.{◌≡◌, ℕ, ◌<◌, ◌≤◌, ◌^◌, Bool, true, false, ℤ, unsigned_abs, List, length, Some, Result, Ok, Err, nat_lt, refl, sym, ap, ◌∙◌, arith, w64, to_z, of_z}
+use Rattle.std.proofs.Common.{◌≡◌, ℕ, ◌<◌, ◌≤◌, ◌^◌, Bool, true, false, ℤ, unsigned_abs, List, length, Some, Result, Ok, Err, nat_lt, refl, sym, ap, ◌∙◌, arith, w64, to_z, of_z, FitsSigned}
 use Rattle.std.specs.Int.{w128}
 use Rattle.std.proofs.lemmas.Int.{to_z-of_z, fits_signed_from_abs}
 use Rattle.std.proofs.lemmas.Bool.{lt-ltb, le-ltb}
@@ -117,8 +117,8 @@ pub written-to : (old new new' : Owned) (command : Command) (result : Result Rep
 written-to old new new' command result performs next = rw next performs
 
 -- a potential fits its word
-pub read-potential : (potential : ℤ) → unsigned_abs potential < 2 ^ 127 → to_z w128 (of_z w128 potential) ≡ potential
-read-potential potential most = to_z-of_z w128 potential (fits_signed_from_abs w128 potential (omega (arith, most)))
+pub read-potential : (potential : ℤ) → FitsSigned w128 potential → to_z w128 (of_z w128 potential) ≡ potential
+read-potential potential fits = to_z-of_z w128 potential fits
 
 -- replies, read as the code has them
 pub shown : (user : User) (name : List ℕ) (atom : ℕ) (step step' : ℤ) (place place' : Place) → step' ≡ step → place' ≡ place

@@ -3,7 +3,7 @@ use Rattle.std.proofs.Common.{◌≡◌, ℕ, ◌+◌, ◌<◌, ◌≤◌, Bool,
 use Rattle.std.specs.Prelude.{is_some}
 use Rattle.lj_step.specs.Motion.{Simulation, Displacement, place_at, steps, stepped, reversed, tugged, momentum, kinetic, potential}
 use Rattle.lj_session.specs.declared.command.Command.{Command}
-use Rattle.lj_session.specs.declared.command.Command.TheVariants.{Advance, Reverse, Branch, Restore, Forget, Tug, Measure, Show, Dump, ListBranches, Unload}
+use Rattle.lj_session.specs.declared.command.Command.TheVariants.{Advance, Reverse, Branch, Restore, Forget, Tug, Measure, Show, Dump, List as ListSessions, ListBranches, Unload, Bye}
 use Rattle.lj_session.specs.declared.refusal.Refusal.{Refusal}
 use Rattle.lj_session.specs.declared.refusal.Refusal.TheVariants.{NoSession, NoBranch, NoAtom, StepRange, Memory}
 use Rattle.lj_session.specs.declared.reply.Reply.{Reply}
@@ -130,3 +130,12 @@ module _ (user : User) (name : List ℕ) (mark : Bool) where
     pub unload-done : performed user (Unload name) mark ≡ Ok (reply.Unloaded name, record user { sessions = taken_out name user.sessions })
     unfolding performed
     unload-done = rw found refl
+
+-- LIST and BYE are always answered
+pub list-done : (user : User) (mark : Bool) → performed user ListSessions mark ≡ Ok (reply.Listed, user)
+unfolding performed
+list-done user mark = refl
+
+pub bye-done : (user : User) (mark : Bool) → performed user Bye mark ≡ Ok (reply.Bye, user)
+unfolding performed
+bye-done user mark = refl
