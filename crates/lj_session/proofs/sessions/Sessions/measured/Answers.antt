@@ -18,4 +18,4 @@ returns c = λ mark.
     (c.count.ensures.value ∙ ap (λ (l : Live). length l.sim.cur) live)
     (c.momentum.ensures ∙ ap (λ (l : Live). let m = momentum l.sim in m.x ∷ m.y ∷ m.z ∷ []) live)
     (c.kinetic.ensures ∙ ap (λ (l : Live). kinetic l.sim) live)
-    (read-potential c.potential.result c.potential.type_inv ∙ (c.potential.ensures ∙ ap (λ (l : Live). potential l.units l.sim.cur) live))
+    (read-potential c.potential.result (record { sfits = c.potential.type_inv }) ∙ (c.potential.ensures ∙ ap (λ (l : Live). potential l.units l.sim.cur) live))
