@@ -1,6 +1,5 @@
 -- Values under names: a value put, set or taken out, and sums over them.
-use Rattle.std.proofs.Common.{◌≡◌, ℕ, suc, ◌+◌, Bool, true, false, List, [], ◌∷◌, ◌++◌, length, map, Option, Some, None, refl, sym, ap, ◌∙◌, arith, true≢false}
-use Rattle.std.specs.Prelude.{is_some, cond}
+use Rattle.std.proofs.Common.{◌≡◌, ℕ, suc, ◌+◌, Bool, true, false, List, [], ◌∷◌, ◌++◌, length, map, Some, None, refl, sym, ap, arith}
 use Rattle.std.specs.List.{sum_by}
 use Rattle.std.proofs.lemmas.List.Sums.{sum_by-cons}
 use Rattle.std.specs.Option.{option_map}
@@ -83,13 +82,13 @@ module _ {A : Type 0} (name : List ℕ) where
     sum-put [] v w h = absurd (none-some v h)
     sum-put (e ∷ es) v w h = by_test (bytes_eq name e.0)
         (λ t. let same = ap f (same_Some e.1 v (rw t at h)) in
-            let new = sum_by-cons value_of (e.0, w) es in
-            let old = sum_by-cons value_of e es in
-            rw t (omega (arith, same, new, old)))
+        let new = sum_by-cons value_of (e.0, w) es in
+        let old = sum_by-cons value_of e es in
+        rw t (omega (arith, same, new, old)))
         (λ t. let below = sum-put es v w (rw t at h) in
-            let new = sum_by-cons value_of e (put name w es) in
-            let old = sum_by-cons value_of e es in
-            rw t (omega (arith, below, new, old)))
+        let new = sum_by-cons value_of e (put name w es) in
+        let old = sum_by-cons value_of e es in
+        rw t (omega (arith, below, new, old)))
 
     pub sum-new : (es : List (List ℕ × A)) (w : A) → named name es ≡ None
         → sum_by value_of (put name w es) ≡ sum_by value_of es + f w
@@ -97,21 +96,21 @@ module _ {A : Type 0} (name : List ℕ) where
     sum-new (e ∷ es) w h = by_test (bytes_eq name e.0)
         (λ t. absurd (none-some e.1 (sym (rw t at h))))
         (λ t. let below = sum-new es w (rw t at h) in
-            let new = sum_by-cons value_of e (put name w es) in
-            let old = sum_by-cons value_of e es in
-            rw t (omega (arith, below, new, old)))
+        let new = sum_by-cons value_of e (put name w es) in
+        let old = sum_by-cons value_of e es in
+        rw t (omega (arith, below, new, old)))
 
     pub sum-taken : (es : List (List ℕ × A)) (v : A) → named name es ≡ Some v
         → sum_by value_of (taken_out name es) + f v ≡ sum_by value_of es
     sum-taken [] v h = absurd (none-some v h)
     sum-taken (e ∷ es) v h = by_test (bytes_eq name e.0)
         (λ t. let same = ap f (same_Some e.1 v (rw t at h)) in
-            let old = sum_by-cons value_of e es in
-            rw t (omega (arith, same, old)))
+        let old = sum_by-cons value_of e es in
+        rw t (omega (arith, same, old)))
         (λ t. let below = sum-taken es v (rw t at h) in
-            let new = sum_by-cons value_of e (taken_out name es) in
-            let old = sum_by-cons value_of e es in
-            rw t (omega (arith, below, new, old)))
+        let new = sum_by-cons value_of e (taken_out name es) in
+        let old = sum_by-cons value_of e es in
+        rw t (omega (arith, below, new, old)))
 
 -- entries whose values are seen by a function: the names stand where they stood
 module _ {A B : Type 0} (f : A → B) (name : List ℕ) where

@@ -1,5 +1,5 @@
 -- BRANCH, case by case.
-use Rattle.std.proofs.Common.{◌≡◌, ℕ, ◌+◌, Bool, true, false, List, Option, Some, None, Result, Ok, Err, nat_lt, not, refl, sym, ap, ◌∙◌}
+use Rattle.std.proofs.Common.{◌≡◌, ℕ, Bool, true, false, List, Option, Some, None, Result, Ok, Err, nat_lt, refl, sym, ap, ◌∙◌}
 use Rattle.std.specs.Prelude.{is_some}
 use Rattle.lj_session.specs.declared.command.Command.TheVariants.{Branch}
 use Rattle.lj_session.specs.declared.refusal.Refusal.{Refusal}
@@ -32,9 +32,12 @@ module _ (user : User) (name branch : List ℕ) where
     pub new-admitted : branch_admitted user name branch ≡ Ok tt → (is_some (named branch session.saved) ≡ false) × (nat_lt (branches_used user) user.quota.branches ≡ true)
     new-admitted admitted = by_test (is_some (named branch session.saved))
         (λ taken. absurd (refused BranchExists (sym (admitted-exists taken) ∙ admitted)))
-        (λ new. (new, by_test (nat_lt (branches_used user) user.quota.branches)
-        (λ room. room)
-        (λ over. absurd (refused QuotaBranches (sym (admitted-over new over) ∙ admitted)))))
+        (λ new. (
+          new,
+          by_test (nat_lt (branches_used user) user.quota.branches)
+              (λ room. room)
+              (λ over. absurd (refused QuotaBranches (sym (admitted-over new over) ∙ admitted))),
+        ))
       where
         refused : (refusal : Refusal) → ◌≡◌ {A = Result (Unit {0}) Refusal} (Err refusal) (Ok tt) → ⊥
         refused refusal e = cc

@@ -1,6 +1,6 @@
 use Rattle.std.proofs.Common.{length, ◌∷◌, [], ap, ◌∙◌}
 use Rattle.lj_step.specs.Live.{Live}
-use Rattle.lj_step.specs.Motion.{Displacement, momentum, kinetic, potential}
+use Rattle.lj_step.specs.Motion.{momentum, kinetic, potential}
 use Rattle.lj_session.proofs.Holding.{named-held}
 use Rattle.lj_session.proofs.Performing as performing
 use Rattle.lj_session.proofs.Outcomes.{read-step, read-potential, measured}

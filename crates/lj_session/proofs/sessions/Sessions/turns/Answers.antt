@@ -1,4 +1,3 @@
-use Rattle.std.proofs.Common.{sym}
 use Rattle.lj_session.proofs.Turning.{no-turns}
 use Rattle.lj_session.specs.States.{user_of}
 use Rattle.lj_session.proofs.sessions.Sessions.turns.Goals as goal
