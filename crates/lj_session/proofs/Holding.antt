@@ -1,16 +1,13 @@
 -- What is held, and the user that it is: a session looked up, put and taken out in both.
-use Rattle.std.proofs.Common.{◌≡◌, ℕ, ◌+◌, Bool, true, false, List, [], ◌∷◌, length, Option, Some, None, refl, sym, ap, ◌∙◌, arith}
+use Rattle.std.proofs.Common.{◌≡◌, ℕ, true, false, List, Option, Some, None, refl, sym, ap, ◌∙◌}
 use Rattle.std.proofs.Common.{Bor}
 use Rattle.std.specs.Prelude.{is_some}
 use Rattle.std.proofs.lemmas.Bool.{true≢false, false≢true}
 use Rattle.std.specs.Option.{option_map, option_copied}
-use Rattle.std.specs.List.{AllByRecursion}
 use Rattle.std.specs.Str.{bytes_eq}
 use Rattle.std.specs.Map.{set_value}
-use Rattle.lj_step.specs.Motion.{Simulation}
-use Rattle.lj_quota.specs.declared.Quota.{Quota}
-use Rattle.lj_session.specs.Users.{Session, User, named, put, taken_out, with_session}
-use Rattle.lj_session.specs.States.{Held, Owned, HasCount, as_session, user_of, used_by, held_in, with_held, changed}
+use Rattle.lj_session.specs.Users.{Session, named, put, taken_out, with_session}
+use Rattle.lj_session.specs.States.{Held, Owned, as_session, user_of, held_in, with_held, changed}
 use Rattle.lj_session.specs.declared.sessions.Sessions.TheInside.{Inside}
 use Rattle.lj_session.specs.Totals.{owned_of}
 use Rattle.lj_session.proofs.Entries.{named-seen, put-seen, taken-seen, put-same, set-put}

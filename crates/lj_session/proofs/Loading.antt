@@ -1,5 +1,5 @@
 -- LOAD, case by case.
-use Rattle.std.proofs.Common.{◌≡◌, ℕ, ◌+◌, Bool, true, false, ℤ, List, [], ◌∷◌, length, Option, Some, None, Result, Ok, Err, nat_le, nat_lt, not, refl, sym, ap, ◌∙◌}
+use Rattle.std.proofs.Common.{◌≡◌, ℕ, ◌+◌, Bool, true, false, ℤ, List, length, Option, Some, None, Result, Ok, Err, nat_le, nat_lt, refl, sym, ap, ◌∙◌}
 use Rattle.std.specs.Prelude.{is_some}
 use Rattle.std.specs.Option.{unwrap_or, option_map}
 use Rattle.std.proofs.lemmas.Bool.{true≢false}
@@ -17,7 +17,7 @@ use Rattle.lj_session.specs.declared.command.Command.TheVariants.{Load}
 use Rattle.lj_session.specs.declared.refusal.Refusal.{Refusal}
 use Rattle.lj_session.specs.declared.refusal.Refusal.TheVariants.{Exists, QuotaSessions, QuotaAtoms, Xyz, Memory}
 use Rattle.lj_session.specs.declared.reply.Reply.TheVariants as reply
-use Rattle.lj_session.specs.Users.{Session, User, named, with_session, atoms_of, atoms_used, sessions_used}
+use Rattle.lj_session.specs.Users.{User, named, with_session, atoms_of, atoms_used, sessions_used}
 use Rattle.lj_session.specs.Loads.{admitted, nano_or_zero, scale_refusal, reading_mode, place_in, opened, session_of_frames}
 use Rattle.lj_session.specs.Answers.{performed}
 use Rattle.lj_session.specs.Openings.{frames_of, last_of, session_of}
@@ -91,9 +91,12 @@ pub new-admitted : (user : User) (name : List ℕ) (edge sigma : Option ℤ) (st
     → (is_some (named name user.sessions) ≡ false) × (nat_lt (sessions_used user) user.quota.sessions ≡ true)
 new-admitted user name edge sigma step_factor units admitted = by_test (is_some (named name user.sessions))
     (λ taken. absurd (refused Exists (sym (admitted-exists user name edge sigma step_factor taken) ∙ admitted)))
-    (λ new. (new, by_test (nat_lt (sessions_used user) user.quota.sessions)
-    (λ room. room)
-    (λ over. absurd (refused QuotaSessions (sym (admitted-over user name edge sigma step_factor new over) ∙ admitted)))))
+    (λ new. (
+      new,
+      by_test (nat_lt (sessions_used user) user.quota.sessions)
+          (λ room. room)
+          (λ over. absurd (refused QuotaSessions (sym (admitted-over user name edge sigma step_factor new over) ∙ admitted))),
+    ))
   where
     refused : (refusal : Refusal) → ◌≡◌ {A = Result Units Refusal} (Err refusal) (Ok units) → ⊥
     refused refusal e = cc

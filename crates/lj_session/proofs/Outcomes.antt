@@ -1,5 +1,5 @@
 -- What each command that changes a session comes to, of what is held.
-use Rattle.std.proofs.Common.{◌≡◌, ℕ, ◌<◌, ◌≤◌, ◌^◌, Bool, true, false, ℤ, unsigned_abs, List, length, Some, Result, Ok, Err, nat_lt, refl, sym, ap, ◌∙◌, arith, w64, to_z, of_z}
+use Rattle.std.proofs.Common.{◌≡◌, ℕ, ◌<◌, ◌≤◌, ◌^◌, Bool, true, false, ℤ, unsigned_abs, List, length, Some, Result, Ok, Err, nat_lt, refl, sym, ap, ◌∙◌, arith, w64, to_z, of_z, FitsSigned}
 use Rattle.std.specs.Int.{w128}
 use Rattle.std.proofs.lemmas.Int.{to_z-of_z, fits_signed_from_abs}
 use Rattle.std.proofs.lemmas.Bool.{lt-ltb, le-ltb}
@@ -12,10 +12,10 @@ use Rattle.lj_session.specs.declared.refusal.Refusal.{Refusal}
 use Rattle.lj_session.specs.declared.refusal.Refusal.TheVariants.{Memory}
 use Rattle.lj_session.specs.declared.reply.Reply.{Reply}
 use Rattle.lj_session.specs.declared.reply.Reply.TheVariants as reply
-use Rattle.lj_session.specs.Users.{Session, User, named, put, taken_out, with_session, atoms_of}
+use Rattle.lj_session.specs.Users.{Session, User, named, put, taken_out, with_session}
 use Rattle.lj_session.specs.Answers.{performed, answer, settled, can_advance}
 use Rattle.lj_session.specs.Turns.{turned}
-use Rattle.lj_session.specs.States.{Held, Owned, Performs, as_session, user_of, held_in, with_held, changed, turned_on, branch_admitted}
+use Rattle.lj_session.specs.States.{Held, Owned, Performs, as_session, user_of, held_in, with_held, turned_on, branch_admitted}
 use Rattle.lj_session.proofs.Entries.{put-same}
 use Rattle.lj_session.proofs.Holding.{named-held, user_of-put, user_of-taken}
 use Rattle.lj_session.proofs.Performing as performing
@@ -117,8 +117,8 @@ pub written-to : (old new new' : Owned) (command : Command) (result : Result Rep
 written-to old new new' command result performs next = rw next performs
 
 -- a potential fits its word
-pub read-potential : (potential : ℤ) → unsigned_abs potential < 2 ^ 127 → to_z w128 (of_z w128 potential) ≡ potential
-read-potential potential most = to_z-of_z w128 potential (fits_signed_from_abs w128 potential (omega (arith, most)))
+pub read-potential : (potential : ℤ) → FitsSigned w128 potential → to_z w128 (of_z w128 potential) ≡ potential
+read-potential potential fits = to_z-of_z w128 potential fits
 
 -- replies, read as the code has them
 pub shown : (user : User) (name : List ℕ) (atom : ℕ) (step step' : ℤ) (place place' : Place) → step' ≡ step → place' ≡ place

@@ -1,16 +1,15 @@
 -- What each command comes to, case by case.
-use Rattle.std.proofs.Common.{◌≡◌, ℕ, ◌+◌, ◌<◌, ◌≤◌, Bool, true, false, ℤ, List, [], ◌∷◌, length, Option, Some, None, Result, Ok, Err, nat_lt, nat_le, not, refl, sym, ap, ◌∙◌}
-use Rattle.std.specs.Prelude.{is_some}
-use Rattle.lj_step.specs.Motion.{Simulation, Displacement, place_at, steps, stepped, reversed, tugged, momentum, kinetic, potential}
+use Rattle.std.proofs.Common.{◌≡◌, ℕ, Bool, true, false, ℤ, List, [], ◌∷◌, Some, None, Result, Ok, Err, nat_lt, refl}
+use Rattle.lj_step.specs.Motion.{Simulation, place_at, steps, reversed, tugged, momentum, kinetic, potential}
 use Rattle.lj_session.specs.declared.command.Command.{Command}
-use Rattle.lj_session.specs.declared.command.Command.TheVariants.{Advance, Reverse, Branch, Restore, Forget, Tug, Measure, Show, Dump, ListBranches, Unload}
+use Rattle.lj_session.specs.declared.command.Command.TheVariants.{Advance, Reverse, Restore, Forget, Tug, Measure, Show, Dump, List as ListSessions, ListBranches, Unload, Bye}
 use Rattle.lj_session.specs.declared.refusal.Refusal.{Refusal}
 use Rattle.lj_session.specs.declared.refusal.Refusal.TheVariants.{NoSession, NoBranch, NoAtom, StepRange, Memory}
 use Rattle.lj_session.specs.declared.reply.Reply.{Reply}
 use Rattle.lj_session.specs.declared.reply.Reply.TheVariants as reply
-use Rattle.lj_session.specs.Users.{Session, User, named, put, taken_out, with_session, atoms_of, branches_used}
+use Rattle.lj_session.specs.Users.{Session, User, named, taken_out, with_session, atoms_of}
 use Rattle.lj_session.specs.Answers.{performed, can_advance, with_sim}
-use Rattle.lj_session.specs.States.{Owned, Performs, outcome, user_of, branch_admitted}
+use Rattle.lj_session.specs.States.{Owned, Performs, outcome, user_of}
 
 -- a command that is answered without the mark
 pub told : (old new : Owned) (command : Command) (result : Result Reply Refusal)
@@ -130,3 +129,12 @@ module _ (user : User) (name : List ℕ) (mark : Bool) where
     pub unload-done : performed user (Unload name) mark ≡ Ok (reply.Unloaded name, record user { sessions = taken_out name user.sessions })
     unfolding performed
     unload-done = rw found refl
+
+-- LIST and BYE are always answered
+pub list-done : (user : User) (mark : Bool) → performed user ListSessions mark ≡ Ok (reply.Listed, user)
+unfolding performed
+list-done user mark = refl
+
+pub bye-done : (user : User) (mark : Bool) → performed user Bye mark ≡ Ok (reply.Bye, user)
+unfolding performed
+bye-done user mark = refl

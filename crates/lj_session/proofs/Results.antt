@@ -1,19 +1,17 @@
 -- Results of calls, by their cases.
-use Rattle.std.proofs.Common.{◌≡◌, ℕ, ◌+◌, ◌<◌, ◌≤◌, Bool, true, false, List, length, Option, Some, None, Result, Ok, Err, nat_lt, refl, sym, ap, ◌∙◌, subst, arith}
+use Rattle.std.proofs.Common.{◌≡◌, ℕ, Bool, true, false, List, length, Option, Some, None, Result, Ok, Err, refl, sym, ap, ◌∙◌, subst}
 use Rattle.std.specs.Option.{option_map}
 use Rattle.lj_step.specs.Motion.{Simulation}
 use Rattle.lj_session.specs.Users.{named}
 use Rattle.std.specs.Prelude.{is_some, IsSome, IfSome, IsErrAnd, OnOk, OnErr}
-use Rattle.std.proofs.lemmas.Bool.{true≢false, false≢true, lt-ltb, le-ltb}
+use Rattle.std.proofs.lemmas.Bool.{true≢false, false≢true}
 use Rattle.lj_branch.specs.declared.faults.SaveFault.{SaveFault}
 use Rattle.lj_branch.specs.declared.faults.SaveFault.TheVariants as save
-use Rattle.lj_quota.specs.declared.Over.{Over}
-use Rattle.lj_quota.specs.declared.Over.TheVariants as over
 use Rattle.lj_session.specs.declared.command.Command.{Command}
 use Rattle.lj_session.specs.declared.refusal.Refusal.{Refusal}
 use Rattle.lj_session.specs.declared.refusal.Refusal.TheVariants.{Memory}
 use Rattle.lj_session.specs.declared.reply.Reply.{Reply}
-use Rattle.lj_session.specs.Faults.{save_refusal, quota_refusal}
+use Rattle.lj_session.specs.Faults.{save_refusal}
 use Rattle.lj_session.specs.Answers.{performed}
 use Rattle.lj_session.specs.States.{Owned, Performs, user_of}
 

@@ -1,8 +1,9 @@
 -- How many turns ADVANCE and MEASURE take, case by case.
-use Rattle.std.proofs.Common.{◌≡◌, ℕ, ◌+◌, ◌≤◌, ◌^◌, Bool, true, false, ℤ, pos, ◌+ℤ◌, ◌*ℤ◌, unsigned_abs, List, Option, Some, None, nat_le, ◌&&◌, refl, sym, ap, ◌∙◌, arith}
+use Rattle.std.proofs.Common.{◌≡◌, ℕ, ◌≤◌, ◌^◌, true, false, pos, ◌+ℤ◌, ◌*ℤ◌, unsigned_abs, List, Option, Some, None, refl, arith}
 use Rattle.std.proofs.lemmas.Int.{ints}
-use Rattle.std.proofs.lemmas.Bool.{le-leb, and_from}
-use Rattle.lj_session.specs.declared.command.Command.TheVariants.{Advance, Measure}
+use Rattle.std.proofs.lemmas.Bool.{le-leb}
+use Rattle.lj_session.specs.declared.command.Command.{Command}
+use Rattle.lj_session.specs.declared.command.Command.TheVariants.{Load, Advance, Reverse, Branch, Restore, Forget, Tug, Measure, Show, Dump, List as ListSessions, ListBranches, Unload, Bye}
 use Rattle.lj_session.specs.Users.{Session, User, named}
 use Rattle.lj_session.specs.Answers.{can_advance}
 use Rattle.lj_session.specs.Turns.{turns}
@@ -41,3 +42,21 @@ pub near-nothing : (session : Session) → unsigned_abs session.sim.step ≤ 10 
 near-nothing session most =
     let same : session.sim.step +ℤ session.sim.dir *ℤ pos 0 ≡ session.sim.step = omega (arith, ints) in
     le-leb (unsigned_abs (session.sim.step +ℤ session.sim.dir *ℤ pos 0)) (10 ^ 12) (rw same most)
+
+-- every other command takes no turn
+pub no-turns : (user : User) (command : Command) → ((name : List ℕ) (n : ℕ) → command ≡ Advance name n → ⊥) → ((name : List ℕ) → command ≡ Measure name → ⊥) → 0 ≡ turns user command
+unfolding turns
+no-turns user (Load name edge sigma step_factor mode body) a m = refl
+no-turns user (Advance name n) a m = absurd (a name n refl)
+no-turns user (Reverse name) a m = refl
+no-turns user (Branch name branch) a m = refl
+no-turns user (Restore name branch) a m = refl
+no-turns user (Forget name branch) a m = refl
+no-turns user (Tug name atom x y z) a m = refl
+no-turns user (Measure name) a m = absurd (m name refl)
+no-turns user (Show name atom) a m = refl
+no-turns user (Dump name) a m = refl
+no-turns user ListSessions a m = refl
+no-turns user (ListBranches name) a m = refl
+no-turns user (Unload name) a m = refl
+no-turns user Bye a m = refl

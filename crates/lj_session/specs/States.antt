@@ -1,5 +1,5 @@
 -- What the code holds of a user, open steps and all, and the user of the definition that it stands for.
-use Rattle.std.specs.Prelude.{◌≡◌, ℕ, ◌+◌, ◌-◌, ◌<◌, ◌≤◌, ◌^◌, unsigned_abs, Bool, true, false, List, [], ◌∷◌, length, map, slice_get, Option, Some, None, Result, Ok, Err, not, nat_lt, is_some}
+use Rattle.std.specs.Prelude.{◌≡◌, ℕ, ◌+◌, ◌-◌, ◌≤◌, ◌^◌, unsigned_abs, Bool, true, false, List, [], ◌∷◌, length, map, slice_get, Option, Some, None, Result, Ok, Err, not, nat_lt, is_some}
 use Rattle.std.specs.Option.{ForSome, option_map, option_and_then}
 use Rattle.std.specs.List.{find, range_with_len}
 use Rattle.lj_xyz.specs.Atoms.{◌>>=◌}

@@ -101,7 +101,7 @@ impl UserState {
         requires { i < length self.now.sessions }
         ensures { option_map (λ held. held.live.units.edge) (held_at self.now i) ≡ Some result }
     {
-        self.sessions.at(i).sim().edge()
+        self.sim_at(i).edge()
     }
 
     /// The symbol of an atom of the i-th session.

@@ -22,7 +22,7 @@ impl Sessions {
     {
         match command {
             Command::Advance { name, steps } => self.advance_turns(name, *steps),
-            Command::Measure { name } => u64::from(self.find(name).is_some()),
+            Command::Measure { name } => self.measure_turns(name),
             _ => 0,
         }
     }
@@ -38,6 +38,15 @@ impl Sessions {
             return 0;
         }
         steps
+    }
+
+    fn measure_turns(&self, name: &Name) -> u64
+        ensures { result ≡ definition.turns (user_of self.now) (commands.Measure name.now) }
+    {
+        if self.find(name).is_none() {
+            return 0;
+        }
+        1
     }
 
     /// An ADVANCE that takes no turn: it is refused, or by 0.

@@ -1,4 +1,4 @@
-use Rattle.std.proofs.Common.{Some, length, refl, sym, ap, ◌∙◌}
+use Rattle.std.proofs.Common.{Some, ℕ, length, refl, sym, ap, ◌∙◌}
 use Rattle.lj_step.specs.OpenSteps.{number_of}
 use Rattle.lj_session.proofs.Holding.{looked_up, written, unwritten, changed-some, user_of-kept}
 use Rattle.lj_session.proofs.Totals.{used-kept}
@@ -13,7 +13,7 @@ invariant_of-self-2 c =
     let found = looked_up c.self.inside old c.self.view_is c.args.label.now.session (Some held) c.in-Some.ensures.value in
     let new = c.accept.new.self in
     let is = written c.self.inside old c.self.view_is c.args.label.now.session held c.in-Some.ensures.value _ new (c.get_mut.follows.holds new).0 in
-    let kept = same-either c.accept.result (λ (h : Held). (length h.live.sim.cur, length h.saved)) new held (with_tile_in (number_of c.args.done) held)
+    let kept = same-either {C = ℕ × ℕ} c.accept.result (λ (h : Held). (length h.live.sim.cur, length h.saved)) new held (with_tile_in (number_of c.args.done) held)
     c.accept.ensures.taken c.accept.ensures.unchanged refl in
     used-kept c.self.inside old c.self.view_is c.self.invariant c.args.label.now.session held found _ new is (ap (λ p. p.0) kept) (ap (λ p. p.1) kept)
 

@@ -1,4 +1,4 @@
-use Rattle.std.proofs.Common.{◌+◌, Err, true, false, refl, sym, ap, ◌∙◌}
+use Rattle.std.proofs.Common.{◌+◌, Err, refl, sym, ap, ◌∙◌}
 use Rattle.lj_quota.specs.declared.Over.{Over}
 use Rattle.lj_quota.specs.declared.Over.TheVariants.{Sessions}
 use Rattle.lj_session.specs.Loads.{scale_refusal}

@@ -1,14 +1,12 @@
-use Rattle.std.proofs.Common.{◌+◌, Some, None, Err, true, false, refl, sym, ap, ◌∙◌}
-use Rattle.std.specs.Prelude.{is_some}
+use Rattle.std.proofs.Common.{◌+◌, Err, refl, sym, ap, ◌∙◌}
 use Rattle.lj_quota.specs.declared.Over.{Over}
 use Rattle.lj_quota.specs.declared.Over.TheVariants.{Branches}
-use Rattle.lj_session.specs.Users.{named}
 use Rattle.lj_session.specs.Faults.{quota_refusal}
 use Rattle.lj_session.proofs.Holding.{named-held, named-absent}
 use Rattle.lj_session.proofs.Saving as saving
 use Rattle.lj_session.proofs.Results.{refused, is_some-counted}
 use Rattle.lj_session.proofs.Limits.{over-limit, same_over, branches-over, branches-room}
-use Rattle.lj_session.specs.States.{Held, as_session, user_of, held_in}
+use Rattle.lj_session.specs.States.{as_session, user_of}
 use Rattle.lj_session.proofs.sessions.Sessions.admit_branch.Goals as goal
 
 pub returns-in_default : goal.returns-in_default

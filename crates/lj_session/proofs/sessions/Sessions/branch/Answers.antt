@@ -1,4 +1,4 @@
-use Rattle.std.proofs.Common.{◌≡◌, ◌+◌, Some, None, true, false, length, refl, sym, ap, ◌∙◌}
+use Rattle.std.proofs.Common.{Some, None, false, length, sym, ap, ◌∙◌}
 use Rattle.lj_step.specs.Live.{Live}
 use Rattle.std.specs.Prelude.{is_some}
 use Rattle.lj_session.specs.declared.reply.Reply.TheVariants as reply

@@ -1,8 +1,6 @@
 use Rattle.std.proofs.Common.{◌+◌, false, length, refl, sym, ◌∙◌}
-use Rattle.lj_quota.specs.declared.Over.{Over}
 use Rattle.lj_quota.specs.declared.Over.TheVariants.{Atoms}
 use Rattle.lj_session.specs.declared.refusal.Refusal.TheVariants.{Memory}
-use Rattle.lj_session.specs.declared.command.Command.TheVariants.{Load}
 use Rattle.lj_session.specs.Faults.{quota_refusal, xyz_refusal}
 use Rattle.lj_session.specs.Openings.{last_of, session_of}
 use Rattle.lj_session.proofs.Holding.{inserted}

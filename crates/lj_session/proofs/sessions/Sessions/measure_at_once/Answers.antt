@@ -1,4 +1,3 @@
-use Rattle.std.proofs.Common.{sym}
 use Rattle.lj_session.proofs.Performing as performing
 use Rattle.lj_session.proofs.Turning.{measure-nothing}
 use Rattle.lj_session.specs.States.{user_of}

@@ -1,6 +1,6 @@
 use Rattle.std.proofs.Common.{length, ◌∷◌, [], ap, ◌∙◌}
 use Rattle.lj_step.specs.Live.{Live}
-use Rattle.lj_step.specs.Motion.{Displacement, momentum, kinetic, potential}
+use Rattle.lj_step.specs.Motion.{momentum, kinetic, potential}
 use Rattle.lj_session.proofs.Holding.{named-held}
 use Rattle.lj_session.proofs.Performing as performing
 use Rattle.lj_session.proofs.Outcomes.{read-step, read-potential, measured}
@@ -18,4 +18,4 @@ returns c = λ mark.
     (c.count.ensures.value ∙ ap (λ (l : Live). length l.sim.cur) live)
     (c.momentum.ensures ∙ ap (λ (l : Live). let m = momentum l.sim in m.x ∷ m.y ∷ m.z ∷ []) live)
     (c.kinetic.ensures ∙ ap (λ (l : Live). kinetic l.sim) live)
-    (read-potential c.potential.result c.potential.type_inv ∙ (c.potential.ensures ∙ ap (λ (l : Live). potential l.units l.sim.cur) live))
+    (read-potential c.potential.result (record { sfits = c.potential.type_inv }) ∙ (c.potential.ensures ∙ ap (λ (l : Live). potential l.units l.sim.cur) live))

@@ -26,7 +26,7 @@ returns-clause-opened c =
     ∙ (ap (λ (h : Held). with_held c.args.name.now h old) same ∙ sym (changed-some old c.args.name.now (with_step c.args.kind) held found))
 
 pub returns-clause-user : goal.returns-clause-user
-returns-clause-user c = 
+returns-clause-user c =
     let old = c.args.self.now in
     let held = c.in-Some.session.now in
     let found = looked_up c.self.inside old c.self.view_is c.args.name.now (Some held) c.in-Some.ensures.value in
@@ -34,4 +34,3 @@ returns-clause-user c =
     let same = c.open_step.ensures in
     ap user_of (written c.self.inside old c.self.view_is c.args.name.now held c.in-Some.ensures.value _ new (c.get_mut.follows.holds new).0 ∙ ap (λ (h : Held). with_held c.args.name.now h old) same)
     ∙ user_of-kept old c.args.name.now held (with_step c.args.kind held) found refl
-

@@ -1,4 +1,4 @@
-use Rattle.std.proofs.Common.{Some, length, refl, sym, ap, ◌∙◌}
+use Rattle.std.proofs.Common.{Some, length, sym, ap, ◌∙◌}
 use Rattle.lj_session.proofs.Holding.{looked_up, written, changed-some, user_of-kept}
 use Rattle.lj_session.proofs.Totals.{used-kept}
 use Rattle.lj_step.specs.Live.{Live}
@@ -29,7 +29,7 @@ returns-clause-posted c =
     ∙ (ap (λ (h : Held). with_held c.args.name.now h old) same ∙ sym (changed-some old c.args.name.now (with_posted) held found))
 
 pub returns-clause-user : goal.returns-clause-user
-returns-clause-user c = 
+returns-clause-user c =
     let old = c.args.self.now in
     let held = c.in-Some.session.now in
     let found = looked_up c.self.inside old c.self.view_is c.args.name.now (Some held) c.in-Some.ensures.value in
@@ -37,4 +37,3 @@ returns-clause-user c =
     let same = c.post.ensures in
     ap user_of (written c.self.inside old c.self.view_is c.args.name.now held c.in-Some.ensures.value _ new (c.get_mut.follows.holds new).0 ∙ ap (λ (h : Held). with_held c.args.name.now h old) same)
     ∙ user_of-kept old c.args.name.now held (with_posted held) found (posted-session held)
-

@@ -1,6 +1,5 @@
 use Rattle.std.proofs.Common.{◌≡◌, Some, None, false, length, refl, ap, ◌∙◌}
 use Rattle.lj_step.specs.Live.{Live}
-use Rattle.lj_step.specs.Motion.{Simulation}
 use Rattle.lj_session.specs.declared.reply.Reply.TheVariants as reply
 use Rattle.lj_session.specs.Users.{named}
 use Rattle.lj_session.proofs.Holding.{named-held, named-absent, looked_up, written, unwritten}

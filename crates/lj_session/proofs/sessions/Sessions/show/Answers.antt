@@ -1,8 +1,6 @@
-use Rattle.std.proofs.Common.{Some, length, sym, ap, ◌∙◌, arith}
-use Rattle.lj_ring.specs.declared.coordinates.Place.{Place}
+use Rattle.std.proofs.Common.{length, sym, ap, ◌∙◌, arith}
 use Rattle.lj_step.specs.Live.{Live}
 use Rattle.lj_step.specs.Motion.{place_at}
-use Rattle.lj_session.specs.declared.reply.Reply.TheVariants as reply
 use Rattle.lj_session.proofs.Holding.{named-held, named-absent}
 use Rattle.lj_session.proofs.Performing as performing
 use Rattle.lj_session.proofs.Outcomes as outcomes

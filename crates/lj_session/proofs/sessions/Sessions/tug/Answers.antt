@@ -1,4 +1,4 @@
-use Rattle.std.proofs.Common.{Some, None, true, false, length, nat_lt, refl, ap, ◌∙◌, arith}
+use Rattle.std.proofs.Common.{Some, None, false, length, refl, ap, ◌∙◌, arith}
 use Rattle.lj_step.specs.Live.{Live}
 use Rattle.lj_session.specs.declared.reply.Reply.TheVariants as reply
 use Rattle.lj_session.specs.States.{Held, as_session, user_of, with_held}

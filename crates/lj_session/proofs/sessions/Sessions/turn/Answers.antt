@@ -36,4 +36,3 @@ returns-clause-user c = λ n.
     let same = c.turn.ensures in
     ap user_of (written c.self.inside old c.self.view_is c.args.name.now held c.in-Some.ensures.value _ new (c.get_mut.follows.holds new).0 ∙ ap (λ (h : Held). with_held c.args.name.now h old) same)
     ∙ turned-user old c.args.name.now held found n
-

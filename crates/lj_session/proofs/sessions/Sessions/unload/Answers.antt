@@ -1,6 +1,5 @@
 use Rattle.std.proofs.Common.{Some, None, false, length, refl, ap, ◌∙◌, arith}
 use Rattle.lj_step.specs.Live.{Live}
-use Rattle.lj_session.specs.Users.{taken_out}
 use Rattle.lj_session.proofs.Holding.{named-absent, looked_up, taken-of}
 use Rattle.lj_session.proofs.Performing as performing
 use Rattle.lj_session.proofs.Outcomes as outcomes
