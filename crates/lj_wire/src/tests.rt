@@ -208,7 +208,9 @@ fn lines_of_256_bytes_and_more(rt: HostRuntime) -> Result<(), Fail> {
 #[test]
 fn bodies_put_in(rt: HostRuntime) -> Result<(), Fail> {
     let alloc = rt.alloc();
-    let loaded = parse_command(b"LOAD a 1 x 1 pair 2").with_body(Body::new(vec![in alloc; 57, 10]?));
+    let loaded = parse_command(b"LOAD a 1 x 1 pair 2").with_body(Body::new(vec![in alloc;
+        57, 10,
+    ]?));
     let wanted = Command::Load {
         name: name("a")?,
         edge: Nano::new(1_000_000_000),
