@@ -133,9 +133,34 @@ module _ (owner : Owning) (t : IsTaking owner) where
       tiles = awaits_next live label t.kind t.held.passed (task_at live label t.held.passed) work t.tiles refl task_some;
     }
 
-    -- the tiles that are left are fewer
-    pub fewer : length tiles - (t.held.passed + 1) < length tiles - t.held.passed
-    fewer = omega (arith, within)
+
+-- how many tiles of the step are neither posted nor in
+left_of : Option Held → ℕ
+left_of None = 0
+left_of (Some held) = tiles_of held.live - held.passed
+
+left_in : Option (List ℕ × Kind) → Owned → ℕ
+left_in None owned = 0
+left_in (Some step) owned = left_of (held_in owned step.0)
+
+pub tiles_left : Owning → ℕ
+tiles_left owner = left_in (step_in owner) owner.state
+
+left_is : (owner : Owning) (t : IsTaking owner) → tiles_left owner ≡ length (cover t.kind (length t.held.live.sim.cur)) - t.held.passed
+unfolding tiles_left left_in left_of
+left_is owner t =
+    ap (λ step. left_in step owner.state) t.step
+    ∙ ap left_of t.there
+    ∙ ap (λ n. n - t.held.passed) (tiles_are t.kind (length t.held.live.sim.cur) t.held.passed t.held.live.part t.tiles)
+
+-- a task that is posted and whose result is in leaves fewer
+pub left_fewer : (owner : Owning) (t : IsTaking owner) (work : Work) (some : task_in owner ≡ Some work)
+    → tiles_left (with_task_in work (with_task_posted owner)) < tiles_left owner
+left_fewer owner t work some =
+    let after = left_is (with_task_in work (with_task_posted owner)) (taken owner t work some) in
+    let before = left_is owner t in
+    let inside = within owner t work some in
+    omega (arith, after, before, inside)
 
 -- opening a step leaves the user
 begun_user : (command : Command) (owner : Owning) → user_in (begun command owner) ≡ user_in owner

@@ -276,6 +276,42 @@ fn refuses_what_is_out_of_range(rt: HostRuntime) -> Result<(), Fail> {
 }
 
 #[test]
+fn keeps_the_quota_of_sessions(rt: HostRuntime) -> Result<(), Fail> {
+    let alloc = rt.alloc();
+    let mut input = String::new(alloc);
+    let mut replies = String::new(alloc);
+    for name in 1..=8 {
+        input.push_str(format!(in alloc; "LOAD s{name} 256 1 1 rest 12\n1\nc\nX 0 0 0\n")?.as_str())?;
+        replies.push_str(format!(in alloc; "OK LOAD s{name} 0 1\n")?.as_str())?;
+    }
+    input.push_str("LOAD s9 256 1 1 rest 12\n1\nc\nX 0 0 0\nSHOW s9 0\nSHOW s8 0\n")?;
+    replies.push_str("ERR 20 QUOTA_SESSIONS\nERR 10 NO_SESSION\nOK SHOW s8 0 0 0 0 0\n")?;
+    expect_replies(&rt, alloc, input.as_str(), replies.as_str());
+    Ok(())
+}
+
+#[test]
+fn keeps_the_quota_of_atoms(rt: HostRuntime) -> Result<(), Fail> {
+    let alloc = rt.alloc();
+    let mut body = String::new(alloc);
+    body.push_str("4096\nc\n")?;
+    for _ in 0..4096 {
+        body.push_str("X 0 0 0\n")?;
+    }
+    let count = body.len();
+    let mut input = String::new(alloc);
+    let mut replies = String::new(alloc);
+    for name in 1..=4 {
+        input.push_str(format!(in alloc; "LOAD s{name} 256 1 1 rest {count}\n{body}")?.as_str())?;
+        replies.push_str(format!(in alloc; "OK LOAD s{name} 0 4096\n")?.as_str())?;
+    }
+    input.push_str("LOAD s5 256 1 1 rest 12\n1\nc\nX 0 0 0\nSHOW s4 4095\n")?;
+    replies.push_str("ERR 21 QUOTA_ATOMS\nOK SHOW s4 0 4095 0 0 0\n")?;
+    expect_replies(&rt, alloc, input.as_str(), replies.as_str());
+    Ok(())
+}
+
+#[test]
 fn leaves_what_is_unfinished(rt: HostRuntime) -> Result<(), Fail> {
     for rest in [
         "ADVANCE a 1",
