@@ -22,7 +22,7 @@ use Rattle.lj_wire.proofs.Splitting.{no_feed_within, same_line, same_front, at_l
 use Rattle.lj_wire.proofs.Marks.{marked}
 use Rattle.lj_wire.proofs.Progressing.{Progress-start, Progress-more, Dialogue-part}
 use Rattle.ljserve.specs.Replies.{is_one_line, reply_text}
-use Rattle.ljserve.specs.Streams.{Begins, BeginsWithNone, is_served, AreServed, PassesItem, AnswersItem, PassesAll, Served, Going, Serving}
+use Rattle.ljserve.specs.Streams.{Begins, BeginsWithNone, is_served, AreServed, AnswersItem, newcomer, Served, Going, Serving}
 use Rattle.ljserve.proofs.Unheld.{either-served, either-answers}
 
 -- what is served does not end the connection
@@ -113,14 +113,13 @@ pub serving-start : (old : Option (List ℕ)) (input : List ℕ) → Serving old
 serving-start old input = record {
   written = [];
   appends = Appends-nil old;
-  going = λ quota thin. record {
-    count = 0;
-    progress = Progress-start (fresh quota) input;
-    items = thin.items;
-    rest = thin.rest;
-    splits = thin.splits;
-    served = thin.served;
-    passes = thin.passes;
+  going = λ thin. record {
+      count = 0;
+      progress = Progress-start newcomer input;
+      items = thin.items;
+      rest = thin.rest;
+      splits = thin.splits;
+      served = thin.served;
   };
 }
 

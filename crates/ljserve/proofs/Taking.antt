@@ -1,6 +1,6 @@
 -- A running command's tasks taken one after the other: the next task is that of the first tile that is awaited, and its result is awaited.
 use Rattle.std.proofs.Common.{◌≡◌, ℕ, ◌+◌, ◌-◌, ◌<◌, ◌≤◌, Bool, true, false, List, length, Option, Some, None, ◌⊎◌, inl, inr, refl, sym, ap, ◌∙◌, subst, cond, slice_get, slice_index_or, arith}
-use Rattle.std.specs.Prelude.{IsSomeAnd, IsSome}
+use Rattle.std.specs.Prelude.{IsSomeAnd, IfSome}
 use Rattle.std.specs.List.{find, range_with_len}
 use Rattle.std.specs.Option.{option_map, option_map_or, option_and_then}
 use Rattle.std.proofs.lemmas.Bool.{cases_lt}
@@ -12,13 +12,14 @@ use Rattle.lj_tile.specs.Tasks.{Work}
 use Rattle.lj_step.specs.Live.{Live, OpenStep}
 use Rattle.lj_step.specs.OpenSteps.{cover, awaits, awaits_in, awaits_at, tiles_in, tiles_of, task_at, number_of, with_tile, Awaits, is_whole, opened}
 use Rattle.lj_session.specs.declared.command.Command.{Command}
-use Rattle.lj_session.specs.States.{Held, Owned, user_of, held_in, changed, with_step, next_tile, next_of, next_task, passed_to, with_posted, with_tile_in, AwaitsOf, whole_of}
-use Rattle.lj_session.specs.Owners.{Owning, user_in, step_of, step_in, label_in, begun, task_in, changed_in, opened_for, with_task_posted, with_task_in, IsWanted, is_ready}
+use Rattle.lj_session.specs.States.{Held, Owned, user_of, held_in, changed, with_step, next_tile, next_of, next_task, passed_to, with_posted, with_tile_in, AwaitsOf, whole_of, turned_on}
+use Rattle.lj_session.specs.Owners.{Owning, user_in, step_of, step_in, label_in, begun, task_in, changed_in, opened_for, with_task_posted, with_task_in, IsWanted, is_ready, turns_left, turned_from, with_state}
 use Rattle.ljserve.specs.Taking.{AwaitsFrom, IsTaking, SameRun}
 use Rattle.lj_session.proofs.Tiles.{find-step, find-end}
 use Rattle.lj_session.specs.declared.command.Command.TheVariants.{Load, Advance, Reverse, Branch, Restore, Forget, Tug, Measure, Show, Dump, List as ListSessions, ListBranches, Unload, Bye}
 use Rattle.lj_session.specs.Turns.{turns, rest_of}
-use Rattle.ljserve.specs.Taking.{HasBegun}
+use Rattle.ljserve.specs.Taking.{HasBegun, KeepsAnswer}
+use Rattle.lj_session.specs.Answers.{answer}
 use Rattle.lj_session.proofs.Holding.{user_of-changed, named-absent}
 use Rattle.lj_session.proofs.Owning.{held_in-changed}
 use Rattle.ljserve.proofs.TilesTaken.{opened_awaits, all_taken, none_past, is_awaited, awaits_next}
@@ -77,7 +78,7 @@ module _ (owner : Owning) (t : IsTaking owner) where
   pub at_end : task_in owner ≡ None → is_ready owner ≡ true
   at_end none =
       elim (cases_lt t.held.passed (length tiles)) [
-        | inl within ↦ absurd (let past = none_past live label t.kind t.held.passed (task_at live label t.held.passed) t.tiles refl (sym (task_there within) ∙ none) in omega (arith, past, within))
+        | inl inside ↦ absurd (let past = none_past live label t.kind t.held.passed (task_at live label t.held.passed) t.tiles refl (sym (task_there inside) ∙ none) in omega (arith, past, inside))
         | inr past ↦
           ap (λ step. option_map_or (λ step. whole_of (held_in owner.state step.0)) step false) t.step
           ∙ ap whole_of t.there
@@ -89,7 +90,7 @@ module _ (owner : Owning) (t : IsTaking owner) where
     within : t.held.passed < length tiles
     within =
         elim (cases_lt t.held.passed (length tiles)) [
-          | inl within ↦ within
+          | inl inside ↦ inside
           | inr past ↦ absurd (none-some work (sym (ap (option_and_then (task_at live label)) (none_is t.kind t.held t.tiles past)) ∙ sym task_is ∙ some))
         ]
 
@@ -156,10 +157,12 @@ left_is owner t =
 -- a task that is posted and whose result is in leaves fewer
 pub left_fewer : (owner : Owning) (t : IsTaking owner) (work : Work) (some : task_in owner ≡ Some work)
     → tiles_left (with_task_in work (with_task_posted owner)) < tiles_left owner
+unfolding taken
 left_fewer owner t work some =
-    let after = left_is (with_task_in work (with_task_posted owner)) (taken owner t work some) in
-    let before = left_is owner t in
-    let inside = within owner t work some in
+    let after : tiles_left (with_task_in work (with_task_posted owner)) ≡ length (cover t.kind (length t.held.live.sim.cur)) - (t.held.passed + 1)
+    = left_is (with_task_in work (with_task_posted owner)) (taken owner t work some) in
+    let before : tiles_left owner ≡ length (cover t.kind (length t.held.live.sim.cur)) - t.held.passed = left_is owner t in
+    let inside : t.held.passed < length (cover t.kind (length t.held.live.sim.cur)) = within owner t work some in
     omega (arith, after, before, inside)
 
 -- opening a step leaves the user
@@ -226,3 +229,38 @@ pub has_gone_on : (command : Command) (owner before : Owning) → owner ≡ begu
 has_gone_on command owner before e some =
     let taken : 0 < turns (user_in before) command = subst (λ user. 0 < turns user command) (ap user_in e ∙ begun_user command before) some in
     subst HasBegun (sym e) (has_begun command before taken)
+
+-- a run goes on: what is left has begun, and is answered as the command that ran first
+pub record GoesOn (first next : Owning) : Type 0 where
+  pub begun : HasBegun next
+  pub keeps : KeepsAnswer first next
+
+module _ (first owner done next : Owning) (begun_there : HasBegun owner) (keeps : KeepsAnswer first owner) (same : SameRun owner done)
+    (not_last : turns_left done ≡ 1 → ⊥) (fewer : turns_left next + 1 ≡ turns_left done) where
+  left_same : turns_left done ≡ turns_left owner
+  left_same = ap (λ user. option_map_or (turns user) done.rest 0) same.user ∙ ap (λ rest. option_map_or (turns (user_in owner)) rest 0) same.rest
+
+  goes_on_with : (command : Command) → done.rest ≡ Some command → next ≡ turned_from command done
+      → ((mark : Bool) → answer (user_in next) (rest_of command) mark ≡ answer (user_in done) command mark) → GoesOn first next
+  goes_on_with command e opened kept = record {
+    begun = has_gone_on (rest_of command) next (with_state (changed_in (step_of command) turned_on done.state) done) opened
+        (subst (λ rest. 0 < option_map_or (turns (user_in next)) rest 0) (ap (λ o. o.rest) opened) (omega (arith, not_last, fewer, left_same, begun_there.some)));
+    keeps = kept_from first.rest keeps;
+  }
+    where
+      kept_from : (o : Option Command) → IfSome o (λ command. IfSome owner.rest (λ rest. (mark : Bool) → answer (user_in owner) rest mark ≡ answer (user_in first) command mark))
+          → IfSome o (λ command. IfSome next.rest (λ rest. (mark : Bool) → answer (user_in next) rest mark ≡ answer (user_in first) command mark))
+      kept_from None k = tt
+      kept_from (Some command_first) k =
+          let before = subst (λ o. IfSome o (λ rest. (mark : Bool) → answer (user_in owner) rest mark ≡ answer (user_in first) command_first mark)) (sym same.rest ∙ e) k in
+          subst (λ o. IfSome o (λ rest. (mark : Bool) → answer (user_in next) rest mark ≡ answer (user_in first) command_first mark)) (sym (ap (λ o. o.rest) opened))
+          (λ mark. kept mark ∙ ap (λ user. answer user command mark) same.user ∙ before mark)
+
+  pub goes_on : IfSome done.rest (λ command. next ≡ turned_from command done)
+      → IfSome done.rest (λ command. (mark : Bool) → answer (user_in next) (rest_of command) mark ≡ answer (user_in done) command mark) → GoesOn first next
+  goes_on opened kept = by done.rest refl opened kept
+    where
+      by : (o : Option Command) → done.rest ≡ o → IfSome o (λ command. next ≡ turned_from command done)
+          → IfSome o (λ command. (mark : Bool) → answer (user_in next) (rest_of command) mark ≡ answer (user_in done) command mark) → GoesOn first next
+      by None e opened kept = absurd (none-some (begun_there.taking.name, begun_there.taking.kind) (sym (ap (option_and_then step_of) (sym same.rest ∙ e)) ∙ begun_there.taking.step))
+      by (Some command) e opened kept = goes_on_with command e opened kept

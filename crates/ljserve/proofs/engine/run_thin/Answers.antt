@@ -7,8 +7,8 @@ use Rattle.ljserve.proofs.engine.run_thin.Goals as goal
 
 pub loop-item-init : goal.loop-item-init
 loop-item-init g c = record {
-  idle = c.new_owner.ensures.idle;
-  serving = rw c.new_owner.ensures.user (serving-start (g.W.Write.contents c.args.writer.now) c.as_slice-rest.result.now);
+  idle = c.new_owner-owner.ensures.idle;
+  serving = rw c.new_owner-owner.ensures.user (serving-start (g.W.Write.contents c.args.writer.now) c.as_slice-rest.result.now);
 }
 
 pub loop-item-preserved : goal.loop-item-preserved
