@@ -1,13 +1,12 @@
 -- What runs: that it can go on through each change of its session, and how many turns it takes.
-use Rattle.std.proofs.Common.{◌≡◌, ◌≢◌, ℕ, zero, suc, ◌+◌, ◌-◌, ◌^◌, ◌<◌, ◌≤◌, Bool, true, false, List, Option, Some, None, Result, Ok, Err, refl, sym, ◌∙◌, ap, subst, arith}
+use Rattle.std.proofs.Common.{◌≡◌, ◌≢◌, ℕ, suc, ◌-◌, ◌^◌, ◌<◌, ◌≤◌, Bool, true, false, List, Option, Some, None, Result, Ok, Err, refl, sym, ◌∙◌, ap, subst, arith}
 use Rattle.std.specs.Prelude.{unsigned_abs, IsSome, IfSome, OnOk, OnErr}
 use Rattle.std.specs.Option.{option_map}
 use Rattle.lj_tile.specs.declared.names.Label.{Label}
-use Rattle.lj_tile.specs.declared.names.Kind.{Kind}
-use Rattle.lj_tile.specs.declared.names.Kind.TheVariants.{Force, Energy}
+use Rattle.lj_tile.specs.declared.names.Kind.TheVariants.{Force}
 use Rattle.lj_step.specs.Motion.{Simulation}
 use Rattle.lj_step.specs.Live.{OpenStep}
-use Rattle.lj_step.specs.OpenSteps.{kind_of, is_whole, with_tile}
+use Rattle.lj_step.specs.OpenSteps.{kind_of, with_tile}
 use Rattle.lj_step.specs.declared.simulations.Stray.{Stray}
 use Rattle.lj_session.specs.declared.command.Command.{Command}
 use Rattle.lj_session.specs.declared.command.Command.TheVariants as commands
@@ -16,11 +15,11 @@ use Rattle.lj_session.specs.declared.running.Running.{Running}
 use Rattle.lj_session.specs.declared.running.Running.TheVariants.{Advance, Measure}
 use Rattle.lj_session.specs.declared.running.Turned.{Turned}
 use Rattle.lj_session.specs.declared.running.Turned.TheVariants as outcomes
-use Rattle.lj_session.specs.Users.{Session, User, named}
+use Rattle.lj_session.specs.Users.{User}
 use Rattle.lj_session.specs.Answers.{performed, answer, can_advance}
 use Rattle.lj_session.specs.Turns.{turns, turned, rest_of}
 use Rattle.lj_session.specs.States.{Held, Owned, IsHere, IsWhole, CanTurn, as_session, user_of, held_in, changed, with_step, with_posted, passed_to, next_tile, with_tile_in, turned_on, is_whole_in, whole_of}
-use Rattle.lj_session.specs.Running.{CanGo, CanTake, CanRun, Runs, IfGoes, command_of, session_of, sums_of}
+use Rattle.lj_session.specs.Running.{CanTake, CanRun, Runs, IfGoes, command_of, session_of, sums_of}
 use Rattle.lj_session.specs.Owners.{label_in}
 use Rattle.lj_session.proofs.Entries as entries
 use Rattle.lj_session.proofs.Holding.{named-held, named-absent}
