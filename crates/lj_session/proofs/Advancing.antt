@@ -1,9 +1,7 @@
 -- The turns of a command that runs: an ADVANCE step by step, and what is left of it.
-use Rattle.std.proofs.Common.{◌≡◌, ◌≢◌, ℕ, zero, suc, ◌+◌, ◌-◌, ◌*◌, ◌^◌, ◌<◌, ◌≤◌, Bool, true, false, List, [], ◌∷◌, Option, Some, None, Ok, ℤ, pos, negsuc, ◌+ℤ◌, ◌*ℤ◌, refl, sym, ◌∙◌, ap, subst, arith}
-use Rattle.std.specs.Prelude.{nat_le, nat_eq, unsigned_abs}
-use Rattle.std.specs.Str.{bytes_eq}
+use Rattle.std.proofs.Common.{◌≡◌, ℕ, zero, suc, ◌+◌, ◌-◌, ◌*◌, ◌^◌, ◌<◌, ◌≤◌, Bool, true, false, List, Option, Some, None, Ok, ℤ, pos, negsuc, ◌+ℤ◌, ◌*ℤ◌, refl, sym, ◌∙◌, ap, subst, arith}
+use Rattle.std.specs.Prelude.{nat_le, unsigned_abs}
 use Rattle.std.proofs.lemmas.Bool.{and_parts, leb-true, le-leb}
-use Rattle.std.proofs.lemmas.Bool.Decides.{nat_tests}
 use Rattle.std.proofs.lemmas.Int.{ints}
 use Rattle.std.proofs.Math.Nat.{mul-le-mul_left}
 use Rattle.lj_step.specs.Motion.{stepped, steps}
@@ -11,37 +9,11 @@ use Rattle.lj_session.specs.declared.command.Command.{Command}
 use Rattle.lj_session.specs.declared.command.Command.TheVariants.{Load, Advance, Reverse, Branch, Restore, Forget, Tug, Measure, Show, Dump, List as ListSessions, ListBranches, Unload, Bye}
 use Rattle.lj_session.specs.declared.reply.Reply.{Reply}
 use Rattle.lj_session.specs.declared.reply.Reply.TheVariants as reply
-use Rattle.lj_session.specs.Users.{Session, User, named, put}
+use Rattle.lj_session.specs.Users.{Session, User, named}
 use Rattle.lj_session.specs.Answers.{performed, answer, settled, can_advance, with_sim}
+use Rattle.lj_session.proofs.Entries.{named-put, put-put}
+use Rattle.lj_session.proofs.Performing.{advance-on}
 use Rattle.lj_session.specs.Turns.{turns, turned, rest_of, advance_turns, measure_turns, session_turned}
-
-eqb-same : (n : ℕ) → nat_eq n n ≡ true
-eqb-same n = grind (arith, nat_tests)
-
-bytes_eq-same : (bytes : List ℕ) → bytes_eq bytes bytes ≡ true
-bytes_eq-same [] = refl
-bytes_eq-same (byte ∷ bytes) = rw (eqb-same byte) (bytes_eq-same bytes)
-
--- what was put under a name stands there
-pub named-put : {A : Type 0} (name : List ℕ) (value : A) (entries : List (List ℕ × A)) → named name (put name value entries) ≡ Some value
-named-put name value [] = rw (bytes_eq-same name) refl
-named-put {A} name value (entry ∷ entries) = by_test (bytes_eq name entry.0) refl (named-put name value entries)
-  where
-    by_test : (test : Bool) → bytes_eq name entry.0 ≡ test → named name (put name value entries) ≡ Some value
-        → named name (put name value (entry ∷ entries)) ≡ Some value
-    by_test true e next = rw (e, e) refl
-    by_test false e next = rw (e, e) next
-
--- of two values put under a name the second stays
-put-put : {A : Type 0} (name : List ℕ) (first second : A) (entries : List (List ℕ × A))
-    → put name second (put name first entries) ≡ put name second entries
-put-put name first second [] = rw (bytes_eq-same name) refl
-put-put {A} name first second (entry ∷ entries) = by_test (bytes_eq name entry.0) refl (put-put name first second entries)
-  where
-    by_test : (test : Bool) → bytes_eq name entry.0 ≡ test → put name second (put name first entries) ≡ put name second entries
-        → put name second (put name first (entry ∷ entries)) ≡ put name second (entry ∷ entries)
-    by_test true e next = rw (e, e) refl
-    by_test false e next = rw (e, e) (ap (λ es. entry ∷ es) next)
 
 -- the session after a step
 abbrev pub session_after : Session → Session
@@ -64,8 +36,7 @@ advanced : (user : User) (name : List ℕ) (session : Session) (n : ℕ) (mark :
     → can_advance session n ≡ true
     → (let sim = steps session.units n session.sim in
     answer user (Advance name n) mark ≡ (reply.Advanced name sim.step, with_sim name session sim user))
-unfolding performed
-advanced user name session n mark found can = rw (found, can) refl
+advanced user name session n mark found can = ap (settled user) (advance-on user name mark session found n can)
 
 pub advance_on : (user : User) (name : List ℕ) (session : Session) (n : ℕ) (mark : Bool) → named name user.sessions ≡ Some session
     → can_advance session (suc n) ≡ true
@@ -73,19 +44,9 @@ pub advance_on : (user : User) (name : List ℕ) (session : Session) (n : ℕ) (
 advance_on user name session n mark found can =
     let after = session_after session in
     let sim = steps session.units (suc n) session.sim in
-    let now = advanced (user_after name session user) name after n mark (named-put name after user.sessions) (can_go_on session n can) in
-    let kept = put-put name after (record session { sim = sim }) user.sessions in
+    let now = advanced (user_after name session user) name after n mark (named-put name user.sessions session after found) (can_go_on session n can) in
+    let kept = put-put name user.sessions session after (record session { sim = sim }) found in
     now ∙ ap (λ entries. (reply.Advanced name sim.step, record user { sessions = entries })) kept ∙ sym (advanced user name session (suc n) mark found can)
-
--- how many turns an ADVANCE takes that may be made
-pub advance_takes : (user : User) (name : List ℕ) (session : Session) (n : ℕ) → named name user.sessions ≡ Some session
-    → can_advance session n ≡ true → turns user (Advance name n) ≡ n
-unfolding turns
-advance_takes user name session n found can = rw (found, can) refl
-
-pub measure_takes : (user : User) (name : List ℕ) (session : Session) → named name user.sessions ≡ Some session → turns user (Measure name) ≡ 1
-unfolding turns
-measure_takes user name session found = rw found refl
 
 -- the user after a turn of an ADVANCE
 pub advance_turned : (user : User) (name : List ℕ) (session : Session) (n : ℕ) → named name user.sessions ≡ Some session
@@ -150,23 +111,24 @@ advance_keeps user name n mark (Some session) e h =
     rw less (advance_on user name session r.less mark e (subst (λ m. can_advance session m ≡ true) r.is_more r.can)
     ∙ ap (λ m. answer user (Advance name m) mark) (sym r.is_more))
 
-lowers_on : (user : User) (name : List ℕ) (session : Session) (less : ℕ) → can_advance session (suc less) ≡ true
+lowers_on : (user : User) (name : List ℕ) (session : Session) (less : ℕ) → named name user.sessions ≡ Some session
+    → can_advance session (suc less) ≡ true
     → advance_turns (named name (user_after name session user).sessions) less + 1 ≡ advance_turns (Some session) (suc less)
-lowers_on user name session less can =
+lowers_on user name session less found can =
     let after = session_after session in
     let next = can_go_on session less can in
-    rw (named-put name after user.sessions, next, can) (omega arith)
+    rw (named-put name user.sessions session after found, next, can) (omega arith)
 
-advance_lowers : (user : User) (name : List ℕ) (n : ℕ) (found : Option Session)
+advance_lowers : (user : User) (name : List ℕ) (n : ℕ) (found : Option Session) → named name user.sessions ≡ found
     → 1 < advance_turns found n → advance_turns (named name (session_turned user name found).sessions) (n - 1) + 1 ≡ advance_turns found n
-advance_lowers user name n None h = absurd (omega (arith, h))
-advance_lowers user name n (Some session) h = lowered (going_from session n (omega (arith, h)))
+advance_lowers user name n None e h = absurd (omega (arith, h))
+advance_lowers user name n (Some session) e h = lowered (going_from session n (omega (arith, h)))
   where
     lowered : Going session n
         → advance_turns (named name (session_turned user name (Some session)).sessions) (n - 1) + 1 ≡ advance_turns (Some session) n
     lowered r =
         let less : r.less ≡ n - 1 = omega (arith, r.is_more) in
-        let step = lowers_on user name session r.less (subst (λ m. can_advance session m ≡ true) r.is_more r.can) in
+        let step = lowers_on user name session r.less e (subst (λ m. can_advance session m ≡ true) r.is_more r.can) in
         subst (λ m. advance_turns (named name (user_after name session user).sessions) m + 1 ≡ advance_turns (Some session) n) less
         (step ∙ ap (advance_turns (Some session)) (sym r.is_more))
 
@@ -196,7 +158,7 @@ command_keeps user Bye mark h = refl
 -- a turn lowers the number of turns by one, while more than one is left
 pub command_lowers : (user : User) (command : Command) → 1 < turns user command → turns (turned user command) (rest_of command) + 1 ≡ turns user command
 unfolding turns turned rest_of
-command_lowers user (Advance name n) h = advance_lowers user name n (named name user.sessions) h
+command_lowers user (Advance name n) h = advance_lowers user name n (named name user.sessions) refl h
 command_lowers user (Measure name) h = absurd (measure_once (named name user.sessions) h)
 command_lowers user (Load name edge sigma step_factor mode body) h = absurd (omega (arith, h))
 command_lowers user (Reverse name) h = absurd (omega (arith, h))

@@ -47,6 +47,13 @@ module _ {A : Type 0} (name : List ℕ) where
       (λ t. rw (t, t) refl)
       (λ t. rw (t, t) (named-put es v w (rw t at h)))
 
+  -- of two values put under it the second stays
+  pub put-put : (es : List (List ℕ × A)) (v first second : A) → named name es ≡ Some v → put name second (put name first es) ≡ put name second es
+  put-put [] v first second h = absurd (none-some v h)
+  put-put (e ∷ es) v first second h = by_test (bytes_eq name e.0)
+      (λ t. rw (t, t) refl)
+      (λ t. rw (t, t) (ap (λ l. e ∷ l) (put-put es v first second (rw t at h))))
+
   pub length-put : (es : List (List ℕ × A)) (v w : A) → named name es ≡ Some v → length (put name w es) ≡ length es
   length-put [] v w h = absurd (none-some v h)
   length-put (e ∷ es) v w h = by_test (bytes_eq name e.0)

@@ -1,13 +1,12 @@
 -- What runs: that it can go on through each change of its session, and how many turns it takes.
-use Rattle.std.proofs.Common.{◌≡◌, ◌≢◌, ℕ, zero, suc, ◌+◌, ◌-◌, ◌^◌, ◌<◌, ◌≤◌, Bool, true, false, List, Option, Some, None, Result, Ok, Err, refl, sym, ◌∙◌, ap, subst, arith}
+use Rattle.std.proofs.Common.{◌≡◌, ◌≢◌, ℕ, suc, ◌-◌, ◌^◌, ◌<◌, ◌≤◌, Bool, true, false, List, Option, Some, None, Result, Ok, Err, refl, sym, ◌∙◌, ap, subst, arith}
 use Rattle.std.specs.Prelude.{unsigned_abs, IsSome, IfSome, OnOk, OnErr}
 use Rattle.std.specs.Option.{option_map}
 use Rattle.lj_tile.specs.declared.names.Label.{Label}
-use Rattle.lj_tile.specs.declared.names.Kind.{Kind}
-use Rattle.lj_tile.specs.declared.names.Kind.TheVariants.{Force, Energy}
+use Rattle.lj_tile.specs.declared.names.Kind.TheVariants.{Force}
 use Rattle.lj_step.specs.Motion.{Simulation}
 use Rattle.lj_step.specs.Live.{OpenStep}
-use Rattle.lj_step.specs.OpenSteps.{kind_of, is_whole, with_tile}
+use Rattle.lj_step.specs.OpenSteps.{kind_of, with_tile}
 use Rattle.lj_step.specs.declared.simulations.Stray.{Stray}
 use Rattle.lj_session.specs.declared.command.Command.{Command}
 use Rattle.lj_session.specs.declared.command.Command.TheVariants as commands
@@ -16,15 +15,16 @@ use Rattle.lj_session.specs.declared.running.Running.{Running}
 use Rattle.lj_session.specs.declared.running.Running.TheVariants.{Advance, Measure}
 use Rattle.lj_session.specs.declared.running.Turned.{Turned}
 use Rattle.lj_session.specs.declared.running.Turned.TheVariants as outcomes
-use Rattle.lj_session.specs.Users.{Session, User, named}
+use Rattle.lj_session.specs.Users.{User}
 use Rattle.lj_session.specs.Answers.{performed, answer, can_advance}
 use Rattle.lj_session.specs.Turns.{turns, turned, rest_of}
 use Rattle.lj_session.specs.States.{Held, Owned, IsHere, IsWhole, CanTurn, as_session, user_of, held_in, changed, with_step, with_posted, passed_to, next_tile, with_tile_in, turned_on, is_whole_in, whole_of}
-use Rattle.lj_session.specs.Running.{CanGo, CanTake, CanRun, Runs, IfGoes, command_of, session_of, sums_of}
+use Rattle.lj_session.specs.Running.{CanTake, CanRun, Runs, IfGoes, command_of, session_of, sums_of}
 use Rattle.lj_session.specs.Owners.{label_in}
 use Rattle.lj_session.proofs.Entries as entries
 use Rattle.lj_session.proofs.Holding.{named-held, named-absent}
-use Rattle.lj_session.proofs.Advancing.{can_go_on, can_go_less, here_after, advance_on, advance_takes, measure_takes, advance_turned, answered, command_keeps}
+use Rattle.lj_session.proofs.Turning.{advance-turns-near, measure-turns-one}
+use Rattle.lj_session.proofs.Advancing.{can_go_on, can_go_less, here_after, advance_on, advance_turned, answered, command_keeps}
 
 same_Some : {A : Type 0} (x y : A) → Some x ≡ Some y → x ≡ y
 same_Some x y e = cc
@@ -114,8 +114,8 @@ left_of (Advance name n) = n
 left_of (Measure name) = 1
 
 pub takes : (owned : Owned) (running : Running) → Runs owned running → turns (user_of owned) (command_of running) ≡ left_of running
-takes owned (Advance name n) r = advance_takes (user_of owned) name (as_session r.held) n (named-held owned name r.held r.there) r.able.there
-takes owned (Measure name) r = measure_takes (user_of owned) name (as_session r.held) (named-held owned name r.held r.there)
+takes owned (Advance name n) r = advance-turns-near (user_of owned) name n (as_session r.held) (named-held owned name r.held r.there) r.able.there
+takes owned (Measure name) r = measure-turns-one (user_of owned) name (as_session r.held) (named-held owned name r.held r.there)
 
 -- the whole step of what runs
 pub step_whole : (owned : Owned) (running : Running) → Runs owned running → is_whole_in owned (session_of running) ≡ true
@@ -165,25 +165,6 @@ advance_replied owned name n r last reply next mark user e =
     answered next (commands.Advance name 0) mark reply next e
     ∙ ap (λ u. answer u (commands.Advance name 0) mark) after ∙ advance_on (user_of owned) name session 0 mark found can
     ∙ ap (λ m. answer (user_of owned) (commands.Advance name m) mark) (sym last)
-
--- what else than ADVANCE and MEASURE takes no turn
-pub takes_none : (user : User) (command : Command) → ((name : List ℕ) (n : ℕ) → command ≡ commands.Advance name n → ⊥)
-    → ((name : List ℕ) → command ≡ commands.Measure name → ⊥) → turns user command ≡ 0
-unfolding turns
-takes_none user (commands.Advance name n) a m = absurd (a name n refl)
-takes_none user (commands.Measure name) a m = absurd (m name refl)
-takes_none user (commands.Load name edge sigma step_factor mode body) a m = refl
-takes_none user (commands.Reverse name) a m = refl
-takes_none user (commands.Branch name branch) a m = refl
-takes_none user (commands.Restore name branch) a m = refl
-takes_none user (commands.Forget name branch) a m = refl
-takes_none user (commands.Tug name atom x y z) a m = refl
-takes_none user (commands.Show name atom) a m = refl
-takes_none user (commands.Dump name) a m = refl
-takes_none user commands.List a m = refl
-takes_none user (commands.ListBranches name) a m = refl
-takes_none user (commands.Unload name) a m = refl
-takes_none user commands.Bye a m = refl
 
 -- a fact of what is left after a turn leads to another
 pub goes_weaker : (outcome : Turned) (P Q : Running → Type 0) → ((left : Running) → P left → Q left) → IfGoes outcome P → IfGoes outcome Q

@@ -1,5 +1,5 @@
 -- The owner of a user's state: the state, the number of its user, and the command that runs, as far as it is left.
-use Rattle.std.specs.Prelude.{◌≡◌, ◌<◌, ◌≤◌, ◌^◌, ℕ, Bool, true, false, unsigned_abs, IsSomeAnd, IfSome, List, Option, Some, None}
+use Rattle.std.specs.Prelude.{◌≡◌, ℕ, Bool, true, false, IsSomeAnd, IfSome, List, Option, Some, None}
 use Rattle.std.specs.Option.{option_map, option_map_or, option_and_then}
 use Rattle.lj_tile.specs.declared.names.Label.{Label}
 use Rattle.lj_tile.specs.declared.names.Kind.{Kind}
@@ -14,7 +14,7 @@ use Rattle.lj_session.specs.declared.reply.Reply.TheVariants.{Refused}
 use Rattle.lj_session.specs.Users.{User}
 use Rattle.lj_session.specs.Answers.{answer}
 use Rattle.lj_session.specs.Turns.{turns, rest_of}
-use Rattle.lj_session.specs.States.{Held, Owned, user_of, held_in, changed, with_step, next_task, with_posted, IsAwaited, with_tile_in, is_whole_in, turned_on}
+use Rattle.lj_session.specs.States.{Held, Owned, user_of, changed, with_step, next_task, with_posted, IsAwaited, with_tile_in, is_whole_in, turned_on}
 
 -- what an owner has: the state, the number of its user, and what is left of the command that runs, if one runs
 pub record Owning : Type 0 where

@@ -5,11 +5,11 @@ use Rattle.std.specs.List.{find, range_with_len}
 use Rattle.lj_xyz.specs.Atoms.{◌>>=◌}
 use Rattle.lj_tile.specs.declared.names.Label.{Label}
 use Rattle.lj_tile.specs.declared.names.Kind.{Kind}
-use Rattle.lj_tile.specs.declared.names.Kind.TheVariants.{Force, Energy}
+use Rattle.lj_tile.specs.declared.names.Kind.TheVariants.{Force}
 use Rattle.lj_tile.specs.Tasks.{Work}
 use Rattle.lj_step.specs.Motion.{Simulation, stepped}
-use Rattle.lj_step.specs.Live.{Live, OpenStep}
-use Rattle.lj_step.specs.OpenSteps.{opened, closed, task_at, awaits_at, tiles_of, with_tile, kind_of, is_whole, AwaitsIn, Awaits}
+use Rattle.lj_step.specs.Live.{Live}
+use Rattle.lj_step.specs.OpenSteps.{opened, closed, task_at, awaits_at, tiles_of, with_tile, kind_of, is_whole, Awaits}
 use Rattle.lj_quota.specs.declared.Quota.{Quota}
 use Rattle.lj_quota.specs.declared.Used.{Used}
 use Rattle.lj_session.specs.declared.command.Command.{Command}

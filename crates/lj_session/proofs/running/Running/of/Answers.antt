@@ -1,10 +1,11 @@
-use Rattle.std.proofs.Common.{◌≡◌, ℕ, ◌<◌, sym, ◌∙◌, subst, arith}
+use Rattle.std.proofs.Common.{ℕ, ◌<◌, sym, ◌∙◌, subst, arith}
 use Rattle.lj_session.specs.declared.command.Command.{Command}
 use Rattle.lj_session.specs.declared.running.Running.TheVariants.{Advance, Measure}
 use Rattle.lj_session.specs.Turns.{turns}
 use Rattle.lj_session.specs.States.{IsHere, user_of}
 use Rattle.lj_session.specs.Running.{CanRun}
-use Rattle.lj_session.proofs.Owning.{advance_can, measure_can, takes_none}
+use Rattle.lj_session.proofs.Turning.{no-turns}
+use Rattle.lj_session.proofs.Owning.{advance_can, measure_can}
 use Rattle.lj_session.proofs.running.Running.of.Goals as goal
 
 pub returns-in-Advance-clause-can : goal.returns-in-Advance-clause-can
@@ -26,5 +27,5 @@ returns-in-Measure-clause-can c =
 
 pub returns-in_default : goal.returns-in_default
 returns-in_default c =
-    let none = takes_none (user_of c.args.state.now) c.args.command.now c.in_default.not-Advance c.in_default.not-Measure in
-    absurd (c.if-turns-eq0.false (c.turns.ensures.value ∙ none))
+    let none = no-turns (user_of c.args.state.now) c.args.command.now c.in_default.not-Advance c.in_default.not-Measure in
+    absurd (c.if-turns-eq0.false (c.turns.ensures.value ∙ sym none))
