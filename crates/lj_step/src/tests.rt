@@ -94,6 +94,8 @@ fn place(sim: &Sim, i: usize, rt: &impl Abort) -> Place {
 #[test]
 fn two_atoms_measured_and_walked_back(rt: HostRuntime) -> Result<(), Fail> {
     let mut sim = at_rest(&[ORIGIN, along_x(APART)], &rt)?;
+    assert_eq!(rt; sim.edge().nano(), 256_000_000_000);
+    assert_eq!(rt; sim.tiles(), 0);
     step(&mut sim, 1, &rt);
     assert_eq!(rt; place(&sim, 0, &rt), along_x(589));
     assert_eq!(rt; place(&sim, 1, &rt), along_x(25_165_235));
@@ -209,6 +211,7 @@ fn tiles_of_three_blocks_in_any_order(rt: HostRuntime) -> Result<(), Fail> {
             accept(&mut sim, (first + 4 * i) % 9, &rt);
         }
         assert!(rt; sim.task(9, &label(&rt)).is_none());
+        assert_eq!(rt; sim.tiles(), 9);
         turn(&mut sim, &rt);
         for i in 0..130 {
             assert_eq!(rt; place(&sim, i, &rt), place(&in_order, i, &rt));
