@@ -240,7 +240,7 @@ fn first_lines(rt: HostRuntime) {
 fn words_between_blanks(rt: HostRuntime) {
     let mut words = Words::new(b"\t a\r  b\x0bc ");
     assert!(rt; words.copy().end().is_none());
-    assert!(rt; words.copy().count() == 2);
+    assert!(rt; words.copy().last() == Some(b"b\x0bc".as_slice()));
     assert!(rt; words.next() == Some(b"a\r".as_slice()));
     assert!(rt; words.next() == Some(b"b\x0bc".as_slice()));
     assert!(rt; words.end().is_some());
