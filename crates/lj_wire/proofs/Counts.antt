@@ -5,7 +5,7 @@ use Rattle.std.specs.Option.{option_map}
 use Rattle.std.specs.Iterator.{Drains, YieldsFirstRef}
 use Rattle.std.proofs.lemmas.Bool.{le-leb, leb-true, lt-leb}
 use Rattle.lj_wire.specs.Numbers.{number_of}
-use Rattle.lj_wire.specs.Commands.{◌>>=◌, Words, count_of, last_count}
+use Rattle.lj_wire.specs.Commands.{◌>>=◌, Words, count_of, last_count, is_load, is_over, words_in, body_len, announced}
 
 count_of-at : (word : List ℕ) (number : Option ℕ) → length word ≤ 7 → number_of word ≡ number
     → count_of word ≡ (number >>= λ count. cond (nat_le count 1048576) (Some count) None)
@@ -42,12 +42,28 @@ count_of-most word = by_test (nat_le (length word) 7)
     by_test true = limited_number (number_of word)
     by_test false = omega arith
 
-pub last_count-most : (words : Words) → unwrap_or (last_count words) 0 ≤ 1048576
+last_count-most : (words : Words) → unwrap_or (last_count words) 0 ≤ 1048576
 last_count-most words = by_last (last_or None words)
   where
     by_last : (last : Option (List ℕ)) → unwrap_or (last >>= count_of) 0 ≤ 1048576
     by_last None = omega arith
     by_last (Some word) = count_of-most word
+
+body_len-most : (words : Words) → body_len words ≤ 1048576
+unfolding body_len
+body_len-most [] = omega arith
+body_len-most (word ∷ words) = by_test (is_load word)
+  where
+    by_test : (load : Bool) → cond load (unwrap_or (last_count words) 0) 0 ≤ 1048576
+    by_test true = last_count-most words
+    by_test false = omega arith
+
+pub announced-most : (line : List ℕ) → announced line ≤ 1048576
+announced-most line = by_test (is_over line)
+  where
+    by_test : (over : Bool) → cond over 0 (body_len (words_in line)) ≤ 1048576
+    by_test true = omega arith
+    by_test false = body_len-most (words_in line)
 
 -- the words that an iterator yields to its end are those that it has left
 words-drained : (words : Words) (items : List (Bor (List ℕ))) → Drains (YieldsFirstRef (λ (w : Words). w)) words items → words ≡ map (λ item. item.now) items

@@ -1,5 +1,5 @@
 -- Laws of streams and of answers, each proved on the function of its name.
-use Rattle.std.specs.Prelude.{◌≡◌, ℕ, ◌+◌, ◌<◌, Bool, true, false, List, None}
+use Rattle.std.specs.Prelude.{◌≡◌, ℕ, ◌+◌, ◌<◌, ◌≤◌, Bool, true, false, List, None}
 use Rattle.lj_session.specs.Users.{User}
 use Rattle.lj_wire.specs.declared.item.Item.{Item}
 use Rattle.lj_wire.specs.Items.{ends}
@@ -40,3 +40,7 @@ RunningGoesOn = (user : User) (item : Item) → 0 < item_turns user item → (en
 abbrev pub BodyMissingIsMarked : Type 0
 BodyMissingIsMarked = (user : User) (line body : List ℕ) (mark : Bool) → 0 < announced line
     → told user (item_with line None) mark ≡ told user (item_of line body) true
+
+-- No line is followed by more than 1,048,576 bytes of body.
+abbrev pub BodyIsBounded : Type 0
+BodyIsBounded = (line : List ℕ) → announced line ≤ 1048576

@@ -1,5 +1,5 @@
 //! Commands as the lines that say them.
-ghost use Rattle.std.specs.Prelude.{◌≡◌, ◌≤◌, None};
+ghost use Rattle.std.specs.Prelude.{◌≡◌, None};
 ghost use Rattle.lj_wire.specs.Commands.{one_name, two_names, name_and_number, plain, tug, list, mode_of, load, count_of, last_count, or_syntax, is_load, load_item, announced, item_with};
 ghost use Rattle.lj_wire.specs.Parsing.{command_of};
 ghost use Rattle.lj_session.specs.declared.command.Command.TheVariants as command;
@@ -21,8 +21,7 @@ const MOST_BODY_BYTES: u64 = 1_048_576;
 /// How many bytes of body follow a line, which is given without its line feed: those that a LOAD
 /// line counts, at most 1,048,576, and none behind another.
 pub fn announced(line: &[u8]) -> usize
-    ensures value { result ≡ announced line.now }
-    ensures most { result ≤ 1048576 }
+    ensures { result ≡ announced line.now }
 {
     if is_over(line) {
         return 0;

@@ -1,5 +1,5 @@
 //! Laws of streams and of answers: functions that do nothing, whose contracts are the laws.
-ghost use Rattle.lj_wire.specs.Laws.{OneSplitting, SomeSplitting, MarkIsTold, TurnKeepsTold, TurnLowersTurns, RunningGoesOn, BodyMissingIsMarked};
+ghost use Rattle.lj_wire.specs.Laws.{OneSplitting, SomeSplitting, MarkIsTold, TurnKeepsTold, TurnLowersTurns, RunningGoesOn, BodyMissingIsMarked, BodyIsBounded};
 
 /// A stream has one splitting into items and a rest.
 pub fn one_splitting()
@@ -34,4 +34,9 @@ pub fn running_goes_on()
 /// A line whose body found no memory is told what it is told where memory is refused to it.
 pub fn body_missing_is_marked()
     ensures { BodyMissingIsMarked }
+{}
+
+/// No line is followed by more than 1,048,576 bytes of body.
+pub fn body_is_bounded()
+    ensures { BodyIsBounded }
 {}

@@ -12,8 +12,8 @@ mod words;
 pub use command::{announced, parse_command};
 pub use item::{Fault, Item};
 pub use laws::{
-    body_missing_is_marked, mark_is_told, one_splitting, running_goes_on, some_splitting,
-    turn_keeps_told, turn_lowers_turns,
+    body_is_bounded, body_missing_is_marked, mark_is_told, one_splitting, running_goes_on,
+    some_splitting, turn_keeps_told, turn_lowers_turns,
 };
 pub use line::split_line;
 pub use number::{parse_displacement, parse_number};

@@ -235,3 +235,48 @@ fn first_lines(rt: HostRuntime) {
         None => panic!(rt; "a line is there"),
     }
 }
+
+#[test]
+fn words_between_blanks(rt: HostRuntime) {
+    let mut words = Words::new(b"\t a\r  b\x0bc ");
+    assert!(rt; words.copy().end().is_none());
+    assert!(rt; words.copy().last() == Some(b"b\x0bc".as_slice()));
+    assert!(rt; words.next() == Some(b"a\r".as_slice()));
+    assert!(rt; words.next() == Some(b"b\x0bc".as_slice()));
+    assert!(rt; words.end().is_some());
+}
+
+const NUMBERS: [(&str, Option<u64>); 8] = [
+    ("0", Some(0)),
+    ("0000000000000000028", Some(28)),
+    ("9999999999999999999", Some(9_999_999_999_999_999_999)),
+    ("00000000000000000000", None),
+    ("", None),
+    ("+1", None),
+    ("1.", None),
+    ("0x1", None),
+];
+
+const DISPLACEMENTS: [(&str, Option<i32>); 11] = [
+    ("-0", Some(0)),
+    ("2147483647", Some(i32::MAX)),
+    ("-2147483648", Some(i32::MIN)),
+    ("-0000000002147483648", Some(i32::MIN)),
+    ("2147483648", None),
+    ("-2147483649", None),
+    ("9999999999999999999", None),
+    ("-00000000000000000000", None),
+    ("-", None),
+    ("--1", None),
+    ("+1", None),
+];
+
+#[test]
+fn numbers(rt: HostRuntime) {
+    for (word, number) in NUMBERS {
+        assert_eq!(rt; parse_number(word.as_bytes()), number, "{word:?}");
+    }
+    for (word, number) in DISPLACEMENTS {
+        assert_eq!(rt; parse_displacement(word.as_bytes()), number, "{word:?}");
+    }
+}
