@@ -2,7 +2,8 @@ use crate::{Branches, NoBranch, SaveFault};
 use lj_fixed::Nano;
 use lj_ring::{Place, Scale};
 use lj_step::{Displacement, Frame, Frames, Sim};
-use lj_tile::Name;
+use lj_table::Table;
+use lj_tile::{Kind, Label, Name, compute};
 use std::alloc::{AllocError, AllocGlobal};
 use std::process::Abort;
 use std::test::Fail;
@@ -35,6 +36,40 @@ fn name(word: &str, rt: &impl Abort) -> Name {
 fn tug(sim: &mut Sim, x: i32, rt: &impl Abort) {
     assert!(rt; 0 < sim.count());
     sim.tug(0, Displacement { x, y: 0, z: 0 });
+}
+
+/// Opens a step of two atoms and takes in its one tile.
+fn take_in(sim: &mut Sim, kind: Kind, rt: &impl Abort) {
+    let label = Label {
+        user: 0,
+        session: name("a", rt),
+    };
+    sim.open_step(kind);
+    let task = sim.task(0, &label).expect(rt, "a task");
+    let accepted = sim.accept(&label, compute(task, &Table::new())).is_ok();
+    assert!(rt; accepted && sim.is_whole());
+}
+
+fn step(sim: &mut Sim, rt: &impl Abort) {
+    take_in(sim, Kind::Force, rt);
+    assert!(rt; sim.is_whole() && matches!(sim.open_kind(), Some(Kind::Force)));
+    assert!(rt; -1000 < sim.step() && sim.step() < 1000);
+    assert!(rt; -2 < sim.dir() && sim.dir() < 2);
+    sim.turn();
+}
+
+fn potential(sim: &mut Sim, rt: &impl Abort) -> i128 {
+    take_in(sim, Kind::Energy, rt);
+    assert!(rt; sim.is_whole() && matches!(sim.open_kind(), Some(Kind::Energy)));
+    sim.potential()
+}
+
+/// The numbers of two atoms 1.5 sigma apart one step after rest.
+fn is_one_step_on(sim: &mut Sim, rt: &impl Abort) {
+    assert_eq!(rt; (sim.step(), sim.count()), (1, 2));
+    assert_eq!(rt; sim.momentum(), [0, 0, 0]);
+    assert_eq!(rt; sim.kinetic(), 693_842);
+    assert_eq!(rt; potential(sim, rt), -5_399_727);
 }
 
 fn restore(
@@ -81,6 +116,33 @@ fn what_is_saved_comes_back(rt: HostRuntime) -> Result<(), Fail> {
     assert_eq!(rt; (sim.step(), sim.dir()), (-1, -1));
     assert_eq!(rt; branches.count_of(&name("rest", &rt)), Some(2));
     assert_eq!(rt; branches.count_of(&name("other", &rt)), None);
+    Ok(())
+}
+
+/// What is saved before a tug takes back the tug and the step after it, as often as it is asked for.
+#[test]
+fn a_branch_takes_back_a_tug(rt: HostRuntime) -> Result<(), Fail> {
+    let mut sim = dimer(&rt)?;
+    let mut branches = Branches::new(rt.alloc());
+    step(&mut sim, &rt);
+    branches.save(name("k", &rt), &sim)?;
+    is_one_step_on(&mut sim, &rt);
+    tug(&mut sim, 5, &rt);
+    step(&mut sim, &rt);
+    assert_eq!(rt; sim.step(), 2);
+    assert!(rt; 0 < sim.count());
+    assert_eq!(rt; sim.place(0).x, 1779);
+    assert_eq!(rt; restore(&branches, "k", &mut sim, &rt), Ok(()));
+    is_one_step_on(&mut sim, &rt);
+    assert_eq!(rt; restore(&branches, "k", &mut sim, &rt), Ok(()));
+    assert_eq!(rt; (sim.step(), sim.kinetic()), (1, 693_842));
+    are_listed(&branches, &[("k", 1)], &rt);
+    assert_eq!(rt; branches.forget(&name("k", &rt)), Ok(()));
+    branches.save(name("m", &rt), &sim)?;
+    are_listed(&branches, &[("m", 1)], &rt);
+    step(&mut sim, &rt);
+    assert!(rt; 0 < sim.count());
+    assert_eq!(rt; sim.place(0).x, 1774);
     Ok(())
 }
 

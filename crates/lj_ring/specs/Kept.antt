@@ -1,5 +1,5 @@
 -- What a scale keeps beside its three numbers.
-use Rattle.std.specs.Prelude.{ℕ, ◌+◌, ◌-◌, ◌*◌, ◌/◌, ◌^◌, ◌<◌, ◌≤◌, ◌≡◌, refl}
+use Rattle.std.specs.Prelude.{ℕ, ◌*◌, ◌^◌, ◌<◌, ◌≤◌, ◌≡◌}
 use Rattle.std.specs.Int.{div_ceil}
 use Rattle.lj_ring.specs.Scales.{Units}
 use Rattle.lj_ring.specs.declared.units.Scale.TheInside.{Inside}

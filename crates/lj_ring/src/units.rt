@@ -1,4 +1,4 @@
-ghost use Rattle.std.specs.Prelude.{◌≡◌, ◌≤◌, ◌<◌, ◌+◌, ◌*◌, ◌/◌, ◌^◌, ◌⊎◌, IsTrue, IsFalse, IfSome, MatchOption, SomeIff, unsigned_abs, true, false};
+ghost use Rattle.std.specs.Prelude.{ℕ, ◌≡◌, ◌≤◌, ◌<◌, ◌+◌, ◌*◌, ◌/◌, ◌^◌, ◌⊎◌, IsTrue, IsFalse, IfSome, MatchOption, SomeIff, unsigned_abs, nat_lt, true, false};
 ghost use Rattle.lj_ring.specs.Places.{units_of};
 ghost use Rattle.lj_ring.specs.Scales.{edge_fits, sigma_fits, strength_fits, scale_of, bin, interacts};
 
@@ -123,6 +123,15 @@ impl Scale {
         ensures most { result ≤ 2 ^ 24 }
     {
         self.strength
+    }
+
+    /// The least squared distance out of reach, in square ring units: from it on no pair interacts, and each does below it.
+    #[inline]
+    pub fn reach(&self) -> u64
+        ensures value { (s : ℕ) → interacts self.now s ≡ nat_lt s result }
+        ensures most { result ≤ 2 ^ 62 }
+    {
+        self.reach
     }
 
     /// The bin, below 800, of a pair at squared distance `s`, or None where it does not interact.

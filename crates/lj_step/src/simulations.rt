@@ -270,9 +270,21 @@ impl Sim {
         let name = task.name();
         let number = BLOCK * usize::from(name.bi) + usize::from(name.bj);
         match self.partial.awaited.as_slice().get(number) {
-            Some(true) => self.task_of(label, kind, number).is(task),
+            Some(true) => self.is_task_of(task, label, kind, number),
             _ => false,
         }
+    }
+
+    /// Whether this is the task of a tile of the present step. It copies no places.
+    fn is_task_of(&self, task: &Task, label: &Label, kind: Kind, number: usize) -> bool
+        requires tile { steps.is_tile kind (length self.now.sim.cur) number ≡ true }
+        requires within { number < 64 * steps.blocks (length self.now.sim.cur) }
+        ensures { IsTrue result ↔ (task.now ≡ steps.task_of self.now label.now kind number) }
+    {
+        let name = self.name_of(label, kind, number);
+        let first = self.block(number / BLOCK);
+        let second = self.block(number % BLOCK);
+        task.is_of(&name, &self.scale, first, second)
     }
 
     /// The task of a tile of the present step.
@@ -281,20 +293,24 @@ impl Sim {
         requires within { number < 64 * steps.blocks (length self.now.sim.cur) }
         ensures { result ≡ steps.task_of self.now label.now kind number }
     {
-        let (bi, bj) = (number / BLOCK, number % BLOCK);
-        let name = TaskName {
+        let name = self.name_of(label, kind, number);
+        let first = Block::new(self.block(number / BLOCK));
+        let second = Block::new(self.block(number % BLOCK));
+        Task::new(name, self.scale, first, second)
+    }
+
+    /// The name of that task.
+    fn name_of(&self, label: &Label, kind: Kind, number: usize) -> TaskName
+        requires { number < 64 * steps.blocks (length self.now.sim.cur) }
+        ensures { result ≡ (steps.task_of self.now label.now kind number).name }
+    {
+        TaskName {
             label: label.copy(),
             step: self.step,
             kind,
-            bi: bi as u8,
-            bj: bj as u8,
-        };
-        Task::new(
-            name,
-            self.scale,
-            Block::new(self.block(bi)),
-            Block::new(self.block(bj)),
-        )
+            bi: (number / BLOCK) as u8,
+            bj: (number % BLOCK) as u8,
+        }
     }
 
     /// The places of a block.

@@ -1,8 +1,8 @@
-ghost use Rattle.std.specs.Prelude.{◌≤◌, length};
+ghost use Rattle.std.specs.Prelude.{◌≤◌, ◌<◌, length};
 
-use crate::{Displacement, Frame, Frames, Sim};
+use crate::{Displacement, Frame, Frames, Sim, Snapshot};
 use lj_fixed::Nano;
-use lj_ring::{Place, Scale};
+use lj_ring::{Place, Scale, ScaleFault};
 use lj_table::Table;
 use lj_tile::{Done, Kind, Label, Name, compute};
 use std::alloc::{AllocError, AllocGlobal};
@@ -14,11 +14,18 @@ const ORIGIN: Place = Place { x: 0, y: 0, z: 0 };
 /// 1.5 sigma, where sigma is a 256th of the edge.
 const APART: u32 = 25_165_824;
 
+/// An edge in nano, sigma 1 and a step factor of `strength` in units of 2^-32.
+fn scale_of(edge: i64, strength: u64, rt: &impl Abort) -> Result<Scale, ScaleFault> {
+    let edge = Nano::new(edge).expect(rt, "an edge");
+    let sigma = Nano::new(1_000_000_000).expect(rt, "a sigma");
+    Scale::new(edge, sigma, strength)
+}
+
 /// An edge of 256, sigma 1 and a step factor of `strength` in units of 2^-32.
 fn scale(strength: u64, rt: &impl Abort) -> Scale {
-    let edge = Nano::new(256_000_000_000).expect(rt, "an edge");
-    let sigma = Nano::new(1_000_000_000).expect(rt, "a sigma");
-    Scale::new(edge, sigma, strength).ok().expect(rt, "a scale")
+    scale_of(256_000_000_000, strength, rt)
+        .ok()
+        .expect(rt, "a scale")
 }
 
 fn label(rt: &impl Abort) -> Label {
@@ -166,6 +173,31 @@ fn strays_come_back_and_change_nothing(rt: HostRuntime) -> Result<(), Fail> {
     Ok(())
 }
 
+/// A tug closes the open step, so that its results are strays. The present places are as they were: a step opened then has
+/// equal tasks, and takes the result.
+#[test]
+fn a_tug_makes_results_stale_until_a_step_is_opened(rt: HostRuntime) -> Result<(), Fail> {
+    let mut sim = at_rest(&[ORIGIN, along_x(APART)], &rt)?;
+    sim.open_step(Kind::Force);
+    let done = result(&sim, 0, &rt);
+    assert!(rt; 0 < sim.count());
+    sim.tug(0, Displacement { x: 5, y: 0, z: 0 });
+    assert!(rt; sim.open_kind().is_none() && !sim.awaits(0) && !sim.is_whole());
+    let stale = sim
+        .accept(&label(&rt), done.copy())
+        .err()
+        .expect(&rt, "a stray");
+    assert!(rt; stale.done.task().is(done.task()));
+    assert_eq!(rt; sim.momentum()[0], 5);
+    sim.open_step(Kind::Force);
+    assert!(rt; sim.awaits(0));
+    let accepted = sim.accept(&label(&rt), stale.done).is_ok();
+    assert!(rt; accepted);
+    turn(&mut sim, &rt);
+    assert_eq!(rt; place(&sim, 0, &rt), along_x(594));
+    Ok(())
+}
+
 #[test]
 fn another_scale_is_a_stray(rt: HostRuntime) -> Result<(), Fail> {
     let places = [ORIGIN, along_x(APART)];
@@ -187,6 +219,76 @@ fn another_scale_is_a_stray(rt: HostRuntime) -> Result<(), Fail> {
     Ok(())
 }
 
+/// One atom moves over the end of the box, 5 units on from 6 and 1 below it.
+#[test]
+fn the_way_goes_round_the_box(rt: HostRuntime) -> Result<(), Fail> {
+    let frames = Frames {
+        prev: Frame::new(Vec::from_slice(rt.alloc(), &[along_x(4_294_967_290)])?),
+        cur: Frame::new(Vec::from_slice(rt.alloc(), &[along_x(4_294_967_295)])?),
+    };
+    let mut sim = Sim::new(rt.alloc(), frames, scale(1, &rt))?;
+    step(&mut sim, 1, &rt);
+    assert_eq!(rt; place(&sim, 0, &rt), along_x(4));
+    assert_eq!(rt; (sim.step(), sim.count()), (1, 1));
+    assert_eq!(rt; sim.momentum(), [5, 0, 0]);
+    assert_eq!(rt; sim.kinetic(), 25);
+    assert_eq!(rt; potential(&mut sim, 1, &rt), 0);
+    Ok(())
+}
+
+/// Atoms at one place do not push each other, and have the energy of the closest bin.
+#[test]
+fn two_atoms_at_one_place_stay(rt: HostRuntime) -> Result<(), Fail> {
+    let here = Place {
+        x: 16_777_216,
+        y: 16_777_216,
+        z: 16_777_216,
+    };
+    let mut sim = at_rest(&[here, here], &rt)?;
+    for _ in 0..3 {
+        step(&mut sim, 1, &rt);
+    }
+    assert_eq!(rt; place(&sim, 0, &rt), here);
+    assert_eq!(rt; (sim.step(), sim.count()), (3, 2));
+    assert_eq!(rt; sim.momentum(), [0, 0, 0]);
+    assert_eq!(rt; sim.kinetic(), 0);
+    assert_eq!(rt; potential(&mut sim, 1, &rt), 3_574_550_947);
+    Ok(())
+}
+
+/// Half a box of five sigma is the cutoff, and out of reach. In a smaller box sigma does not fit.
+#[test]
+fn atoms_half_the_box_apart_do_not_interact(rt: HostRuntime) -> Result<(), Fail> {
+    let places = [ORIGIN, along_x(2_147_483_648)];
+    let frames = Frames {
+        prev: Frame::new(Vec::from_slice(rt.alloc(), &places)?),
+        cur: Frame::new(Vec::from_slice(rt.alloc(), &places)?),
+    };
+    let scale = scale_of(5_000_000_000, 131_072, &rt)
+        .ok()
+        .expect(&rt, "a scale");
+    let mut sim = Sim::new(rt.alloc(), frames, scale)?;
+    step(&mut sim, 1, &rt);
+    assert_eq!(rt; place(&sim, 1, &rt), along_x(2_147_483_648));
+    assert_eq!(rt; sim.momentum(), [0, 0, 0]);
+    assert_eq!(rt; sim.kinetic(), 0);
+    assert_eq!(rt; potential(&mut sim, 1, &rt), 0);
+    let smaller = scale_of(4_990_000_000, 131_072, &rt);
+    assert_eq!(rt; smaller.err(), Some(ScaleFault::Sigma));
+    Ok(())
+}
+
+/// Any one growth may be refused (`rt try --test --fail-alloc`); the same call then succeeds, and the step takes no memory.
+#[test]
+fn a_refused_simulation_is_made_anew(rt: HostRuntime) -> Result<(), Fail> {
+    let places = [ORIGIN, along_x(APART)];
+    let mut sim = at_rest(&places, &rt).or_else(|_| at_rest(&places, &rt))?;
+    assert_eq!(rt; (sim.step(), sim.dir(), sim.count()), (0, 1, 2));
+    step(&mut sim, 1, &rt);
+    assert_eq!(rt; place(&sim, 0, &rt), along_x(589));
+    Ok(())
+}
+
 /// 130 atoms, three blocks, on a lattice of 1.5 sigma.
 fn lattice() -> [Place; 130] {
     let mut places = [ORIGIN; 130];
@@ -200,22 +302,120 @@ fn lattice() -> [Place; 130] {
     places
 }
 
+/// The results of all tasks of the open step, in the order of its cover.
+fn results(sim: &Sim, rt: &(impl Abort + AllocGlobal)) -> Result<Vec<Done>, AllocError> {
+    let table = Table::new();
+    let mut results = Vec::new(rt.alloc());
+    for i in 0..4096 {
+        let Some(task) = sim.task(i, &label(rt)) else {
+            break;
+        };
+        results.push(compute(task, &table))?;
+    }
+    Ok(results)
+}
+
+/// The place in the cover of the n-th tile that is still awaited.
+fn awaited(sim: &Sim, n: u64, tiles: usize, rt: &impl Abort) -> usize {
+    let mut before = n;
+    for i in 0..tiles {
+        if sim.awaits(i) {
+            if before == 0 {
+                return i;
+            }
+            before -= 1;
+        }
+    }
+    panic!(rt; "no such tile is awaited");
+}
+
+/// Takes in all results of the open step. The order is a number: its digits, to the base of how many tiles are still awaited,
+/// tell which of these is next. The numbers below the factorial of their count are all orders.
+fn accept_in_order(sim: &mut Sim, results: &[Done], order: u64, rt: &impl Abort) {
+    let mut rest = order;
+    for taken in 0..results.len() {
+        let left = (results.len() - taken) as u64;
+        let i = awaited(sim, rest % left, results.len(), rt);
+        rest /= left;
+        assert!(rt; i < results.len());
+        assert!(rt; !sim.is_whole());
+        let accepted = sim.accept(&label(rt), results[i].copy()).is_ok();
+        assert!(rt; accepted);
+    }
+}
+
+/// Takes in the nine results of the open step from the `first` on, each time that many on, round from the last to the first.
+fn accept_by_strides(
+    sim: &mut Sim,
+    results: &[Done],
+    first: usize,
+    stride: usize,
+    rt: &impl Abort,
+)
+    requires first { first < 9 }
+    requires stride { stride < 9 }
+{
+    assert!(rt; results.len() == 9);
+    for i in 0..9 {
+        let done = results[(first + i * stride) % 9].copy();
+        let accepted = sim.accept(&label(rt), done).is_ok();
+        assert!(rt; accepted);
+    }
+}
+
+/// Turns the step that is open, and goes back to its start when it has given the places of `next`.
+fn turn_and_compare(sim: &mut Sim, start: &Snapshot, next: &Sim, rt: &impl Abort) {
+    turn(sim, rt);
+    assert_eq!(rt; sim.step(), next.step());
+    for i in 0..130 {
+        assert_eq!(rt; place(sim, i, rt), place(next, i, rt), "atom {i}");
+    }
+    assert!(rt; start.count() == sim.count());
+    sim.restore(start);
+}
+
+/// Each rotation of the cover forward and backward, the same by other strides, and each thousandth of all orders.
 #[test]
-fn tiles_of_three_blocks_in_any_order(rt: HostRuntime) -> Result<(), Fail> {
-    let mut in_order = at_rest(&lattice(), &rt)?;
-    step(&mut in_order, 9, &rt);
-    for first in 0..9 {
-        let mut sim = at_rest(&lattice(), &rt)?;
+fn nine_force_tiles_in_many_orders(rt: HostRuntime) -> Result<(), Fail> {
+    let mut next = at_rest(&lattice(), &rt)?;
+    step(&mut next, 9, &rt);
+    let mut sim = at_rest(&lattice(), &rt)?;
+    let start = sim.snapshot(rt.alloc())?;
+    sim.open_step(Kind::Force);
+    assert!(rt; sim.task(9, &label(&rt)).is_none());
+    assert_eq!(rt; sim.tiles(), 9);
+    let results = results(&sim, &rt)?;
+    for stride in [1, 2, 4, 5, 7, 8] {
+        for first in 0..9 {
+            sim.open_step(Kind::Force);
+            accept_by_strides(&mut sim, results.as_slice(), first, stride, &rt);
+            turn_and_compare(&mut sim, &start, &next, &rt);
+        }
+    }
+    for thousand in 0..363 {
         sim.open_step(Kind::Force);
-        for i in 0..9 {
-            accept(&mut sim, (first + 4 * i) % 9, &rt);
-        }
-        assert!(rt; sim.task(9, &label(&rt)).is_none());
-        assert_eq!(rt; sim.tiles(), 9);
-        turn(&mut sim, &rt);
-        for i in 0..130 {
-            assert_eq!(rt; place(&sim, i, &rt), place(&in_order, i, &rt));
-        }
+        accept_in_order(&mut sim, results.as_slice(), 1000 * thousand, &rt);
+        turn_and_compare(&mut sim, &start, &next, &rt);
+    }
+    Ok(())
+}
+
+/// The sum comes out the same in all 720 orders.
+#[test]
+fn six_energy_tiles_in_each_order(rt: HostRuntime) -> Result<(), Fail> {
+    let mut sim = at_rest(&lattice(), &rt)?;
+    let whole = potential(&mut sim, 6, &rt);
+    assert!(rt; whole != 0);
+    sim.open_step(Kind::Energy);
+    assert!(rt; sim.task(6, &label(&rt)).is_none());
+    let results = results(&sim, &rt)?;
+    assert_eq!(rt; results.len(), 6);
+    for order in 0..720 {
+        sim.open_step(Kind::Energy);
+        accept_in_order(&mut sim, results.as_slice(), order, &rt);
+        assert!(rt; matches!(sim.open_kind(), Some(Kind::Energy)));
+        assert!(rt; sim.is_whole());
+        assert_eq!(rt; sim.potential(), whole, "order {order}");
     }
     Ok(())
 }

@@ -1,4 +1,7 @@
-use Rattle.std.proofs.Common.{ℕ, zero, suc, ◌+◌, ◌-◌, ◌*◌, ◌%◌, ◌^◌, ◌<◌, ◌≤◌, ◌≡◌, ◌≢◌, ◌==◌, not, Bool, true, false, ℤ, pos, ◌+ℤ◌, unsigned_abs, FitsSigned, w64, to_z, of_z, List, length, refl, sym, ap, subst, min, ◌∙◌, inl, inr, ◌⊎◌, nat_lt, add-one, arith}
+use Rattle.std.proofs.Common.{ℕ, zero, suc, ◌+◌, ◌-◌, ◌*◌, ◌/◌, ◌%◌, ◌^◌, ◌<◌, ◌≤◌, ◌≡◌, ◌≢◌, ◌==◌, not, Bool, true, false, ℤ, pos, ◌+ℤ◌, unsigned_abs, FitsSigned, w64, to_z, of_z, List, length, refl, sym, ap, subst, min, ◌∙◌, inl, inr, ◌⊎◌, nat_lt, add-one, arith}
+use Rattle.std.specs.Int.{bit_at, trailing_zeros}
+use Rattle.std.proofs.lemmas.Nat.{shr-shr}
+use Rattle.std.proofs.lemmas.Nat.Bits.{bit_at-trailing_zeros, bit_at_above, bit_at-zero}
 use Rattle.std.proofs.Math.IntN.{+ℤ_idr}
 use Rattle.std.proofs.lemmas.Bool.{cases_eq, cases_lt}
 use Rattle.std.proofs.lemmas.Nat.{mul-le}
@@ -11,10 +14,8 @@ use Rattle.lj_table.specs.Entries.{push_at}
 use Rattle.lj_tile.specs.declared.pairs.Push.{Push}
 use Rattle.lj_tile.specs.Pushes.{push, no_push, plus, energy}
 use Rattle.lj_tile.specs.declared.names.Kind.TheVariants.{Energy}
-use Rattle.lj_tile.specs.declared.near.Columns.{Columns}
-use Rattle.lj_tile.specs.Near.{IsReach, HasColumns, column_place}
+use Rattle.lj_tile.specs.Near.{IsReach}
 use Rattle.lj_tile.proofs.PushLemmas.{nothing_is}
-use Rattle.lj_tile.proofs.NearLemmas.{distance_most}
 use Rattle.lj_tile.specs.Tiles.{place_at, chosen_push, chosen_energy, push_sum}
 use Rattle.lj_tile.specs.Tasks.{Work, IsTask, atom, are_apart, are_in_order, push_of, force_below, task_force, task_energy}
 
@@ -171,26 +172,52 @@ far_pair w t s far =
       | inr same ↦ rw same refl
     ]
 
--- a place whose column is out of reach does not push
-pub column_silent : (w : Work) (t reach s : ℕ) (columns : Columns) → IsReach w.units reach → HasColumns columns w.b → s < length w.b
-    → reach * 2 ^ 34 ≤ distance (place_at w.a t) (column_place columns s) → push_of w t s ≡ no_push
-column_silent w t reach s columns out same within far =
-    let least : reach * 2 ^ 34 ≤ distance (place_at w.a t) (place_at w.b s) =
-    subst (λ (q : Place). reach * 2 ^ 34 ≤ distance (place_at w.a t) q) (same s within) far in
-    far_pair w t s (out (distance (place_at w.a t) (place_at w.b s)) least (distance_most (place_at w.a t) (place_at w.b s)))
+-- a place from the reach on does not push
+pub far_silent : (w : Work) (t reach s : ℕ) → IsReach w.units reach → reach * 2 ^ 48 ≤ distance (place_at w.a t) (place_at w.b s) + 3 * 2 ^ 48 → push_of w t s ≡ no_push
+far_silent w t reach s out far = far_pair w t s (out (distance (place_at w.a t) (place_at w.b s)) far)
 
--- a place that does not push, or is none, leaves the sum as it is
-pub force_below_skip : (w : Work) (t s : ℕ) → (s < length w.b → push_of w t s ≡ no_push)
-    → force_below w t (min s (length w.b)) ≡ force_below w t (min (s + 1) (length w.b))
-force_below_skip w t s silent =
-    force_below_far w t (min s (length w.b)) (min (s + 1) (length w.b)) (omega arith)
-    (λ j h k. let e : j ≡ s = omega arith in rw e (silent (omega arith)))
+-- places whose bits are not set leave the sum as it is
+pub force_below_unset : (w : Work) (t near from to : ℕ) → ((s : ℕ) → s < length w.b → bit_at near s ≡ 0 → push_of w t s ≡ no_push)
+    → from ≤ to → ((s : ℕ) → from ≤ s → s < to → bit_at near s ≡ 0)
+    → force_below w t (min from (length w.b)) ≡ force_below w t (min to (length w.b))
+force_below_unset w t near from to silent le unset =
+    force_below_far w t (min from (length w.b)) (min to (length w.b)) (omega arith)
+    (λ s h k. silent s (omega arith) (unset s (omega arith) (omega arith)))
 
--- the same of eight places
-pub force_below_eight : (w : Work) (t from : ℕ) → ((k : ℕ) → k < 8 → from + k < length w.b → push_of w t (from + k) ≡ no_push)
-    → force_below w t (min from (length w.b)) ≡ force_below w t (min (from + 8) (length w.b))
-force_below_eight w t from silent =
-    force_below_far w t (min from (length w.b)) (min (from + 8) (length w.b)) (omega arith)
-    (λ j h k.
-    let at : from + (j - from) ≡ j = omega arith in
-    rw at at (silent (j - from) (omega arith) (omega arith)))
+-- the bits that are left above the lowest n + 1
+bits_left : (rest n k : ℕ) → bit_at (rest / 2 ^ n / 2) k ≡ bit_at rest (n + 1 + k)
+bits_left rest n k = ap (λ m. m % 2) (shr-shr (rest / 2 ^ n) 1 k ∙ shr-shr rest n (1 + k) ∙ ap (λ j. rest / 2 ^ j) (omega arith))
+
+-- `rest` is a mask from bit s on
+abbrev pub IsFrom : ℕ → ℕ → ℕ → Type 0
+IsFrom mask s rest = (k : ℕ) → bit_at rest k ≡ bit_at mask (s + k)
+
+-- the lowest bit that is set in the rest of a mask of 64
+pub record HasNext (mask s n : ℕ) : Type 0 where
+  pub within : s + n < 64
+  pub before : (k : ℕ) → s ≤ k → k < s + n → bit_at mask k ≡ 0
+
+pub next_set : (mask s rest : ℕ) → mask < 2 ^ 64 → rest < 2 ^ 64 → 0 < rest → IsFrom mask s rest → HasNext mask s (trailing_zeros w64 rest)
+next_set mask s rest small rest_small some from =
+    let n : ℕ = trailing_zeros w64 rest in
+    let found = bit_at-trailing_zeros w64 rest some rest_small in
+    let set : bit_at mask (s + n) ≡ 1 = sym (from n) ∙ found.1 in
+    record {
+      within = elim (cases_lt (s + n) 64) [
+        | inl less ↦ less
+        | inr more ↦ absurd (omega (arith, set, bit_at_above mask 64 (s + n) small more))
+      ];
+      before = λ k least less.
+          let e : s + (k - s) ≡ k = omega arith in
+          ap (bit_at mask) (sym e) ∙ sym (from (k - s)) ∙ found.2 (k - s) (omega arith);
+    }
+
+-- the rest above it
+pub from_next : (mask s rest n : ℕ) → IsFrom mask s rest → IsFrom mask (s + n + 1) (rest / 2 ^ n / 2)
+from_next mask s rest n from k = bits_left rest n k ∙ from (n + 1 + k) ∙ ap (bit_at mask) (omega arith)
+
+-- no bit is set from an empty rest on
+pub from_empty : (mask s rest : ℕ) → IsFrom mask s rest → rest ≡ 0 → (k : ℕ) → s ≤ k → bit_at mask k ≡ 0
+from_empty mask s rest from empty k least =
+    let e : s + (k - s) ≡ k = omega arith in
+    ap (bit_at mask) (sym e) ∙ sym (from (k - s)) ∙ ap (λ r. bit_at r (k - s)) empty ∙ bit_at-zero (k - s)

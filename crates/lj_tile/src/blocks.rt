@@ -61,12 +61,25 @@ impl Block {
         }
     }
 
+    /// Whether these are its places.
+    pub fn has(&self, places: &[Place]) -> bool
+        ensures { IsTrue result ↔ (self.now ≡ places.now) }
+    {
+        are_same(self.places(), places)
+    }
+
     /// Whether the other block has the same places.
     pub fn is(&self, other: &Block) -> bool
         ensures { IsTrue result ↔ (self.now ≡ other.now) }
     {
-        self == other
+        self.has(other.places())
     }
+}
+
+fn are_same(a: &[Place], b: &[Place]) -> bool
+    ensures { result ≡ same_places a.now b.now }
+{
+    a == b
 }
 
 impl PartialEq for Block {
@@ -75,7 +88,7 @@ impl PartialEq for Block {
     ghost laws = { partial_equiv_from_equiv same_places-equiv };
 
     fn eq(&self, other: &Self) -> bool {
-        self.places() == other.places()
+        are_same(self.places(), other.places())
     }
 }
 

@@ -1,21 +1,19 @@
-ghost use Rattle.std.specs.Prelude.{◌≡◌, ◌≤◌, ◌<◌, ◌+◌, ◌-◌, ◌*◌, ◌/◌, ◌%◌, ◌^◌, ℕ, false, min, length, slice_index, unsigned_abs};
+ghost use Rattle.std.specs.Prelude.{◌≡◌, ◌≤◌, ◌<◌, ◌+◌, ◌-◌, ◌*◌, ◌/◌, ◌%◌, ◌^◌, ℕ, min, length, slice_index, unsigned_abs};
 ghost use Rattle.std.specs.Int.{bit_at};
+ghost use Rattle.lj_ring.specs.declared.coordinates.Place.{Place};
 ghost use Rattle.lj_ring.specs.Ring.{distance, image};
-ghost use Rattle.lj_tile.specs.Near.{HasColumns, IsReach, column_place};
+ghost use Rattle.lj_tile.specs.Near.{HasColumns, IsReach, column_place, coarse_place};
 
 use crate::blocks::BLOCK;
 use lj_ring::{Place, Scale};
 use std::simd::prelude::*;
 
-/// The places of a vector.
-pub(crate) const LANES: usize = 8;
-
-/// The coordinates of a block's places, axis by axis.
+/// The coordinates of a block's places, axis by axis, in whole units of 2^16.
 #[derive(Drop)]
 pub(crate) struct Columns {
-    x: [u32; BLOCK],
-    y: [u32; BLOCK],
-    z: [u32; BLOCK],
+    x: u16x64,
+    y: u16x64,
+    z: u16x64,
 }
 
 impl Columns {
@@ -27,82 +25,85 @@ impl Columns {
         let mut y = [0; BLOCK];
         let mut z = [0; BLOCK];
         for (s, place) in places.iter().enumerate() {
-            x[s] = place.x;
-            y[s] = place.y;
-            z[s] = place.z;
+            x[s] = coarse(place.x);
+            y[s] = coarse(place.y);
+            z[s] = coarse(place.z);
         }
-        Columns { x, y, z }
+        Columns {
+            x: u16x64::from_array(x),
+            y: u16x64::from_array(y),
+            z: u16x64::from_array(z),
+        }
     }
 
-    /// A mask of the eight places from `from` on: where a bit is 0, the place is not nearer to `here` than `reach`, a squared
-    /// distance in units of 2^34.
+    /// A mask of the places: where a bit is 0, the squared distance of that place and `here` is not below `reach` less 3, in
+    /// units of 2^48.
     #[inline]
-    pub(crate) fn near_eight(&self, from: usize, here: &Place, reach: u32) -> u64
-        requires { from + 8 ≤ 64 }
-        ensures { (k : ℕ) → k < 8 → bit_at result k ≡ 0
-            → reach * 2 ^ 34 ≤ distance here.now (column_place self.now (from + k)) }
+    pub(crate) fn near(&self, here: &Place, reach: u16) -> u64
+        ensures { (k : ℕ) (there : Place) → k < 64 → bit_at result k ≡ 0 → column_place self.now k ≡ coarse_place there
+            → reach * 2 ^ 48 ≤ distance here.now there + 3 * 2 ^ 48 }
     {
-        let x = coarse_sizes(&self.x, from, here.x);
-        let y = coarse_sizes(&self.y, from, here.y);
-        let z = coarse_sizes(&self.z, from, here.z);
+        let x = coarse_sizes(self.x, here.x);
+        let y = coarse_sizes(self.y, here.y);
+        let z = coarse_sizes(self.z, here.z);
         below(sums_of_squares(x, y, z), reach)
     }
 }
 
-/// The sizes of the images of eight coordinates, in whole units of 2^17.
+/// A coordinate in whole units of 2^16.
 #[inline(always)]
-fn coarse_sizes(cells: &[u32], from: usize, here: u32) -> u32x8
-    requires { from + 8 ≤ length cells.now }
-    ensures least { (k : ℕ) → k < 8 → slice_index result k * 2 ^ 17 ≤ unsigned_abs (image here (slice_index cells.now (from + k))) }
-    ensures small { (k : ℕ) → k < 8 → slice_index result k < 2 ^ 15 }
+fn coarse(coordinate: u32) -> u16
+    ensures { result ≡ coordinate / 2 ^ 16 }
 {
-    let there = load(cells, from);
-    let here = splat(here);
-    shift_by_17(lesser(differences(there, here), differences(here, there)))
+    (coordinate >> 16) as u16
+}
+
+/// The sizes of the images of coordinates, of which `there` has the whole units of 2^16, in whole units of 2^24. They may be
+/// too great by what was cut off, less than 2^16.
+#[inline(always)]
+fn coarse_sizes(there: u16x64, here: u32) -> u16x64
+    ensures least { (k c : ℕ) → k < 64 → slice_index there k ≡ c / 2 ^ 16
+        → slice_index result k * 2 ^ 24 < unsigned_abs (image here c) + 2 ^ 16 }
+    ensures small { (k : ℕ) → k < 64 → slice_index result k ≤ 2 ^ 7 }
+{
+    let here = splat(coarse(here));
+    shift_by_8(lesser(differences(there, here), differences(here, there)))
 }
 
 #[inline(always)]
-fn load(cells: &[u32], from: usize) -> u32x8
-    requires { from + 8 ≤ length cells.now }
-    ensures { (k : ℕ) → k < 8 → slice_index result k ≡ slice_index cells.now (from + k) }
+fn splat(number: u16) -> u16x64
+    ensures { (k : ℕ) → k < 64 → slice_index result k ≡ number }
 {
-    u32x8::from_slice(&cells[from..])
+    u16x64::splat(number)
 }
 
 #[inline(always)]
-fn splat(number: u32) -> u32x8
-    ensures { (k : ℕ) → k < 8 → slice_index result k ≡ number }
-{
-    u32x8::splat(number)
-}
-
-#[inline(always)]
-fn differences(a: u32x8, b: u32x8) -> u32x8
-    ensures { (k : ℕ) → k < 8 → slice_index result k ≡ (slice_index a k + (2 ^ 32 - slice_index b k)) % 2 ^ 32 }
+fn differences(a: u16x64, b: u16x64) -> u16x64
+    ensures { (k : ℕ) → k < 64 → slice_index result k ≡ (slice_index a k + (2 ^ 16 - slice_index b k)) % 2 ^ 16 }
 {
     a - b
 }
 
 #[inline(always)]
-fn lesser(a: u32x8, b: u32x8) -> u32x8
-    ensures { (k : ℕ) → k < 8 → slice_index result k ≡ min (slice_index a k) (slice_index b k) }
+fn lesser(a: u16x64, b: u16x64) -> u16x64
+    ensures { (k : ℕ) → k < 64 → slice_index result k ≡ min (slice_index a k) (slice_index b k) }
 {
     a.simd_min(b)
 }
 
 #[inline(always)]
-fn shift_by_17(v: u32x8) -> u32x8
-    ensures { (k : ℕ) → k < 8 → slice_index result k ≡ slice_index v k / 2 ^ 17 }
+fn shift_by_8(v: u16x64) -> u16x64
+    ensures { (k : ℕ) → k < 64 → slice_index result k ≡ slice_index v k / 2 ^ 8 }
 {
-    v >> u32x8::splat(17)
+    v >> u16x64::splat(8)
 }
 
 #[inline(always)]
-fn sums_of_squares(x: u32x8, y: u32x8, z: u32x8) -> u32x8
-    requires x_small { (k : ℕ) → k < 8 → slice_index x k < 2 ^ 15 }
-    requires y_small { (k : ℕ) → k < 8 → slice_index y k < 2 ^ 15 }
-    requires z_small { (k : ℕ) → k < 8 → slice_index z k < 2 ^ 15 }
-    ensures { (k : ℕ) → k < 8 → slice_index result k ≡
+fn sums_of_squares(x: u16x64, y: u16x64, z: u16x64) -> u16x64
+    requires x_small { (k : ℕ) → k < 64 → slice_index x k ≤ 2 ^ 7 }
+    requires y_small { (k : ℕ) → k < 64 → slice_index y k ≤ 2 ^ 7 }
+    requires z_small { (k : ℕ) → k < 64 → slice_index z k ≤ 2 ^ 7 }
+    ensures { (k : ℕ) → k < 64 → slice_index result k ≡
         slice_index x k * slice_index x k + slice_index y k * slice_index y k + slice_index z k * slice_index z k }
 {
     x * x + y * y + z * z
@@ -110,37 +111,16 @@ fn sums_of_squares(x: u32x8, y: u32x8, z: u32x8) -> u32x8
 
 /// Bit k tells whether lane k is below `reach`.
 #[inline(always)]
-fn below(v: u32x8, reach: u32) -> u64
-    ensures { (k : ℕ) → k < 8 → bit_at result k ≡ 0 → reach ≤ slice_index v k }
+fn below(v: u16x64, reach: u16) -> u64
+    ensures { (k : ℕ) → k < 64 → bit_at result k ≡ 0 → reach ≤ slice_index v k }
 {
-    v.simd_lt(u32x8::splat(reach)).to_bitmask()
+    v.simd_lt(u16x64::splat(reach)).to_bitmask()
 }
 
-/// Whether bit `k` of the mask is set.
-#[inline(always)]
-pub(crate) fn is_set(mask: u64, k: usize) -> bool
-    requires { k < 64 }
-    ensures { result ≡ false → bit_at mask k ≡ 0 }
-{
-    (mask >> k) % 2 == 1
-}
-
-/// A squared distance, in units of 2^34, from which on no pair interacts: the least there is.
-pub(crate) fn coarse_reach(scale: &Scale) -> u32
+/// A squared distance, in units of 2^48, from three less than which on no pair interacts. The three are what coarse
+/// coordinates may add to a sum of squares.
+pub(crate) fn coarse_reach(scale: &Scale) -> u16
     ensures { IsReach scale.now result }
 {
-    let mut near = 0u32;
-    let mut far = 1 << 30;
-    while near + 1 < far {
-        let middle = (near + far) / 2;
-        if scale
-            .bin_within_reach(u64::from(middle) * (1 << 34))
-            .is_some()
-        {
-            near = middle;
-        } else {
-            far = middle;
-        }
-    }
-    far
+    (scale.reach().div_ceil(1 << 48) + 3) as u16
 }

@@ -8,7 +8,7 @@ ghost use Rattle.lj_tile.specs.Near.{HasColumns, IsReach};
 ghost use Rattle.lj_tile.specs.Tasks.{task_force, task_energy, are_in_order, push_of, force_below};
 
 use crate::blocks::BLOCK;
-use crate::near::{Columns, LANES, coarse_reach, is_set};
+use crate::near::{Columns, coarse_reach};
 use crate::pairs::{Push, pair_push};
 use crate::tasks::Task;
 use lj_ring::{Place, Scale, dist2};
@@ -27,48 +27,37 @@ pub(crate) fn force_sums(task: &Task, table: &Table) -> [Push; BLOCK]
     sums
 }
 
-/// The sum of the pushes on place `t` of the first block. It looks closely only at those eighths of the second block that
+/// The sum of the pushes on place `t` of the first block. It looks closely only at those places of the second block that
 /// may interact with it.
 #[inline]
-fn push_on(t: usize, task: &Task, columns: &Columns, reach: u32, table: &Table) -> Push
+fn push_on(t: usize, task: &Task, columns: &Columns, reach: u16, table: &Table) -> Push
     requires within { t < length task.now.a }
     requires columns { HasColumns columns.now task.now.b }
     requires reach { IsReach task.now.units reach }
     ensures { result ≡ task_force task.now t }
 {
-    let here = task.first()[t];
-    let mut sum = Push::NONE;
-    for eighth in 0..BLOCK / LANES {
-        let near = columns.near_eight(LANES * eighth, &here, reach);
-        if near != 0 {
-            sum = with_pushes_of(near, LANES * eighth, sum, t, task, table);
-        }
-    }
-    sum
+    let near = columns.near(&task.first()[t], reach);
+    pushes_of(near, t, task, table)
 }
 
-/// `before` with the pushes on place `t` of the first block of the eight places from `from` on of the second. Only those
-/// whose bit in `near` is set are looked at.
+/// The sum of the pushes on place `t` of the first block. Only those places of the second block are looked at whose bit in
+/// `near` is set.
 #[inline]
-fn with_pushes_of(
-    near: u64,
-    from: usize,
-    before: Push,
-    t: usize,
-    task: &Task,
-    table: &Table,
-) -> Push
+fn pushes_of(near: u64, t: usize, task: &Task, table: &Table) -> Push
     requires first { t < length task.now.a }
-    requires few { from ≤ 64 }
-    requires near { (k : ℕ) → k < 8 → from + k < length task.now.b → bit_at near k ≡ 0 → push_of task.now t (from + k) ≡ no_push }
-    requires before { before ≡ force_below task.now t (min from (length task.now.b)) }
-    ensures { result ≡ force_below task.now t (min (from + 8) (length task.now.b)) }
+    requires most { length task.now.b ≤ 64 }
+    requires near { (s : ℕ) → s < length task.now.b → bit_at near s ≡ 0 → push_of task.now t s ≡ no_push }
+    ensures { result ≡ task_force task.now t }
 {
-    let mut sum = before;
-    for k in 0..LANES {
-        if is_set(near, k) {
-            sum = with_push_of(from + k, sum, t, task, table);
-        }
+    let mut sum = Push::NONE;
+    let mut rest = near;
+    let mut s = 0;
+    while rest != 0 {
+        let skipped = rest.trailing_zeros();
+        s += skipped as usize;
+        sum = with_push_of(s, sum, t, task, table);
+        rest = rest >> skipped >> 1;
+        s += 1;
     }
     sum
 }

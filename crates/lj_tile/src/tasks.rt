@@ -92,10 +92,17 @@ impl Task {
     pub fn is(&self, other: &Task) -> bool
         ensures { IsTrue result ↔ (self.now ≡ other.now) }
     {
-        self.name.is(&other.name)
-            && is_same_scale(&self.scale, &other.scale)
-            && self.first.is(&other.first)
-            && self.second.is(&other.second)
+        self.is_of(&other.name, &other.scale, other.first(), other.second())
+    }
+
+    /// Whether this is the task of this name and scale over these places. It copies no places.
+    pub fn is_of(&self, name: &TaskName, scale: &Scale, a: &[Place], b: &[Place]) -> bool
+        ensures { IsTrue result ↔ (self.now ≡ record { name = name.now; units = scale.now; a = a.now; b = b.now }) }
+    {
+        self.name.is(name)
+            && is_same_scale(&self.scale, scale)
+            && self.first.has(a)
+            && self.second.has(b)
     }
 }
 

@@ -1,4 +1,4 @@
-use Rattle.std.proofs.Common.{rules, subst, ℤ, to_z, of_z, w32}
+use Rattle.std.proofs.Common.{rules, subst, ℤ}
 use Rattle.std.proofs.lemmas.Int.{to_z-of_z}
 use Rattle.lj_ring.specs.Ring.{IsLeastImage}
 use Rattle.lj_ring.proofs.RingLemmas.{image-least}

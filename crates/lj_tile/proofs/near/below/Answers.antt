@@ -1,4 +1,4 @@
-use Rattle.std.proofs.Common.{◌≡◌, ◌<◌, length, map, ltb, sym, ap, ◌∙◌, w32, arith}
+use Rattle.std.proofs.Common.{◌≡◌, ◌<◌, length, map, ltb, sym, ap, ◌∙◌, w16, arith}
 use Rattle.std.specs.Int.{bit_at}
 use Rattle.std.proofs.lemmas.Simd.{bitmask_splat}
 use Rattle.lj_tile.proofs.NearLemmas.{not_below}
@@ -7,4 +7,4 @@ use Rattle.lj_tile.proofs.near.below.Goals as goal
 pub returns : goal.returns
 returns c k l none =
     not_below c.args.v c.args.reach k (omega (arith, c.fits-v.0))
-    (ap (λ m. bit_at m k) (sym (bitmask_splat w32 ltb c.args.v 8 c.args.reach c.fits-v.0 (omega arith))) ∙ none)
+    (ap (λ m. bit_at m k) (sym (bitmask_splat w16 ltb c.args.v 64 c.args.reach c.fits-v.0 (omega arith))) ∙ none)

@@ -1,13 +1,19 @@
-use Rattle.std.proofs.Common.{◌≡◌, ◌+◌, ◌<◌, ℕ, slice_index, refl}
-use Rattle.lj_tile.proofs.NearLemmas.{coarse, coarse_least, coarse_small}
+use Rattle.std.proofs.Common.{◌≡◌, ◌≤◌, ◌<◌, ◌+◌, ◌*◌, ◌/◌, ◌^◌, ℕ, slice_index, unsigned_abs, refl, sym, ◌∙◌, arith}
+use Rattle.std.proofs.lemmas.Simd.{Each1-get_or}
+use Rattle.lj_ring.specs.Ring.{image}
+use Rattle.lj_tile.proofs.NearLemmas.{coarse_size, coarse_least, coarse_small}
 use Rattle.lj_tile.proofs.near.coarse_sizes.Goals as goal
 
-lane : (c : goal.After-shift_by_17) (k : ℕ) → k < 8 → slice_index c.shift_by_17.result k ≡ coarse (slice_index c.args.cells.now (c.args.from + k)) c.args.here
+lane : (c : goal.After-shift_by_8) (k : ℕ) → k < 64 → slice_index c.shift_by_8.result k ≡ coarse_size (slice_index c.args.there k) (c.args.here / 2 ^ 16)
 lane c k l =
-    rw (c.shift_by_17.ensures k l, c.lesser.ensures k l, c.differences.ensures k l, c.differences-2.ensures k l, c.load-there.ensures k l, c.splat-here.ensures k l) refl
+    rw (c.shift_by_8.ensures k l, c.lesser.ensures k l, c.differences.ensures k l, c.differences-2.ensures k l, c.splat-here.ensures k l, c.coarse.ensures) refl
+
+small : (c : goal.After-shift_by_8) (k : ℕ) → k < 64 → slice_index c.args.there k < 2 ^ 16
+small c k l = (Each1-get_or _ c.args.there k 0 (omega (arith, c.fits-there.0)) c.fits-there.1).fits
 
 pub returns : goal.returns
 returns c = record {
-  least = λ k l. rw (lane c k l) (coarse_least c.args.here (slice_index c.args.cells.now (c.args.from + k)) c.ranges.here.fits (c.type_inv.cells (c.args.from + k)).fits);
-  small = λ k l. rw (lane c k l) (coarse_small c.args.here (slice_index c.args.cells.now (c.args.from + k)));
+  least = λ k d l same.
+      rw (lane c k l, same) (coarse_least c.args.here d c.ranges.here.fits (omega (arith, small c k l)));
+  small = λ k l. rw (lane c k l) (coarse_small (c.args.here / 2 ^ 16) (slice_index c.args.there k) (omega (arith, c.ranges.here.fits)) (small c k l));
 }
