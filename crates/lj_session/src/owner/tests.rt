@@ -1,4 +1,4 @@
-ghost use Rattle.std.specs.Prelude.{◌≡◌, None};
+ghost use Rattle.std.specs.Prelude.{◌≡◌, None, IfOk};
 
 use super::*;
 use crate::body::Body;
@@ -428,11 +428,11 @@ fn a_quota_of_one_session(rt: HostRuntime) -> Result<(), Fail> {
 }
 
 /// So many atoms in a row along x, 1.5 apart, which stand so many tenths from the origin.
-fn chain(rt: &impl AllocGlobal, atoms: usize, tenths: usize) -> Result<String, Fail> {
+fn chain(rt: &impl AllocGlobal, atoms: usize, tenths: u8) -> Result<String, Fail> {
     let mut text = String::new(rt.alloc());
     writeln!(text, "{atoms}\nchain")?;
     for i in 0..atoms {
-        let place = 15 * (i % 100) + tenths;
+        let place = 15 * (i % 100) + usize::from(tenths);
         writeln!(text, "X {}.{} 0 0", place / 10, place % 10)?;
     }
     Ok(text)
@@ -453,7 +453,9 @@ fn post_all(owner: &mut Owner, rt: &impl AllocGlobal) -> Result<Vec<Done>, Alloc
 }
 
 /// A result is to be handed back.
-fn hands_back(owner: &mut Owner, done: &Done, rt: &impl Abort) {
+fn hands_back(owner: &mut Owner, done: &Done, rt: &impl Abort)
+    ensures { owner.new.rest ≡ owner.old.rest }
+{
     let stray = owner.accept(done.copy()).err().expect(rt, "a stray");
     assert!(rt; stray.done.task().is(done.task()));
 }
@@ -511,49 +513,67 @@ fn results_in_reverse_order_and_doubled(rt: HostRuntime) -> Result<(), Fail> {
     Ok(())
 }
 
-/// LOADs a chain as c in place of the session that is there, and begins a step of it.
-fn load_again(owner: &mut Owner, tenths: usize, rt: &(impl Abort + AllocGlobal)) -> Result<(), Fail>
-    requires { owner.old.rest ≡ None }
+/// An owner of one session, a chain of 65 atoms.
+fn chain_owner(rt: &(impl Abort + AllocGlobal), tenths: u8) -> Result<Owner, Fail>
+    ensures { IfOk result (λ owner. owner.rest ≡ None) }
 {
-    drops(owner, "c", rt);
+    let mut owner = owner(rt, 1, 65, 0);
+    load_chain(&mut owner, rt, tenths)?;
+    Ok(owner)
+}
+
+fn load_chain(owner: &mut Owner, rt: &(impl Abort + AllocGlobal), tenths: u8) -> Result<(), Fail>
+    requires { owner.old.rest ≡ None }
+    ensures { owner.new.rest ≡ None }
+{
     let body = chain(rt, 65, tenths)?;
     let load = load_at_rest(rt, "c", body.as_str())?;
     loads(owner, load, "c", 65, rt);
-    begin_advance(owner, 1, rt);
+    Ok(())
+}
+
+/// The results of the first step of a chain, whose session is gone.
+fn stale_results(rt: &(impl Abort + AllocGlobal)) -> Result<Vec<Done>, Fail> {
+    let mut owner = chain_owner(rt, 0)?;
+    begin_advance(&mut owner, 1, rt);
+    let results = post_all(&mut owner, rt)?;
+    assert_eq!(rt; results.len(), 4);
+    owner.abandon();
+    Ok(results)
+}
+
+#[test]
+fn stale_results_of_other_blocks_are_handed_back(rt: HostRuntime) -> Result<(), Fail> {
+    let stale = stale_results(&rt)?;
+    assert_eq!(rt; stale.len(), 4);
+    let mut owner = chain_owner(&rt, 0)?;
+    hands_back(&mut owner, &stale[0], &rt);
+    drops(&mut owner, "c", &rt);
+    load_chain(&mut owner, &rt, 1)?;
+    begin_advance(&mut owner, 1, &rt);
+    for done in &stale {
+        hands_back(&mut owner, done, &rt);
+    }
+    assert!(rt; owner.next_task().is_some());
     Ok(())
 }
 
 #[test]
-fn stale_results_after_a_session_is_loaded_again(rt: HostRuntime) -> Result<(), Fail> {
-    let body = chain(&rt, 65, 0)?;
-    let mut first = owner(&rt, 1, 65, 0);
-    let load = load_at_rest(&rt, "c", body.as_str())?;
-    loads(&mut first, load, "c", 65, &rt);
-    begin_advance(&mut first, 1, &rt);
-    let stale = post_all(&mut first, &rt)?;
-    assert_eq!(rt; stale.len(), 4);
-    first.abandon();
-    let mut again = owner(&rt, 1, 65, 0);
-    let load = load_at_rest(&rt, "c", body.as_str())?;
-    loads(&mut again, load, "c", 65, &rt);
-    hands_back(&mut again, &stale[0], &rt);
-    load_again(&mut again, 1, &rt)?;
+fn stale_results_of_equal_blocks_are_right(rt: HostRuntime) -> Result<(), Fail> {
+    let stale = stale_results(&rt)?;
+    let mut owner = chain_owner(&rt, 0)?;
+    drops(&mut owner, "c", &rt);
+    load_chain(&mut owner, &rt, 0)?;
+    begin_advance(&mut owner, 1, &rt);
     for done in &stale {
-        hands_back(&mut again, done, &rt);
-    }
-    finish(&mut again, &rt);
-    load_again(&mut again, 0, &rt)?;
-    for done in &stale {
-        let taken = again.accept(done.copy()).is_ok();
+        let taken = owner.accept(done.copy()).is_ok();
         assert!(rt; taken);
     }
-    assert!(rt; again.next_task().is_none());
-    finish(&mut again, &rt);
-    let mut alone = owner(&rt, 1, 65, 0);
-    let load = load_at_rest(&rt, "c", body.as_str())?;
-    loads(&mut alone, load, "c", 65, &rt);
+    assert!(rt; owner.next_task().is_none());
+    finish(&mut owner, &rt);
+    let mut alone = chain_owner(&rt, 0)?;
     advances(&mut alone, "c", 1, 1, &rt);
-    stand_alike(&alone, &again, &rt);
+    stand_alike(&alone, &owner, &rt);
     Ok(())
 }
 
