@@ -345,13 +345,7 @@ fn accept_in_order(sim: &mut Sim, results: &[Done], order: u64, rt: &impl Abort)
 }
 
 /// Takes in the nine results of the open step from the `first` on, each time that many on, round from the last to the first.
-fn accept_by_strides(
-    sim: &mut Sim,
-    results: &[Done],
-    first: usize,
-    stride: usize,
-    rt: &impl Abort,
-)
+fn accept_by_strides(sim: &mut Sim, results: &[Done], first: usize, stride: usize, rt: &impl Abort)
     requires first { first < 9 }
     requires stride { stride < 9 }
 {

@@ -114,12 +114,12 @@ serving-start old input = record {
   written = [];
   appends = Appends-nil old;
   going = λ thin. record {
-      count = 0;
-      progress = Progress-start newcomer input;
-      items = thin.items;
-      rest = thin.rest;
-      splits = thin.splits;
-      served = thin.served;
+    count = 0;
+    progress = Progress-start newcomer input;
+    items = thin.items;
+    rest = thin.rest;
+    splits = thin.splits;
+    served = thin.served;
   };
 }
 

@@ -33,10 +33,10 @@ awaits_first : (kind : Kind) (count i : ℕ) (part : Option OpenStep) → Awaits
 awaits_first kind count i part h within =
     elim ((slice_get_cases (cover kind count) i).1) [
       | inl r ↦
-        ap (awaits_in count i) h.is_open
-        ∙ ap (λ o. option_map_or (λ k. slice_index_or h.flags k false) o false) r.2
-        ∙ ap (λ k. slice_index_or h.flags k false) (sym (get_or_from_slice_get (cover kind count) i r.0 0 r.2))
-        ∙ h.waiting i (omega arith) within
+          ap (awaits_in count i) h.is_open
+          ∙ ap (λ o. option_map_or (λ k. slice_index_or h.flags k false) o false) r.2
+          ∙ ap (λ k. slice_index_or h.flags k false) (sym (get_or_from_slice_get (cover kind count) i r.0 0 r.2))
+          ∙ h.waiting i (omega arith) within
       | inr r ↦ absurd (omega (arith, r.0, within))
     ]
 
@@ -80,9 +80,9 @@ module _ (owner : Owning) (t : IsTaking owner) where
       elim (cases_lt t.held.passed (length tiles)) [
         | inl inside ↦ absurd (let past = none_past live label t.kind t.held.passed (task_at live label t.held.passed) t.tiles refl (sym (task_there inside) ∙ none) in omega (arith, past, inside))
         | inr past ↦
-          ap (λ step. option_map_or (λ step. whole_of (held_in owner.state step.0)) step false) t.step
-          ∙ ap whole_of t.there
-          ∙ all_taken t.kind (length t.held.live.sim.cur) t.held.passed t.held.live.part t.tiles past
+            ap (λ step. option_map_or (λ step. whole_of (held_in owner.state step.0)) step false) t.step
+            ∙ ap whole_of t.there
+            ∙ all_taken t.kind (length t.held.live.sim.cur) t.held.passed t.held.live.part t.tiles past
       ]
 
   -- the next task
@@ -133,7 +133,6 @@ module _ (owner : Owning) (t : IsTaking owner) where
       there = taken_there;
       tiles = awaits_next live label t.kind t.held.passed (task_at live label t.held.passed) work t.tiles refl task_some;
     }
-
 
 -- how many tiles of the step are neither posted nor in
 left_of : Option Held → ℕ

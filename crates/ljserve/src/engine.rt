@@ -106,6 +106,7 @@ fn is_thin(command: &Command) -> bool
         Command::Load {
             mode: Mode::Rest,
             ..
-        } | Command::Advance { .. } | Command::Show { .. }
+        } | Command::Advance { .. }
+            | Command::Show { .. }
     )
 }

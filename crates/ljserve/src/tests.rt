@@ -281,7 +281,9 @@ fn keeps_the_quota_of_sessions(rt: HostRuntime) -> Result<(), Fail> {
     let mut input = String::new(alloc);
     let mut replies = String::new(alloc);
     for name in 1..=8 {
-        input.push_str(format!(in alloc; "LOAD s{name} 256 1 1 rest 12\n1\nc\nX 0 0 0\n")?.as_str())?;
+        input.push_str(format!(in alloc;
+            "LOAD s{name} 256 1 1 rest 12\n1\nc\nX 0 0 0\n"
+        )?.as_str())?;
         replies.push_str(format!(in alloc; "OK LOAD s{name} 0 1\n")?.as_str())?;
     }
     input.push_str("LOAD s9 256 1 1 rest 12\n1\nc\nX 0 0 0\nSHOW s9 0\nSHOW s8 0\n")?;

@@ -9,7 +9,7 @@ pub unwrap-requires : goal.unwrap-requires
 unwrap-requires c =
     let some = sym c.next_task.ensures ∙ c.in-Some.is ∙ ap Some (sym c.compute.ensures) in
     c.accept.ensures.accepted.1 (subst (λ owner. IsWanted owner c.compute.result) (sym c.posted.ensures.noted)
-        (wanted c.loop-task.owner c.loop-task.invariant.taking c.compute.result some))
+    (wanted c.loop-task.owner c.loop-task.invariant.taking c.compute.result some))
 
 pub loop-task-smaller : goal.loop-task-smaller
 loop-task-smaller c =
@@ -26,9 +26,9 @@ loop-task-preserved c =
     record {
       taking = subst IsTaking (sym now) (taken c.loop-task.owner c.loop-task.invariant.taking c.compute.result some);
       same = record {
-          rest = ap (λ owner. owner.rest) now ∙ c.loop-task.invariant.same.rest;
-          number = ap (λ owner. owner.number) now ∙ c.loop-task.invariant.same.number;
-          user = c.accept.ensures.unchanged ∙ c.posted.ensures.unchanged ∙ c.loop-task.invariant.same.user;
+        rest = ap (λ owner. owner.rest) now ∙ c.loop-task.invariant.same.rest;
+        number = ap (λ owner. owner.number) now ∙ c.loop-task.invariant.same.number;
+        user = c.accept.ensures.unchanged ∙ c.posted.ensures.unchanged ∙ c.loop-task.invariant.same.user;
       };
     }
 
