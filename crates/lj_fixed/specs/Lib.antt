@@ -1,4 +1,5 @@
 pub mod Decimal
+pub mod Numbers
 pub mod Millionths
 pub mod Reading
 pub mod StandsFor

@@ -1,5 +1,4 @@
 pub mod LineLaws
-pub mod NumberLaws
 pub mod ReaderLaws
 pub mod FrameLaws
 pub mod FrameStands

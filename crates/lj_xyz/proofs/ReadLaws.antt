@@ -8,7 +8,8 @@ use Rattle.lj_xyz.specs.declared.fault.XyzError.TheVariants as errors
 use Rattle.lj_xyz.specs.declared.row.Row.{Row}
 use Rattle.lj_xyz.specs.declared.reader.Position.{Position}
 use Rattle.lj_xyz.specs.declared.reader.Position.TheVariants.{First}
-use Rattle.lj_xyz.specs.Atoms.{is_count, count_if, number_of}
+use Rattle.lj_fixed.specs.Numbers.{number_of}
+use Rattle.lj_xyz.specs.Atoms.{is_count, count_if}
 use Rattle.lj_xyz.specs.Frames.{Mode, rest, pair, IsReading, IsFrame}
 use Rattle.lj_xyz.specs.Reading.{Gives, reading}
 use Rattle.lj_xyz.proofs.ReadingLaws.{reading_stands}

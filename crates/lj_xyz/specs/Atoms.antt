@@ -1,9 +1,8 @@
 -- What single lines of a frame say: the number of atoms, and one atom.
-use Rattle.std.specs.Prelude.{ℕ, Bool, ◌&&◌, nat_lt, nat_le, ℤ, List, ◌∷◌, length, Option, Some, None, Result, Ok, Err, if◌then◌else◌}
-use Rattle.std.specs.Str.{all_ascii_digits}
-use Rattle.std.specs.Str.Parse.{digits_value}
+use Rattle.std.specs.Prelude.{ℕ, Bool, ◌&&◌, nat_le, ℤ, List, ◌∷◌, Option, Some, None, Result, Ok, Err, if◌then◌else◌}
 use Rattle.lj_fixed.specs.declared.numbers.NumberFault.{NumberFault}
 use Rattle.lj_fixed.specs.Decimal.{nano_of}
+use Rattle.lj_fixed.specs.Numbers.{number_of}
 use Rattle.lj_xyz.specs.declared.fault.XyzKind.{XyzKind}
 use Rattle.lj_xyz.specs.declared.fault.XyzKind.TheVariants as kind
 use Rattle.lj_xyz.specs.declared.row.Row.{Row}
@@ -14,13 +13,6 @@ use Rattle.lj_xyz.specs.Symbols.{is_symbol}
 -- a number of atoms that a frame may have
 abbrev pub is_count : ℕ → Bool
 is_count n = nat_le 1 n && nat_le n 4096
-
--- the number that a word of 1 to 19 digits is
-unfoldable pub number_of : List ℕ → Option ℕ
-number_of word =
-    if nat_lt 0 (length word) && nat_le (length word) 19 && all_ascii_digits word
-    then Some (digits_value 10 word)
-    else None
 
 -- a number, if a frame may have so many atoms
 abbrev pub count_if : Option ℕ → Option ℕ

@@ -2,13 +2,14 @@
 use Rattle.std.specs.Prelude.{◌≡◌, ℕ, List, [], ◌∷◌, ℤ, pos, negsuc, Result, Ok, Err, codes, refl}
 use Rattle.std.specs.Fmt.{digits}
 use Rattle.lj_fixed.specs.Decimal.{nano_of, decimal_of}
+use Rattle.lj_fixed.specs.Numbers.{number_of}
 use Rattle.lj_fixed.specs.Millionths.{millionths}
 use Rattle.lj_xyz.specs.declared.fault.XyzKind.{XyzKind}
 use Rattle.lj_xyz.specs.declared.fault.XyzKind.TheVariants as kind
 use Rattle.lj_xyz.specs.declared.fault.XyzFault.{XyzFault}
 use Rattle.lj_xyz.specs.declared.row.Row.{Row}
 use Rattle.lj_xyz.specs.Lines.{lines_of, words_of}
-use Rattle.lj_xyz.specs.Atoms.{number_of, row_of, row_of_four}
+use Rattle.lj_xyz.specs.Atoms.{row_of, row_of_four}
 use Rattle.lj_xyz.specs.Frames.{Mode, rest, pair}
 use Rattle.lj_xyz.specs.Reading.{head_in, behind_comment, next_row, rows_in, frame_in, reading}
 use Rattle.lj_xyz.specs.Texts.{count_text, comment_text, atom_text}

@@ -1,7 +1,7 @@
 ghost use Rattle.std.specs.Prelude.{◌≡◌, ◌≤◌, [], ◌∷◌, length, Ok, Err, IfOk, IsTrue};
 ghost use Rattle.lj_xyz.specs.declared.fault.XyzFault.{XyzFault};
 ghost use Rattle.lj_xyz.specs.Lines.{lines_of};
-ghost use Rattle.lj_xyz.specs.Atoms.{is_count, number_of, count_of, row_of, row_of_four};
+ghost use Rattle.lj_xyz.specs.Atoms.{is_count, count_of, row_of, row_of_four};
 ghost use Rattle.lj_xyz.specs.Frames.{IsReading, admits, missing, rest, pair};
 ghost use Rattle.lj_xyz.specs.Reading.{Gives, Tells, admitted, head_in, behind_comment, next_row, rows_in, frame_in, reading};
 ghost use Rattle.lj_xyz.specs.Cursor.{left_of};
@@ -10,14 +10,11 @@ use crate::fault::{XyzError, XyzFault, XyzKind};
 use crate::lines::{Lines, split_word};
 use crate::row::{FramePair, Row, Rows};
 use crate::symbol::Symbol;
-use lj_fixed::parse_nano;
+use lj_fixed::{parse_nano, parse_number};
 use std::alloc::Global;
 
 /// The most atoms that a frame may have.
 const MAX_ATOMS: u64 = 4096;
-
-/// The most digits of a count.
-const MAX_DIGITS: usize = 19;
 
 /// Which frame is read: the first, or the second, which has as many atoms as the first.
 #[derive(Clone, Copy)]
@@ -46,28 +43,10 @@ impl Position {
     }
 }
 
-// The number of 1 to 19 digits, if it is one.
-#[tactic(auto, unfolding(crate::specs::Atoms::number_of))]
-fn number_of(word: &[u8]) -> Option<u64>
-    ensures { result ≡ number_of word.now }
-{
-    if word.is_empty() || word.len() > MAX_DIGITS {
-        return None;
-    }
-    let mut number = 0;
-    for byte in word {
-        if !byte.is_ascii_digit() {
-            return None;
-        }
-        number = number * 10 + u64::from(*byte - b'0');
-    }
-    Some(number)
-}
-
 fn count_of(word: &[u8]) -> Option<usize>
     ensures { result ≡ count_of word.now }
 {
-    let number = number_of(word)?;
+    let number = parse_number(word)?;
     if number == 0 || number > MAX_ATOMS {
         return None;
     }
