@@ -11,7 +11,7 @@ mod writer;
 
 pub use fault::{XyzError, XyzFault, XyzKind};
 pub use laws::one_reading;
-pub use lines::split_word;
+pub use lines::{split_word, without_return};
 pub use reader::{read_pair, read_rest};
 pub use row::{FramePair, Row, Rows};
 pub use symbol::Symbol;

@@ -1,3 +1,4 @@
+//! The lines of a text, and the words of a line.
 ghost use Rattle.std.specs.Prelude.{◌≡◌, ◌+◌, ◌-◌, ◌≤◌, ◌<◌, ◌^◌, [], ◌∷◌, length, not, MatchOption};
 ghost use Rattle.std.specs.List.{position_or_len};
 ghost use Rattle.std.specs.Str.Lines.{strip_carriage_return};
@@ -56,7 +57,8 @@ fn split_line(text: &[u8]) -> Option<(&[u8], &[u8])>
     }
 }
 
-fn without_return(line: &[u8]) -> &[u8]
+/// A line without the carriage return at its end, if one stands there.
+pub fn without_return(line: &[u8]) -> &[u8]
     ensures { result.now ≡ strip_carriage_return line.now }
 {
     match line {
