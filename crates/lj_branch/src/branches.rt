@@ -52,7 +52,7 @@ impl Branches {
         if self.saved.contains_key(&name) {
             return Err(SaveFault::Exists);
         }
-        let copy = sim.snapshot(*self.saved.allocator())?;
+        let copy = sim.snapshot()?;
         self.saved.insert(name, copy)?;
         Ok(())
     }

@@ -140,9 +140,10 @@ impl Sim {
     }
 
     /// A copy of both frames, the step number and the direction.
-    pub fn snapshot(&self, alloc: Global) -> Result<Snapshot, AllocError>
+    pub fn snapshot(&self) -> Result<Snapshot, AllocError>
         ensures { IfOk result (λ s. s ≡ self.now.sim) }
     {
+        let alloc = *self.cur.allocator();
         Ok(Snapshot {
             prev: Vec::from_slice(alloc, self.prev.as_slice())?,
             cur: Vec::from_slice(alloc, self.cur.as_slice())?,

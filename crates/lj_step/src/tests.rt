@@ -128,7 +128,7 @@ fn two_atoms_measured_and_walked_back(rt: HostRuntime) -> Result<(), Fail> {
 fn a_tug_shows_in_the_next_step_and_a_snapshot_takes_it_back(rt: HostRuntime) -> Result<(), Fail> {
     let mut sim = at_rest(&[ORIGIN, along_x(APART)], &rt)?;
     step(&mut sim, 1, &rt);
-    let saved = sim.snapshot(rt.alloc())?;
+    let saved = sim.snapshot()?;
     assert_eq!(rt; saved.step(), 1);
     assert!(rt; 0 < sim.count());
     sim.tug(0, Displacement { x: 5, y: 0, z: 0 });
@@ -374,7 +374,7 @@ fn nine_force_tiles_in_many_orders(rt: HostRuntime) -> Result<(), Fail> {
     let mut next = at_rest(&lattice(), &rt)?;
     step(&mut next, 9, &rt);
     let mut sim = at_rest(&lattice(), &rt)?;
-    let start = sim.snapshot(rt.alloc())?;
+    let start = sim.snapshot()?;
     sim.open_step(Kind::Force);
     assert!(rt; sim.task(9, &label(&rt)).is_none());
     assert_eq!(rt; sim.tiles(), 9);
