@@ -1,1 +1,1 @@
-pub mod SavedLemmas
+pub mod NamedLemmas

@@ -3,7 +3,8 @@ ghost use Rattle.std.specs.List.{IsDistinct};
 ghost use Rattle.std.specs.Option.{ForSome};
 ghost use Rattle.std.specs.Str.{bytes_eq};
 ghost use Rattle.lj_step.specs.OpenSteps.{closed};
-ghost use Rattle.lj_branch.specs.Saved.{named, put, taken_out, names, step_numbers};
+ghost use Rattle.lj_branch.specs.Named.{named, put, taken_out};
+ghost use Rattle.lj_branch.specs.Saved.{names, step_numbers};
 ghost use Rattle.lj_branch.specs.declared.faults.SaveFault.TheVariants.{Exists};
 
 use crate::faults::{NoBranch, SaveFault};

@@ -1,5 +1,5 @@
 use Rattle.std.proofs.Common.{◌∙◌, sym}
-use Rattle.lj_branch.proofs.SavedLemmas.{put-new}
+use Rattle.lj_branch.proofs.NamedLemmas.{put-new}
 use Rattle.lj_branch.proofs.branches.Branches.save.Goals as goal
 
 pub returns-clause-last : goal.returns-clause-last
