@@ -1,7 +1,8 @@
 -- Names of sessions, and of tasks.
-use Rattle.std.specs.Prelude.{ℕ, Bool, ◌==◌, ◌&&◌, ◌||◌, nat_le, List, length, Option, Some, None, if◌then◌else◌}
+use Rattle.std.specs.Prelude.{ℕ, ◌≡◌, Bool, true, ◌==◌, ◌&&◌, ◌||◌, nat_le, List, length, Option, Some, None, if◌then◌else◌}
 use Rattle.std.specs.List.{list_all}
 use Rattle.std.specs.Char.{is_ascii_alphanumeric}
+use Rattle.lj_tile.specs.declared.names.TheConstants.{MAX_NAME_BYTES}
 
 -- a letter, a digit, `_` or `-`
 abbrev pub is_name_byte : ℕ → Bool
@@ -9,7 +10,11 @@ is_name_byte byte = is_ascii_alphanumeric byte || byte == 95 || byte == 45
 
 -- 1 to 16 such bytes
 abbrev pub is_name : List ℕ → Bool
-is_name word = nat_le 1 (length word) && nat_le (length word) 16 && list_all is_name_byte word
+is_name word = nat_le 1 (length word) && nat_le (length word) MAX_NAME_BYTES && list_all is_name_byte word
+
+-- these bytes are a name
+abbrev pub IsName : List ℕ → Type 0
+IsName word = is_name word ≡ true
 
 -- the name that a word is
 unfoldable pub name_of : List ℕ → Option (List ℕ)

@@ -10,7 +10,7 @@ mod sums;
 mod tasks;
 
 pub use blocks::{BLOCK, Block};
-pub use names::{Kind, Label, Name, TaskName};
+pub use names::{Kind, Label, MAX_NAME_BYTES, Name, TaskName};
 pub use pairs::{Push, pair_push};
 pub use results::{Done, compute};
 pub use tasks::Task;

@@ -1,11 +1,11 @@
 //! Names: of sessions, and of tasks.
-ghost use Rattle.std.specs.Prelude.{◌≡◌, ◌↔◌, IsTrue, nat_eq, Some};
+ghost use Rattle.std.specs.Prelude.{◌≡◌, ◌≤◌, ◌↔◌, length, IsTrue, nat_eq, Some};
 ghost use Rattle.std.specs.List.{list_all};
 ghost use Rattle.std.specs.Cmp.{partial_equiv_from_equiv};
 ghost use Rattle.std.specs.Cmp.Lexicographic.{pointwise, nat_list_eq_equiv, bytes_decides};
 ghost use Rattle.std.specs.Hash as fed;
 ghost use Rattle.std.specs.Hash.{same_Alike};
-ghost use Rattle.lj_tile.specs.Names.{is_name_byte, is_name, name_of};
+ghost use Rattle.lj_tile.specs.Names.{is_name_byte, is_name, IsName, name_of};
 
 use arrayvec::ArrayString;
 use std::hash::{Hash, Hasher};
@@ -13,20 +13,23 @@ use std::marker::Model;
 use std::{fmt, str};
 
 /// The most bytes of a name.
-const MOST_BYTES: usize = 16;
+pub const MAX_NAME_BYTES: usize = 16;
 
 /// A name of a session: 1 to 16 letters, digits, `_` and `-`.
 #[derive(Debug, Drop)]
 pub struct Name {
-    text: ArrayString<MOST_BYTES>,
+    text: ArrayString<MAX_NAME_BYTES>,
 }
 
 impl Model for Name {
     ghost use Rattle.std.specs.Prelude.{List, ℕ};
+    ghost use Rattle.lj_tile.specs.Names.{IsName};
 
     ghost Value = { List ℕ };
 
     ghost view = { λ name. name.text.bytes };
+
+    ghost invariant = { λ name. IsName name.text.bytes };
 }
 
 impl Name {
@@ -42,6 +45,26 @@ impl Name {
         Some(Name { text })
     }
 
+    /// Its bytes.
+    pub fn as_bytes(&self) -> &[u8]
+        ensures value { result.now ≡ self.now }
+        ensures name { IsName result.now }
+        ensures some { 1 ≤ length result.now }
+        ensures most { length result.now ≤ MAX_NAME_BYTES }
+    {
+        self.as_str().as_bytes()
+    }
+
+    /// Its text.
+    pub fn as_str(&self) -> &str
+        ensures value { result.now ≡ self.now }
+        ensures name { IsName result.now }
+        ensures some { 1 ≤ length result.now }
+        ensures most { length result.now ≤ MAX_NAME_BYTES }
+    {
+        self.text.as_str()
+    }
+
     /// The same name once more.
     pub fn copy(&self) -> Name
         ensures { result ≡ self.now }
@@ -53,7 +76,7 @@ impl Name {
 fn is_name(word: &[u8]) -> bool
     ensures { result ≡ is_name word.now }
 {
-    1 <= word.len() && word.len() <= MOST_BYTES && all_name_bytes(word)
+    1 <= word.len() && word.len() <= MAX_NAME_BYTES && all_name_bytes(word)
 }
 
 fn all_name_bytes(word: &[u8]) -> bool

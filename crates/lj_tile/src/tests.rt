@@ -129,6 +129,8 @@ fn a_result_carries_its_task(rt: HostRuntime) {
 fn names(rt: HostRuntime) {
     let name = Name::parse(b"dimer_1").expect(&rt, "a name");
     assert!(rt; name == name.copy());
+    assert_eq!(rt; name.as_str(), "dimer_1");
+    assert_eq!(rt; name.as_bytes(), b"dimer_1".as_slice());
     for word in [&b""[..], b"a b", b"seventeen_letters"] {
         assert!(rt; Name::parse(word).is_none());
     }
