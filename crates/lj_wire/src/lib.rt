@@ -18,6 +18,3 @@ pub use laws::{
 pub use line::split_line;
 pub use number::{parse_displacement, parse_number};
 pub use words::Words;
-
-#[cfg(test)]
-mod tests;
