@@ -39,7 +39,5 @@ fn with_body(alloc: Global, item: Item, bytes: &[u8]) -> Item
 fn copy_body(alloc: Global, bytes: &[u8]) -> Result<Body, AllocError>
     ensures { IfOk result (λ body. body ≡ bytes.now) }
 {
-    let mut copy = Vec::with_capacity(alloc, bytes.len())?;
-    copy.extend_from_slice(bytes)?;
-    Ok(Body::new(copy))
+    Ok(Body::new(Vec::from_slice(alloc, bytes)?))
 }
