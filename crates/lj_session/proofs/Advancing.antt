@@ -142,7 +142,7 @@ pub command_keeps : (user : User) (command : Command) (mark : Bool) → 1 < turn
 unfolding turns turned rest_of
 command_keeps user (Advance name n) mark h = advance_keeps user name n mark (named name user.sessions) refl h
 command_keeps user (Measure name) mark h = refl
-command_keeps user (Load name edge sigma step_factor mode body) mark h = refl
+command_keeps user (Load load) mark h = refl
 command_keeps user (Reverse name) mark h = refl
 command_keeps user (Branch name branch) mark h = refl
 command_keeps user (Restore name branch) mark h = refl
@@ -160,7 +160,7 @@ pub command_lowers : (user : User) (command : Command) → 1 < turns user comman
 unfolding turns turned rest_of
 command_lowers user (Advance name n) h = advance_lowers user name n (named name user.sessions) refl h
 command_lowers user (Measure name) h = absurd (measure_once (named name user.sessions) h)
-command_lowers user (Load name edge sigma step_factor mode body) h = absurd (omega (arith, h))
+command_lowers user (Load load) h = absurd (omega (arith, h))
 command_lowers user (Reverse name) h = absurd (omega (arith, h))
 command_lowers user (Branch name branch) h = absurd (omega (arith, h))
 command_lowers user (Restore name branch) h = absurd (omega (arith, h))

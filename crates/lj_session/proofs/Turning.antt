@@ -46,7 +46,7 @@ near-nothing session most =
 -- every other command takes no turn
 pub no-turns : (user : User) (command : Command) → ((name : List ℕ) (n : ℕ) → command ≡ Advance name n → ⊥) → ((name : List ℕ) → command ≡ Measure name → ⊥) → 0 ≡ turns user command
 unfolding turns
-no-turns user (Load name edge sigma step_factor mode body) a m = refl
+no-turns user (Load load) a m = refl
 no-turns user (Advance name n) a m = absurd (a name n refl)
 no-turns user (Reverse name) a m = refl
 no-turns user (Branch name branch) a m = refl

@@ -39,11 +39,11 @@ can_advance session n =
 
 -- what a command does: its reply and the next user, or its first refusal
 unfoldable pub performed : User → Command → Bool → Result (Reply × User) Refusal
-performed user (Load name edge sigma step_factor mode body) mark = do
-  units ← admitted user name edge sigma step_factor
-  bytes ← body_held body mark
-  session ← session_read user units mode bytes
-  Ok (reply.Loaded name (atoms_of session), with_session name session user)
+performed user (Load load) mark = do
+  units ← admitted user load
+  bytes ← body_held load.body mark
+  session ← session_read user units load.mode bytes
+  Ok (reply.Loaded load.name (atoms_of session), with_session load.name session user)
 performed user (Advance name n) mark = do
   session ← session_of user name
   near ← unless (can_advance session n) StepRange

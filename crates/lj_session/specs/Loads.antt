@@ -1,5 +1,5 @@
 -- LOAD: what it is refused, and the session that it gives.
-use Rattle.std.specs.Prelude.{ℕ, ◌+◌, Bool, true, false, not, nat_le, nat_lt, is_some, ℤ, pos, List, [], ◌∷◌, map, Option, Some, None, Result, Ok, Err}
+use Rattle.std.specs.Prelude.{ℕ, ◌+◌, Bool, true, false, not, nat_le, nat_lt, is_some, ℤ, pos, List, [], ◌∷◌, map, Option, Result, Ok, Err}
 use Rattle.std.specs.Option.{unwrap_or}
 use Rattle.lj_ring.specs.declared.coordinates.Place.{Place}
 use Rattle.lj_ring.specs.declared.units.ScaleFault.{ScaleFault}
@@ -13,6 +13,9 @@ use Rattle.lj_xyz.specs.Atoms.{◌>>=◌}
 use Rattle.lj_xyz.specs.Lines.{lines_of}
 use Rattle.lj_xyz.specs.Frames as frames
 use Rattle.lj_xyz.specs.Reading.{reading}
+use Rattle.lj_session.specs.declared.body.LoadBody.{LoadBody}
+use Rattle.lj_session.specs.declared.body.LoadBody.TheVariants.{Unread, Lost, Read}
+use Rattle.lj_session.specs.declared.command.Load.{Load}
 use Rattle.lj_session.specs.declared.command.Mode.{Mode}
 use Rattle.lj_session.specs.declared.command.Mode.TheVariants.{Rest, Pair}
 use Rattle.lj_session.specs.declared.refusal.Refusal.{Refusal}
@@ -39,18 +42,23 @@ abbrev pub scale_or_refusal : Result Units ScaleFault → Result Units Refusal
 scale_or_refusal (Ok units) = Ok units
 scale_or_refusal (Err fault) = Err (scale_refusal fault)
 
--- the scale of a LOAD, or the first refusal that needs no body
-abbrev pub admitted : User → List ℕ → Option ℤ → Option ℤ → Option ℕ → Result Units Refusal
-admitted user name edge sigma step_factor = do
-  new ← unless (not (is_some (named name user.sessions))) Exists
-  room ← unless (nat_lt (sessions_used user) user.quota.sessions) QuotaSessions
-  scale_or_refusal (scale_of (nano_or_zero edge) (nano_or_zero sigma) (unwrap_or step_factor 0))
+-- the scale of a LOAD, or its first fault
+abbrev pub scale_of_load : Load → Result Units ScaleFault
+scale_of_load load = scale_of (nano_or_zero load.edge) (nano_or_zero load.sigma) (unwrap_or load.step_factor 0)
 
--- the body, where memory was found for the LOAD
-abbrev pub body_held : Option (List ℕ) → Bool → Result (List ℕ) Refusal
-body_held (Some body) false = Ok body
-body_held (Some body) true = Err Memory
-body_held None mark = Err Memory
+-- the scale of a LOAD, or the first refusal that needs no body
+abbrev pub admitted : User → Load → Result Units Refusal
+admitted user load = do
+  new ← unless (not (is_some (named load.name user.sessions))) Exists
+  room ← unless (nat_lt (sessions_used user) user.quota.sessions) QuotaSessions
+  scale_or_refusal (scale_of_load load)
+
+-- the body, where it was read and memory was found for the LOAD
+abbrev pub body_held : LoadBody → Bool → Result (List ℕ) Refusal
+body_held (Read body) false = Ok body
+body_held (Read body) true = Err Memory
+body_held Lost mark = Err Memory
+body_held Unread mark = Err Memory
 
 -- the places of atoms in a box
 abbrev pub place_in : ℕ → Row → Place

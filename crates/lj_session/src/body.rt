@@ -3,6 +3,16 @@ ghost use Rattle.std.specs.Prelude.{◌≡◌};
 
 use std::marker::Model;
 
+/// The body of a LOAD, as far as it is there.
+#[derive(Debug, Drop)]
+pub enum LoadBody {
+    /// It is not read yet.
+    Unread,
+    /// No memory was found for it.
+    Lost,
+    Read(Body),
+}
+
 /// The bytes that follow a LOAD line.
 #[derive(Debug, Drop)]
 pub struct Body {

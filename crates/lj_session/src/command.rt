@@ -1,6 +1,6 @@
 //! Commands of a user.
 
-use crate::body::Body;
+use crate::body::LoadBody;
 use lj_fixed::Nano;
 use lj_tile::Name;
 
@@ -13,21 +13,27 @@ pub enum Mode {
     Pair,
 }
 
+/// A LOAD. Each of its three numbers is `None` where its word is no such number.
+#[derive(Debug, Drop)]
+pub struct Load {
+    /// The name of the new session.
+    pub name: Name,
+    /// The edge of the box, in nano.
+    pub edge: Option<Nano>,
+    /// In nano.
+    pub sigma: Option<Nano>,
+    /// In units of 2^-32.
+    pub step_factor: Option<u64>,
+    pub mode: Mode,
+    pub body: LoadBody,
+}
+
 /// A command. `name` is that of a session, and `branch` that of a frame saved in it. Atoms are
 /// numbered from 0.
 #[derive(Debug, Drop)]
 pub enum Command {
-    /// Loads a session from a body. Each of the three numbers is `None` where its word is no such
-    /// number: the edge of the box and sigma in nano, and the step factor in units of 2^-32. The
-    /// body is `None` where no memory was found for it.
-    Load {
-        name: Name,
-        edge: Option<Nano>,
-        sigma: Option<Nano>,
-        step_factor: Option<u64>,
-        mode: Mode,
-        body: Option<Body>,
-    },
+    /// Loads a session from a body.
+    Load(Load),
     /// Goes on by a number of steps.
     Advance {
         name: Name,

@@ -13,8 +13,8 @@ mod session;
 mod sessions;
 mod state;
 
-pub use body::Body;
-pub use command::{Command, Mode};
+pub use body::{Body, LoadBody};
+pub use command::{Command, Load, Mode};
 pub use lj_tile::Name;
 pub use owner::{Begin, Owner};
 pub use refusal::Refusal;

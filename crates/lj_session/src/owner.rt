@@ -176,6 +176,3 @@ fn replied(outcome: Result<Reply, Refusal>) -> Reply
 {
     outcome.unwrap_or_else(Reply::Refused)
 }
-
-#[cfg(test)]
-mod tests;

@@ -113,17 +113,10 @@ impl Sessions {
         requires { turns (user_of self.old) command ≡ 0 }
         ensures performs { Performs self.old command result self.new }
         ensures quota { self.new.quota ≡ self.old.quota }
-        ensures stays { OnErr result (self.new ≡ self.old) }
+        ensures unchanged { OnErr result (self.new ≡ self.old) }
     {
         match command {
-            Command::Load {
-                name,
-                edge,
-                sigma,
-                step_factor,
-                mode,
-                body,
-            } => self.load(name, edge, sigma, step_factor, mode, body),
+            Command::Load(load) => self.load(load),
             Command::Advance { name, steps } => self.advance_at_once(name, steps),
             Command::Reverse { name } => self.reverse(name),
             Command::Branch { name, branch } => self.branch(name, branch),

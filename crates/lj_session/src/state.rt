@@ -137,7 +137,7 @@ impl UserState {
         requires { turns (user_of self.old) command ≡ 0 }
         ensures performs { Performs self.old command result self.new }
         ensures quota { self.new.quota ≡ self.old.quota }
-        ensures stays { OnErr result (self.new ≡ self.old) }
+        ensures unchanged { OnErr result (self.new ≡ self.old) }
     {
         self.sessions.perform(command)
     }

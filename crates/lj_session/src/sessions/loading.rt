@@ -1,13 +1,12 @@
 //! LOAD.
 ghost use Rattle.std.specs.Prelude.{◌≡◌, OnErr};
-ghost use Rattle.std.specs.Option.{unwrap_or};
-ghost use Rattle.lj_ring.specs.Scales as scales;
 ghost use Rattle.lj_session.specs.declared.command.Command.TheVariants as commands;
-ghost use Rattle.lj_session.specs.Loads.{admitted, nano_or_zero};
+ghost use Rattle.lj_session.specs.Loads as definition;
+ghost use Rattle.lj_session.specs.Loads.{admitted};
 ghost use Rattle.lj_session.specs.States.{Performs, user_of};
 
-use crate::body::Body;
-use crate::command::Mode;
+use crate::body::LoadBody;
+use crate::command::Load;
 use crate::opening::Opening;
 use crate::refusal::Refusal;
 use crate::reply::Reply;
@@ -16,25 +15,22 @@ use crate::sessions::Sessions;
 use lj_fixed::Nano;
 use lj_quota::{may_load, may_session};
 use lj_ring::{Scale, ScaleFault};
-use lj_tile::Name;
 
 impl Sessions {
-    /// Loads a session from a body; None is a body for which no memory was found.
-    pub fn load(
-        &mut self,
-        name: Name,
-        edge: Option<Nano>,
-        sigma: Option<Nano>,
-        step_factor: Option<u64>,
-        mode: Mode,
-        body: Option<Body>,
-    ) -> Result<Reply, Refusal>
-        ensures performs { Performs self.old (commands.Load name edge sigma step_factor mode body) result self.new }
+    /// Loads a session from a body.
+    pub fn load(&mut self, load: Load) -> Result<Reply, Refusal>
+        ensures performs { Performs self.old (commands.Load load) result self.new }
         ensures quota { self.new.quota ≡ self.old.quota }
-        ensures stays { OnErr result (self.new ≡ self.old) }
+        ensures unchanged { OnErr result (self.new ≡ self.old) }
     {
-        let scale = self.admit(&name, edge, sigma, step_factor)?;
-        let Some(body) = body else {
+        let scale = self.admit(&load)?;
+        let Load {
+            name,
+            mode,
+            body,
+            ..
+        } = load;
+        let LoadBody::Read(body) = body else {
             return Err(Refusal::Memory);
         };
         let alloc = *self.sessions.allocator();
@@ -49,35 +45,25 @@ impl Sessions {
     }
 
     /// The scale of a LOAD, as far as its body is not looked at.
-    fn admit(
-        &self,
-        name: &Name,
-        edge: Option<Nano>,
-        sigma: Option<Nano>,
-        step_factor: Option<u64>,
-    ) -> Result<Scale, Refusal>
-        ensures { result ≡ admitted (user_of self.now) name.now edge sigma step_factor }
+    fn admit(&self, load: &Load) -> Result<Scale, Refusal>
+        ensures { result ≡ admitted (user_of self.now) load.now }
     {
-        if self.find(name).is_some() {
+        if self.find(&load.name).is_some() {
             return Err(Refusal::Exists);
         }
         may_session(&self.quota, &self.used)?;
-        Ok(scale_of(edge, sigma, step_factor)?)
+        Ok(scale_of(load)?)
     }
 }
 
 /// The scale of a LOAD. A word that was no number stands for 0, which is out of range for each.
-fn scale_of(
-    edge: Option<Nano>,
-    sigma: Option<Nano>,
-    step_factor: Option<u64>,
-) -> Result<Scale, ScaleFault>
-    ensures { result ≡ scales.scale_of (nano_or_zero edge) (nano_or_zero sigma) (unwrap_or step_factor 0) }
+fn scale_of(load: &Load) -> Result<Scale, ScaleFault>
+    ensures { result ≡ definition.scale_of_load load.now }
 {
     let zero = Nano::new(0).unwrap();
     Scale::new(
-        edge.unwrap_or(zero),
-        sigma.unwrap_or(zero),
-        step_factor.unwrap_or(0),
+        load.edge.unwrap_or(zero),
+        load.sigma.unwrap_or(zero),
+        load.step_factor.unwrap_or(0),
     )
 }

@@ -14,7 +14,7 @@ impl Sessions {
     pub fn reverse(&mut self, name: Name) -> Result<Reply, Refusal>
         ensures performs { Performs self.old (commands.Reverse name) result self.new }
         ensures quota { self.new.quota ≡ self.old.quota }
-        ensures stays { OnErr result (self.new ≡ self.old) }
+        ensures unchanged { OnErr result (self.new ≡ self.old) }
     {
         let Some(session) = self.sessions.get_mut(&name) else {
             return Err(Refusal::NoSession);
@@ -28,7 +28,7 @@ impl Sessions {
     pub fn tug(&mut self, name: Name, atom: u64, by: Displacement) -> Result<Reply, Refusal>
         ensures performs { Performs self.old (commands.Tug name atom by.x by.y by.z) result self.new }
         ensures quota { self.new.quota ≡ self.old.quota }
-        ensures stays { OnErr result (self.new ≡ self.old) }
+        ensures unchanged { OnErr result (self.new ≡ self.old) }
     {
         let Some(session) = self.sessions.get_mut(&name) else {
             return Err(Refusal::NoSession);

@@ -14,7 +14,7 @@ impl Sessions {
     pub fn branch(&mut self, name: Name, branch: Name) -> Result<Reply, Refusal>
         ensures performs { Performs self.old (commands.Branch name branch) result self.new }
         ensures quota { self.new.quota ≡ self.old.quota }
-        ensures stays { OnErr result (self.new ≡ self.old) }
+        ensures unchanged { OnErr result (self.new ≡ self.old) }
     {
         self.admit_branch(&name, &branch)?;
         let Some(session) = self.sessions.get_mut(&name) else {
@@ -44,7 +44,7 @@ impl Sessions {
     pub fn restore(&mut self, name: Name, branch: Name) -> Result<Reply, Refusal>
         ensures performs { Performs self.old (commands.Restore name branch) result self.new }
         ensures quota { self.new.quota ≡ self.old.quota }
-        ensures stays { OnErr result (self.new ≡ self.old) }
+        ensures unchanged { OnErr result (self.new ≡ self.old) }
     {
         let Some(session) = self.sessions.get_mut(&name) else {
             return Err(Refusal::NoSession);
@@ -58,7 +58,7 @@ impl Sessions {
     pub fn forget(&mut self, name: Name, branch: Name) -> Result<Reply, Refusal>
         ensures performs { Performs self.old (commands.Forget name branch) result self.new }
         ensures quota { self.new.quota ≡ self.old.quota }
-        ensures stays { OnErr result (self.new ≡ self.old) }
+        ensures unchanged { OnErr result (self.new ≡ self.old) }
     {
         let Some(session) = self.sessions.get_mut(&name) else {
             return Err(Refusal::NoSession);

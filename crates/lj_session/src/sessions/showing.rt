@@ -56,7 +56,7 @@ impl Sessions {
     pub fn unload(&mut self, name: Name) -> Result<Reply, Refusal>
         ensures performs { Performs self.old (commands.Unload name) result self.new }
         ensures quota { self.new.quota ≡ self.old.quota }
-        ensures stays { OnErr result (self.new ≡ self.old) }
+        ensures unchanged { OnErr result (self.new ≡ self.old) }
     {
         let Some(session) = self.sessions.shift_remove(&name) else {
             return Err(Refusal::NoSession);

@@ -13,8 +13,8 @@ use Rattle.lj_session.proofs.sessions.Sessions.admit.Goals as goal
 pub returns-then-is_some : goal.returns-then-is_some
 returns-then-is_some c =
     let old = c.args.self.now in
-    sym (loading.admitted-exists (user_of old) c.args.name.now c.args.edge c.args.sigma c.args.step_factor
-    (present old c.args.name.now c.find.result c.find.ensures ∙ (sym c.is_some.ensures ∙ c.if-is_some.true)))
+    sym (loading.admitted-exists (user_of old) c.args.load.now
+    (present old c.args.load.now.name c.find.result c.find.ensures ∙ (sym c.is_some.ensures ∙ c.if-is_some.true)))
 
 pub returns-in_err-may_session : goal.returns-in_err-may_session
 returns-in_err-may_session c =
@@ -23,23 +23,23 @@ returns-in_err-may_session c =
     let which = same_over c.in_err-may_session.field-0.0 Sessions (c.in_err-may_session.ensures.over.1 over) in
     refused c.from_residual.result (quota_refusal c.in_err-may_session.field-0.0) c.from_residual.ensures.1
     ∙ (ap (λ (o : Over). Err (quota_refusal o)) which
-    ∙ sym (loading.admitted-over (user_of old) c.args.name.now c.args.edge c.args.sigma c.args.step_factor
-    (present old c.args.name.now c.find.result c.find.ensures ∙ (sym c.is_some.ensures ∙ c.if-is_some.false))
+    ∙ sym (loading.admitted-over (user_of old) c.args.load.now
+    (present old c.args.load.now.name c.find.result c.find.ensures ∙ (sym c.is_some.ensures ∙ c.if-is_some.false))
     (sessions-over c.self.inside old c.self.view_is c.self.invariant over)))
 
 pub returns-in_err-scale_of : goal.returns-in_err-scale_of
 returns-in_err-scale_of c =
     let old = c.args.self.now in
     refused c.from_residual-in_err-scale_of.result (scale_refusal c.in_err-scale_of.field-0.0) c.from_residual-in_err-scale_of.ensures.1
-    ∙ sym (loading.admitted-fault (user_of old) c.args.name.now c.args.edge c.args.sigma c.args.step_factor
-    (present old c.args.name.now c.find.result c.find.ensures ∙ (sym c.is_some.ensures ∙ c.if-is_some.false))
+    ∙ sym (loading.admitted-fault (user_of old) c.args.load.now
+    (present old c.args.load.now.name c.find.result c.find.ensures ∙ (sym c.is_some.ensures ∙ c.if-is_some.false))
     (sessions-room c.self.inside old c.self.view_is c.self.invariant (c.in_ok-may_session.ensures.may.0 refl))
     c.in_err-scale_of.field-0.0 (sym c.in_err-scale_of.ensures))
 
 pub returns : goal.returns
 returns c =
     let old = c.args.self.now in
-    sym (loading.admitted-scale (user_of old) c.args.name.now c.args.edge c.args.sigma c.args.step_factor
-    (present old c.args.name.now c.find.result c.find.ensures ∙ (sym c.is_some.ensures ∙ c.if-is_some.false))
+    sym (loading.admitted-scale (user_of old) c.args.load.now
+    (present old c.args.load.now.name c.find.result c.find.ensures ∙ (sym c.is_some.ensures ∙ c.if-is_some.false))
     (sessions-room c.self.inside old c.self.view_is c.self.invariant (c.in_ok-may_session.ensures.may.0 refl))
     c.in_ok-scale_of.field-0 (sym c.in_ok-scale_of.ensures))

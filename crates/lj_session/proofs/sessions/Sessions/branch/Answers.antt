@@ -48,8 +48,8 @@ returns-in_err-save-clause-performs c =
     performs-starved old _ _ _ (not-saved c.in_err-save.field-0.0 (is_some (named c.copy.result held.saved)) c.in_err-save.ensures.exists.0 (ap (λ b. is_some (named b held.saved)) c.copy.ensures ∙ may.0))
     (saving.branch-memory (user_of old) c.args.name c.args.branch (as_session held) session may.0 may.1))
 
-pub returns-in_err-save-clause-stays : goal.returns-in_err-save-clause-stays
-returns-in_err-save-clause-stays c =
+pub returns-in_err-save-clause-unchanged : goal.returns-in_err-save-clause-unchanged
+returns-in_err-save-clause-unchanged c =
     let held = c.in-Some.session.now in
     let new = c.save.new.self in
     on_err c.from_residual-in_err-save.result

@@ -35,8 +35,8 @@ returns-in_err-forget-clause-performs c =
     performs-refused old _ _ c.from_residual.result _ c.from_residual.ensures.1
     (performing.told old _ _ _ (performing.forget-no_branch (user_of old) c.args.name false (as_session held) (named-held old c.args.name held found) c.args.branch (none-if (named c.args.branch held.saved) c.in_err-forget.ensures.found.1)))
 
-pub returns-in_err-forget-clause-stays : goal.returns-in_err-forget-clause-stays
-returns-in_err-forget-clause-stays c =
+pub returns-in_err-forget-clause-unchanged : goal.returns-in_err-forget-clause-unchanged
+returns-in_err-forget-clause-unchanged c =
     let held = c.in-Some.session.now in
     let new = c.forget.new.self in
     on_err c.from_residual.result

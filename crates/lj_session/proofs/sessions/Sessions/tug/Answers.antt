@@ -31,8 +31,8 @@ returns-then-atom-count-clause-performs c =
     performing.told old _ _ _ (performing.tug-no_atom (user_of old) c.args.name false (as_session held) (named-held old c.args.name held found) c.args.atom c.args.by.x c.args.by.y c.args.by.z
     (outcomes.past c.args.atom (length held.live.sim.cur) (let n = c.count.ensures.value ∙ ap (λ (l : Live). length l.sim.cur) c.sim.ensures in let t = c.if-atom-count.true in omega (arith, n, t))))
 
-pub returns-then-atom-count-clause-stays : goal.returns-then-atom-count-clause-stays
-returns-then-atom-count-clause-stays c =
+pub returns-then-atom-count-clause-unchanged : goal.returns-then-atom-count-clause-unchanged
+returns-then-atom-count-clause-unchanged c =
     let held = c.in-Some.session.now in
     unwritten c.self.inside c.args.self.now c.self.view_is c.args.name held c.in-Some.ensures.value _ held (c.get_mut.follows.holds held).0 refl
 
