@@ -8,8 +8,8 @@ use Rattle.lj_xyz.specs.declared.fault.XyzFault.{XyzFault}
 use Rattle.lj_xyz.specs.declared.row.Row.{Row}
 use Rattle.lj_xyz.specs.declared.reader.Position.{Position}
 use Rattle.lj_xyz.specs.Atoms.{◌>>=◌, row_of}
-use Rattle.lj_xyz.specs.Frames.{IsWordless, Counts, missing, IsHead, AreAtoms, IsFrame, fault_behind, FirstFault, no_count, bad_count, other_count, no_comment, no_atom, bad_atom}
-use Rattle.lj_xyz.specs.Reading.{Left, admitted, head_in, behind_comment, next_row, rows_in, frame_in}
+use Rattle.lj_xyz.specs.Frames.{IsWordless, Counts, missing, IsHead, AreAtoms, IsFrame, fault_behind, OpeningFault, no_count, bad_count, other_count, no_comment, FirstFault, in_opening, no_atom, bad_atom}
+use Rattle.lj_xyz.specs.Reading.{Left, admitted, head_in, behind_comment, opening_in, next_row, rows_in, frame_in}
 use Rattle.lj_xyz.proofs.ReaderLaws.{head_over, head_at, head_none, with_front, no_front}
 
 abbrev pub left : ℕ → List (List ℕ) → Left
@@ -124,27 +124,38 @@ row_bad : (taken : ℕ) (bad : List ℕ) (behind : List (List ℕ)) (wrong : Xyz
 unfolding next_row
 row_bad taken bad behind wrong e = rw e refl
 
-frame_of_head_fault : (position : Position) (taken : ℕ) (lines : List (List ℕ)) (fault : XyzFault) → head_in position taken lines ≡ Err fault → frame_in position (left taken lines) ≡ Err fault
-unfolding frame_in
-frame_of_head_fault position taken lines fault e = rw e refl
+opening_of_head : (position : Position) (taken : ℕ) (lines : List (List ℕ)) (fault : XyzFault) → head_in position taken lines ≡ Err fault
+    → opening_in position (left taken lines) ≡ Err fault
+opening_of_head position taken lines fault e = rw e refl
 
-comment_missing : (position : Position) (taken : ℕ) (lines : List (List ℕ)) (n : ℕ) → IsHead position lines n → frame_in position (left taken lines) ≡ Err (fault_behind (taken + length lines) kind.Short)
-unfolding frame_in behind_comment
+comment_missing : (position : Position) (taken : ℕ) (lines : List (List ℕ)) (n : ℕ) → IsHead position lines n
+    → opening_in position (left taken lines) ≡ Err (fault_behind (taken + length lines) kind.Short)
+unfolding behind_comment
 comment_missing position taken lines n is =
     let good : head_in position taken lines ≡ Ok (n, left (taken + length lines) []) = rw append-nil at (head_good position taken lines [] n is) in
     rw good refl
 
--- what is the first fault is what reading the frame gives
-pub frame_fault : (position : Position) (taken : ℕ) (lines : List (List ℕ)) (fault : XyzFault) → FirstFault position taken lines fault → frame_in position (left taken lines) ≡ Err fault
-frame_fault position taken lines fault (no_count wordless e) =
+-- what is the fault before the atom lines is what reading these lines gives
+pub opening_fault : (position : Position) (taken : ℕ) (lines : List (List ℕ)) (fault : XyzFault) → OpeningFault position taken lines fault
+    → opening_in position (left taken lines) ≡ Err fault
+opening_fault position taken lines fault (no_count wordless e) =
     let over : head_in position taken lines ≡ Err (fault_behind (taken + length lines) (missing position)) =
     rw append-nil at (head_skips position taken lines [] wordless ∙ head_none position (taken + length lines)) in
-    rw e (frame_of_head_fault position taken lines (fault_behind (taken + length lines) (missing position)) over)
-frame_fault position taken lines fault (bad_count blanks count behind whole wordless counts e) =
-    rw e (frame_of_head_fault position taken lines (fault_behind (taken + length blanks) kind.Count) (behind_blanks position taken lines blanks count behind None whole wordless counts))
-frame_fault position taken lines fault (other_count blanks count behind n whole wordless counts other e) =
-    rw e (frame_of_head_fault position taken lines (fault_behind (taken + length blanks) kind.Pair) (behind_blanks position taken lines blanks count behind (Some n) whole wordless counts ∙ rw other refl))
-frame_fault position taken lines fault (no_comment n is e) = rw e (comment_missing position taken lines n is)
+    rw e (opening_of_head position taken lines (fault_behind (taken + length lines) (missing position)) over)
+opening_fault position taken lines fault (bad_count blanks count behind whole wordless counts e) =
+    rw e (opening_of_head position taken lines (fault_behind (taken + length blanks) kind.Count) (behind_blanks position taken lines blanks count behind None whole wordless counts))
+opening_fault position taken lines fault (other_count blanks count behind n whole wordless counts other e) =
+    rw e (opening_of_head position taken lines (fault_behind (taken + length blanks) kind.Pair) (behind_blanks position taken lines blanks count behind (Some n) whole wordless counts ∙ rw other refl))
+opening_fault position taken lines fault (no_comment n is e) = rw e (comment_missing position taken lines n is)
+
+frame_of_opening : (position : Position) (taken : ℕ) (lines : List (List ℕ)) (fault : XyzFault) → opening_in position (left taken lines) ≡ Err fault
+    → frame_in position (left taken lines) ≡ Err fault
+unfolding frame_in
+frame_of_opening position taken lines fault e = rw e refl
+
+-- what is the first fault is what reading the frame gives
+pub frame_fault : (position : Position) (taken : ℕ) (lines : List (List ℕ)) (fault : XyzFault) → FirstFault position taken lines fault → frame_in position (left taken lines) ≡ Err fault
+frame_fault position taken lines fault (in_opening is) = frame_of_opening position taken lines fault (opening_fault position taken lines fault is)
 frame_fault position taken lines fault (no_atom head n comment atoms rows whole is are lt e) =
     let len : taken + length lines ≡ taken + length head + 1 + length atoms = omega (arith, ap length whole, length-append head (comment ∷ atoms)) in
     let regrouped : lines ≡ head ++ comment ∷ (atoms ++ []) = rw append-nil whole in

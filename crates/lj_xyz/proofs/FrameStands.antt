@@ -10,37 +10,38 @@ use Rattle.lj_xyz.specs.declared.row.Row.{Row}
 use Rattle.lj_xyz.specs.declared.reader.Position.{Position}
 use Rattle.lj_xyz.specs.Lines.{words_of}
 use Rattle.lj_xyz.specs.Atoms.{◌>>=◌, count_of, row_of}
-use Rattle.lj_xyz.specs.Frames.{IsWordless, Counts, admits, missing, IsHead, AreAtoms, IsFrame, fault_behind, FirstFault, no_count, bad_count, other_count, no_comment, no_atom, bad_atom}
+use Rattle.lj_xyz.specs.Frames.{IsWordless, Counts, admits, missing, IsHead, AreAtoms, IsFrame, fault_behind, OpeningFault, no_count, bad_count, other_count, no_comment, FirstFault, in_opening, no_atom, bad_atom}
 use Rattle.lj_xyz.specs.Reading.{Left, admitted, head_in, behind_comment, next_row, rows_in, frame_in}
 use Rattle.lj_xyz.proofs.ReaderLaws.{head_over, head_at, head_none}
 use Rattle.lj_xyz.proofs.FrameLaws.{left}
 
 -- ---- the head
 
--- the first fault, where it stands before the comment line
-data HeadFault (position : Position) (before : ℕ) (lines : List (List ℕ)) (fault : XyzFault) : Type 0 where
-  none : AllByRecursion IsWordless lines → fault ≡ fault_behind (before + length lines) (missing position) → HeadFault position before lines fault
-  bad : (blanks : List (List ℕ)) (count : List ℕ) (behind : List (List ℕ)) → lines ≡ blanks ++ count ∷ behind → AllByRecursion IsWordless blanks → Counts count None
-      → fault ≡ fault_behind (before + length blanks) kind.Count → HeadFault position before lines fault
-  other : (blanks : List (List ℕ)) (count : List ℕ) (behind : List (List ℕ)) (n : ℕ) → lines ≡ blanks ++ count ∷ behind → AllByRecursion IsWordless blanks → Counts count (Some n)
-      → admits position n ≡ false → fault ≡ fault_behind (before + length blanks) kind.Pair → HeadFault position before lines fault
-
-first_fault : (position : Position) (before : ℕ) (lines : List (List ℕ)) (fault : XyzFault) → HeadFault position before lines fault → FirstFault position before lines fault
-first_fault position before lines fault (none wordless e) = no_count wordless e
-first_fault position before lines fault (bad blanks count behind whole wordless counts e) = bad_count blanks count behind whole wordless counts e
-first_fault position before lines fault (other blanks count behind n whole wordless counts differs e) = other_count blanks count behind n whole wordless counts differs e
-
 -- a line without a word in front
-later_fault : (position : Position) (before : ℕ) (line : List ℕ) (lines : List (List ℕ)) (fault : XyzFault) → IsWordless line → HeadFault position (before + 1) lines fault → HeadFault position before (line ∷ lines) fault
-later_fault position before line lines fault blank (none wordless e) =
+later_is_head : (position : Position) (line : List ℕ) (head : List (List ℕ)) (n : ℕ) → IsWordless line → IsHead position head n → IsHead position (line ∷ head) n
+later_is_head position line head n blank is = record {
+  blanks = line ∷ is.blanks;
+  count = is.count;
+  whole = ap (λ (x : List (List ℕ)). line ∷ x) is.whole;
+  wordless = (blank, is.wordless);
+  counts = is.counts;
+  admitted = is.admitted;
+}
+
+later_fault : (position : Position) (before : ℕ) (line : List ℕ) (lines : List (List ℕ)) (fault : XyzFault) → IsWordless line → OpeningFault position (before + 1) lines fault
+    → OpeningFault position before (line ∷ lines) fault
+later_fault position before line lines fault blank (no_count wordless e) =
     let at : before + suc (length lines) ≡ before + 1 + length lines = omega arith in
-    none (blank, wordless) (rw at e)
-later_fault position before line lines fault blank (bad blanks count behind whole wordless counts e) =
+    no_count (blank, wordless) (rw at e)
+later_fault position before line lines fault blank (bad_count blanks count behind whole wordless counts e) =
     let at : before + suc (length blanks) ≡ before + 1 + length blanks = omega arith in
-    bad (line ∷ blanks) count behind (ap (λ (x : List (List ℕ)). line ∷ x) whole) (blank, wordless) counts (rw at e)
-later_fault position before line lines fault blank (other blanks count behind n whole wordless counts differs e) =
+    bad_count (line ∷ blanks) count behind (ap (λ (x : List (List ℕ)). line ∷ x) whole) (blank, wordless) counts (rw at e)
+later_fault position before line lines fault blank (other_count blanks count behind n whole wordless counts differs e) =
     let at : before + suc (length blanks) ≡ before + 1 + length blanks = omega arith in
-    other (line ∷ blanks) count behind n (ap (λ (x : List (List ℕ)). line ∷ x) whole) (blank, wordless) counts differs (rw at e)
+    other_count (line ∷ blanks) count behind n (ap (λ (x : List (List ℕ)). line ∷ x) whole) (blank, wordless) counts differs (rw at e)
+later_fault position before line lines fault blank (no_comment n is e) =
+    let at : before + suc (length lines) ≡ before + 1 + length lines = omega arith in
+    no_comment n (later_is_head position line lines n blank is) (rw at e)
 
 record HeadEnds (position : Position) (before : ℕ) (lines : List (List ℕ)) (n : ℕ) (after : Left) : Type 0 where
   head : List (List ℕ)
@@ -50,22 +51,14 @@ record HeadEnds (position : Position) (before : ℕ) (lines : List (List ℕ)) (
 
 abbrev HeadStands : Position → ℕ → List (List ℕ) → Result (ℕ × Left) XyzFault → Type 0
 HeadStands position before lines (Ok x) = HeadEnds position before lines x.0 x.1
-HeadStands position before lines (Err fault) = HeadFault position before lines fault
+HeadStands position before lines (Err fault) = OpeningFault position before lines fault
 
 later_head : (position : Position) (before : ℕ) (line : List ℕ) (lines : List (List ℕ)) (n : ℕ) (after : Left) → IsWordless line → HeadEnds position (before + 1) lines n after → HeadEnds position before (line ∷ lines) n after
 later_head position before line lines n after blank ends =
-    let is = ends.is_head in
     record {
       head = line ∷ ends.head;
       whole = ap (λ (x : List (List ℕ)). line ∷ x) ends.whole;
-      is_head = record {
-        blanks = line ∷ is.blanks;
-        count = is.count;
-        whole = ap (λ (x : List (List ℕ)). line ∷ x) is.whole;
-        wordless = (blank, is.wordless);
-        counts = is.counts;
-        admitted = is.admitted;
-      };
+      is_head = later_is_head position line ends.head n blank ends.is_head;
       taken = omega (arith, ends.taken);
     }
 
@@ -86,11 +79,11 @@ one_head position before line lines n counts fits = record {
 
 at_count : (position : Position) (before : ℕ) (line : List ℕ) (lines : List (List ℕ)) (atoms : Option ℕ) → Counts line atoms
     → HeadStands position before (line ∷ lines) (admitted position (before + 1) atoms >>= λ n. Ok (counted_left before lines n))
-at_count position before line lines None counts = bad [] line lines refl tt counts (rw add-zero refl)
+at_count position before line lines None counts = bad_count [] line lines refl tt counts (rw add-zero refl)
 at_count position before line lines (Some n) counts =
     elim (cases_Bool (admits position n)) [
       | inl fits ↦ rw fits (one_head position before line lines n counts fits)
-      | inr differs ↦ rw differs (other [] line lines n refl tt counts differs (rw add-zero refl))
+      | inr differs ↦ rw differs (other_count [] line lines n refl tt counts differs (rw add-zero refl))
     ]
 
 words_cases : (words : List (List ℕ)) → (words ≡ []) ⊎ ((first : List ℕ) × (others : List (List ℕ)) × (words ≡ first ∷ others))
@@ -98,7 +91,7 @@ words_cases [] = inl refl
 words_cases (first ∷ others) = inr (first, others, refl)
 
 head_stands : (position : Position) (before : ℕ) (lines : List (List ℕ)) → HeadStands position before lines (head_in position before lines)
-head_stands position before [] = rw (head_none position before) (none tt (rw add-zero refl))
+head_stands position before [] = rw (head_none position before) (no_count tt (rw add-zero refl))
 head_stands position before (line ∷ lines) =
     elim (words_cases (words_of line)) [
       | inl blank ↦ rw (head_over position before line lines blank) (later position before line lines (head_in position (before + 1) lines) blank (head_stands position (before + 1) lines))
@@ -215,22 +208,28 @@ no_more : (lines : List (List ℕ)) → (lines ≡ []) ⊎ ((first : List ℕ) �
 no_more [] = inl refl
 no_more (first ∷ others) = inr (first, others, refl)
 
-comment_end : (n : ℕ) (taken : ℕ) → (behind_comment taken [] >>= λ body. rows_in n body) ≡ Err (fault_behind taken kind.Short)
+abbrev counted_behind : ℕ → Left → ℕ × Left
+counted_behind n body = (n, body)
+
+abbrev rows_behind : ℕ × Left → Result (List Row × Left) XyzFault
+rows_behind opening = rows_in opening.0 opening.1
+
+comment_end : (n : ℕ) (taken : ℕ) → (behind_comment taken [] >>= (λ body. Ok (counted_behind n body)) >>= rows_behind) ≡ Err (fault_behind taken kind.Short)
 unfolding behind_comment
 comment_end n taken = refl
 
-comment_over : (n : ℕ) (taken : ℕ) (comment : List ℕ) (more : List (List ℕ)) → (behind_comment taken (comment ∷ more) >>= λ body. rows_in n body) ≡ rows_in n (left (taken + 1) more)
+comment_over : (n : ℕ) (taken : ℕ) (comment : List ℕ) (more : List (List ℕ)) → (behind_comment taken (comment ∷ more) >>= (λ body. Ok (counted_behind n body)) >>= rows_behind) ≡ rows_in n (left (taken + 1) more)
 unfolding behind_comment
 comment_over n taken comment more = refl
 
 ends_there : (position : Position) (before : ℕ) (lines : List (List ℕ)) (n : ℕ) (after : Left) → HeadEnds position before lines n after → after.lines ≡ [] → FirstFault position before lines (fault_behind after.taken kind.Short)
 ends_there position before lines n after ends e =
     let whole : lines ≡ ends.head = ends.whole ∙ ap (λ (x : List (List ℕ)). ends.head ++ x) e ∙ append-nil ends.head in
-    no_comment n (rw whole ends.is_head) (rw (ends.taken, whole) refl)
+    in_opening (no_comment n (rw whole ends.is_head) (rw (ends.taken, whole) refl))
 
 behind_it : (position : Position) (before : ℕ) (lines : List (List ℕ)) (r : Result (ℕ × Left) XyzFault) → HeadStands position before lines r
-    → FrameStands position before lines (r >>= λ head. behind_comment head.1.taken head.1.lines >>= λ body. rows_in head.0 body)
-behind_it position before lines (Err fault) stands = first_fault position before lines fault stands
+    → FrameStands position before lines (r >>= (λ head. behind_comment head.1.taken head.1.lines >>= λ body. Ok (counted_behind head.0 body)) >>= rows_behind)
+behind_it position before lines (Err fault) stands = in_opening stands
 behind_it position before lines (Ok x) stands =
     elim (no_more x.1.lines) [
       | inl e ↦ rw (e, comment_end x.0 x.1.taken) (ends_there position before lines x.0 x.1 stands e)

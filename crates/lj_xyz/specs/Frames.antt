@@ -63,29 +63,34 @@ pub record IsFrame (position : Position) (frame : List (List ℕ)) (rows : List 
 abbrev pub fault_behind : ℕ → XyzKind → XyzFault
 fault_behind lines kind = record { kind = kind; line = lines + 1 }
 
--- The first fault, in reading order, of the frame that these lines are to begin with. They are all lines of the body
--- but for the first ones, whose number is `before`.
-pub data FirstFault (position : Position) (before : ℕ) (lines : List (List ℕ)) (fault : XyzFault) : Type 0 where
+-- The fault of a frame before its atom lines, which these lines are to begin with. They are all lines of the body but
+-- for the first ones, whose number is `before`.
+pub data OpeningFault (position : Position) (before : ℕ) (lines : List (List ℕ)) (fault : XyzFault) : Type 0 where
   -- there is no count line
   no_count : AllByRecursion IsWordless lines
       → fault ≡ fault_behind (before + length lines) (missing position)
-      → FirstFault position before lines fault
+      → OpeningFault position before lines fault
   -- the count line's first word is no number of atoms
   bad_count : (blanks : List (List ℕ)) (count : List ℕ) (behind : List (List ℕ))
       → lines ≡ blanks ++ count ∷ behind
       → AllByRecursion IsWordless blanks → Counts count None
       → fault ≡ fault_behind (before + length blanks) kind.Count
-      → FirstFault position before lines fault
+      → OpeningFault position before lines fault
   -- the number of atoms is not that of the first frame
   other_count : (blanks : List (List ℕ)) (count : List ℕ) (behind : List (List ℕ)) (n : ℕ)
       → lines ≡ blanks ++ count ∷ behind
       → AllByRecursion IsWordless blanks → Counts count (Some n) → admits position n ≡ false
       → fault ≡ fault_behind (before + length blanks) kind.Pair
-      → FirstFault position before lines fault
+      → OpeningFault position before lines fault
   -- the comment line is missing
   no_comment : (n : ℕ) → IsHead position lines n
       → fault ≡ fault_behind (before + length lines) kind.Short
-      → FirstFault position before lines fault
+      → OpeningFault position before lines fault
+
+-- The first fault, in reading order, of the frame that these lines are to begin with.
+pub data FirstFault (position : Position) (before : ℕ) (lines : List (List ℕ)) (fault : XyzFault) : Type 0 where
+  -- it stands before the atom lines
+  in_opening : OpeningFault position before lines fault → FirstFault position before lines fault
   -- an atom line is missing
   no_atom : (head : List (List ℕ)) (n : ℕ) (comment : List ℕ) (atoms : List (List ℕ)) (rows : List Row)
       → lines ≡ head ++ comment ∷ atoms

@@ -61,12 +61,18 @@ rows_in (suc n) left = do
   others ← rows_in n row.1
   Ok (row.0 ∷ others.0, others.1)
 
+-- the number of atoms of a frame, and the lines behind its comment line
+abbrev pub opening_in : Position → Left → Result (ℕ × Left) XyzFault
+opening_in position left = do
+  head ← head_in position left.taken left.lines
+  body ← behind_comment head.1.taken head.1.lines
+  Ok (head.0, body)
+
 -- the rows of a frame, and the lines behind it
 unfoldable pub frame_in : Position → Left → Result (List Row × Left) XyzFault
 frame_in position left = do
-  head ← head_in position left.taken left.lines
-  body ← behind_comment head.1.taken head.1.lines
-  rows_in head.0 body
+  opening ← opening_in position left
+  rows_in opening.0 opening.1
 
 -- the lines of a body, of which none is read
 abbrev pub start : List (List ℕ) → Left
@@ -96,3 +102,7 @@ Gives view (Err error) read = Fails error read
 abbrev pub Tells : {X Y : Type 0} → (X → Y) → Result X XyzFault → Result Y XyzFault → Type 0
 Tells view (Ok x) read = read ≡ Ok (view x)
 Tells view (Err fault) read = read ≡ Err fault
+
+-- a fault is answered as it is, and not as want of memory
+abbrev pub Keeps : {X Y : Type 0} → Result X XyzError → Result Y XyzFault → Type 0
+Keeps result read = (fault : XyzFault) → read ≡ Err fault → result ≡ Err (errors.Fault fault)

@@ -1,9 +1,10 @@
 ghost use Rattle.std.specs.Prelude.{◌≡◌, ◌≤◌, [], ◌∷◌, length, Ok, Err, IfOk, IsTrue};
 ghost use Rattle.lj_xyz.specs.declared.fault.XyzFault.{XyzFault};
+ghost use Rattle.lj_xyz.specs.declared.reader.Position.TheVariants.{First};
 ghost use Rattle.lj_xyz.specs.Lines.{lines_of};
 ghost use Rattle.lj_xyz.specs.Atoms.{is_count, count_of, row_of, row_of_four};
-ghost use Rattle.lj_xyz.specs.Frames.{IsReading, admits, missing, rest, pair};
-ghost use Rattle.lj_xyz.specs.Reading.{Gives, Tells, admitted, head_in, behind_comment, next_row, rows_in, frame_in, reading};
+ghost use Rattle.lj_xyz.specs.Frames.{IsReading, OpeningFault, admits, missing, rest, pair};
+ghost use Rattle.lj_xyz.specs.Reading.{Gives, Tells, Keeps, admitted, head_in, behind_comment, opening_in, next_row, rows_in, frame_in, start, reading};
 ghost use Rattle.lj_xyz.specs.Cursor.{left_of};
 
 use crate::fault::{XyzError, XyzFault, XyzKind};
@@ -157,20 +158,31 @@ fn read_rows(alloc: Global, lines: &mut Lines, count: usize) -> Result<Vec<Row>,
     Ok(rows)
 }
 
-#[tactic(auto, unfolding(crate::specs::Reading::frame_in))]
-fn read_frame(alloc: Global, lines: &mut Lines, position: Position) -> Result<Rows, XyzError>
-    ensures { Gives (λ rows. (rows, left_of lines.new)) result
-        (frame_in position (left_of lines.old)) }
+// The head of a frame and its comment line: the number of its atoms.
+fn read_opening(lines: &mut Lines, position: Position) -> Result<usize, XyzFault>
+    ensures { Tells (λ count. (count, left_of lines.new)) result
+        (opening_in position (left_of lines.old)) }
 {
     let count = read_head(lines, position)?;
     pass_comment(lines)?;
+    Ok(count)
+}
+
+#[tactic(auto, unfolding(crate::specs::Reading::frame_in))]
+fn read_frame(alloc: Global, lines: &mut Lines, position: Position) -> Result<Rows, XyzError>
+    ensures frame { Gives (λ rows. (rows, left_of lines.new)) result
+        (frame_in position (left_of lines.old)) }
+    ensures early { Keeps result (opening_in position (left_of lines.old)) }
+{
+    let count = read_opening(lines, position)?;
     let rows = read_rows(alloc, lines, count)?;
     Ok(Rows::new(rows))
 }
 
 #[tactic(auto, unfolding(crate::specs::Reading::reading))]
 fn first_frame(alloc: Global, text: &[u8]) -> Result<Rows, XyzError>
-    ensures { Gives (λ rows. rows ∷ []) result (reading rest (lines_of text.now)) }
+    ensures frame { Gives (λ rows. rows ∷ []) result (reading rest (lines_of text.now)) }
+    ensures early { Keeps result (opening_in First (start (lines_of text.now))) }
 {
     let mut lines = Lines::new(text);
     let rows = read_frame(alloc, &mut lines, Position::First)?;
@@ -179,8 +191,9 @@ fn first_frame(alloc: Global, text: &[u8]) -> Result<Rows, XyzError>
 
 #[tactic(auto, unfolding(crate::specs::Reading::reading))]
 fn first_two_frames(alloc: Global, text: &[u8]) -> Result<FramePair, XyzError>
-    ensures { Gives (λ frames. frames.first ∷ frames.second ∷ []) result
+    ensures frames { Gives (λ frames. frames.first ∷ frames.second ∷ []) result
         (reading pair (lines_of text.now)) }
+    ensures early { Keeps result (opening_in First (start (lines_of text.now))) }
 {
     let mut lines = Lines::new(text);
     let first = read_frame(alloc, &mut lines, Position::First)?;
@@ -194,6 +207,10 @@ pub fn read_rest(alloc: Global, text: &[u8]) -> Result<Rows, XyzError>
     ensures fault { (fault : XyzFault) →
         result ≡ Err (XyzError.Fault fault) → IsReading rest (lines_of text.now) (Err fault) }
     ensures count { IfOk result (λ rows. IsTrue (is_count (length rows))) }
+
+    // What stands before the first atom line needs no memory.
+    ensures early { (fault : XyzFault) →
+        OpeningFault First 0 (lines_of text.now) fault → result ≡ Err (XyzError.Fault fault) }
 
     // The same as an equation, where memory was found.
     ensures exact { Gives (λ rows. rows ∷ []) result (reading rest (lines_of text.now)) }
@@ -210,6 +227,10 @@ pub fn read_pair(alloc: Global, text: &[u8]) -> Result<FramePair, XyzError>
         result ≡ Err (XyzError.Fault fault) → IsReading pair (lines_of text.now) (Err fault) }
     ensures count { IfOk result (λ frames. IsTrue (is_count (length frames.first))) }
     ensures same_count { IfOk result (λ frames. length frames.second ≡ length frames.first) }
+
+    // What stands before the first atom line needs no memory.
+    ensures early { (fault : XyzFault) →
+        OpeningFault First 0 (lines_of text.now) fault → result ≡ Err (XyzError.Fault fault) }
 
     // The same as an equation, where memory was found.
     ensures exact { Gives (λ frames. frames.first ∷ frames.second ∷ []) result
