@@ -1,3 +1,4 @@
+pub mod Ends
 pub mod Items
 pub mod Numbers
 pub mod Commands

@@ -2,6 +2,7 @@
 #![tactic(auto)]
 
 mod command;
+mod ends;
 mod item;
 mod laws;
 mod line;
@@ -10,6 +11,9 @@ mod verb;
 mod words;
 
 pub use command::{announced, parse_command};
+pub use ends::{
+    CountedReading, CountedWriting, ReadFault, Reading, Sink, Source, WriteFault, Writing,
+};
 pub use item::{Fault, Item};
 pub use laws::{
     body_is_bounded, body_missing_is_marked, mark_is_told, one_splitting, running_goes_on,

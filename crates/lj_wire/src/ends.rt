@@ -1,0 +1,224 @@
+//! Ends of a stream: where bytes come from, and where they go. An end may count its errors.
+ghost use Rattle.std.specs.Prelude.{◌≡◌, ℕ, ◌<◌, ◌≤◌, List, Option, Some, None, length, IfOk, OnOk, OnErr};
+ghost use Rattle.std.specs.Io.KnownBytes.{ReadConsumes, WriteAppends};
+ghost use Rattle.lj_wire.specs.Ends.{Rises};
+
+use std::io::{Read, Write};
+use thiserror::Error;
+
+/// A read that answered an error.
+#[derive(Clone, Copy, Debug, PartialEq, Eq, Error)]
+#[error("read fault")]
+pub struct ReadFault;
+
+/// A write that answered an error, or took none of its bytes.
+#[derive(Clone, Copy, Debug, PartialEq, Eq, Error)]
+#[error("write fault")]
+pub struct WriteFault;
+
+/// Where bytes come from.
+pub trait Source {
+    // The bytes that reads will give from here on, where they are known.
+    ghost remaining: { Self → Option (List ℕ) };
+
+    // How many reads have answered an error, where they are counted.
+    ghost errors: { Self → Option ℕ };
+
+    /// Reads some bytes into the front of `buf`, and answers how many: 0 only at the end of the
+    /// input, or where `buf` has no room. Each error is a fault, an interrupted read too.
+    fn read(&mut self, buf: &mut [u8]) -> Result<usize, ReadFault>
+        ensures bound { IfOk result (λ n. n ≤ length buf.new) }
+        ensures bytes { ReadConsumes (remaining self.old) (remaining self.new) result buf.new }
+        ensures counted { OnOk result (errors self.new ≡ errors self.old) }
+        ensures risen { OnErr result (Rises (errors self.old) (errors self.new)) };
+}
+
+/// Where bytes go.
+pub trait Sink {
+    // The bytes that have gone there, where they are known.
+    ghost contents: { Self → Option (List ℕ) };
+
+    // How many writes have answered an error or taken nothing, where they are counted.
+    ghost faults: { Self → Option ℕ };
+
+    /// Writes some bytes of the front of `bytes`, and answers how many. Each error is a fault, an
+    /// interrupted write too, and so is a write that takes none of some bytes.
+    fn write(&mut self, bytes: &[u8]) -> Result<usize, WriteFault>
+        ensures bound { IfOk result (λ n. n ≤ length bytes.now) }
+        ensures some { IfOk result (λ n. 0 < length bytes.now → 0 < n) }
+        ensures bytes { WriteAppends (contents self.old) (contents self.new) result bytes.now }
+        ensures counted { OnOk result (faults self.new ≡ faults self.old) }
+        ensures risen { OnErr result (Rises (faults self.old) (faults self.new)) };
+}
+
+/// A reader whose errors are not counted.
+#[derive(Drop)]
+pub struct Reading<R> {
+    reader: R,
+}
+
+impl<R: Read> Reading<R> {
+    /// Reads nothing.
+    pub fn new(reader: R) -> Self
+        ensures { ⟦<Reading<R> as Source>⟧.remaining result ≡ R.remaining reader }
+    {
+        Reading { reader }
+    }
+
+    pub fn into_inner(self) -> R
+        ensures { R.remaining result ≡ ⟦<Reading<R> as Source>⟧.remaining self }
+    {
+        let Reading { reader } = self;
+        reader
+    }
+}
+
+impl<R: Read> Source for Reading<R> {
+    ghost remaining = { λ reading. R.remaining reading.reader };
+
+    ghost errors = { λ _. None };
+
+    fn read(&mut self, buf: &mut [u8]) -> Result<usize, ReadFault> {
+        match self.reader.read(buf) {
+            Ok(count) => Ok(count),
+            Err(_) => Err(ReadFault),
+        }
+    }
+}
+
+/// A reader whose errors are counted, up to `u64::MAX`.
+#[derive(Drop)]
+pub struct CountedReading<R> {
+    reader: R,
+    errors: u64,
+}
+
+impl<R: Read> CountedReading<R> {
+    /// Reads nothing.
+    pub fn new(reader: R) -> Self
+        ensures remaining { ⟦<CountedReading<R> as Source>⟧.remaining result ≡ R.remaining reader }
+        ensures errors { ⟦<CountedReading<R> as Source>⟧.errors result ≡ Some 0 }
+    {
+        CountedReading { reader, errors: 0 }
+    }
+
+    /// How many reads have answered an error, at most `u64::MAX`.
+    pub fn errors(&self) -> u64
+        ensures { ⟦<CountedReading<R> as Source>⟧.errors self.now ≡ Some result }
+    {
+        self.errors
+    }
+
+    pub fn into_inner(self) -> R
+        ensures { R.remaining result ≡ ⟦<CountedReading<R> as Source>⟧.remaining self }
+    {
+        let CountedReading { reader, errors: _ } = self;
+        reader
+    }
+}
+
+impl<R: Read> Source for CountedReading<R> {
+    ghost remaining = { λ reading. R.remaining reading.reader };
+
+    ghost errors = { λ reading. Some reading.errors };
+
+    fn read(&mut self, buf: &mut [u8]) -> Result<usize, ReadFault> {
+        match self.reader.read(buf) {
+            Ok(count) => Ok(count),
+            Err(_) => {
+                self.errors = self.errors.saturating_add(1);
+                Err(ReadFault)
+            }
+        }
+    }
+}
+
+/// A writer whose faults are not counted.
+#[derive(Drop)]
+pub struct Writing<W> {
+    writer: W,
+}
+
+impl<W: Write> Writing<W> {
+    /// Writes nothing.
+    pub fn new(writer: W) -> Self
+        ensures { ⟦<Writing<W> as Sink>⟧.contents result ≡ W.contents writer }
+    {
+        Writing { writer }
+    }
+
+    pub fn into_inner(self) -> W
+        ensures { W.contents result ≡ ⟦<Writing<W> as Sink>⟧.contents self }
+    {
+        let Writing { writer } = self;
+        writer
+    }
+}
+
+impl<W: Write> Sink for Writing<W> {
+    ghost contents = { λ writing. W.contents writing.writer };
+
+    ghost faults = { λ _. None };
+
+    fn write(&mut self, bytes: &[u8]) -> Result<usize, WriteFault> {
+        write_some(&mut self.writer, bytes)
+    }
+}
+
+/// A writer whose faults are counted, up to `u64::MAX`.
+#[derive(Drop)]
+pub struct CountedWriting<W> {
+    writer: W,
+    faults: u64,
+}
+
+impl<W: Write> CountedWriting<W> {
+    /// Writes nothing.
+    pub fn new(writer: W) -> Self
+        ensures contents { ⟦<CountedWriting<W> as Sink>⟧.contents result ≡ W.contents writer }
+        ensures faults { ⟦<CountedWriting<W> as Sink>⟧.faults result ≡ Some 0 }
+    {
+        CountedWriting { writer, faults: 0 }
+    }
+
+    /// How many writes have answered an error or taken nothing, at most `u64::MAX`.
+    pub fn faults(&self) -> u64
+        ensures { ⟦<CountedWriting<W> as Sink>⟧.faults self.now ≡ Some result }
+    {
+        self.faults
+    }
+
+    pub fn into_inner(self) -> W
+        ensures { W.contents result ≡ ⟦<CountedWriting<W> as Sink>⟧.contents self }
+    {
+        let CountedWriting { writer, faults: _ } = self;
+        writer
+    }
+}
+
+impl<W: Write> Sink for CountedWriting<W> {
+    ghost contents = { λ writing. W.contents writing.writer };
+
+    ghost faults = { λ writing. Some writing.faults };
+
+    fn write(&mut self, bytes: &[u8]) -> Result<usize, WriteFault> {
+        let written = write_some(&mut self.writer, bytes);
+        if written.is_err() {
+            self.faults = self.faults.saturating_add(1);
+        }
+        written
+    }
+}
+
+// One write, which is a fault where it takes none of some bytes.
+fn write_some<W: Write>(writer: &mut W, bytes: &[u8]) -> Result<usize, WriteFault>
+    ensures bound { IfOk result (λ n. n ≤ length bytes.now) }
+    ensures some { IfOk result (λ n. 0 < length bytes.now → 0 < n) }
+    ensures bytes { WriteAppends (W.contents writer.old) (W.contents writer.new) result bytes.now }
+{
+    match writer.write(bytes) {
+        Ok(0) if !bytes.is_empty() => Err(WriteFault),
+        Ok(count) => Ok(count),
+        Err(_) => Err(WriteFault),
+    }
+}
