@@ -1,0 +1,60 @@
+-- What an end of a pool has seen: the tasks that it is owed, how many results it was handed, and whether the pool is closed.
+use Rattle.std.specs.Prelude.{◌≡◌, ℕ, ◌+◌, ◌-◌, ◌<◌, ◌≤◌, ◌^◌, min, max, Bool, true, false, List, [], ◌∷◌, ◌++◌, ◌⊎◌}
+use Rattle.std.specs.List.{Contains}
+use Rattle.lj_tile.specs.Tasks.{Work}
+
+-- the tasks that are owed, in the order of their posts; the results that were owed and those that were not, as they are counted
+pub record Seen : Type 0 where
+  pub owed : List Work
+  pub good : ℕ
+  pub strays : ℕ
+  pub closed : Bool
+
+-- nothing is owed, nothing is counted, and the pool is open
+abbrev pub unseen : Seen
+unseen = record { owed = []; good = 0; strays = 0; closed = false }
+
+-- the last value of a count
+abbrev pub last_count : ℕ
+last_count = 2 ^ 64 - 1
+
+-- a count that goes up by one: it stays at its last value
+abbrev pub one_more : ℕ → ℕ
+one_more n = max n (min (n + 1) last_count)
+
+-- what was seen closed is closed from then on
+abbrev pub StaysClosed : Seen → Seen → Type 0
+StaysClosed old new = old.closed ≡ true → new.closed ≡ true
+
+-- The same tasks are owed, and nothing is counted.
+pub record SameOwed (old new : Seen) : Type 0 where
+  pub owed : new.owed ≡ old.owed
+  pub good : new.good ≡ old.good
+  pub strays : new.strays ≡ old.strays
+
+-- The task is owed behind the others, and nothing is counted.
+pub record IsPosted (task : Work) (old new : Seen) : Type 0 where
+  pub owed : new.owed ≡ old.owed ++ task ∷ []
+  pub good : new.good ≡ old.good
+  pub strays : new.strays ≡ old.strays
+
+-- The first task that is equal to this one is owed no more, and one result more that was owed is counted.
+pub record TakesOff (task : Work) (old new : Seen) : Type 0 where
+  pub front : List Work
+  pub behind : List Work
+  pub was : old.owed ≡ front ++ task ∷ behind
+  pub first : Contains front task → ⊥
+  pub owed : new.owed ≡ front ++ behind
+  pub good : new.good ≡ one_more old.good
+  pub strays : new.strays ≡ old.strays
+
+-- The task is not owed, and one result more that was not is counted.
+pub record IsStray (task : Work) (old new : Seen) : Type 0 where
+  pub absent : Contains old.owed task → ⊥
+  pub owed : new.owed ≡ old.owed
+  pub good : new.good ≡ old.good
+  pub strays : new.strays ≡ one_more old.strays
+
+-- a result of this task is handed out
+abbrev pub IsHandedOut : Work → Seen → Seen → Type 0
+IsHandedOut task old new = TakesOff task old new ⊎ IsStray task old new

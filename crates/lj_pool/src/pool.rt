@@ -1,0 +1,51 @@
+//! What a pool is to the one who posts tasks: an end that takes tasks and hands out results.
+ghost use Rattle.std.specs.Prelude.{◌≡◌, ◌<◌, length, true, [], IfErr, IfNone, IfSome, OnErr, OnOk};
+ghost use Rattle.lj_pool.specs.Seen.{Seen, SameOwed, IsPosted, IsHandedOut, StaysClosed};
+ghost use Rattle.lj_pool.specs.Refusals.{task_of, IsClosed};
+
+use lj_tile::{Done, Task};
+
+/// How many tasks may be owed to an end at once.
+pub const MAX_OWED: usize = 64;
+
+/// Why a task was not posted. It is handed back.
+#[derive(Debug, Drop)]
+pub enum Refused {
+    /// There is no room for it now.
+    Full(Task),
+    /// The pool is closed.
+    Closed(Task),
+}
+
+/// An end of a pool. A task that was posted is owed until its result is fetched. Results that are not owed may come at any
+/// time; those that are and those that are not are counted, each count up to 2^64 - 1, where it stays.
+pub trait Pool {
+    ghost seen: { Self → Seen };
+
+    /// Posts a task. With `wait` it is never refused as `Full`.
+    fn post(&mut self, task: Task, wait: bool) -> Result<(), Refused>
+        requires room { length (seen self.old).owed < MAX_OWED }
+        requires alone { wait ≡ true → (seen self.old).owed ≡ [] }
+        ensures posted { OnOk result (IsPosted task (seen self.old) (seen self.new)) }
+        ensures handed_back { IfErr result (λ refused. task_of refused ≡ task) }
+        ensures unchanged { OnErr result (SameOwed (seen self.old) (seen self.new)) }
+        ensures full { wait ≡ true → IfErr result IsClosed }
+        ensures closed { IfErr result (λ refused. IsClosed refused → (seen self.new).closed ≡ true) }
+        ensures stays_closed { StaysClosed (seen self.old) (seen self.new) };
+
+    /// The next result for a user. None only where the pool is closed.
+    fn fetch(&mut self, user: u8) -> Option<Done>
+        requires { 0 < length (seen self.old).owed }
+        ensures handed_out { IfSome result (λ done. IsHandedOut done (seen self.old) (seen self.new)) }
+        ensures unchanged { IfNone result (SameOwed (seen self.old) (seen self.new)) }
+        ensures closed { IfNone result ((seen self.new).closed ≡ true) }
+        ensures stays_closed { StaysClosed (seen self.old) (seen self.new) };
+
+    /// How many tasks are owed.
+    fn owed(&self) -> usize
+        ensures { result ≡ length (seen self.now).owed };
+
+    /// Whether the end has seen the pool closed.
+    fn closed(&self) -> bool
+        ensures { result ≡ (seen self.now).closed };
+}
