@@ -9,7 +9,8 @@ use Rattle.lj_session.specs.declared.command.Command.{Command}
 use Rattle.lj_session.specs.declared.command.Command.TheVariants.{Load, Advance, Reverse, Branch, Restore, Forget, Tug, Measure, Show, Dump, List as ListSessions, ListBranches, Unload, Bye}
 use Rattle.lj_session.specs.declared.reply.Reply.{Reply}
 use Rattle.lj_session.specs.declared.reply.Reply.TheVariants as reply
-use Rattle.lj_session.specs.Users.{Session, User, named}
+use Rattle.lj_branch.specs.Named.{named}
+use Rattle.lj_session.specs.Users.{Session, User}
 use Rattle.lj_session.specs.Answers.{performed, answer, settled, can_advance, with_sim}
 use Rattle.lj_session.proofs.Entries.{named-put, put-put}
 use Rattle.lj_session.proofs.Performing.{advance-on}

@@ -10,7 +10,7 @@ use Rattle.lj_step.specs.Motion.{Simulation, stepped, moved}
 use Rattle.lj_step.specs.Live.{Live}
 use Rattle.lj_step.specs.OpenSteps.{closed}
 use Rattle.lj_branch.specs.declared.faults.NoBranch.{NoBranch}
-use Rattle.lj_session.specs.Users.{named, put, taken_out}
+use Rattle.lj_branch.specs.Named.{named, put, taken_out}
 use Rattle.lj_session.specs.States.{HasCount}
 use Rattle.lj_session.proofs.Entries.{by_test}
 

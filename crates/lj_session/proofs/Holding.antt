@@ -6,7 +6,8 @@ use Rattle.std.proofs.lemmas.Bool.{true≢false, false≢true}
 use Rattle.std.specs.Option.{option_map, option_copied}
 use Rattle.std.specs.Str.{bytes_eq}
 use Rattle.std.specs.Map.{set_value}
-use Rattle.lj_session.specs.Users.{Session, named, put, taken_out, with_session}
+use Rattle.lj_branch.specs.Named.{named, put, taken_out}
+use Rattle.lj_session.specs.Users.{Session, with_session}
 use Rattle.lj_session.specs.States.{Held, Owned, as_session, user_of, held_in, with_held, changed}
 use Rattle.lj_session.specs.declared.sessions.Sessions.TheInside.{Inside}
 use Rattle.lj_session.specs.Totals.{owned_of}

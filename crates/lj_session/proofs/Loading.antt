@@ -19,7 +19,8 @@ use Rattle.lj_session.specs.declared.command.Command.TheVariants as commands
 use Rattle.lj_session.specs.declared.refusal.Refusal.{Refusal}
 use Rattle.lj_session.specs.declared.refusal.Refusal.TheVariants.{Exists, QuotaSessions, QuotaAtoms, Xyz, Memory}
 use Rattle.lj_session.specs.declared.reply.Reply.TheVariants as reply
-use Rattle.lj_session.specs.Users.{Session, User, named, with_session, atoms_of, atoms_used, sessions_used}
+use Rattle.lj_branch.specs.Named.{named}
+use Rattle.lj_session.specs.Users.{Session, User, with_session, atoms_of, atoms_used, sessions_used}
 use Rattle.lj_session.specs.Loads.{admitted, body_held, scale_of_load, scale_refusal, reading_mode, place_in, opened, session_of_frames}
 use Rattle.lj_session.specs.Answers.{performed}
 use Rattle.lj_session.specs.Openings.{frames_of, last_of, session_of}

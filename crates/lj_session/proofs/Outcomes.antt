@@ -12,7 +12,8 @@ use Rattle.lj_session.specs.declared.refusal.Refusal.{Refusal}
 use Rattle.lj_session.specs.declared.refusal.Refusal.TheVariants.{Memory}
 use Rattle.lj_session.specs.declared.reply.Reply.{Reply}
 use Rattle.lj_session.specs.declared.reply.Reply.TheVariants as reply
-use Rattle.lj_session.specs.Users.{Session, User, named, put, taken_out, with_session}
+use Rattle.lj_branch.specs.Named.{named, put, taken_out}
+use Rattle.lj_session.specs.Users.{Session, User, with_session}
 use Rattle.lj_session.specs.Answers.{performed, answer, settled, can_advance}
 use Rattle.lj_session.specs.Turns.{turned}
 use Rattle.lj_session.specs.States.{Held, Owned, Performs, as_session, user_of, held_in, with_held, turned_on, branch_admitted}

@@ -7,7 +7,8 @@ use Rattle.lj_session.specs.declared.refusal.Refusal.{Refusal}
 use Rattle.lj_session.specs.declared.refusal.Refusal.TheVariants.{NoSession, NoBranch, NoAtom, StepRange, Memory}
 use Rattle.lj_session.specs.declared.reply.Reply.{Reply}
 use Rattle.lj_session.specs.declared.reply.Reply.TheVariants as reply
-use Rattle.lj_session.specs.Users.{Session, User, named, taken_out, with_session, atoms_of}
+use Rattle.lj_branch.specs.Named.{named, taken_out}
+use Rattle.lj_session.specs.Users.{Session, User, with_session, atoms_of}
 use Rattle.lj_session.specs.Answers.{performed, can_advance, with_sim}
 use Rattle.lj_session.specs.States.{Owned, Performs, outcome, user_of}
 

@@ -2,7 +2,7 @@
 use Rattle.std.proofs.Common.{◌≡◌, ℕ, Bool, true, false, List, length, Option, Some, None, Result, Ok, Err, refl, sym, ap, ◌∙◌, subst}
 use Rattle.std.specs.Option.{option_map}
 use Rattle.lj_step.specs.Motion.{Simulation}
-use Rattle.lj_session.specs.Users.{named}
+use Rattle.lj_branch.specs.Named.{named}
 use Rattle.std.specs.Prelude.{is_some, IsSome, IfSome, IsErrAnd, OnOk, OnErr}
 use Rattle.std.proofs.lemmas.Bool.{true≢false, false≢true}
 use Rattle.lj_branch.specs.declared.faults.SaveFault.{SaveFault}

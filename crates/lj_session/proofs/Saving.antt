@@ -5,7 +5,8 @@ use Rattle.lj_session.specs.declared.command.Command.TheVariants.{Branch}
 use Rattle.lj_session.specs.declared.refusal.Refusal.{Refusal}
 use Rattle.lj_session.specs.declared.refusal.Refusal.TheVariants.{NoSession, BranchExists, QuotaBranches, Memory}
 use Rattle.lj_session.specs.declared.reply.Reply.TheVariants as reply
-use Rattle.lj_session.specs.Users.{Session, User, named, put, with_session, branches_used}
+use Rattle.lj_branch.specs.Named.{named, put}
+use Rattle.lj_session.specs.Users.{Session, User, with_session, branches_used}
 use Rattle.lj_session.specs.Answers.{performed}
 use Rattle.lj_session.specs.States.{branch_admitted}
 use Rattle.lj_session.proofs.Entries.{by_test}

@@ -1,7 +1,8 @@
 -- What is used of a quota where a session is put, new or changed, or taken out.
 use Rattle.std.proofs.Common.{◌≡◌, ℕ, ◌+◌, ◌-◌, ◌≤◌, List, length, Some, None, sym, ap, ◌∙◌, arith}
 use Rattle.lj_quota.specs.declared.Used.{Used}
-use Rattle.lj_session.specs.Users.{Session, User, named, taken_out, with_session, atoms_of, sessions_used, atoms_used, branches_used}
+use Rattle.lj_branch.specs.Named.{named, taken_out}
+use Rattle.lj_session.specs.Users.{Session, User, with_session, atoms_of, sessions_used, atoms_used, branches_used}
 use Rattle.lj_session.specs.States.{Held, Owned, as_session, user_of, used_by, held_in, with_held}
 use Rattle.lj_session.specs.declared.sessions.Sessions.TheInside.{Inside}
 use Rattle.lj_session.specs.Totals.{owned_of}

@@ -20,7 +20,8 @@ use Rattle.lj_session.specs.declared.command.Mode.{Mode}
 use Rattle.lj_session.specs.declared.command.Mode.TheVariants.{Rest, Pair}
 use Rattle.lj_session.specs.declared.refusal.Refusal.{Refusal}
 use Rattle.lj_session.specs.declared.refusal.Refusal.TheVariants.{Exists, QuotaSessions, QuotaAtoms, Xyz, Edge, Sigma, StepFactor, Memory}
-use Rattle.lj_session.specs.Users.{Session, User, named, atoms_of, atoms_used, sessions_used}
+use Rattle.lj_branch.specs.Named.{named}
+use Rattle.lj_session.specs.Users.{Session, User, atoms_of, atoms_used, sessions_used}
 
 -- nothing where a test holds, else a refusal
 abbrev pub unless : Bool → Refusal → Result (Unit {0}) Refusal

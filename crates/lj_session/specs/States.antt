@@ -17,7 +17,8 @@ use Rattle.lj_session.specs.declared.command.Command.TheVariants.{Advance}
 use Rattle.lj_session.specs.declared.refusal.Refusal.{Refusal}
 use Rattle.lj_session.specs.declared.refusal.Refusal.TheVariants.{BranchExists, QuotaBranches, Memory}
 use Rattle.lj_session.specs.declared.reply.Reply.{Reply}
-use Rattle.lj_session.specs.Users.{Session, User, fresh, named, put, sessions_used, atoms_used, branches_used}
+use Rattle.lj_branch.specs.Named.{named, put}
+use Rattle.lj_session.specs.Users.{Session, User, fresh, sessions_used, atoms_used, branches_used}
 use Rattle.lj_session.specs.Loads.{unless}
 use Rattle.lj_session.specs.Answers.{session_of, performed, answer, can_advance}
 

@@ -3,7 +3,8 @@ use Rattle.std.specs.Prelude.{ℕ, ◌-◌, List, Option, Some, None, if◌then�
 use Rattle.lj_step.specs.Motion.{stepped}
 use Rattle.lj_session.specs.declared.command.Command.{Command}
 use Rattle.lj_session.specs.declared.command.Command.TheVariants.{Advance, Measure}
-use Rattle.lj_session.specs.Users.{Session, User, named}
+use Rattle.lj_branch.specs.Named.{named}
+use Rattle.lj_session.specs.Users.{Session, User}
 use Rattle.lj_session.specs.Answers.{can_advance, with_sim}
 
 -- a step is a turn

@@ -1,9 +1,7 @@
 -- A user: a quota, and sessions under names.
-use Rattle.std.specs.Prelude.{ℕ, List, [], length, Option}
+use Rattle.std.specs.Prelude.{ℕ, List, [], length}
 use Rattle.std.specs.List.{sum_by}
-use Rattle.std.specs.Str.{bytes_eq}
-use Rattle.std.specs.Map.{lookup, remove_entry}
-use Rattle.indexmap.specs.IndexMap.{insert_entry}
+use Rattle.lj_branch.specs.Named.{put}
 use Rattle.lj_ring.specs.Scales.{Units}
 use Rattle.lj_step.specs.Motion.{Simulation}
 use Rattle.lj_quota.specs.declared.Quota.{Quota}
@@ -23,18 +21,6 @@ pub record User : Type 0 where
 -- the user without sessions
 abbrev pub fresh : Quota → User
 fresh quota = record { quota = quota; sessions = [] }
-
--- what stands under a name
-abbrev pub named : {A : Type 0} → List ℕ → List (List ℕ × A) → Option A
-named name entries = lookup (bytes_eq name) entries
-
--- a value put under a name: where the name stands already it keeps its place, and a new one goes last
-abbrev pub put : {A : Type 0} → List ℕ → A → List (List ℕ × A) → List (List ℕ × A)
-put name value entries = insert_entry bytes_eq entries name value
-
--- a name taken out, with what stands under it: the others keep their order
-abbrev pub taken_out : {A : Type 0} → List ℕ → List (List ℕ × A) → List (List ℕ × A)
-taken_out name entries = remove_entry (bytes_eq name) entries
 
 -- the user with this session under a name
 abbrev pub with_session : List ℕ → Session → User → User

@@ -1,6 +1,6 @@
 use Rattle.std.proofs.Common.{length, sym, ap, ◌∙◌, subst}
 use Rattle.std.specs.List.{AllByRecursion}
-use Rattle.lj_session.specs.Users.{named}
+use Rattle.lj_branch.specs.Named.{named}
 use Rattle.lj_session.specs.States.{Held, HasCount}
 use Rattle.lj_session.proofs.Counts.{counts-named, count-restored}
 use Rattle.lj_session.proofs.session.Session.restore.Goals as goal

@@ -2,7 +2,7 @@ use Rattle.std.proofs.Common.{Some, None, false, length, sym, ap, ◌∙◌}
 use Rattle.lj_step.specs.Live.{Live}
 use Rattle.std.specs.Prelude.{is_some}
 use Rattle.lj_session.specs.declared.reply.Reply.TheVariants as reply
-use Rattle.lj_session.specs.Users.{named, put}
+use Rattle.lj_branch.specs.Named.{named, put}
 use Rattle.lj_session.proofs.Entries.{length-new}
 use Rattle.lj_session.proofs.Holding.{named-held, named-absent, looked_up, written, unwritten}
 use Rattle.lj_session.proofs.Performing as performing

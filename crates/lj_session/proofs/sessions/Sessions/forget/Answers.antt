@@ -1,5 +1,5 @@
 use Rattle.std.proofs.Common.{◌+◌, Some, None, false, length, refl, ap, ◌∙◌}
-use Rattle.lj_session.specs.Users.{named}
+use Rattle.lj_branch.specs.Named.{named}
 use Rattle.lj_session.proofs.Entries.{length-taken}
 use Rattle.lj_session.proofs.Holding.{named-held, named-absent, looked_up, written, unwritten}
 use Rattle.lj_session.proofs.Performing as performing

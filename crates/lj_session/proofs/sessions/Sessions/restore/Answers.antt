@@ -1,7 +1,7 @@
 use Rattle.std.proofs.Common.{◌≡◌, Some, None, false, length, refl, ap, ◌∙◌}
 use Rattle.lj_step.specs.Live.{Live}
 use Rattle.lj_session.specs.declared.reply.Reply.TheVariants as reply
-use Rattle.lj_session.specs.Users.{named}
+use Rattle.lj_branch.specs.Named.{named}
 use Rattle.lj_session.proofs.Holding.{named-held, named-absent, looked_up, written, unwritten}
 use Rattle.lj_session.proofs.Performing as performing
 use Rattle.lj_session.proofs.Outcomes as outcomes
