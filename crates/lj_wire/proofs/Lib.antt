@@ -9,3 +9,4 @@ mod Counts
 mod Parsing
 pub mod Filling
 mod Bodies
+pub mod Known

@@ -7,6 +7,7 @@ mod item;
 mod laws;
 mod line;
 mod number;
+mod put;
 mod verb;
 mod words;
 
@@ -21,4 +22,5 @@ pub use laws::{
 };
 pub use line::split_line;
 pub use number::{parse_displacement, parse_number};
+pub use put::put_all;
 pub use words::Words;
