@@ -1,6 +1,6 @@
-use Rattle.std.proofs.Common.{ℕ, zero, suc, ◌+◌, ◌-◌, ◌*◌, ◌/◌, ◌%◌, ◌^◌, ◌<◌, ◌≤◌, ◌≡◌, ◌≢◌, ◌==◌, ℤ, pos, ◌+ℤ◌, Bool, true, false, cond, if◌then◌else◌, List, [], ◌∷◌, length, map, count_by, sum_by, inl, inr, refl, sym, ap, ◌∙◌, zero-add, arith}
+use Rattle.std.proofs.Common.{ℕ, zero, suc, ◌+◌, ◌*◌, ◌%◌, ◌^◌, ◌<◌, ◌≡◌, ◌==◌, ℤ, pos, ◌+ℤ◌, Bool, true, false, cond, if◌then◌else◌, List, [], ◌∷◌, length, map, sum_by, inl, inr, refl, sym, ap, ◌∙◌, zero-add, arith}
 use Rattle.std.specs.List.{range_with_len}
-use Rattle.std.proofs.Math.IntN.{+ℤ_idl, +ℤ_idr, +ℤ_assoc, +ℤ_comm}
+use Rattle.std.proofs.Math.IntN.{+ℤ_idl, +ℤ_idr}
 use Rattle.std.proofs.lemmas.Bool.{cases_eq, cases_Bool}
 use Rattle.std.proofs.lemmas.Bool.Decides.{nat_tests}
 use Rattle.std.proofs.Math.Numerals.{one-add}
@@ -12,7 +12,7 @@ use Rattle.lj_ring.specs.Scales.{Units, interacts, entry, bin}
 use Rattle.lj_table.specs.Entries.{energy_entry}
 use Rattle.lj_tile.specs.declared.pairs.Push.{Push}
 use Rattle.lj_tile.specs.Pushes.{push, push_along, no_push, energy}
-use Rattle.lj_tile.specs.Tiles.{Tile, chosen_push, chosen_energy, push_sum, tile_force, tile_energy, times, are_near, IsForceCover, IsEnergyCover}
+use Rattle.lj_tile.specs.Tiles.{Tile, chosen_energy, push_sum, tile_energy, times, are_near, IsForceCover, IsEnergyCover}
 use Rattle.lj_step.specs.Motion.{Simulation, place_at, push_of, force, next_place, moved, stepped, potential}
 use Rattle.lj_step.specs.Laws.{tiles_force, stepped_by, tiles_energy}
 use Rattle.lj_step.proofs.RingSums.{sum_same, ring_sum_same, ring_sum_zero, sum_plus}

@@ -1,13 +1,13 @@
-use Rattle.std.proofs.Common.{ℕ, zero, suc, ◌+◌, ◌-◌, ◌*◌, ◌%◌, ◌^◌, ◌<◌, ◌≤◌, ◌≡◌, List, length, Bool, true, false, ◌==◌, if◌then◌else◌, inl, inr, refl, sym, ap, ◌∙◌, arith}
+use Rattle.std.proofs.Common.{ℕ, zero, suc, ◌+◌, ◌%◌, ◌^◌, ◌<◌, ◌≡◌, List, length, true, false, ◌==◌, inl, inr, refl, sym, ap, ◌∙◌, arith}
 use Rattle.std.proofs.lemmas.Bool.{cases_eq}
 use Rattle.std.proofs.lemmas.Bool.Decides.{nat_tests}
 use Rattle.lj_ring.specs.declared.coordinates.Place.{Place}
 use Rattle.lj_ring.specs.Ring.{sum_below, ring_sum}
 use Rattle.lj_ring.specs.Scales.{Units}
 use Rattle.lj_tile.specs.declared.pairs.Push.{Push}
-use Rattle.lj_tile.specs.Pushes.{push, no_push}
-use Rattle.lj_step.specs.Motion.{Simulation, place_at, push_of, force, next_coordinate, moved, next_frame, stepped, steps, reversed}
-use Rattle.lj_step.specs.Laws.{IsOnRing, AreOnRing, IsWhole, IsScale, ring_sub, drift, opposite}
+use Rattle.lj_tile.specs.Pushes.{no_push}
+use Rattle.lj_step.specs.Motion.{Simulation, place_at, push_of, force, next_coordinate, moved, stepped, steps, reversed}
+use Rattle.lj_step.specs.Laws.{IsOnRing, IsWhole, IsScale, ring_sub, drift, opposite}
 use Rattle.lj_step.proofs.RingSums.{ring_sum_same, ring_sum_zero, sum_plus, square_zero}
 use Rattle.lj_step.proofs.Opposites.{AddToNone, pushes_opposite}
 use Rattle.lj_step.proofs.Undone.{next_frame_at, next_frame_length, stepped_whole}

@@ -14,3 +14,4 @@ pub mod Opened
 pub mod Steps
 pub mod Covers
 pub mod TaskCovers
+pub mod TileValues

@@ -1,12 +1,11 @@
-use Rattle.std.proofs.Common.{ℕ, zero, suc, ◌+◌, ◌-◌, ◌*◌, ◌/◌, ◌%◌, ◌^◌, ◌<◌, ◌≤◌, ◌≡◌, ◌≢◌, ◌⊎◌, ℤ, pos, ◌+ℤ◌, unsigned_abs, Bool, true, false, cond, List, [], ◌∷◌, length, map, replicate, slice_index_or, slice_set, count_by, Option, Some, None, inl, inr, refl, sym, ap, ◌∙◌, subst, get_or-set_same, get_or-set_other, arith}
-use Rattle.std.specs.List.{range_with_len, filter}
+use Rattle.std.proofs.Common.{ℕ, ◌+◌, ◌-◌, ◌*◌, ◌/◌, ◌^◌, ◌<◌, ◌≤◌, ◌≡◌, ◌≢◌, ◌⊎◌, pos, ◌+ℤ◌, unsigned_abs, Bool, true, false, cond, List, [], ◌∷◌, length, map, replicate, slice_index_or, slice_set, count_by, Option, Some, inl, inr, refl, sym, ap, ◌∙◌, subst, get_or-set_same, get_or-set_other, arith}
+use Rattle.std.specs.List.{range_with_len}
 use Rattle.std.proofs.lemmas.List.{get_or-replicate}
 use Rattle.std.proofs.lemmas.Bool.{cases_eq, cases_lt, true≢false}
 use Rattle.std.proofs.lemmas.List.Sums.{length-filter, count_by-le-length, sum_by-set, sum_by-cons, get_or-le-sum_by}
 use Rattle.std.proofs.lemmas.List.FromFn.{length-range_with_len}
 use Rattle.lj_ring.specs.declared.coordinates.Place.{Place}
 use Rattle.lj_ring.specs.Scales.{Units}
-use Rattle.lj_tile.specs.declared.pairs.Push.{Push}
 use Rattle.lj_tile.specs.declared.names.Kind.{Kind}
 use Rattle.lj_tile.specs.declared.names.Kind.TheVariants.{Force, Energy}
 use Rattle.lj_tile.specs.Pushes.{no_push, plus}

@@ -1,4 +1,4 @@
-use Rattle.std.proofs.Common.{ℕ, ◌+◌, ◌-◌, ◌*◌, ◌/◌, ◌<◌, ◌≤◌, ◌≡◌, ◌≢◌, ◌==◌, ℤ, pos, ◌+ℤ◌, Bool, true, false, nat_lt, List, length, slice_index_or, slice_set, count_by, if◌then◌else◌, inl, inr, refl, sym, ap, ◌∙◌, arith}
+use Rattle.std.proofs.Common.{ℕ, ◌+◌, ◌*◌, ◌/◌, ◌<◌, ◌≤◌, ◌≡◌, ◌≢◌, ◌==◌, ℤ, pos, ◌+ℤ◌, Bool, true, false, nat_lt, List, length, slice_index_or, slice_set, count_by, if◌then◌else◌, inl, inr, refl, sym, ap, ◌∙◌, arith}
 use Rattle.std.proofs.Math.IntN.{+ℤ_idl, +ℤ_idr}
 use Rattle.std.proofs.lemmas.Bool.{cases_eq, cases_Bool, eqb-true, eqb-false}
 use Rattle.std.proofs.lemmas.Bool.Decides.{nat_tests}
@@ -36,7 +36,7 @@ term e before after here comes stays =
     ]
 
 -- of the pairs with atom j, those whose first atom stands in a block
-in_first : (e : ℕ → ℕ → ℤ) (b j : ℕ) → ℤ
+unfoldable pub in_first : (e : ℕ → ℕ → ℤ) (b j : ℕ) → ℤ
 in_first e b j = int_sum_below j (λ i. if i / 64 == b then e i j else pos 0)
 
 swap_tests : (s t : Bool) (e : ℤ) → (if s then (if t then e else pos 0) else pos 0) ≡ (if t then (if s then e else pos 0) else pos 0)
@@ -53,6 +53,15 @@ first_places e b j n below =
     ∙ int_sum_same n (λ i. if nat_lt i j then (if i / 64 == b then e i j else pos 0) else pos 0) (λ i. if i / 64 == b then (if nat_lt i j then e i j else pos 0) else pos 0)
     (λ i h. swap_tests (nat_lt i j) (i / 64 == b) (e i j))
     ∙ int_block_sum (λ i. if nat_lt i j then e i j else pos 0) b n
+
+-- the pairs of two blocks, by their places in these
+pub block_pairs : (e : ℕ → ℕ → ℤ) (bi bj n : ℕ) → int_sum_below n (λ j. if j / 64 == bj then in_first e bi j else pos 0)
+    ≡ int_sum_below (length_in bj n) (λ s. int_sum_below (length_in bi n) (λ t. if nat_lt (64 * bi + t) (64 * bj + s) then e (64 * bi + t) (64 * bj + s) else pos 0))
+block_pairs e bi bj n =
+    int_block_sum (in_first e bi) bj n
+    ∙ int_sum_same (length_in bj n) (λ s. in_first e bi (64 * bj + s))
+    (λ s. int_sum_below (length_in bi n) (λ t. if nat_lt (64 * bi + t) (64 * bj + s) then e (64 * bi + t) (64 * bj + s) else pos 0))
+    (λ s h. let within : 64 * bj + s < n = atom_within n bj s h in first_places e bi (64 * bj + s) n (omega arith))
 
 module _ (e : ℕ → ℕ → ℤ) (bi bj n : ℕ) (before after : ℕ → ℕ → Bool)
     (comes : (i j : ℕ) → i < j → j < n → i / 64 ≡ bi → j / 64 ≡ bj → (before i j ≡ true) × (after i j ≡ false))
@@ -92,11 +101,7 @@ module _ (e : ℕ → ℕ → ℤ) (bi bj n : ℕ) (before after : ℕ → ℕ �
   rows =
       int_sum_same n (so_far after) (λ j. so_far before j +ℤ (if j / 64 == bj then in_first e bi j else pos 0)) row
       ∙ int_sum_plus n (so_far before) (λ j. if j / 64 == bj then in_first e bi j else pos 0)
-      ∙ ap (λ w. int_sum_below n (so_far before) +ℤ w)
-      (int_block_sum (in_first e bi) bj n
-      ∙ int_sum_same (length_in bj n) (λ s. in_first e bi (64 * bj + s))
-      (λ s. int_sum_below (length_in bi n) (λ t. if nat_lt (64 * bi + t) (64 * bj + s) then e (64 * bi + t) (64 * bj + s) else pos 0))
-      (λ s h. let within : 64 * bj + s < n = atom_within n bj s h in first_places e bi (64 * bj + s) n (omega arith)))
+      ∙ ap (λ w. int_sum_below n (so_far before) +ℤ w) (block_pairs e bi bj n)
 
 -- the sum of the energies of the pairs of two blocks
 unfoldable pub block_energy : Units → List Place → ℕ → ℕ → ℤ

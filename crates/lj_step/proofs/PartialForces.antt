@@ -1,4 +1,4 @@
-use Rattle.std.proofs.Common.{ℕ, ◌+◌, ◌-◌, ◌*◌, ◌/◌, ◌%◌, ◌^◌, ◌<◌, ◌≤◌, ◌≡◌, ◌≢◌, ◌==◌, Bool, true, false, not, List, length, slice_index_or, slice_set, count_by, if◌then◌else◌, inl, inr, refl, sym, ap, ◌∙◌, zero-add, add-zero, arith}
+use Rattle.std.proofs.Common.{ℕ, ◌+◌, ◌*◌, ◌/◌, ◌%◌, ◌^◌, ◌<◌, ◌≤◌, ◌≡◌, ◌≢◌, ◌==◌, Bool, true, false, not, List, length, slice_index_or, slice_set, count_by, if◌then◌else◌, inl, inr, refl, sym, ap, ◌∙◌, zero-add, add-zero, arith}
 use Rattle.std.proofs.lemmas.Bool.{cases_eq, cases_Bool, eqb-true, eqb-false}
 use Rattle.std.proofs.lemmas.Bool.Decides.{nat_tests}
 use Rattle.lj_ring.specs.declared.coordinates.Place.{Place}
@@ -11,7 +11,7 @@ use Rattle.lj_tile.specs.Tasks.{Work, task_force}
 use Rattle.lj_step.specs.Motion.{place_at, push_of, force}
 use Rattle.lj_step.specs.OpenSteps.{block, tile_number}
 use Rattle.lj_step.specs.Sums.{pair_awaited, push_so_far, force_so_far}
-use Rattle.lj_step.proofs.RingSums.{sum_same, ring_sum_same, ring_sum_zero, sum_plus}
+use Rattle.lj_step.proofs.RingSums.{sum_same, ring_sum_zero, sum_plus}
 use Rattle.lj_step.proofs.Drift.{same_push}
 use Rattle.lj_step.proofs.BlockSums.{length_in, block_sum}
 use Rattle.lj_step.proofs.BlockPlaces.{block_length, block_place}
@@ -67,7 +67,7 @@ block_force u frame i b = record {
   z = ring_sum (length_in b (length frame)) (λ s. (push_of u frame i (64 * b + s)).z);
 }
 
-chosen_is : (u : Units) (frame : List Place) (i j : ℕ) → chosen_push u (not (i == j)) (place_at frame i) (place_at frame j) ≡ push_of u frame i j
+pub chosen_is : (u : Units) (frame : List Place) (i j : ℕ) → chosen_push u (not (i == j)) (place_at frame i) (place_at frame j) ≡ push_of u frame i j
 chosen_is u frame i j =
     elim (cases_eq j i) [
       | inl same ↦

@@ -1,12 +1,12 @@
-use Rattle.std.proofs.Common.{ℕ, ◌+◌, ◌*◌, ◌/◌, ◌%◌, ◌^◌, ◌<◌, ◌≤◌, ◌≡◌, ℤ, pos, ◌+ℤ◌, unsigned_abs, FitsSigned, to_z, of_z, Bool, true, false, List, length, map, replicate, slice_index_or, slice_set, slice_get, count_by, Option, Some, None, inl, inr, refl, sym, ap, ◌∙◌, subst, vec_capacity, arith}
-use Rattle.std.specs.List.{range_with_len, filter}
+use Rattle.std.proofs.Common.{ℕ, ◌+◌, ◌*◌, ◌/◌, ◌%◌, ◌^◌, ◌<◌, ◌≤◌, ◌≡◌, ℤ, pos, ◌+ℤ◌, unsigned_abs, to_z, of_z, Bool, true, false, List, length, map, replicate, slice_index_or, slice_set, slice_get, count_by, Option, Some, None, inl, inr, refl, sym, ap, ◌∙◌, subst, arith}
+use Rattle.std.specs.List.{range_with_len}
 use Rattle.std.specs.Int.{w128}
 use Rattle.std.specs.Option.{option_map, option_map_or}
 use Rattle.std.proofs.lemmas.Option.{slice_get_read}
 use Rattle.std.proofs.lemmas.Bool.{cases_lt, leb-true, true≢false}
 use Rattle.std.proofs.lemmas.List.{get_or_past}
-use Rattle.std.proofs.lemmas.List.Elements.{filter_passes, All-filter, All-get_or}
-use Rattle.std.proofs.lemmas.List.FromFn.{fill_by_all, get_or-range_with_len, length-range_with_len, length-map-range_with_len}
+use Rattle.std.proofs.lemmas.List.Elements.{filter_passes, All-filter}
+use Rattle.std.proofs.lemmas.List.FromFn.{fill_by_all, get_or-range_with_len, length-range_with_len}
 use Rattle.std.proofs.lemmas.Int.{to_z-of_z, fits_signed_from_abs}
 use Rattle.lj_ring.specs.declared.coordinates.Place.{Place}
 use Rattle.lj_ring.specs.Scales.{Units}
@@ -19,7 +19,7 @@ use Rattle.lj_tile.specs.Tasks.{Work, task_energy}
 use Rattle.lj_step.specs.declared.partial.Partial.{Partial}
 use Rattle.lj_step.specs.Motion.{Simulation, place_at, next_place, force, moved, next_frame, stepped, potential}
 use Rattle.lj_step.specs.Live.{Live, OpenStep}
-use Rattle.lj_step.specs.OpenSteps.{blocks, block, tile_number, number_of, is_tile, cover, task_of, task_in, task_at, awaits, awaits_in, awaits_at, AwaitsIn, Awaits, kind_of, is_whole, closed}
+use Rattle.lj_step.specs.OpenSteps.{blocks, block, number_of, is_tile, cover, task_of, task_in, task_at, awaits, awaits_in, awaits_at, AwaitsIn, Awaits, kind_of, is_whole, closed}
 use Rattle.lj_step.specs.Sums.{HasRoom, HasAdded, IsOpen, IsPartial}
 use Rattle.lj_step.specs.Kept.{open_step_of}
 use Rattle.lj_step.proofs.PartialForces.{force_whole}

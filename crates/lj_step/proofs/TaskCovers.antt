@@ -1,14 +1,14 @@
-use Rattle.std.proofs.Common.{ℕ, zero, suc, ◌+◌, ◌-◌, ◌*◌, ◌/◌, ◌%◌, ◌<◌, ◌≤◌, ◌≡◌, ◌≢◌, ◌==◌, ◌&&◌, Bool, true, false, not, nat_lt, cond, List, [], ◌∷◌, length, map, count_by, inl, inr, refl, sym, ap, ◌∙◌, zero-add, arith}
+use Rattle.std.proofs.Common.{ℕ, zero, suc, ◌+◌, ◌*◌, ◌/◌, ◌%◌, ◌<◌, ◌≤◌, ◌≡◌, ◌≢◌, ◌==◌, ◌&&◌, Bool, true, false, not, nat_lt, cond, List, [], ◌∷◌, length, map, count_by, inl, inr, refl, sym, ap, ◌∙◌, zero-add, arith}
 use Rattle.std.specs.List.{range_with_len, filter}
-use Rattle.std.proofs.lemmas.Bool.{cases_eq, cases_Bool, eqb-true, eq-eqb, ltb-true, lt-ltb, and_parts, and_from, true≢false, false_from_ne_true}
+use Rattle.std.proofs.lemmas.Bool.{cases_eq, eqb-true, eq-eqb, lt-ltb, and_parts, and_from, true≢false, false_from_ne_true}
 use Rattle.std.proofs.lemmas.Bool.Decides.{nat_tests}
 use Rattle.std.proofs.lemmas.List.Sums.{sum_by-cons}
 use Rattle.lj_ring.specs.declared.coordinates.Place.{Place}
 use Rattle.lj_ring.specs.Scales.{Units}
 use Rattle.lj_tile.specs.declared.names.Kind.{Kind}
 use Rattle.lj_tile.specs.declared.names.Kind.TheVariants.{Force, Energy}
-use Rattle.lj_tile.specs.Tiles.{Tile, times, are_near, force_tile, energy_tile, block_of, IsForceCover, IsEnergyCover}
-use Rattle.lj_step.specs.OpenSteps.{blocks, tile_number, first_block, second_block, is_tile, in_order, tile_of, cover}
+use Rattle.lj_tile.specs.Tiles.{Tile, times, IsForceCover, IsEnergyCover}
+use Rattle.lj_step.specs.OpenSteps.{blocks, tile_number, is_tile, tile_of, cover}
 use Rattle.lj_step.proofs.Flags.{tile_within, parts_of, block_below, tile_passes, ordered_blocks, ordered_is}
 
 -- how many numbers of a range pass a test that one number at most passes

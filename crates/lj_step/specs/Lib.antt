@@ -1,6 +1,7 @@
 pub mod Motion
 pub mod Live
 pub mod OpenSteps
+pub mod TileTasks
 pub mod Sums
 pub mod Kept
 pub mod Saved

@@ -1,5 +1,5 @@
 -- An open step: its cover by tiles of two blocks, the tasks of these tiles, and which of them are still awaited.
-use Rattle.std.specs.Prelude.{ℕ, ◌+◌, ◌-◌, ◌*◌, ◌/◌, ◌%◌, ◌≡◌, ◌&&◌, Bool, true, false, nat_le, nat_lt, min, List, length, map, count_by, slice_index_or, slice_set, slice_range, slice_get, Option, Some, None}
+use Rattle.std.specs.Prelude.{ℕ, ◌+◌, ◌*◌, ◌/◌, ◌%◌, ◌≡◌, ◌&&◌, Bool, true, false, nat_le, nat_lt, min, List, length, map, count_by, slice_index_or, slice_set, slice_range, slice_get, Option, Some, None}
 use Rattle.std.specs.List.{range_with_len, filter}
 use Rattle.std.specs.Option.{option_map, option_map_or}
 use Rattle.lj_ring.specs.declared.coordinates.Place.{Place}
@@ -50,6 +50,10 @@ tiles_of live = tiles_in (length live.sim.cur) live.part
 abbrev pub tile_of : Kind → ℕ → Tile
 tile_of Force k = force_tile (first_block k) (second_block k)
 tile_of Energy k = energy_tile (first_block k) (second_block k)
+
+-- the tiles of a step, in the order of its tasks
+abbrev pub cover_tiles : Kind → ℕ → List Tile
+cover_tiles kind count = map (tile_of kind) (cover kind count)
 
 -- the places of a block of a frame
 abbrev pub block : List Place → ℕ → List Place

@@ -5,7 +5,7 @@ use Rattle.lj_ring.specs.declared.coordinates.Place.{Place}
 use Rattle.lj_ring.specs.Scales.{Units}
 use Rattle.lj_table.specs.Entries.{push_entry, energy_entry}
 use Rattle.lj_tile.specs.Pushes.{push}
-use Rattle.lj_step.specs.Motion.{Simulation, opening, stepped, steps, reversed, tugged, force, momentum, kinetic, potential, Displacement}
+use Rattle.lj_step.specs.Motion.{Simulation, opening, stepped, steps, reversed, tugged, force, momentum, kinetic, potential}
 
 -- a place on the x axis
 abbrev pub on_x : ℕ → Place

@@ -1,34 +1,51 @@
 //! Laws of the motion, over all simulations. The functions do nothing: what counts is what they ensure.
-ghost use Rattle.std.specs.Prelude.{◌≡◌, ◌≤◌, ℕ, List, length, map};
+ghost use Rattle.std.specs.Prelude.{◌≡◌, ◌≤◌, ℕ, List, length};
 ghost use Rattle.lj_ring.specs.declared.coordinates.Place.{Place};
 ghost use Rattle.lj_ring.specs.Scales.{Units};
 ghost use Rattle.lj_tile.specs.declared.names.Kind.TheVariants.{Force, Energy};
 ghost use Rattle.lj_tile.specs.Tiles.{Tile, IsForceCover, IsEnergyCover};
 ghost use Rattle.lj_step.specs.Motion.{Simulation, steps, stepped, reversed, potential};
-ghost use Rattle.lj_step.specs.OpenSteps.{cover, tile_of};
+ghost use Rattle.lj_tile.specs.declared.names.Label.{Label};
+ghost use Rattle.lj_step.specs.Live.{Live};
+ghost use Rattle.lj_step.specs.OpenSteps.{cover_tiles, task_of, tile_of};
+ghost use Rattle.lj_step.specs.TileTasks.{HasEnergy, HasForces};
 ghost use Rattle.lj_step.specs.Laws.{IsWhole, IsScale, drift, opposite, stepped_by, tiles_energy};
 
 /// Any number of steps can be undone: reversed, walked back as many steps and reversed again, a simulation is as it
 /// was, bit for bit.
 pub fn steps_are_undone()
-    ensures { (u : Units) (n : ℕ) (sim : Simulation) → IsWhole sim → reversed (steps u n (reversed (steps u n sim))) ≡ sim }
+    ensures { (u : Units) (n : ℕ) (sim : Simulation) → IsWhole sim
+        → reversed (steps u n (reversed (steps u n sim))) ≡ sim }
 {}
 
 /// The drift, the ring sum of `cur - prev`, is conserved: a step leaves it, and a reverse changes its sign.
 pub fn drift_is_conserved()
-    ensures steps { (u : Units) (n : ℕ) (sim : Simulation) → IsScale u → IsWhole sim → drift (steps u n sim) ≡ drift sim }
+    ensures steps { (u : Units) (n : ℕ) (sim : Simulation) → IsScale u → IsWhole sim
+        → drift (steps u n sim) ≡ drift sim }
     ensures reverse { (sim : Simulation) → IsWhole sim → drift (reversed sim) ≡ opposite (drift sim) }
 {}
 
 /// A step by the sums of any cover of its frame, the tiles in any order, is the step over all pairs; and the energies of
 /// any cover add up to the potential.
 pub fn covers_are_all_pairs()
-    ensures step { (u : Units) (sim : Simulation) (tiles : List Tile) → IsForceCover u sim.cur tiles → stepped_by u tiles sim ≡ stepped u sim }
-    ensures energy { (u : Units) (frame : List Place) (tiles : List Tile) → IsEnergyCover u frame tiles → tiles_energy u frame tiles ≡ potential u frame }
+    ensures step { (u : Units) (sim : Simulation) (tiles : List Tile) → IsForceCover u sim.cur tiles
+        → stepped_by u tiles sim ≡ stepped u sim }
+    ensures energy { (u : Units) (frame : List Place) (tiles : List Tile) → IsEnergyCover u frame tiles
+        → tiles_energy u frame tiles ≡ potential u frame }
 {}
 
-/// The tasks of a step of up to 4,096 atoms are a cover, of each kind.
+/// The tiles of a step of up to 4,096 atoms are a cover, of each kind.
 pub fn tasks_are_a_cover()
-    ensures force { (u : Units) (frame : List Place) → length frame ≤ 4096 → IsForceCover u frame (map (tile_of Force) (cover Force (length frame))) }
-    ensures energy { (u : Units) (frame : List Place) → length frame ≤ 4096 → IsEnergyCover u frame (map (tile_of Energy) (cover Energy (length frame))) }
+    ensures force { (u : Units) (frame : List Place) → length frame ≤ 4096
+        → IsForceCover u frame (cover_tiles Force (length frame)) }
+    ensures energy { (u : Units) (frame : List Place) → length frame ≤ 4096
+        → IsEnergyCover u frame (cover_tiles Energy (length frame)) }
+{}
+
+/// The task of a tile has the value of that tile: what its result keeps is what the tile adds to each atom, or its energy.
+pub fn tasks_are_the_tiles()
+    ensures force { (live : Live) (label : Label) (k : ℕ)
+        → HasForces live.units live.sim.cur (tile_of Force k) (task_of live label Force k) }
+    ensures energy { (live : Live) (label : Label) (k : ℕ)
+        → HasEnergy live.units live.sim.cur (tile_of Energy k) (task_of live label Energy k) }
 {}

@@ -1,9 +1,10 @@
-ghost use Rattle.std.specs.Prelude.{◌≡◌, ◌≤◌, ◌<◌, ◌+◌, ◌^◌, ◌↔◌, pos, ◌+ℤ◌, ◌-ℤ◌, length, unsigned_abs, IfOk, IfErr, IsOk, IsTrue, OnOk, OnErr, Some, None, true, ℕ, ◌*◌, slice_index_or, [], ◌∷◌};
+ghost use Rattle.std.specs.Prelude.{◌≡◌, ◌≤◌, ◌<◌, ◌+◌, ◌^◌, ◌↔◌, pos, ◌+ℤ◌, ◌-ℤ◌, length, unsigned_abs, IfOk, IfErr, IfSome, IsOk, IsTrue, OnOk, OnErr, Some, None, true, ℕ, ◌*◌, slice_index_or, [], ◌∷◌};
 ghost use Rattle.lj_tile.specs.declared.names.Kind.TheVariants.{Force, Energy};
 ghost use Rattle.lj_ring.specs.Ring.{in_ring};
 ghost use Rattle.lj_tile.specs.Pushes.{no_push};
 ghost use Rattle.lj_step.specs.Motion as motion;
 ghost use Rattle.lj_step.specs.OpenSteps as steps;
+ghost use Rattle.lj_step.specs.TileTasks.{HasTileValue, IsCovered};
 
 use crate::frames::{Frames, next_place, overwrite};
 use crate::measures::{self, Momentum};
@@ -181,7 +182,8 @@ impl Sim {
 
     /// How many tiles the open step has; 0 where no step is open.
     pub fn tiles(&self) -> usize
-        ensures { result ≡ steps.tiles_of self.now }
+        ensures value { result ≡ steps.tiles_of self.now }
+        ensures cover { IsCovered self.now }
     {
         match self.partial.kind {
             Some(_) => self.partial.tiles.len(),
@@ -191,7 +193,8 @@ impl Sim {
 
     /// The task of the i-th tile of the open step's cover; None past the last one, and where no step is open.
     pub fn task(&self, i: usize, label: &Label) -> Option<Task>
-        ensures { result ≡ steps.task_at self.now label.now i }
+        ensures value { result ≡ steps.task_at self.now label.now i }
+        ensures tile { IfSome result (HasTileValue self.now i) }
     {
         let kind = self.partial.kind?;
         let number = *self.partial.tiles.as_slice().get(i)?;

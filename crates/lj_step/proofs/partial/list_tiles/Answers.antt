@@ -1,4 +1,4 @@
-use Rattle.std.proofs.Common.{◌≡◌, ◌+◌, ◌≤◌, true, false, [], ◌∷◌, ◌++◌, length, vec_capacity, ap, sym, ◌∙◌, List, ℕ, arith}
+use Rattle.std.proofs.Common.{◌≡◌, ◌≤◌, true, false, [], ◌∷◌, ◌++◌, length, vec_capacity, ap, sym, ◌∙◌, arith}
 use Rattle.lj_step.specs.OpenSteps.{is_tile}
 use Rattle.lj_step.proofs.CoverLists.{one_kept, one_skipped, few_more}
 use Rattle.lj_step.proofs.partial.list_tiles.Goals as goal

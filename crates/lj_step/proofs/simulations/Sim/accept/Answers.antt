@@ -1,7 +1,6 @@
-use Rattle.std.proofs.Common.{◌≡◌, ◌≤◌, ◌*◌, length, ap, sym, ◌∙◌, refl, vec_capacity, slice_set}
+use Rattle.std.proofs.Common.{length, ap, ◌∙◌, refl}
 use Rattle.std.proofs.lemmas.List.{length-set}
 use Rattle.lj_step.specs.Kept.{live_of}
-use Rattle.lj_step.specs.OpenSteps.{blocks}
 use Rattle.lj_step.proofs.Steps.{awaited_at, left_some, size_fits, partial_after}
 use Rattle.lj_step.proofs.simulations.Sim.accept.Goals as goal
 

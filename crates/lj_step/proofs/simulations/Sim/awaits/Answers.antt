@@ -1,4 +1,4 @@
-use Rattle.std.proofs.Common.{◌≡◌, ◌<◌, ◌*◌, false, length, ap, ◌∙◌, refl, arith}
+use Rattle.std.proofs.Common.{◌<◌, false, length, ap, ◌∙◌, refl, arith}
 use Rattle.std.proofs.lemmas.List.{get_or_default}
 use Rattle.lj_step.specs.Live.{Live}
 use Rattle.lj_step.specs.Kept.{live_of}

@@ -1,4 +1,4 @@
-use Rattle.std.proofs.Common.{◌≡◌, List, ℤ, ◌∷◌, [], FitsSigned, w64, to_z, of_z, subst, refl, rules}
+use Rattle.std.proofs.Common.{◌≡◌, ◌∷◌, [], FitsSigned, w64, to_z, of_z, subst, refl, rules}
 use Rattle.std.proofs.lemmas.Int.{to_z-of_z}
 use Rattle.lj_step.specs.Motion as motion
 use Rattle.lj_step.specs.Live.{Live}

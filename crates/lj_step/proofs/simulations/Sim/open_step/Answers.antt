@@ -1,4 +1,4 @@
-use Rattle.std.proofs.Common.{◌≡◌, length, subst, ap, sym}
+use Rattle.std.proofs.Common.{◌≡◌, length, subst, ap}
 use Rattle.lj_step.specs.Sums.{HasRoom}
 use Rattle.lj_step.proofs.Steps.{opened_partial}
 use Rattle.lj_step.proofs.simulations.Sim.open_step.Goals as goal

@@ -1,4 +1,4 @@
-use Rattle.std.proofs.Common.{ℕ, ◌≡◌, ◌≤◌, ◌<◌, ◌^◌, ◌+ℤ◌, unsigned_abs, length, slice_index_or, ap, ◌∙◌, subst, sym, refl, to_z, of_z, w64}
+use Rattle.std.proofs.Common.{ℕ, ◌≡◌, ◌≤◌, ◌<◌, ◌^◌, ◌+ℤ◌, unsigned_abs, length, slice_index_or, ap, ◌∙◌, subst, sym, to_z, of_z, w64}
 use Rattle.lj_tile.specs.declared.names.Kind.TheVariants.{Force}
 use Rattle.lj_tile.specs.Pushes.{no_push}
 use Rattle.lj_step.specs.Motion.{next_frame, force, stepped}
