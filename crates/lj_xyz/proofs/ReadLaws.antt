@@ -1,6 +1,7 @@
 -- What the readers answer, in the relation of lines and answers.
-use Rattle.std.proofs.Common.{◌≡◌, ℕ, true, inl, inr, List, [], ◌∷◌, length, Option, Some, None, Result, Ok, Err}
-use Rattle.std.specs.Prelude.{IfOk}
+use Rattle.std.proofs.Common.{◌≡◌, ℕ, true, inl, inr, List, [], ◌∷◌, length, Option, Some, None, Result, Ok, Err, refl}
+use Rattle.std.specs.Prelude.{IfOk, IsOk, ◌↔◌}
+use Rattle.std.specs.Option.{ok_or}
 use Rattle.std.proofs.lemmas.Bool.{cases_Bool, eqb-true}
 use Rattle.lj_xyz.specs.declared.fault.XyzFault.{XyzFault}
 use Rattle.lj_xyz.specs.declared.fault.XyzError.{XyzError}
@@ -10,9 +11,9 @@ use Rattle.lj_xyz.specs.declared.reader.Position.{Position}
 use Rattle.lj_xyz.specs.declared.reader.Position.TheVariants.{First}
 use Rattle.lj_fixed.specs.Numbers.{number_of}
 use Rattle.lj_xyz.specs.Atoms.{is_count, count_if}
-use Rattle.lj_xyz.specs.Frames.{Mode, rest, pair, IsReading, IsFrame}
-use Rattle.lj_xyz.specs.Reading.{Gives, reading}
-use Rattle.lj_xyz.proofs.ReadingLaws.{reading_stands}
+use Rattle.lj_xyz.specs.Frames.{Mode, rest, pair, IsReading, HasFrames, IsFrame}
+use Rattle.lj_xyz.specs.Reading.{Left, frame_in, start, reading, Gives, Keeps}
+use Rattle.lj_xyz.proofs.ReadingLaws.{reading_is, reading_stands, reads_one}
 
 -- what was read stands in the relation
 pub frames_stand : {X : Type 0} (view : X → List (List Row)) (mode : Mode) (lines : List (List ℕ)) (r : Result X XyzError) → Gives view r (reading mode lines)
@@ -20,14 +21,39 @@ pub frames_stand : {X : Type 0} (view : X → List (List Row)) (mode : Mode) (li
 frames_stand view mode lines (Ok x) e = rw e at (reading_stands mode lines)
 frames_stand view mode lines (Err error) e = tt
 
--- the fault that was answered stands in the relation
+-- a fault was answered exactly where it stands in the relation
 pub fault_stands : {X : Type 0} (view : X → List (List Row)) (mode : Mode) (lines : List (List ℕ)) (r : Result X XyzError) → Gives view r (reading mode lines)
-    → (fault : XyzFault) → r ≡ Err (errors.Fault fault) → IsReading mode lines (Err fault)
-fault_stands view mode lines (Ok x) e fault is = absurd cc
-fault_stands view mode lines (Err errors.Memory) e fault is = absurd cc
-fault_stands view mode lines (Err (errors.Fault found)) e fault is =
-    let same : found ≡ fault = cc in
-    rw (← same) (rw e at (reading_stands mode lines))
+    → (fault : XyzFault) → (r ≡ Err (errors.Fault fault)) ↔ IsReading mode lines (Err fault)
+fault_stands {X = X} view mode lines r e fault = (told r e, λ is. tells r (rw (reading_is mode lines (Err fault) is) at e))
+  where
+    told : (r : Result X XyzError) → Gives view r (reading mode lines) → r ≡ Err (errors.Fault fault) → IsReading mode lines (Err fault)
+    told (Ok x) e is = absurd cc
+    told (Err errors.Memory) e is = absurd cc
+    told (Err (errors.Fault found)) e is =
+        let same : found ≡ fault = cc in
+        rw (← same) (rw e at (reading_stands mode lines))
+
+    tells : (r : Result X XyzError) → Gives view r (Err fault) → r ≡ Err (errors.Fault fault)
+    tells (Ok x) e = absurd cc
+    tells (Err errors.Memory) e = absurd cc
+    tells (Err (errors.Fault found)) e =
+        let same : fault ≡ found = cc in
+        rw same refl
+
+-- memory ran out only where the lines have frames
+pub memory_stands : {X : Type 0} (view : X → List (List Row)) (mode : Mode) (lines : List (List ℕ)) (r : Result X XyzError) → Gives view r (reading mode lines)
+    → r ≡ Err errors.Memory → HasFrames mode lines
+memory_stands view mode lines r e is = good (reading mode lines) (rw is at e) (reading_stands mode lines)
+  where
+    good : (read : Result (List (List Row)) XyzFault) → IsOk read → IsReading mode lines read → HasFrames mode lines
+    good (Ok frames) ok stands = (frames, stands)
+    good (Err fault) ok stands = absurd cc
+
+-- what was read, where there was memory to keep it
+pub kept_one : (lines : List (List ℕ)) (rows : List Row) (after : Left) → frame_in First (start lines) ≡ Ok (rows, after) → (kept : Option (List Row)) → Keeps kept rows
+    → Gives (λ (rows : List Row). rows ∷ []) (ok_or kept errors.Memory) (reading rest lines)
+kept_one lines rows after e None keeps = rw (reads_one lines rows after e) refl
+kept_one lines rows after e (Some kept) keeps = rw keeps (reads_one lines rows after e)
 
 cc_some : (m n : ℕ) → ◌≡◌ {A = Option ℕ} (Some m) (Some n) → m ≡ n
 cc_some m n e = cc

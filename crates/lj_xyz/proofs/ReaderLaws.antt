@@ -1,5 +1,5 @@
 -- Reading line by line, as the loops of the reader do.
-use Rattle.std.proofs.Common.{◌≡◌, ℕ, suc, ◌+◌, ◌-◌, ◌≤◌, ◌<◌, List, [], ◌∷◌, ◌++◌, Result, Ok, Err, refl, sym, ap, subst, ◌∙◌, append_assoc, append-nil, arith}
+use Rattle.std.proofs.Common.{◌≡◌, ℕ, suc, ◌+◌, ◌-◌, ◌≤◌, ◌<◌, List, [], ◌∷◌, ◌++◌, Option, Some, None, Result, Ok, Err, IfSome, IsSomeAnd, MatchOption, refl, sym, ap, subst, ◌∙◌, append_assoc, append-nil, arith}
 use Rattle.lj_xyz.specs.declared.fault.XyzKind.{XyzKind}
 use Rattle.lj_xyz.specs.declared.fault.XyzFault.{XyzFault}
 use Rattle.lj_xyz.specs.declared.row.Row.{Row}
@@ -7,7 +7,7 @@ use Rattle.lj_xyz.specs.declared.reader.Position.{Position}
 use Rattle.lj_xyz.specs.Lines.{words_of}
 use Rattle.lj_xyz.specs.Atoms.{◌>>=◌, count_of}
 use Rattle.lj_xyz.specs.Frames.{missing, fault_behind}
-use Rattle.lj_xyz.specs.Reading.{Left, Tells, admitted, head_in, next_row, rows_in}
+use Rattle.lj_xyz.specs.Reading.{Left, Tells, admitted, head_in, next_row, rows_in, Keeps}
 
 -- ---- the count line
 
@@ -102,3 +102,18 @@ pub rows_start : (count : ℕ) (left : Left) → with_front [] (rows_in (count -
 rows_start count left =
     let k : count - 0 ≡ count = omega arith in
     rw k (no_front (rows_in count left))
+
+-- the rows that were kept, and one more of them
+pub kept_more : {A : Type 0} (items : A → List Row) (before after : Option A) (front : List Row) (row : Row)
+    → IfSome after (λ more. IsSomeAnd before (λ kept. items more ≡ items kept ++ row ∷ [])) → IfSome before (λ kept. items kept ≡ front)
+    → IfSome after (λ more. items more ≡ front ++ row ∷ [])
+kept_more items before None front row one kept = tt
+kept_more items (Some b) (Some more) front row one kept = rw (← kept) one
+kept_more items None (Some more) front row one kept = absurd one
+
+-- the rows that were kept, as a frame
+pub kept_all : {A : Type 0} (items : A → List Row) (before : Option A) (after : Option (List Row)) (front : List Row)
+    → MatchOption before (after ≡ None) (λ kept. IsSomeAnd after (λ rows. rows ≡ items kept)) → IfSome before (λ kept. items kept ≡ front) → Keeps after front
+kept_all items None after front cases kept = rw cases tt
+kept_all items (Some b) None front cases kept = tt
+kept_all items (Some b) (Some rows) front cases kept = cases ∙ kept

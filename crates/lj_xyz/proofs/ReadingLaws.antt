@@ -4,43 +4,59 @@ use Rattle.lj_xyz.specs.declared.fault.XyzFault.{XyzFault}
 use Rattle.lj_xyz.specs.declared.row.Row.{Row}
 use Rattle.lj_xyz.specs.declared.reader.Position.TheVariants.{First, Second}
 use Rattle.lj_xyz.specs.Atoms.{◌>>=◌}
-use Rattle.lj_xyz.specs.Frames.{Mode, rest, pair, FirstFault, GivesOne, GivesTwo, FaultOfSecond, IsReading}
+use Rattle.lj_xyz.specs.Frames.{Mode, rest, pair, IsFrame, FirstFault, GivesOne, GivesTwo, FaultOfSecond, IsReading}
 use Rattle.lj_xyz.specs.Reading.{Left, frame_in, start, reading}
 use Rattle.lj_xyz.proofs.FrameLaws.{left, frame_good, frame_fault}
 use Rattle.lj_xyz.proofs.FrameStands.{FrameEnds, FrameStands, frame_stands}
 
+-- ---- what the mode's frames are read as
+
+pub reads_one : (lines : List (List ℕ)) (rows : List Row) (after : Left) → frame_in First (start lines) ≡ Ok (rows, after) → reading rest lines ≡ Ok (rows ∷ [])
+unfolding reading
+reads_one lines rows after e = rw e refl
+
+pub reads_two : (lines : List (List ℕ)) (first second : List Row) (after end : Left) → frame_in First (start lines) ≡ Ok (first, after)
+    → frame_in (Second (length first)) after ≡ Ok (second, end) → reading pair lines ≡ Ok (first ∷ second ∷ [])
+unfolding reading
+reads_two lines first second after end e next = rw (e, next) refl
+
+pub reads_no_first : (mode : Mode) (lines : List (List ℕ)) (fault : XyzFault) → frame_in First (start lines) ≡ Err fault → reading mode lines ≡ Err fault
+unfolding reading
+reads_no_first rest lines fault e = rw e refl
+reads_no_first pair lines fault e = rw e refl
+
+pub reads_no_second : (lines : List (List ℕ)) (first : List Row) (after : Left) (fault : XyzFault) → frame_in First (start lines) ≡ Ok (first, after)
+    → frame_in (Second (length first)) after ≡ Err fault → reading pair lines ≡ Err fault
+unfolding reading
+reads_no_second lines first after fault e next = rw (e, next) refl
+
 -- ---- what stands in the relation is what reading gives
 
-one_good : (lines : List (List ℕ)) (rows : List Row) (gives : GivesOne lines rows) → frame_in First (start lines) ≡ Ok (rows, left (length gives.frame) gives.behind)
-one_good lines rows gives = rw (gives.whole, ← zero-add (length gives.frame)) (frame_good First 0 gives.frame gives.behind rows gives.is_frame)
+frame_first : (lines frame behind : List (List ℕ)) (rows : List Row) → lines ≡ frame ++ behind → IsFrame First frame rows
+    → frame_in First (start lines) ≡ Ok (rows, left (length frame) behind)
+frame_first lines frame behind rows whole is = rw (whole, ← zero-add (length frame)) (frame_good First 0 frame behind rows is)
 
 frames_is : (frames : List (List Row)) (rows : List (List Row)) → frames ≡ rows → (r : Result (List (List Row)) XyzFault) → r ≡ Ok rows → r ≡ Ok frames
 frames_is frames rows e r h = rw e h
 
-given_two : (lines : List (List ℕ)) (first second : List Row) → GivesTwo lines first second → reading pair lines ≡ Ok (first ∷ second ∷ [])
-unfolding reading
-given_two lines first second gives =
-    let one : frame_in First (start lines) ≡ Ok (first, left (length gives.frame) (gives.next ++ gives.behind)) =
-    rw (gives.whole, ← zero-add (length gives.frame)) (frame_good First 0 gives.frame (gives.next ++ gives.behind) first gives.is_frame) in
-    let two = frame_good (Second (length first)) (length gives.frame) gives.next gives.behind second gives.is_next in
-    rw (one, two) refl
-
 given_one : (lines : List (List ℕ)) (rows : List Row) → GivesOne lines rows → reading rest lines ≡ Ok (rows ∷ [])
-unfolding reading
-given_one lines rows gives = rw (one_good lines rows gives) refl
+given_one lines rows gives =
+    reads_one lines rows (left (length gives.frame) gives.behind) (frame_first lines gives.frame gives.behind rows gives.whole gives.is_frame)
+
+given_two : (lines : List (List ℕ)) (first second : List Row) → GivesTwo lines first second → reading pair lines ≡ Ok (first ∷ second ∷ [])
+given_two lines first second gives =
+    reads_two lines first second _ _
+    (frame_first lines gives.frame (gives.next ++ gives.behind) first gives.whole gives.is_frame)
+    (frame_good (Second (length first)) (length gives.frame) gives.next gives.behind second gives.is_next)
 
 fault_of_first : (mode : Mode) (lines : List (List ℕ)) (fault : XyzFault) → FirstFault First 0 lines fault → reading mode lines ≡ Err fault
-unfolding reading
-fault_of_first rest lines fault is = rw (frame_fault First 0 lines fault is) refl
-fault_of_first pair lines fault is = rw (frame_fault First 0 lines fault is) refl
+fault_of_first mode lines fault is = reads_no_first mode lines fault (frame_fault First 0 lines fault is)
 
 fault_of_second : (lines : List (List ℕ)) (fault : XyzFault) → FaultOfSecond lines fault → reading pair lines ≡ Err fault
-unfolding reading
 fault_of_second lines fault is =
-    let one : frame_in First (start lines) ≡ Ok (is.rows, left (length is.frame) is.behind) =
-    rw (is.whole, ← zero-add (length is.frame)) (frame_good First 0 is.frame is.behind is.rows is.is_frame) in
-    let two = frame_fault (Second (length is.rows)) (length is.frame) is.behind fault is.of_next in
-    rw (one, two) refl
+    reads_no_second lines is.rows (left (length is.frame) is.behind) fault
+    (frame_first lines is.frame is.behind is.rows is.whole is.is_frame)
+    (frame_fault (Second (length is.rows)) (length is.frame) is.behind fault is.of_next)
 
 pub reading_is : (mode : Mode) (lines : List (List ℕ)) (answer : Result (List (List Row)) XyzFault) → IsReading mode lines answer → reading mode lines ≡ answer
 reading_is rest lines (Ok frames) is = frames_is frames (is.0 ∷ []) is.1 (reading rest lines) (given_one lines is.0 is.2)

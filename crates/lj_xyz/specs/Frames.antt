@@ -137,3 +137,7 @@ IsReading rest lines (Err fault) = FirstFault First 0 lines fault
 IsReading pair lines (Ok frames) =
     (first : List Row) × (second : List Row) × (frames ≡ first ∷ second ∷ []) × GivesTwo lines first second
 IsReading pair lines (Err fault) = FirstFault First 0 lines fault ⊎ FaultOfSecond lines fault
+
+-- the lines of a body have the frames that the mode asks for
+abbrev pub HasFrames : Mode → List (List ℕ) → Type 0
+HasFrames mode lines = (frames : List (List Row)) × IsReading mode lines (Ok frames)

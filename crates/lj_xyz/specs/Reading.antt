@@ -1,6 +1,6 @@
 -- Reading from the first line to the last, with the first fault that is met. It gives what `Frames` says, by a law of
 -- this crate.
-use Rattle.std.specs.Prelude.{◌≡◌, ℕ, zero, suc, ◌+◌, List, [], ◌∷◌, length, Option, Some, None, Result, Ok, Err, if◌then◌else◌}
+use Rattle.std.specs.Prelude.{◌≡◌, ℕ, zero, suc, ◌+◌, List, [], ◌∷◌, length, Option, Some, None, Result, Ok, Err, IsOk, if◌then◌else◌}
 use Rattle.lj_xyz.specs.declared.fault.XyzKind.{XyzKind}
 use Rattle.lj_xyz.specs.declared.fault.XyzKind.TheVariants as kind
 use Rattle.lj_xyz.specs.declared.fault.XyzFault.{XyzFault}
@@ -88,9 +88,9 @@ reading pair lines = do
   second ← frame_in (Second (length first.0)) first.1
   Ok (first.0 ∷ second.0 ∷ [])
 
--- an error is what reading gives, unless memory ran out
+-- an error is what reading gives, and memory runs out only where reading gives frames
 abbrev pub Fails : {Y : Type 0} → XyzError → Result Y XyzFault → Type 0
-Fails errors.Memory read = Unit {0}
+Fails errors.Memory read = IsOk read
 Fails (errors.Fault fault) read = read ≡ Err fault
 
 -- what a function returned, seen by `view`, is what reading gives, unless memory ran out
@@ -103,6 +103,7 @@ abbrev pub Tells : {X Y : Type 0} → (X → Y) → Result X XyzFault → Result
 Tells view (Ok x) read = read ≡ Ok (view x)
 Tells view (Err fault) read = read ≡ Err fault
 
--- a fault is answered as it is, and not as want of memory
-abbrev pub Keeps : {X Y : Type 0} → Result X XyzError → Result Y XyzFault → Type 0
-Keeps result read = (fault : XyzFault) → read ≡ Err fault → result ≡ Err (errors.Fault fault)
+-- the rows that were kept, where there was memory for them, are these
+abbrev pub Keeps : Option (List Row) → List Row → Type 0
+Keeps None rows = Unit {0}
+Keeps (Some kept) rows = kept ≡ rows

@@ -54,7 +54,7 @@ pub struct XyzFault {
 pub enum XyzError {
     #[error(transparent)]
     Fault(XyzFault),
-    /// The memory for the rows was refused.
+    /// There was no memory for the rows of a text that has no fault.
     #[error("out of memory")]
     Memory,
 }

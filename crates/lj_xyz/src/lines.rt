@@ -15,9 +15,11 @@ pub struct Lines<'a> {
 }
 
 impl<'a> Lines<'a> {
+    ghost use Rattle.lj_xyz.specs.Reading.{start};
+    ghost use Rattle.lj_xyz.specs.Cursor.{left_of};
+
     pub fn new(text: &'a [u8]) -> Lines<'a>
-        ensures text { result.rest.now ≡ text.now }
-        ensures none_taken { result.taken ≡ 0 }
+        ensures { left_of result ≡ start (lines_of text.now) }
     {
         Lines {
             rest: text,

@@ -1,11 +1,10 @@
-ghost use Rattle.std.specs.Prelude.{◌≡◌, ◌≤◌, [], ◌∷◌, length, Ok, Err, IfOk, IsTrue};
+ghost use Rattle.std.specs.Prelude.{◌≡◌, ◌≤◌, ◌↔◌, [], ◌∷◌, ◌++◌, length, Ok, Err, IfOk, IfSome, IsSomeAnd, IsTrue};
 ghost use Rattle.lj_xyz.specs.declared.fault.XyzFault.{XyzFault};
-ghost use Rattle.lj_xyz.specs.declared.reader.Position.TheVariants.{First};
 ghost use Rattle.lj_xyz.specs.Lines.{lines_of};
 ghost use Rattle.lj_xyz.specs.Atoms.{is_count, count_of, row_of, row_of_four};
-ghost use Rattle.lj_xyz.specs.Frames.{IsReading, OpeningFault, admits, missing, rest, pair};
-ghost use Rattle.lj_xyz.specs.Reading.{Gives, Tells, Keeps, admitted, head_in, behind_comment, opening_in, next_row, rows_in, frame_in, start, reading};
-ghost use Rattle.lj_xyz.specs.Cursor.{left_of};
+ghost use Rattle.lj_xyz.specs.Frames.{IsReading, HasFrames, admits, missing, rest, pair};
+ghost use Rattle.lj_xyz.specs.Reading.{Gives, Tells, admitted, head_in, behind_comment, opening_in, next_row, rows_in, frame_in, reading};
+ghost use Rattle.lj_xyz.specs.Cursor.{left_of, Passes};
 
 use crate::fault::{XyzError, XyzFault, XyzKind};
 use crate::lines::{Lines, split_word};
@@ -22,6 +21,13 @@ const MAX_ATOMS: u64 = 4096;
 pub enum Position {
     First,
     Second(usize),
+}
+
+/// The atoms of a frame that was read: how many, and their rows where there was memory to keep them.
+#[derive(Drop)]
+pub struct Passed {
+    atoms: usize,
+    rows: Option<Rows>,
 }
 
 impl Position {
@@ -146,71 +152,79 @@ fn read_row(lines: &mut Lines) -> Result<Row, XyzFault>
     }
 }
 
-fn read_rows(alloc: Global, lines: &mut Lines, count: usize) -> Result<Vec<Row>, XyzError>
-    ensures { Gives (λ rows. (rows.items, left_of lines.new)) result
-        (rows_in count (left_of lines.old)) }
-{
-    let mut rows = Vec::with_capacity(alloc, count)?;
-    for _ in 0..count {
-        let row = read_row(lines)?;
-        rows.push(row)?;
-    }
-    Ok(rows)
-}
-
 // The head of a frame and its comment line: the number of its atoms.
 fn read_opening(lines: &mut Lines, position: Position) -> Result<usize, XyzFault>
-    ensures { Tells (λ count. (count, left_of lines.new)) result
+    ensures { Tells (λ atoms. (atoms, left_of lines.new)) result
         (opening_in position (left_of lines.old)) }
 {
-    let count = read_head(lines, position)?;
+    let atoms = read_head(lines, position)?;
     pass_comment(lines)?;
-    Ok(count)
+    Ok(atoms)
+}
+
+// The rows and one more, where these were kept and there is memory for it.
+fn kept_with(rows: Option<Vec<Row>>, row: Row) -> Option<Vec<Row>>
+    ensures { IfSome result (λ more. IsSomeAnd rows (λ rows. more.items ≡ rows.items ++ row ∷ [])) }
+{
+    let mut rows = rows?;
+    match rows.push(row) {
+        Ok(()) => Some(rows),
+        Err(_refused) => None,
+    }
+}
+
+// Reads on where there is no memory for the rows: a fault among them is answered all the same.
+fn read_rows(alloc: Global, lines: &mut Lines, atoms: usize) -> Result<Passed, XyzFault>
+    ensures { Passes lines.new result (rows_in atoms (left_of lines.old)) }
+{
+    let mut rows = Vec::with_capacity(alloc, atoms).ok();
+    for _ in 0..atoms {
+        let row = read_row(lines)?;
+        rows = kept_with(rows, row);
+    }
+    Ok(Passed {
+        atoms,
+        rows: rows.map(Rows::new),
+    })
 }
 
 #[tactic(auto, unfolding(crate::specs::Reading::frame_in))]
-fn read_frame(alloc: Global, lines: &mut Lines, position: Position) -> Result<Rows, XyzError>
-    ensures frame { Gives (λ rows. (rows, left_of lines.new)) result
-        (frame_in position (left_of lines.old)) }
-    ensures early { Keeps result (opening_in position (left_of lines.old)) }
+fn read_frame(alloc: Global, lines: &mut Lines, position: Position) -> Result<Passed, XyzFault>
+    ensures { Passes lines.new result (frame_in position (left_of lines.old)) }
 {
-    let count = read_opening(lines, position)?;
-    let rows = read_rows(alloc, lines, count)?;
-    Ok(Rows::new(rows))
+    let atoms = read_opening(lines, position)?;
+    read_rows(alloc, lines, atoms)
 }
 
-#[tactic(auto, unfolding(crate::specs::Reading::reading))]
 fn first_frame(alloc: Global, text: &[u8]) -> Result<Rows, XyzError>
-    ensures frame { Gives (λ rows. rows ∷ []) result (reading rest (lines_of text.now)) }
-    ensures early { Keeps result (opening_in First (start (lines_of text.now))) }
+    ensures { Gives (λ rows. rows ∷ []) result (reading rest (lines_of text.now)) }
 {
     let mut lines = Lines::new(text);
-    let rows = read_frame(alloc, &mut lines, Position::First)?;
-    Ok(rows)
+    let frame = read_frame(alloc, &mut lines, Position::First)?;
+    frame.rows.ok_or(XyzError::Memory)
 }
 
-#[tactic(auto, unfolding(crate::specs::Reading::reading))]
 fn first_two_frames(alloc: Global, text: &[u8]) -> Result<FramePair, XyzError>
-    ensures frames { Gives (λ frames. frames.first ∷ frames.second ∷ []) result
+    ensures { Gives (λ frames. frames.first ∷ frames.second ∷ []) result
         (reading pair (lines_of text.now)) }
-    ensures early { Keeps result (opening_in First (start (lines_of text.now))) }
 {
     let mut lines = Lines::new(text);
     let first = read_frame(alloc, &mut lines, Position::First)?;
-    let second = read_frame(alloc, &mut lines, Position::Second(first.len()))?;
-    Ok(FramePair { first, second })
+    let second = read_frame(alloc, &mut lines, Position::Second(first.atoms))?;
+    match (first.rows, second.rows) {
+        (Some(first), Some(second)) => Ok(FramePair { first, second }),
+        _ => Err(XyzError::Memory),
+    }
 }
 
-/// Reads the first frame of a text. What follows it is not read.
+/// Reads the first frame of a text. What follows it is not read. A fault is answered as that fault even where there is
+/// no memory for the rows.
 pub fn read_rest(alloc: Global, text: &[u8]) -> Result<Rows, XyzError>
     ensures frame { IfOk result (λ rows. IsReading rest (lines_of text.now) (Ok (rows ∷ []))) }
     ensures fault { (fault : XyzFault) →
-        result ≡ Err (XyzError.Fault fault) → IsReading rest (lines_of text.now) (Err fault) }
+        (result ≡ Err (XyzError.Fault fault)) ↔ IsReading rest (lines_of text.now) (Err fault) }
+    ensures memory { result ≡ Err XyzError.Memory → HasFrames rest (lines_of text.now) }
     ensures count { IfOk result (λ rows. IsTrue (is_count (length rows))) }
-
-    // What stands before the first atom line needs no memory.
-    ensures early { (fault : XyzFault) →
-        OpeningFault First 0 (lines_of text.now) fault → result ≡ Err (XyzError.Fault fault) }
 
     // The same as an equation, where memory was found.
     ensures exact { Gives (λ rows. rows ∷ []) result (reading rest (lines_of text.now)) }
@@ -219,18 +233,16 @@ pub fn read_rest(alloc: Global, text: &[u8]) -> Result<Rows, XyzError>
 }
 
 /// Reads the first two frames of a text, which are to have as many atoms. What follows them is not read. The symbols
-/// of the second frame are checked, and not compared with those of the first.
+/// of the second frame are checked, and not compared with those of the first. A fault is answered as that fault even
+/// where there is no memory for the rows.
 pub fn read_pair(alloc: Global, text: &[u8]) -> Result<FramePair, XyzError>
     ensures frames { IfOk result (λ frames.
         IsReading pair (lines_of text.now) (Ok (frames.first ∷ frames.second ∷ []))) }
     ensures fault { (fault : XyzFault) →
-        result ≡ Err (XyzError.Fault fault) → IsReading pair (lines_of text.now) (Err fault) }
+        (result ≡ Err (XyzError.Fault fault)) ↔ IsReading pair (lines_of text.now) (Err fault) }
+    ensures memory { result ≡ Err XyzError.Memory → HasFrames pair (lines_of text.now) }
     ensures count { IfOk result (λ frames. IsTrue (is_count (length frames.first))) }
     ensures same_count { IfOk result (λ frames. length frames.second ≡ length frames.first) }
-
-    // What stands before the first atom line needs no memory.
-    ensures early { (fault : XyzFault) →
-        OpeningFault First 0 (lines_of text.now) fault → result ≡ Err (XyzError.Fault fault) }
 
     // The same as an equation, where memory was found.
     ensures exact { Gives (λ frames. frames.first ∷ frames.second ∷ []) result

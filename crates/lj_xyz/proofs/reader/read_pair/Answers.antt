@@ -2,31 +2,29 @@ use Rattle.std.proofs.Common.{List, [], ◌∷◌}
 use Rattle.std.proofs.lemmas.Result.{IfOk-weaker}
 use Rattle.lj_xyz.specs.declared.row.Row.{Row}
 use Rattle.lj_xyz.specs.declared.row.FramePair.{FramePair}
-use Rattle.lj_xyz.specs.declared.reader.Position.TheVariants.{First}
 use Rattle.lj_xyz.specs.Lines.{lines_of}
 use Rattle.lj_xyz.specs.Frames.{pair}
-use Rattle.lj_xyz.proofs.FrameLaws.{opening_fault}
-use Rattle.lj_xyz.proofs.ReadLaws.{frames_stand, fault_stands, two_counts}
+use Rattle.lj_xyz.proofs.ReadLaws.{frames_stand, fault_stands, memory_stands, two_counts}
 use Rattle.lj_xyz.proofs.reader.read_pair.Goals as goal
 
 abbrev view : FramePair → List (List Row)
 view frames = frames.first ∷ frames.second ∷ []
 
 pub returns-clause-frames : goal.returns-clause-frames
-returns-clause-frames c = frames_stand view pair (lines_of c.args.text.now) c.first_two_frames.result c.first_two_frames.ensures.frames
+returns-clause-frames c = frames_stand view pair (lines_of c.args.text.now) c.first_two_frames.result c.first_two_frames.ensures
 
 pub returns-clause-fault : goal.returns-clause-fault
-returns-clause-fault c = fault_stands view pair (lines_of c.args.text.now) c.first_two_frames.result c.first_two_frames.ensures.frames
+returns-clause-fault c = fault_stands view pair (lines_of c.args.text.now) c.first_two_frames.result c.first_two_frames.ensures
 
 pub returns-clause-count : goal.returns-clause-count
 returns-clause-count c =
     IfOk-weaker c.first_two_frames.result _ _ (λ frames is. (two_counts (lines_of c.args.text.now) frames.first frames.second is).0)
-    (frames_stand view pair (lines_of c.args.text.now) c.first_two_frames.result c.first_two_frames.ensures.frames)
+    (frames_stand view pair (lines_of c.args.text.now) c.first_two_frames.result c.first_two_frames.ensures)
 
 pub returns-clause-same_count : goal.returns-clause-same_count
 returns-clause-same_count c =
     IfOk-weaker c.first_two_frames.result _ _ (λ frames is. (two_counts (lines_of c.args.text.now) frames.first frames.second is).1)
-    (frames_stand view pair (lines_of c.args.text.now) c.first_two_frames.result c.first_two_frames.ensures.frames)
+    (frames_stand view pair (lines_of c.args.text.now) c.first_two_frames.result c.first_two_frames.ensures)
 
-pub returns-clause-early : goal.returns-clause-early
-returns-clause-early c fault is = c.first_two_frames.ensures.early fault (opening_fault First 0 (lines_of c.args.text.now) fault is)
+pub returns-clause-memory : goal.returns-clause-memory
+returns-clause-memory c = memory_stands view pair (lines_of c.args.text.now) c.first_two_frames.result c.first_two_frames.ensures

@@ -1,25 +1,23 @@
 use Rattle.std.proofs.Common.{List, [], ◌∷◌}
 use Rattle.std.proofs.lemmas.Result.{IfOk-weaker}
 use Rattle.lj_xyz.specs.declared.row.Row.{Row}
-use Rattle.lj_xyz.specs.declared.reader.Position.TheVariants.{First}
 use Rattle.lj_xyz.specs.Lines.{lines_of}
 use Rattle.lj_xyz.specs.Frames.{rest}
-use Rattle.lj_xyz.proofs.FrameLaws.{opening_fault}
-use Rattle.lj_xyz.proofs.ReadLaws.{frames_stand, fault_stands, one_count}
+use Rattle.lj_xyz.proofs.ReadLaws.{frames_stand, fault_stands, memory_stands, one_count}
 use Rattle.lj_xyz.proofs.reader.read_rest.Goals as goal
 
 abbrev view : List Row → List (List Row)
 view rows = rows ∷ []
 
 pub returns-clause-frame : goal.returns-clause-frame
-returns-clause-frame c = frames_stand view rest (lines_of c.args.text.now) c.first_frame.result c.first_frame.ensures.frame
+returns-clause-frame c = frames_stand view rest (lines_of c.args.text.now) c.first_frame.result c.first_frame.ensures
 
 pub returns-clause-fault : goal.returns-clause-fault
-returns-clause-fault c = fault_stands view rest (lines_of c.args.text.now) c.first_frame.result c.first_frame.ensures.frame
+returns-clause-fault c = fault_stands view rest (lines_of c.args.text.now) c.first_frame.result c.first_frame.ensures
 
 pub returns-clause-count : goal.returns-clause-count
 returns-clause-count c =
-    IfOk-weaker c.first_frame.result _ _ (λ rows. one_count (lines_of c.args.text.now) rows) (frames_stand view rest (lines_of c.args.text.now) c.first_frame.result c.first_frame.ensures.frame)
+    IfOk-weaker c.first_frame.result _ _ (λ rows. one_count (lines_of c.args.text.now) rows) (frames_stand view rest (lines_of c.args.text.now) c.first_frame.result c.first_frame.ensures)
 
-pub returns-clause-early : goal.returns-clause-early
-returns-clause-early c fault is = c.first_frame.ensures.early fault (opening_fault First 0 (lines_of c.args.text.now) fault is)
+pub returns-clause-memory : goal.returns-clause-memory
+returns-clause-memory c = memory_stands view rest (lines_of c.args.text.now) c.first_frame.result c.first_frame.ensures
