@@ -1,9 +1,10 @@
 -- Values under names: a value put, set or taken out, and sums over them.
-use Rattle.std.proofs.Common.{◌≡◌, ℕ, suc, ◌+◌, Bool, true, false, List, [], ◌∷◌, ◌++◌, length, map, Some, None, refl, sym, ap, arith}
+use Rattle.std.proofs.Common.{◌≡◌, ◌≢◌, ◌∙◌, ℕ, suc, ◌+◌, Bool, true, false, List, [], ◌∷◌, ◌++◌, length, map, Some, None, refl, sym, ap, arith}
 use Rattle.std.specs.List.{sum_by}
 use Rattle.std.proofs.lemmas.List.Sums.{sum_by-cons}
 use Rattle.std.specs.Option.{option_map}
 use Rattle.std.specs.Str.{bytes_eq}
+use Rattle.std.proofs.lemmas.Slice.Eq.{bytes_eq-Decides}
 use Rattle.std.specs.Map.{set_value}
 use Rattle.lj_branch.specs.Named.{named, put, taken_out}
 
@@ -11,6 +12,10 @@ use Rattle.lj_branch.specs.Named.{named, put, taken_out}
 pub by_test : {P : Type 0} (b : Bool) → (b ≡ true → P) → (b ≡ false → P) → P
 by_test true t f = t refl
 by_test false t f = f refl
+
+-- two names are not both one key
+not_both : (name other : List ℕ) → name ≢ other → (key : List ℕ) → bytes_eq name key ≡ true → bytes_eq other key ≡ true → ⊥
+not_both name other apart key its others = apart ((bytes_eq-Decides name key).0 its ∙ sym ((bytes_eq-Decides other key).0 others))
 
 module _ {A : Type 0} (name : List ℕ) where
   none-some : (x : A) → None ≡ Some x → ⊥
@@ -46,6 +51,22 @@ module _ {A : Type 0} (name : List ℕ) where
   named-put (e ∷ es) v w h = by_test (bytes_eq name e.0)
       (λ t. rw (t, t) refl)
       (λ t. rw (t, t) (named-put es v w (rw t at h)))
+
+  -- under another name stands what stood there, after a value is put and after one is taken out
+  module _ (other : List ℕ) (apart : name ≢ other) where
+    pub named-put_other : (es : List (List ℕ × A)) (v : A) → named other (put name v es) ≡ named other es
+    named-put_other [] v = by_test (bytes_eq other name)
+        (λ t. absurd (apart (sym ((bytes_eq-Decides other name).0 t))))
+        (λ t. rw t refl)
+    named-put_other (e ∷ es) v = by_test (bytes_eq name e.0)
+        (λ t. by_test (bytes_eq other e.0) (λ u. absurd (not_both name other apart e.0 t u)) (λ u. rw (t, u) refl))
+        (λ t. rw t (by_test (bytes_eq other e.0) (λ u. rw u refl) (λ u. rw u (named-put_other es v))))
+
+    pub named-taken_other : (es : List (List ℕ × A)) → named other (taken_out name es) ≡ named other es
+    named-taken_other [] = refl
+    named-taken_other (e ∷ es) = by_test (bytes_eq name e.0)
+        (λ t. by_test (bytes_eq other e.0) (λ u. absurd (not_both name other apart e.0 t u)) (λ u. rw (t, u) refl))
+        (λ t. rw t (by_test (bytes_eq other e.0) (λ u. rw u refl) (λ u. rw u (named-taken_other es))))
 
   -- of two values put under it the second stays
   pub put-put : (es : List (List ℕ × A)) (v first second : A) → named name es ≡ Some v → put name second (put name first es) ≡ put name second es

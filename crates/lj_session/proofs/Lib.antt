@@ -1,5 +1,6 @@
 pub mod Entries
 pub mod Holding
+pub mod Others
 pub mod Reaching
 pub mod Performing
 pub mod Saving

@@ -28,7 +28,8 @@ use Rattle.lj_session.specs.Faults.{xyz_refusal}
 use Rattle.lj_session.specs.States.{Held, Owned, Performs, as_session, user_of, held_in, with_held}
 use Rattle.lj_session.proofs.Entries.{by_test, named-seen}
 use Rattle.lj_session.proofs.Holding.{user_of-put}
-use Rattle.lj_session.proofs.Performing.{told, starved}
+use Rattle.lj_session.proofs.Others.{others-put}
+use Rattle.lj_session.proofs.Performing.{told, refused, starved}
 
 -- the session of the frames that were read
 pub session-frames : (units : Units) (first : List Row) (second : Option (List Row)) → session_of_frames units (frames_of first second) ≡ opened units first (last_of first second)
@@ -64,16 +65,16 @@ module _ (user : User) (load : Load) where
   pub new-admitted : (units : Units) → admitted user load ≡ Ok units
       → (is_some (named load.name user.sessions) ≡ false) × (nat_lt (sessions_used user) user.quota.sessions ≡ true)
   new-admitted units admitted = by_test (is_some (named load.name user.sessions))
-      (λ taken. absurd (refused Exists (sym (admitted-exists taken) ∙ admitted)))
+      (λ taken. absurd (not_refused Exists (sym (admitted-exists taken) ∙ admitted)))
       (λ new. (
         new,
         by_test (nat_lt (sessions_used user) user.quota.sessions)
             (λ room. room)
-            (λ over. absurd (refused QuotaSessions (sym (admitted-over new over) ∙ admitted))),
+            (λ over. absurd (not_refused QuotaSessions (sym (admitted-over new over) ∙ admitted))),
       ))
     where
-      refused : (refusal : Refusal) → ◌≡◌ {A = Result Units Refusal} (Err refusal) (Ok units) → ⊥
-      refused refusal e = cc
+      not_refused : (refusal : Refusal) → ◌≡◌ {A = Result Units Refusal} (Err refusal) (Ok units) → ⊥
+      not_refused refusal e = cc
 
   module _ (units : Units) (scale : admitted user load ≡ Ok units) where
     pub load-memory : performed user (commands.Load load) true ≡ Err Memory
@@ -119,14 +120,14 @@ module _ (old new : Owned) (load : Load) (units : Units) (scale : admitted (user
     -- a body that is not read is refused for its fault, or for want of memory
     pub not-read : (error : XyzError) → Fails error (reading (reading_mode load.mode) (lines_of body))
         → Performs old (commands.Load load) (Err (xyz_refusal error)) new
-    not-read (errors.Fault fault) read = told old new _ _ (load-fault (user_of old) load units scale body held fault read)
+    not-read (errors.Fault fault) read = refused old new _ _ (load-fault (user_of old) load units scale body held fault read)
     not-read errors.Memory read = load-starved
 
     module _ (first : List Row) (second : Option (List Row)) (read : reading (reading_mode load.mode) (lines_of body) ≡ Ok (frames_of first second))
         (same : length (last_of first second) ≡ length first) where
       pub too-many : nat_le (atoms_used (user_of old) + length first) old.quota.atoms ≡ false
           → Performs old (commands.Load load) (Err QuotaAtoms) new
-      too-many over = told old new _ _ (load-over (user_of old) load units scale body held first second read
+      too-many over = refused old new _ _ (load-over (user_of old) load units scale body held first second read
           (ap (λ n. nat_le (atoms_used (user_of old) + n) old.quota.atoms) (atoms-opened units first (last_of first second) same) ∙ over))
 
       pub loaded : (atoms : ℕ) → atoms ≡ length first → nat_le (atoms_used (user_of old) + length first) old.quota.atoms ≡ true
@@ -137,6 +138,7 @@ module _ (old new : Owned) (load : Load) (units : Units) (scale : admitted (user
           (ap (λ n. nat_le (atoms_used (user_of old) + n) old.quota.atoms) count ∙ room)
           ∙ (ap (λ n. Ok (reply.Loaded load.name n, with_session load.name (opened units first (last_of first second)) (user_of old))) (count ∙ sym its)
           ∙ ap (λ (u : User). Ok (reply.Loaded load.name atoms, u)) (sym (ap user_of is ∙ user_of-put old load.name (session_of units first (last_of first second))))))
+          (λ other apart. ap (λ (o : Owned). held_in o other) is ∙ others-put old load.name (session_of units first (last_of first second)) other apart)
         where
           count : atoms_of (opened units first (last_of first second)) ≡ length first
           count = atoms-opened units first (last_of first second) same

@@ -14,11 +14,12 @@ use Rattle.lj_session.specs.declared.reply.Reply.{Reply}
 use Rattle.lj_session.specs.declared.reply.Reply.TheVariants as reply
 use Rattle.lj_branch.specs.Named.{named, put, taken_out}
 use Rattle.lj_session.specs.Users.{Session, User, with_session}
-use Rattle.lj_session.specs.Answers.{performed, answer, settled, can_advance}
+use Rattle.lj_session.specs.Answers.{session_named, performed, answer, settled, can_advance}
 use Rattle.lj_session.specs.Turns.{turned}
 use Rattle.lj_session.specs.States.{Held, Owned, Performs, as_session, user_of, held_in, with_held, turned_on, branch_admitted}
 use Rattle.lj_session.proofs.Entries.{put-same}
 use Rattle.lj_session.proofs.Holding.{named-held, user_of-put, user_of-taken}
+use Rattle.lj_session.proofs.Others.{others-put, others-taken}
 use Rattle.lj_session.proofs.Performing as performing
 use Rattle.lj_session.proofs.Saving as saving
 
@@ -31,58 +32,56 @@ abbrev pub keeping : Held → List (List ℕ × Simulation) → Held
 keeping held saved = record held { saved = saved }
 
 module _ (old : Owned) (name : List ℕ) (held : Held) (found : held_in old name ≡ Some held) where
-  -- a reply with the user that a put session makes
-  put_with : (made : Reply) (new : Held) → ◌≡◌ {A = Result (Reply × User) Refusal} (Ok (made, with_session name (as_session new) (user_of old))) (Ok (made, user_of (with_held name new old)))
-  put_with made new = ap (λ (u : User). Ok (made, u)) (sym (user_of-put old name new))
+  session : named name (user_of old).sessions ≡ Some (as_session held)
+  session = named-held old name held found
+
+  -- a command that puts its session
+  put_in : (command : Command) (made : Reply) (new : Held) → session_named command ≡ Some name
+      → performed (user_of old) command false ≡ Ok (made, with_session name (as_session new) (user_of old))
+      → Performs old command (Ok made) (with_held name new old)
+  put_in command made new is h = performing.told old _ command made
+      (h ∙ ap (λ (u : User). Ok (made, u)) (sym (user_of-put old name new)))
+      (λ other apart. others-put old name new other (rw is at apart))
 
   pub reverse : Performs old (Reverse name) (Ok (reply.Reversed name (reversed held.live.sim).step)) (with_held name (moved_to held (reversed held.live.sim)) old)
-  reverse = performing.told old _ _ _
-      (performing.reverse-done (user_of old) name false (as_session held) (named-held old name held found)
-      ∙ put_with (reply.Reversed name (reversed held.live.sim).step) (moved_to held (reversed held.live.sim)))
+  reverse = put_in _ _ (moved_to held (reversed held.live.sim)) refl (performing.reverse-done (user_of old) name false (as_session held) session)
 
   pub tug : (atom : ℕ) (x y z : ℤ) → nat_lt atom (length held.live.sim.cur) ≡ true
       → Performs old (Tug name atom x y z) (Ok (reply.Tugged name atom held.live.sim.step)) (with_held name (moved_to held (tugged atom (record { x = x; y = y; z = z }) held.live.sim)) old)
-  tug atom x y z there = performing.told old _ _ _
-      (performing.tug-done (user_of old) name false (as_session held) (named-held old name held found) atom x y z there
-      ∙ put_with (reply.Tugged name atom held.live.sim.step) (moved_to held (tugged atom (record { x = x; y = y; z = z }) held.live.sim)))
+  tug atom x y z there = put_in _ _ (moved_to held (tugged atom (record { x = x; y = y; z = z }) held.live.sim)) refl
+      (performing.tug-done (user_of old) name false (as_session held) session atom x y z there)
 
   pub restore : (branch : List ℕ) (sim : Simulation) → named branch held.saved ≡ Some sim
       → Performs old (Restore name branch) (Ok (reply.Restored name branch sim.step)) (with_held name (moved_to held sim) old)
-  restore branch sim saved = performing.told old _ _ _
-      (performing.restore-done (user_of old) name false (as_session held) (named-held old name held found) branch sim saved
-      ∙ put_with (reply.Restored name branch sim.step) (moved_to held sim))
+  restore branch sim saved = put_in _ _ (moved_to held sim) refl (performing.restore-done (user_of old) name false (as_session held) session branch sim saved)
 
   pub forget : (branch : List ℕ) (sim : Simulation) → named branch held.saved ≡ Some sim
       → Performs old (Forget name branch) (Ok (reply.Forgotten name branch)) (with_held name (keeping held (taken_out branch held.saved)) old)
-  forget branch sim saved = performing.told old _ _ _
-      (performing.forget-done (user_of old) name false (as_session held) (named-held old name held found) branch sim saved
-      ∙ put_with (reply.Forgotten name branch) (keeping held (taken_out branch held.saved)))
+  forget branch sim saved = put_in _ _ (keeping held (taken_out branch held.saved)) refl
+      (performing.forget-done (user_of old) name false (as_session held) session branch sim saved)
 
   pub branch-ok : (branch : List ℕ) → branch_admitted (user_of old) name branch ≡ Ok tt
       → Performs old (Branch name branch) (Ok (reply.Branched name branch held.live.sim.step)) (with_held name (keeping held (put branch held.live.sim held.saved)) old)
   branch-ok branch admitted =
-      let session = named-held old name held found in
       let may = saving.new-admitted (user_of old) name branch (as_session held) session admitted in
-      performing.told old _ _ _
-      (saving.branch-done (user_of old) name branch (as_session held) session may.0 may.1
-      ∙ put_with (reply.Branched name branch held.live.sim.step) (keeping held (put branch held.live.sim held.saved)))
+      put_in _ _ (keeping held (put branch held.live.sim held.saved)) refl
+      (saving.branch-done (user_of old) name branch (as_session held) session may.0 may.1)
 
   pub branch-starved : (branch : List ℕ) → branch_admitted (user_of old) name branch ≡ Ok tt → Performs old (Branch name branch) (Err Memory) old
   branch-starved branch admitted =
-      let session = named-held old name held found in
       let may = saving.new-admitted (user_of old) name branch (as_session held) session admitted in
       performing.starved old old _ (saving.branch-memory (user_of old) name branch (as_session held) session may.0 may.1)
 
   pub unload : Performs old (Unload name) (Ok (reply.Unloaded name)) (record old { sessions = taken_out name old.sessions })
   unload = performing.told old _ _ _
-      (performing.unload-done (user_of old) name false (as_session held) (named-held old name held found)
+      (performing.unload-done (user_of old) name false (as_session held) session
       ∙ ap (λ (u : User). Ok (reply.Unloaded name, u)) (sym (user_of-taken old name)))
+      (others-taken old name)
 
   -- an ADVANCE by 0 leaves the user
   pub advance-nothing : can_advance (as_session held) 0 ≡ true → (mark : Bool)
       → performed (user_of old) (Advance name 0) mark ≡ Ok (reply.Advanced name held.live.sim.step, user_of old)
   advance-nothing near mark =
-      let session = named-held old name held found in
       performing.advance-on (user_of old) name mark (as_session held) session 0 near
       ∙ ap (λ (s : List (List ℕ × Session)). Ok (reply.Advanced name held.live.sim.step, record { quota = old.quota; sessions = s }))
       (put-same name (user_of old).sessions (as_session held) session)
@@ -90,11 +89,11 @@ module _ (old : Owned) (name : List ℕ) (held : Held) (found : held_in old name
   -- one turn is the ADVANCE by 1
   pub turned-user : (n : ℕ) → user_of (with_held name (turned_on held) old) ≡ turned (user_of old) (Advance name n)
   unfolding turned
-  turned-user n = user_of-put old name (turned_on held) ∙ sym (rw (named-held old name held found) refl)
+  turned-user n = user_of-put old name (turned_on held) ∙ sym (rw session refl)
 
   pub turned-answer : can_advance (as_session held) 1 ≡ true → (answer (user_of old) (Advance name 1) false).1 ≡ user_of (with_held name (turned_on held) old)
   turned-answer near =
-      ap (λ r. (settled (user_of old) r).1) (performing.advance-on (user_of old) name false (as_session held) (named-held old name held found) 1 near)
+      ap (λ r. (settled (user_of old) r).1) (performing.advance-on (user_of old) name false (as_session held) session 1 near)
       ∙ sym (user_of-put old name (turned_on held))
 
 -- a reply that names the step, read as the code has it

@@ -16,7 +16,7 @@ use Rattle.lj_session.specs.declared.running.Running.TheVariants.{Advance, Measu
 use Rattle.lj_session.specs.declared.running.Turned.{Turned}
 use Rattle.lj_session.specs.declared.running.Turned.TheVariants as outcomes
 use Rattle.lj_session.specs.Users.{User}
-use Rattle.lj_session.specs.Answers.{performed, answer, can_advance}
+use Rattle.lj_session.specs.Answers.{session_named, performed, answer, can_advance}
 use Rattle.lj_session.specs.Turns.{turns, turned, rest_of}
 use Rattle.lj_session.specs.States.{Held, Owned, IsHere, IsWhole, CanTurn, as_session, user_of, held_in, changed, with_step, with_posted, passed_to, next_tile, with_tile_in, turned_on, is_whole_in, whole_of}
 use Rattle.lj_session.specs.Running.{CanTake, CanRun, Runs, IfGoes, command_of, session_of, sums_of}
@@ -170,6 +170,11 @@ advance_replied owned name n r last reply next mark user e =
 pub goes_weaker : (outcome : Turned) (P Q : Running → Type 0) → ((left : Running) → P left → Q left) → IfGoes outcome P → IfGoes outcome Q
 goes_weaker (outcomes.Replied reply) P Q f h = tt
 goes_weaker (outcomes.Goes left) P Q f h = f left h
+
+-- the session of what runs is that of its command
+pub session_of-named : (running : Running) → Some (session_of running) ≡ session_named (command_of running)
+session_of-named (Advance name n) = refl
+session_of-named (Measure name) = refl
 
 -- the label of the tasks of what runs
 pub label_of : (state : Owned) (user : ℕ) (running : Running)

@@ -10,16 +10,27 @@ use Rattle.lj_session.specs.declared.reply.Reply.TheVariants as reply
 use Rattle.lj_branch.specs.Named.{named, taken_out}
 use Rattle.lj_session.specs.Users.{Session, User, with_session, atoms_of}
 use Rattle.lj_session.specs.Answers.{performed, can_advance, with_sim}
-use Rattle.lj_session.specs.States.{Owned, Performs, outcome, user_of}
+use Rattle.lj_session.specs.States.{Owned, OthersKept, Performs, outcome, user_of}
 
--- a command that is answered without the mark
-pub told : (old new : Owned) (command : Command) (result : Result Reply Refusal)
-    → performed (user_of old) command false ≡ outcome result (user_of new) → Performs old command result new
-told old new command result h = record { mark = false; performs = h; only_memory = λ marked. cc }
+-- a command that is done without the mark
+pub told : (old new : Owned) (command : Command) (reply : Reply)
+    → performed (user_of old) command false ≡ Ok (reply, user_of new) → OthersKept command old new → Performs old command (Ok reply) new
+told old new command reply h others = record { mark = false; performs = h; only_memory = λ marked. cc; others = others }
+
+-- a command that is refused without it
+pub refused : (old new : Owned) (command : Command) (refusal : Refusal)
+    → performed (user_of old) command false ≡ Err refusal → Performs old command (Err refusal) new
+refused old new command refusal h = record { mark = false; performs = h; only_memory = λ marked. cc; others = tt }
 
 -- a command that memory was refused to
 pub starved : (old new : Owned) (command : Command) → performed (user_of old) command true ≡ Err Memory → Performs old command (Err Memory) new
-starved old new command h = record { mark = true; performs = h; only_memory = λ marked. refl }
+starved old new command h = record { mark = true; performs = h; only_memory = λ marked. refl; others = tt }
+
+-- a command that only reads
+pub read : (owned : Owned) (command : Command) (result : Result Reply Refusal)
+    → ((mark : Bool) → performed (user_of owned) command mark ≡ outcome result (user_of owned)) → Performs owned command result owned
+read owned command (Ok reply) h = told owned owned command reply (h false) (λ other apart. refl)
+read owned command (Err refusal) h = refused owned owned command refusal (h false)
 
 module _ (user : User) (name : List ℕ) (mark : Bool) where
   module _ (absent : named name user.sessions ≡ None) where

@@ -38,6 +38,23 @@ abbrev pub can_advance : Session → ℕ → Bool
 can_advance session n =
     nat_le n 1000000 && nat_le (unsigned_abs (session.sim.step +ℤ session.sim.dir *ℤ pos n)) (10 ^ 12)
 
+-- the session that a command is of; LIST and BYE are of none
+abbrev pub session_named : Command → Option (List ℕ)
+session_named (Load load) = Some load.name
+session_named (Advance name n) = Some name
+session_named (Reverse name) = Some name
+session_named (Branch name branch) = Some name
+session_named (Restore name branch) = Some name
+session_named (Forget name branch) = Some name
+session_named (Tug name atom x y z) = Some name
+session_named (Measure name) = Some name
+session_named (Show name atom) = Some name
+session_named (Dump name) = Some name
+session_named ListSessions = None
+session_named (ListBranches name) = Some name
+session_named (Unload name) = Some name
+session_named Bye = None
+
 -- what a command does: its reply and the next user, or its first refusal
 unfoldable pub performed : User → Command → Bool → Result (Reply × User) Refusal
 performed user (Load load) mark = do

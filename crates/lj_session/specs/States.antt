@@ -1,5 +1,5 @@
 -- What the code holds of a user, open steps and all, and the user of the definition that it stands for.
-use Rattle.std.specs.Prelude.{◌≡◌, ℕ, ◌+◌, ◌-◌, ◌≤◌, ◌^◌, unsigned_abs, Bool, true, false, List, [], ◌∷◌, length, map, slice_get, Option, Some, None, Result, Ok, Err, not, nat_lt, is_some}
+use Rattle.std.specs.Prelude.{◌≡◌, ◌≢◌, OnOk, ℕ, ◌+◌, ◌-◌, ◌≤◌, ◌^◌, unsigned_abs, Bool, true, false, List, [], ◌∷◌, length, map, slice_get, Option, Some, None, Result, Ok, Err, not, nat_lt, is_some}
 use Rattle.std.specs.Option.{ForSome, option_map, option_and_then}
 use Rattle.std.specs.List.{find, range_with_len}
 use Rattle.lj_xyz.specs.Atoms.{◌>>=◌}
@@ -20,7 +20,7 @@ use Rattle.lj_session.specs.declared.reply.Reply.{Reply}
 use Rattle.lj_branch.specs.Named.{named, put}
 use Rattle.lj_session.specs.Users.{Session, User, fresh, sessions_used, atoms_used, branches_used}
 use Rattle.lj_session.specs.Loads.{unless}
-use Rattle.lj_session.specs.Answers.{session_of, performed, answer, can_advance}
+use Rattle.lj_session.specs.Answers.{session_named, session_of, performed, answer, can_advance}
 
 -- A session as it is held: the symbols of its atoms, its simulation with its scale and its open step, and what is saved
 -- in it. The first `passed` tiles of the open step's cover have been posted, or were in when their turn came.
@@ -162,11 +162,16 @@ branch_admitted user name branch = do
   new ← unless (not (is_some (named branch session.saved))) BranchExists
   unless (nat_lt (branches_used user) user.quota.branches) QuotaBranches
 
+-- Every session but that of the command is held as it was, its open step and what is posted of it included.
+abbrev pub OthersKept : Command → Owned → Owned → Type 0
+OthersKept command old new = (other : List ℕ) → session_named command ≢ Some other → held_in new other ≡ held_in old other
+
 -- A command is performed as the definition says, under some mark, which is set only for the memory refusal.
 pub record Performs (old : Owned) (command : Command) (result : Result Reply Refusal) (new : Owned) : Type 0 where
   pub mark : Bool
   pub performs : performed (user_of old) command mark ≡ outcome result (user_of new)
   pub only_memory : mark ≡ true → result ≡ Err Memory
+  pub others : OnOk result (OthersKept command old new)
 
 -- the user after commands with marks, where a missing mark is not set
 abbrev pub user_after : User → List Command → List Bool → User

@@ -3,7 +3,8 @@ ghost use Rattle.std.specs.Prelude.{◌≡◌, ◌↔◌, ◌<◌, ◌+◌, ℕ,
 ghost use Rattle.lj_session.specs.Answers.{answer};
 ghost use Rattle.lj_session.specs.Turns.{turns, turned, rest_of};
 ghost use Rattle.lj_session.specs.Owners.{IsAnswered, IsReplied, IsWanted, user_in, turns_left, begun, label_in, task_in, with_task_posted, with_task_in, is_ready, turned_from};
-ghost use Rattle.lj_session.specs.Begins.{IfAnswered, OnRunning, reply_of};
+ghost use Rattle.lj_session.specs.States.{OthersKept};
+ghost use Rattle.lj_session.specs.Begins.{IfAnswered, OnRunning, OnRefused, reply_of};
 
 use crate::command::Command;
 use crate::refusal::Refusal;
@@ -64,7 +65,9 @@ impl Owner {
         ensures idle { IfAnswered result (λ _. self.new.rest ≡ None) }
         ensures takes_turns { OnRunning result (0 < turns (user_in self.old) command) }
         ensures running { OnRunning result (self.new ≡ begun command self.old) }
-        ensures unchanged { OnRunning result (user_in self.new ≡ user_in self.old) }
+        ensures user { OnRunning result (user_in self.new ≡ user_in self.old) }
+        ensures unchanged { OnRefused result (self.new ≡ self.old) }
+        ensures others { OthersKept command self.old.state self.new.state }
         ensures number { self.new.number ≡ self.old.number }
         ensures quota { self.new.state.quota ≡ self.old.state.quota }
     {
@@ -87,7 +90,7 @@ impl Owner {
     pub fn posted(&mut self)
         requires { IsSome (task_in self.old) }
         ensures noted { self.new ≡ with_task_posted self.old }
-        ensures unchanged { user_in self.new ≡ user_in self.old }
+        ensures user { user_in self.new ≡ user_in self.old }
     {
         if let Some(running) = &self.running {
             self.state.post(running.session());
@@ -99,9 +102,9 @@ impl Owner {
     pub fn accept(&mut self, done: Done) -> Result<(), Stray>
         ensures accepted { IsOk result ↔ IsWanted self.old done }
         ensures taken { OnOk result (self.new ≡ with_task_in done self.old) }
-        ensures unchanged { user_in self.new ≡ user_in self.old }
+        ensures user { user_in self.new ≡ user_in self.old }
         ensures stray { IfErr result (λ s. s.done ≡ done) }
-        ensures refused { OnErr result (self.new ≡ self.old) }
+        ensures unchanged { OnErr result (self.new ≡ self.old) }
     {
         let Some(label) = self.label() else {
             return Err(Stray { done });
@@ -129,6 +132,8 @@ impl Owner {
         ensures turned { IfNone result (IfSome self.old.rest (λ command. user_in self.new ≡ turned (user_in self.old) command)) }
         ensures kept { IfNone result (IfSome self.old.rest (λ command. (mark : Bool) → answer (user_in self.new) (rest_of command) mark ≡ answer (user_in self.old) command mark)) }
         ensures fewer { IfNone result (turns_left self.new + 1 ≡ turns_left self.old) }
+        ensures others { IfSome self.old.rest (λ command. OthersKept command self.old.state self.new.state) }
+        ensures quota { self.new.state.quota ≡ self.old.state.quota }
         ensures number { self.new.number ≡ self.old.number }
     {
         match self.running.take()?.turn(&mut self.state) {

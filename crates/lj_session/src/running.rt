@@ -2,7 +2,7 @@
 ghost use Rattle.std.specs.Prelude.{◌≡◌, ◌↔◌, ◌<◌, ◌+◌, ◌-◌, ℕ, Bool, true, IsSome, IfSome};
 ghost use Rattle.lj_session.specs.Answers.{answer};
 ghost use Rattle.lj_session.specs.Turns.{turns, turned, rest_of};
-ghost use Rattle.lj_session.specs.States.{user_of, changed, with_step, turned_on, is_whole_in};
+ghost use Rattle.lj_session.specs.States.{OthersKept, user_of, changed, with_step, turned_on, is_whole_in};
 ghost use Rattle.lj_session.specs.Owners.{step_of, opened_for, changed_in};
 ghost use Rattle.lj_session.specs.Running.{CanRun, Runs, command_of, session_of, sums_of, IfReplied, IfGoes};
 ghost use Rattle.lj_session.specs.declared.running.Running.TheVariants.{Advance};
@@ -84,6 +84,8 @@ impl Running {
         ensures kept { IfGoes result (λ left. (mark : Bool) → answer (user_of state.new) (command_of left) mark ≡ answer (user_of state.old) (command_of self) mark) }
         ensures opened { IfGoes result (λ left. state.new ≡ opened_for (step_of (command_of left)) (changed_in (step_of (command_of self)) turned_on state.old)) }
         ensures runs { IfGoes result (Runs state.new) }
+        ensures others { OthersKept (command_of self) state.old state.new }
+        ensures quota { state.new.quota ≡ state.old.quota }
     {
         match self {
             Running::Advance { name, steps } => advance(state, name, steps),
@@ -104,6 +106,8 @@ fn advance(state: &mut UserState, name: Name, steps: u64) -> Turned
     ensures user { IfGoes result (λ _. user_of state.new ≡ turned (user_of state.old) (commands.Advance name steps)) }
     ensures opened { IfGoes result (λ _. state.new ≡ changed name (with_step Force) (changed name turned_on state.old)) }
     ensures runs { IfGoes result (Runs state.new) }
+    ensures others { OthersKept (commands.Advance name steps) state.old state.new }
+    ensures quota { state.new.quota ≡ state.old.quota }
 {
     state.turn(&name);
     if steps == 1 {

@@ -4,6 +4,7 @@ use Rattle.lj_tile.specs.declared.names.Kind.TheVariants.{Force}
 use Rattle.lj_session.specs.declared.running.Running.TheVariants.{Advance}
 use Rattle.lj_session.specs.States.{Owned, user_of, held_in, changed, with_step, turned_on}
 use Rattle.lj_session.specs.Running.{Runs}
+use Rattle.lj_session.proofs.Others.{others-changed}
 use Rattle.lj_session.proofs.Owning.{can_turn, held_in-changed, is_there, takes, runs_next, advance_replied}
 use Rattle.lj_session.proofs.running.advance.Goals as goal
 
@@ -48,3 +49,13 @@ returns-clause-fewer c =
 
 pub returns-clause-runs : goal.returns-clause-runs
 returns-clause-runs c = goes_on c
+
+pub returns-then-steps-eq1-clause-others : goal.returns-then-steps-eq1-clause-others
+returns-then-steps-eq1-clause-others c = λ other apart.
+    ap (λ (owned : Owned). held_in owned other) c.turn.ensures.turned ∙ others-changed c.args.state.now c.args.name turned_on other apart
+
+pub returns-clause-others : goal.returns-clause-others
+returns-clause-others c = λ other apart.
+    let read = λ (owned : Owned). held_in owned other in
+    ap read c.open_step.ensures.opened ∙ others-changed c.turn.new.self c.args.name (with_step Force) other apart
+    ∙ ap read c.turn.ensures.turned ∙ others-changed c.args.state.now c.args.name turned_on other apart

@@ -18,13 +18,13 @@ pub returns-in_err-admit_branch-clause-performs : goal.returns-in_err-admit_bran
 returns-in_err-admit_branch-clause-performs c =
     let old = c.args.self.now in
     performs-refused old _ _ c.from_residual.result c.in_err-admit_branch.field-0.0 c.from_residual.ensures.1
-    (performing.told old _ _ _ (saving.branch-not_admitted (user_of old) c.args.name c.args.branch false c.in_err-admit_branch.field-0.0 (sym c.in_err-admit_branch.ensures)))
+    (performing.refused old _ _ _ (saving.branch-not_admitted (user_of old) c.args.name c.args.branch false c.in_err-admit_branch.field-0.0 (sym c.in_err-admit_branch.ensures)))
 
 pub returns-in_default-clause-performs : goal.returns-in_default-clause-performs
 returns-in_default-clause-performs c =
     let old = c.args.self.now in
     let absent = looked_up c.self.inside old c.self.view_is c.args.name None c.in_default.ensures.value in
-    performing.told old _ _ _ (saving.branch-none (user_of old) c.args.name c.args.branch false (named-absent old c.args.name absent))
+    performing.refused old _ _ _ (saving.branch-none (user_of old) c.args.name c.args.branch false (named-absent old c.args.name absent))
 
 pub invariant_of-self-in_err-save : goal.invariant_of-self-in_err-save
 invariant_of-self-in_err-save c =

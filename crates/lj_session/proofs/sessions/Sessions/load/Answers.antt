@@ -4,7 +4,7 @@ use Rattle.lj_session.specs.declared.refusal.Refusal.TheVariants.{Memory}
 use Rattle.lj_session.specs.Faults.{quota_refusal, xyz_refusal}
 use Rattle.lj_session.specs.Openings.{last_of, session_of}
 use Rattle.lj_session.proofs.Holding.{inserted}
-use Rattle.lj_session.proofs.Performing.{told}
+use Rattle.lj_session.proofs.Performing.{refused}
 use Rattle.lj_session.proofs.Loading as loading
 use Rattle.lj_session.proofs.Results.{performs-refused}
 use Rattle.lj_session.proofs.Totals.{used-more}
@@ -16,7 +16,7 @@ pub returns-in_err-scale-clause-performs : goal.returns-in_err-scale-clause-perf
 returns-in_err-scale-clause-performs c =
     let old = c.args.self.now in
     performs-refused old _ _ c.from_residual.result c.in_err-scale.field-0.0 c.from_residual.ensures.1
-    (told old _ _ _ (loading.load-refused (user_of old) c.args.load false c.in_err-scale.field-0.0 (sym c.in_err-scale.ensures)))
+    (refused old _ _ _ (loading.load-refused (user_of old) c.args.load false c.in_err-scale.field-0.0 (sym c.in_err-scale.ensures)))
 
 pub returns-in_default-clause-performs : goal.returns-in_default-clause-performs
 returns-in_default-clause-performs c =

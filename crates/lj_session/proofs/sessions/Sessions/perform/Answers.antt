@@ -1,4 +1,4 @@
-use Rattle.std.proofs.Common.{false}
+use Rattle.std.proofs.Common.{false, refl}
 use Rattle.lj_session.proofs.Performing.{told, list-done, bye-done}
 use Rattle.lj_session.specs.States.{user_of}
 use Rattle.lj_session.proofs.sessions.Sessions.perform.Goals as goal
@@ -6,9 +6,9 @@ use Rattle.lj_session.proofs.sessions.Sessions.perform.Goals as goal
 pub returns-in-List-clause-performs : goal.returns-in-List-clause-performs
 returns-in-List-clause-performs c =
     let old = c.args.self.now in
-    rw c.in-List.is (told old old _ _ (list-done (user_of old) false))
+    rw c.in-List.is (told old old _ _ (list-done (user_of old) false) (λ other apart. refl))
 
 pub returns-in-Bye-clause-performs : goal.returns-in-Bye-clause-performs
 returns-in-Bye-clause-performs c =
     let old = c.args.self.now in
-    rw c.in-Bye.is (told old old _ _ (bye-done (user_of old) false))
+    rw c.in-Bye.is (told old old _ _ (bye-done (user_of old) false) (λ other apart. refl))

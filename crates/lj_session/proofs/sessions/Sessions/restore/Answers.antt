@@ -15,7 +15,7 @@ pub returns-in_default-clause-performs : goal.returns-in_default-clause-performs
 returns-in_default-clause-performs c =
     let old = c.args.self.now in
     let absent = looked_up c.self.inside old c.self.view_is c.args.name None c.in_default.ensures.value in
-    performing.told old _ _ _ (performing.restore-none (user_of old) c.args.name false (named-absent old c.args.name absent) c.args.branch)
+    performing.refused old _ _ _ (performing.restore-none (user_of old) c.args.name false (named-absent old c.args.name absent) c.args.branch)
 
 pub invariant_of-self-in_err-restore : goal.invariant_of-self-in_err-restore
 invariant_of-self-in_err-restore c =
@@ -34,7 +34,7 @@ returns-in_err-restore-clause-performs c =
     let held = c.in-Some.session.now in
     let found = looked_up c.self.inside old c.self.view_is c.args.name (Some held) c.in-Some.ensures.value in
     performs-refused old _ _ c.from_residual.result _ c.from_residual.ensures.1
-    (performing.told old _ _ _ (performing.restore-no_branch (user_of old) c.args.name false (as_session held) (named-held old c.args.name held found) c.args.branch (none-if (named c.args.branch held.saved) c.in_err-restore.ensures.found.1)))
+    (performing.refused old _ _ _ (performing.restore-no_branch (user_of old) c.args.name false (as_session held) (named-held old c.args.name held found) c.args.branch (none-if (named c.args.branch held.saved) c.in_err-restore.ensures.found.1)))
 
 pub returns-in_err-restore-clause-unchanged : goal.returns-in_err-restore-clause-unchanged
 returns-in_err-restore-clause-unchanged c =

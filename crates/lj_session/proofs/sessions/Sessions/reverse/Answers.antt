@@ -13,7 +13,7 @@ pub returns-in_default-clause-performs : goal.returns-in_default-clause-performs
 returns-in_default-clause-performs c =
     let old = c.args.self.now in
     let absent = looked_up c.self.inside old c.self.view_is c.args.name None c.in_default.ensures.value in
-    performing.told old _ _ _ (performing.reverse-none (user_of old) c.args.name false (named-absent old c.args.name absent))
+    performing.refused old _ _ _ (performing.reverse-none (user_of old) c.args.name false (named-absent old c.args.name absent))
 
 pub invariant_of-self-2 : goal.invariant_of-self-2
 invariant_of-self-2 c =

@@ -13,7 +13,7 @@ pub returns-in_default-clause-performs : goal.returns-in_default-clause-performs
 returns-in_default-clause-performs c =
     let old = c.args.self.now in
     let absent = looked_up c.self.inside old c.self.view_is c.args.name None c.in_default.ensures.value in
-    performing.told old _ _ _ (performing.tug-none (user_of old) c.args.name false (named-absent old c.args.name absent) c.args.atom c.args.by.x c.args.by.y c.args.by.z)
+    performing.refused old _ _ _ (performing.tug-none (user_of old) c.args.name false (named-absent old c.args.name absent) c.args.atom c.args.by.x c.args.by.y c.args.by.z)
 
 pub invariant_of-self-then-atom-count : goal.invariant_of-self-then-atom-count
 invariant_of-self-then-atom-count c =
@@ -28,7 +28,7 @@ returns-then-atom-count-clause-performs c =
     let old = c.args.self.now in
     let held = c.in-Some.session.now in
     let found = looked_up c.self.inside old c.self.view_is c.args.name (Some held) c.in-Some.ensures.value in
-    performing.told old _ _ _ (performing.tug-no_atom (user_of old) c.args.name false (as_session held) (named-held old c.args.name held found) c.args.atom c.args.by.x c.args.by.y c.args.by.z
+    performing.refused old _ _ _ (performing.tug-no_atom (user_of old) c.args.name false (as_session held) (named-held old c.args.name held found) c.args.atom c.args.by.x c.args.by.y c.args.by.z
     (outcomes.past c.args.atom (length held.live.sim.cur) (let n = c.count.ensures.value ∙ ap (λ (l : Live). length l.sim.cur) c.sim.ensures in let t = c.if-atom-count.true in omega (arith, n, t))))
 
 pub returns-then-atom-count-clause-unchanged : goal.returns-then-atom-count-clause-unchanged

@@ -12,7 +12,7 @@ pub returns-in_default-clause-performs : goal.returns-in_default-clause-performs
 returns-in_default-clause-performs c =
     let old = c.args.self.now in
     let absent = looked_up c.self.inside old c.self.view_is c.args.name None c.in_default.ensures.value in
-    performing.told old _ _ _ (performing.unload-none (user_of old) c.args.name false (named-absent old c.args.name absent))
+    performing.refused old _ _ _ (performing.unload-none (user_of old) c.args.name false (named-absent old c.args.name absent))
 
 pub overflow_sub-self-2 : goal.overflow_sub-self-2
 overflow_sub-self-2 c =
