@@ -1,3 +1,4 @@
+pub mod Gathering
 pub mod Seen
 pub mod Refusals
 pub mod Inline
