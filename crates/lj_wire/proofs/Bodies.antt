@@ -1,63 +1,45 @@
--- What is told of a LOAD whose body is missing.
-use Rattle.std.proofs.Common.{◌≡◌, ℕ, ◌<◌, ℤ, Bool, true, false, cond, List, [], ◌∷◌, Option, Some, None, unwrap_or, refl, arith}
-use Rattle.std.specs.Map.{lookup}
-use Rattle.std.specs.Result.{result_ok}
-use Rattle.std.specs.Str.{bytes_eq}
-use Rattle.lj_fixed.specs.Decimal.{nano_of}
-use Rattle.lj_tile.specs.Names.{name_of}
-use Rattle.lj_session.specs.declared.command.Mode.{Mode}
-use Rattle.lj_session.specs.declared.command.Command.TheVariants.{Load}
+-- What is answered to a LOAD whose body found no memory.
+use Rattle.std.proofs.Common.{◌≡◌, ℕ, ◌<◌, Bool, true, false, cond, List, [], ◌∷◌, Option, Some, None, unwrap_or, refl, arith}
+use Rattle.std.specs.Option.{option_map}
+use Rattle.lj_session.specs.declared.body.LoadBody.TheVariants.{Lost, Read}
+use Rattle.lj_session.specs.declared.command.Load.{Load}
+use Rattle.lj_session.specs.declared.command.Command.TheVariants as command
 use Rattle.lj_session.specs.Users.{User}
 use Rattle.lj_session.specs.Answers.{performed}
-use Rattle.lj_wire.specs.declared.item.Fault.TheVariants.{Line}
-use Rattle.lj_wire.specs.declared.item.Item.TheVariants.{Bad}
-use Rattle.lj_wire.specs.Numbers.{number_of}
-use Rattle.lj_wire.specs.Commands.{◌>>=◌, Words, load, mode_of, commands, or_syntax, is_load, is_over, last_count, load_item, other_item, item_of_words, body_len, words_in, announced, item_with, item_of}
-use Rattle.lj_wire.specs.Told.{told}
+use Rattle.lj_wire.specs.Verbs.{is_load, verb_of}
+use Rattle.lj_wire.specs.Commands.{Words, load_of, load_command, or_syntax, last_count, counted_item, verb_item, item_of_words, body_len, is_over, over_item, words_in, announced, item_with, item_of}
+use Rattle.lj_wire.specs.Told.{answered}
 
-read_told : (user : User) (name : Option (List ℕ)) (edge sigma : Option ℤ) (h : Option ℕ) (mode : Option Mode) (body : List ℕ) (mark : Bool)
-    → told user (or_syntax (name >>= λ s. mode >>= λ m. Some (Load s edge sigma h m None))) mark
-    ≡ told user (or_syntax (name >>= λ s. mode >>= λ m. Some (Load s edge sigma h m (Some body)))) true
+lost_load : (user : User) (load : Option Load) (body : List ℕ) (mark : Bool)
+    → answered user (or_syntax (option_map (λ load. command.Load (record load { body = Lost })) load)) mark
+    ≡ answered user (or_syntax (option_map (λ load. command.Load (record load { body = Read body })) load)) true
 unfolding performed
-read_told user None edge sigma h mode body mark = refl
-read_told user (Some s) edge sigma h None body mark = refl
-read_told user (Some s) edge sigma h (Some m) body mark = refl
+lost_load user None body mark = refl
+lost_load user (Some load) body mark = refl
 
-load_told : (user : User) (words : Words) (body : List ℕ) (mark : Bool)
-    → told user (or_syntax (load None words)) mark ≡ told user (or_syntax (load (Some body) words)) true
-load_told user (s ∷ edge ∷ sigma ∷ h ∷ mode ∷ bytes ∷ []) body mark =
-    read_told user (name_of s) (result_ok (nano_of edge)) (result_ok (nano_of sigma)) (number_of h) (mode_of mode) body mark
-load_told user [] body mark = refl
-load_told user (s ∷ []) body mark = refl
-load_told user (s ∷ edge ∷ []) body mark = refl
-load_told user (s ∷ edge ∷ sigma ∷ []) body mark = refl
-load_told user (s ∷ edge ∷ sigma ∷ h ∷ []) body mark = refl
-load_told user (s ∷ edge ∷ sigma ∷ h ∷ mode ∷ []) body mark = refl
-load_told user (s ∷ edge ∷ sigma ∷ h ∷ mode ∷ bytes ∷ word ∷ words) body mark = refl
+lost_counted : (user : User) (count : Option ℕ) (words : Words) (body : List ℕ) (mark : Bool)
+    → answered user (counted_item count (load_command Lost words)) mark ≡ answered user (counted_item count (load_command (Read body) words)) true
+lost_counted user None words body mark = refl
+lost_counted user (Some count) words body mark = lost_load user (load_of words) body mark
 
-counted_told : (user : User) (count : Option ℕ) (words : Words) (body : List ℕ) (mark : Bool)
-    → told user (load_item count None words) mark ≡ told user (load_item count (Some body) words) true
-counted_told user None words body mark = refl
-counted_told user (Some count) words body mark = load_told user words body mark
-
-words_told : (user : User) (words : Words) (body : List ℕ) (mark : Bool) → 0 < body_len words
-    → told user (item_of_words words None) mark ≡ told user (item_of_words words (Some body)) true
+lost_words : (user : User) (words : Words) (body : List ℕ) (mark : Bool) → 0 < body_len words
+    → answered user (item_of_words words Lost) mark ≡ answered user (item_of_words words (Read body)) true
 unfolding item_of_words body_len
-words_told user [] body mark some = absurd (omega (arith, some))
-words_told user (word ∷ words) body mark some = by_test (is_load word) some
+lost_words user [] body mark some = absurd (omega (arith, some))
+lost_words user (word ∷ words) body mark some = by_test (is_load word) some
   where
     by_test : (load : Bool) → 0 < cond load (unwrap_or (last_count words) 0) 0
-        → told user (cond load (load_item (last_count words) None words) (other_item (lookup (bytes_eq word) commands) words)) mark
-        ≡ told user (cond load (load_item (last_count words) (Some body) words) (other_item (lookup (bytes_eq word) commands) words)) true
-    by_test true some = counted_told user (last_count words) words body mark
+        → answered user (cond load (counted_item (last_count words) (load_command Lost words)) (verb_item (verb_of word) words)) mark
+        ≡ answered user (cond load (counted_item (last_count words) (load_command (Read body) words)) (verb_item (verb_of word) words)) true
+    by_test true some = lost_counted user (last_count words) words body mark
     by_test false some = absurd (omega (arith, some))
 
-pub missing_told : (user : User) (line body : List ℕ) (mark : Bool) → 0 < announced line
-    → told user (item_with line None) mark ≡ told user (item_of line body) true
-missing_told user line body mark some = by_test (is_over line) some
+pub lost_answered : (user : User) (line body : List ℕ) (mark : Bool) → 0 < announced line
+    → answered user (item_with line Lost) mark ≡ answered user (item_of line body) true
+lost_answered user line body mark some = by_test (is_over line) some
   where
     by_test : (over : Bool) → 0 < cond over 0 (body_len (words_in line))
-        → told user (cond over (Bad Line) (item_of_words (words_in line) None)) mark
-        ≡ told user (cond over (Bad Line) (item_of_words (words_in line) (Some body))) true
+        → answered user (cond over (over_item line) (item_of_words (words_in line) Lost)) mark
+        ≡ answered user (cond over (over_item line) (item_of_words (words_in line) (Read body))) true
     by_test true some = absurd (omega (arith, some))
-    by_test false some = words_told user (words_in line) body mark some
+    by_test false some = lost_words user (words_in line) body mark some

@@ -4,8 +4,9 @@ use Rattle.std.specs.List.{last_or}
 use Rattle.std.specs.Option.{option_map}
 use Rattle.std.specs.Iterator.{Drains, YieldsFirstRef}
 use Rattle.std.proofs.lemmas.Bool.{le-leb, leb-true, lt-leb}
-use Rattle.lj_wire.specs.Numbers.{number_of}
-use Rattle.lj_wire.specs.Commands.{◌>>=◌, Words, count_of, last_count, is_load, is_over, words_in, body_len, announced}
+use Rattle.lj_fixed.specs.Numbers.{number_of}
+use Rattle.lj_wire.specs.Verbs.{is_load}
+use Rattle.lj_wire.specs.Commands.{◌>>=◌, Words, count_of, last_count, is_over, words_in, body_len, announced}
 
 count_of-at : (word : List ℕ) (number : Option ℕ) → length word ≤ 7 → number_of word ≡ number
     → count_of word ≡ (number >>= λ count. cond (nat_le count 1048576) (Some count) None)

@@ -10,7 +10,8 @@ use Rattle.lj_wire.specs.declared.item.Item.{Item}
 use Rattle.lj_wire.specs.declared.item.Item.TheVariants.{Last}
 use Rattle.lj_wire.specs.Items.{ends}
 use Rattle.lj_wire.specs.Commands.{announced, item_of}
-use Rattle.lj_wire.specs.Streams.{LacksLineFeed, IsLineItem, IsLongItem, IsItem, Splits, most_items}
+use Rattle.lj_wire.specs.declared.limits.TheConstants.{MAX_ITEMS}
+use Rattle.lj_wire.specs.Streams.{LacksLineFeed, IsLineItem, IsLongItem, IsItem, Splits}
 
 abbrev Split : ℕ → List ℕ → Type 0
 Split n bytes = (items : List Item) × (rest : List ℕ) × Splits n bytes items rest
@@ -58,7 +59,7 @@ ended_by : (n : ℕ) (bytes front behind : List ℕ) (item : Item) → bytes ≡
 ended_by n bytes front behind item e i f =
     (item ∷ [], behind, (front, behind, e, i, (λ h. (refl, refl)), (λ h. let no_way : true ≡ false = sym f ∙ h in cc)))
 
-long_split : (n : ℕ) (bytes front behind : List ℕ) → n < most_items → bytes ≡ front ++ behind → LacksLineFeed front → 65536 ≤ length front → Split n bytes
+long_split : (n : ℕ) (bytes front behind : List ℕ) → n < MAX_ITEMS → bytes ≡ front ++ behind → LacksLineFeed front → 65536 ≤ length front → Split n bytes
 long_split n bytes front behind below e h l =
     let cut = ap (λ x. x ++ behind) (sym (take-append-drop 65536 front)) ∙ append_assoc (take 65536 front) (drop 65536 front) behind in
     let item : IsLongItem (take 65536 front) (Last Long) = record { one_line = take_lacks 65536 front h; long = length-take-le 65536 front l; means = refl } in
@@ -68,7 +69,7 @@ long_split n bytes front behind below e h l =
 abbrev Shorter : ℕ → List ℕ → Type 0
 Shorter n bytes = (behind : List ℕ) → length behind < length bytes → Split (n + 1) behind
 
-line_split : (n : ℕ) (bytes : List ℕ) → n < most_items → (f : FirstLine bytes) → length f.line < 65536 → Shorter n bytes → Split n bytes
+line_split : (n : ℕ) (bytes : List ℕ) → n < MAX_ITEMS → (f : FirstLine bytes) → length f.line < 65536 → Shorter n bytes → Split n bytes
 line_split n bytes below f l shorter = by_length (cases_lt (length f.behind) (announced f.line))
   where
     by_length : (length f.behind < announced f.line) ⊎ (announced f.line ≤ length f.behind) → Split n bytes
@@ -92,7 +93,7 @@ line_split n bytes below f l shorter = by_length (cases_lt (length f.behind) (an
         onward n bytes (f.line ++ 10 ∷ body) behind (item_of f.line body) (f.whole ∙ cut) (inl (below, inl item))
         (shorter behind (omega (arith, ap length f.whole, all, parts, same)))
 
-stream_split : (n : ℕ) (bytes : List ℕ) → n < most_items → Shorter n bytes → LacksLineFeed bytes ⊎ FirstLine bytes → Split n bytes
+stream_split : (n : ℕ) (bytes : List ℕ) → n < MAX_ITEMS → Shorter n bytes → LacksLineFeed bytes ⊎ FirstLine bytes → Split n bytes
 stream_split n bytes below shorter (inl none) = by_length (cases_lt (length bytes) 65536)
   where
     by_length : (length bytes < 65536) ⊎ (65536 ≤ length bytes) → Split n bytes
@@ -104,16 +105,16 @@ stream_split n bytes below shorter (inr f) = by_length (cases_lt (length f.line)
     by_length (inl short) = line_split n bytes below f short shorter
     by_length (inr long) = long_split n bytes f.line (10 ∷ f.behind) below f.whole f.lacks long
 
-split_from : (fuel n : ℕ) (bytes : List ℕ) → length bytes ≤ fuel → n ≤ most_items → Split n bytes
-split_from zero n bytes few h = by_count (cases_lt n most_items)
+split_from : (fuel n : ℕ) (bytes : List ℕ) → length bytes ≤ fuel → n ≤ MAX_ITEMS → Split n bytes
+split_from zero n bytes few h = by_count (cases_lt n MAX_ITEMS)
   where
-    by_count : (n < most_items) ⊎ (most_items ≤ n) → Split n bytes
+    by_count : (n < MAX_ITEMS) ⊎ (MAX_ITEMS ≤ n) → Split n bytes
     by_count (inl below) = stream_split n bytes below (λ behind shorter. absurd (omega (arith, shorter, few))) (first_line bytes)
     by_count (inr all) = ended_by n bytes [] bytes (Last Enough) refl (inr (omega (arith, all, h), refl, refl)) refl
 split_from (suc fuel) n bytes few h =
-    by_count (λ behind shorter below. split_from fuel (n + 1) behind (omega (arith, shorter, few)) (omega (arith, below))) (cases_lt n most_items)
+    by_count (λ behind shorter below. split_from fuel (n + 1) behind (omega (arith, shorter, few)) (omega (arith, below))) (cases_lt n MAX_ITEMS)
   where
-    by_count : ((behind : List ℕ) → length behind < length bytes → n < most_items → Split (n + 1) behind) → (n < most_items) ⊎ (most_items ≤ n) → Split n bytes
+    by_count : ((behind : List ℕ) → length behind < length bytes → n < MAX_ITEMS → Split (n + 1) behind) → (n < MAX_ITEMS) ⊎ (MAX_ITEMS ≤ n) → Split n bytes
     by_count next (inl below) = stream_split n bytes below (λ behind shorter. next behind shorter below) (first_line bytes)
     by_count next (inr all) = ended_by n bytes [] bytes (Last Enough) refl (inr (omega (arith, all, h), refl, refl)) refl
 

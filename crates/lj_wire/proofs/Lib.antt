@@ -3,7 +3,7 @@ pub mod Marks
 mod Turns
 mod Existence
 pub mod Progressing
-mod Numbers
+mod Displacements
 mod Lines
 mod Counts
 mod Parsing

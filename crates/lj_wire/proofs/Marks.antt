@@ -1,5 +1,5 @@
 -- The mark of an answer, read off its text.
-use Rattle.std.proofs.Common.{◌≡◌, ℕ, ◌+◌, Bool, true, false, not, List, Option, Some, None, Result, Ok, Err, ◌⊎◌, inl, inr, refl, sym, ◌∙◌, ap}
+use Rattle.std.proofs.Common.{◌≡◌, ℕ, ◌+◌, Bool, true, false, not, List, Result, Ok, Err, ◌⊎◌, inl, inr, refl, sym, ◌∙◌, ap}
 use Rattle.std.specs.Fmt.{digits}
 use Rattle.std.specs.Prelude.{is_some, nat_lt, nat_le}
 use Rattle.lj_ring.specs.Scales.{Units}
@@ -10,6 +10,8 @@ use Rattle.lj_xyz.specs.declared.row.Row.{Row}
 use Rattle.lj_xyz.specs.Atoms.{◌>>=◌}
 use Rattle.lj_xyz.specs.Lines.{lines_of}
 use Rattle.lj_xyz.specs.Reading.{reading}
+use Rattle.lj_session.specs.declared.body.LoadBody.{LoadBody}
+use Rattle.lj_session.specs.declared.body.LoadBody.TheVariants.{Unread, Lost, Read}
 use Rattle.lj_session.specs.declared.command.Mode.{Mode}
 use Rattle.lj_session.specs.declared.command.Command.{Command}
 use Rattle.lj_session.specs.declared.command.Command.TheVariants.{Load, Advance, Reverse, Branch, Restore, Forget, Tug, Measure, Show, Dump, List as ListSessions, ListBranches, Unload, Bye}
@@ -78,11 +80,12 @@ read_told user name units (Ok frames) =
     within_told user name session (nat_le (atoms_used user + atoms_of session) user.quota.atoms)
 read_told user name units (Err fault) = kind_told user fault.kind fault.line
 
-load_tells : (user : User) (name : List ℕ) (mode : Mode) (body : Option (List ℕ)) (scale : Result Units Refusal)
+load_tells : (user : User) (name : List ℕ) (mode : Mode) (body : LoadBody) (scale : Result Units Refusal)
     → Tells user (λ mark. scale >>= λ units. body_held body mark >>= λ bytes. session_read user units mode bytes >>= loaded user name)
 load_tells user name mode body (Err refusal) = inl (λ mark. refl)
-load_tells user name mode None (Ok units) = inl (λ mark. refl)
-load_tells user name mode (Some bytes) (Ok units) = inr (refl, read_told user name units (reading (reading_mode mode) (lines_of bytes)))
+load_tells user name mode Unread (Ok units) = inl (λ mark. refl)
+load_tells user name mode Lost (Ok units) = inl (λ mark. refl)
+load_tells user name mode (Read bytes) (Ok units) = inr (refl, read_told user name units (reading (reading_mode mode) (lines_of bytes)))
 
 -- what a BRANCH does with its session
 abbrev branched : User → List ℕ → List ℕ → Session → Outcome
@@ -106,7 +109,7 @@ branch_tells user name branch (Ok session) =
 
 command_tells : (user : User) (command : Command) → Tells user (λ mark. performed user command mark)
 unfolding performed
-command_tells user (Load name edge sigma step_factor mode body) = load_tells user name mode body (admitted user name edge sigma step_factor)
+command_tells user (Load load) = load_tells user load.name load.mode load.body (admitted user load)
 command_tells user (Advance name n) = inl (λ mark. refl)
 command_tells user (Reverse name) = inl (λ mark. refl)
 command_tells user (Branch name branch) = branch_tells user name branch (session_of user name)

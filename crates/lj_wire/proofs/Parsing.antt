@@ -1,67 +1,56 @@
 -- What the words of a line make of it.
-use Rattle.std.proofs.Common.{◌≡◌, ◌≢◌, ℕ, Bool, true, false, List, [], ◌∷◌, map, Option, Some, None, refl}
-use Rattle.std.specs.Map.{lookup}
-use Rattle.std.specs.Option.{option_map, unwrap_or}
-use Rattle.std.specs.Str.{bytes_eq}
-use Rattle.lj_wire.specs.declared.item.Fault.TheVariants as fault
-use Rattle.lj_wire.specs.declared.item.Item.TheVariants as item
-use Rattle.lj_wire.specs.declared.verb.Verb.{Verb}
-use Rattle.lj_wire.specs.Commands.{Words, load, commands, or_syntax, is_load, is_over, last_count, load_item, item_of_words, body_len, words_in, announced, item_with}
-use Rattle.lj_wire.specs.Parsing.{verbs, verb_of, command_of}
+use Rattle.std.proofs.Common.{◌≡◌, ℕ, true, false, List, [], ◌∷◌, Some, None, unwrap_or, refl}
+use Rattle.std.specs.List.{last_or}
+use Rattle.lj_session.specs.declared.body.LoadBody.{LoadBody}
+use Rattle.lj_session.specs.declared.body.LoadBody.TheVariants.{Unread}
+use Rattle.lj_wire.specs.declared.item.Fault.TheVariants.{Syntax}
+use Rattle.lj_wire.specs.declared.item.Item.{Item}
+use Rattle.lj_wire.specs.declared.item.Item.TheVariants.{Bad}
+use Rattle.lj_wire.specs.Verbs.{is_load, verb_of}
+use Rattle.lj_wire.specs.Commands.{Words, count_of, load_command, last_count, counted_item, verb_item, item_of_words, body_len, is_over, over_item, words_in, announced, item_with}
 
--- ---- what a line announces
+-- the item of a line, and how many bytes of body follow it
+pub record Says (line : List ℕ) (body : LoadBody) (item : Item) (len : ℕ) : Type 0 where
+  pub item_is : item ≡ item_with line body
+  pub len_is : len ≡ announced line
 
-pub announced_empty : (line : List ℕ) → is_over line ≡ false → words_in line ≡ [] → 0 ≡ announced line
-unfolding body_len
-announced_empty line short e = rw (short, e) refl
+pub says_over : (line : List ℕ) (body : LoadBody) → is_over line ≡ true → Says line body (over_item line) 0
+says_over line body long = record { item_is = rw long refl; len_is = rw long refl }
 
-pub announced_other : (line word : List ℕ) (words : Words) → is_over line ≡ false → words_in line ≡ word ∷ words → is_load word ≡ false → 0 ≡ announced line
-unfolding body_len
-announced_other line word words short e other = rw (short, e, other) refl
+pub says_empty : (line : List ℕ) (body : LoadBody) → is_over line ≡ false → words_in line ≡ [] → Says line body (Bad Syntax) 0
+unfolding item_of_words body_len
+says_empty line body short e = record { item_is = rw (short, e) refl; len_is = rw (short, e) refl }
 
-pub announced_load : (line word : List ℕ) (words : Words) → is_over line ≡ false → words_in line ≡ word ∷ words → is_load word ≡ true
-    → unwrap_or (last_count words) 0 ≡ announced line
-unfolding body_len
-announced_load line word words short e load = rw (short, e, load) refl
+pub says_load : (line word : List ℕ) (words : Words) (body : LoadBody) → is_over line ≡ false → words_in line ≡ word ∷ words → is_load word ≡ true
+    → Says line body (counted_item (last_count words) (load_command body words)) (unwrap_or (last_count words) 0)
+unfolding item_of_words body_len
+says_load line word words body short e load = record { item_is = rw (short, e, load) refl; len_is = rw (short, e, load) refl }
 
--- ---- the item of a line
+pub says_verb : (line word : List ℕ) (words : Words) (body : LoadBody) → is_over line ≡ false → words_in line ≡ word ∷ words → is_load word ≡ false
+    → Says line body (verb_item (verb_of word) words) 0
+unfolding item_of_words body_len
+says_verb line word words body short e other = record { item_is = rw (short, e, other) refl; len_is = rw (short, e, other) refl }
 
-pub item_empty : (line : List ℕ) (body : Option (List ℕ)) → is_over line ≡ false → words_in line ≡ [] → item.Bad fault.Syntax ≡ item_with line body
-unfolding item_of_words
-item_empty line body short e = rw (short, e) refl
+-- ---- the words after LOAD
 
-pub item_load : (line word : List ℕ) (words : Words) (body : Option (List ℕ)) → is_over line ≡ false → words_in line ≡ word ∷ words → is_load word ≡ true
-    → load_item (last_count words) body words ≡ item_with line body
-unfolding item_of_words
-item_load line word words body short e load = rw (short, e, load) refl
+-- what a LOAD line of these words says
+pub record LoadSays (words : Words) (item : Item) (len : ℕ) : Type 0 where
+  pub item_is : item ≡ counted_item (last_count words) (load_command Unread words)
+  pub len_is : len ≡ unwrap_or (last_count words) 0
 
-lookup-map : {A B : Type 0} (test : List ℕ → Bool) (f : A → B) (table : List (List ℕ × A))
-    → lookup test (map (λ entry. (entry.0, f entry.1)) table) ≡ option_map f (lookup test table)
-lookup-map test f [] = refl
-lookup-map {A} {B} test f (entry ∷ table) = by_test (test entry.0) refl (lookup-map test f table)
-  where
-    by_test : (passes : Bool) → test entry.0 ≡ passes
-        → lookup test (map (λ entry. (entry.0, f entry.1)) table) ≡ option_map f (lookup test table)
-        → lookup test (map (λ entry. (entry.0, f entry.1)) (entry ∷ table)) ≡ option_map f (lookup test (entry ∷ table))
-    by_test true e next = rw e refl
-    by_test false e next = rw e next
+last_there : (word : List ℕ) (words : Words) → last_or (Some word) words ≡ None → ⊥
+last_there word [] e = cc
+last_there word (next ∷ words) e = last_there next words e
 
-command_found : (word : List ℕ) → lookup (bytes_eq word) commands ≡ option_map command_of (verb_of word)
-command_found word = lookup-map (bytes_eq word) command_of verbs
+-- six words and no other
+pub says_six : (s edge sigma h mode count : List ℕ) (others : Words) → last_or None others ≡ None
+    → LoadSays (s ∷ edge ∷ sigma ∷ h ∷ mode ∷ count ∷ others)
+    (counted_item (count_of count) (load_command Unread (s ∷ edge ∷ sigma ∷ h ∷ mode ∷ count ∷ []))) (unwrap_or (count_of count) 0)
+says_six s edge sigma h mode count [] none = record { item_is = refl; len_is = refl }
+says_six s edge sigma h mode count (word ∷ others) none = absurd (last_there word others none)
 
-pub item_unknown : (line word : List ℕ) (words : Words) (body : Option (List ℕ)) → is_over line ≡ false → words_in line ≡ word ∷ words → is_load word ≡ false
-    → verb_of word ≡ None → item.Bad fault.Command ≡ item_with line body
-unfolding item_of_words
-item_unknown line word words body short e other none = rw (short, e, other, command_found word, none) refl
-
-pub item_other : (line word : List ℕ) (words : Words) (body : Option (List ℕ)) (verb : Verb) → is_over line ≡ false → words_in line ≡ word ∷ words
-    → is_load word ≡ false → verb_of word ≡ Some verb → or_syntax (command_of verb words) ≡ item_with line body
-unfolding item_of_words
-item_other line word words body verb short e other found = rw (short, e, other, command_found word, found) refl
-
--- ---- a LOAD of too many words
-
-pub load_over : (s edge sigma h mode bytes : List ℕ) (others : Words) (body : Option (List ℕ)) → others ≢ []
-    → None ≡ load body (s ∷ edge ∷ sigma ∷ h ∷ mode ∷ bytes ∷ others)
-load_over s edge sigma h mode bytes [] body some = absurd (some refl)
-load_over s edge sigma h mode bytes (word ∷ others) body some = refl
+-- more than six words
+pub says_more : (s edge sigma h mode count last : List ℕ) (others : Words) → last_or None others ≡ Some last
+    → LoadSays (s ∷ edge ∷ sigma ∷ h ∷ mode ∷ count ∷ others) (counted_item (count_of last) None) (unwrap_or (count_of last) 0)
+says_more s edge sigma h mode count last [] some = cc
+says_more s edge sigma h mode count last (word ∷ others) some = record { item_is = rw some refl; len_is = rw some refl }

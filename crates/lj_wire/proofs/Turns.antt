@@ -18,7 +18,7 @@ unfolding turns rest_of
 command_goes_on user Bye h = absurd (omega (arith, h))
 command_goes_on user (Advance name n) h = (refl, refl)
 command_goes_on user (Measure name) h = (refl, refl)
-command_goes_on user (Load name edge sigma step_factor mode body) h = (refl, refl)
+command_goes_on user (Load load) h = (refl, refl)
 command_goes_on user (Reverse name) h = (refl, refl)
 command_goes_on user (Branch name branch) h = (refl, refl)
 command_goes_on user (Restore name branch) h = (refl, refl)

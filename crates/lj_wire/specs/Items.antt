@@ -1,5 +1,6 @@
 -- Items of a stream: those that end the connection, the body put into a LOAD, and the refusal that a fault is answered.
-use Rattle.std.specs.Prelude.{ℕ, Bool, true, false, List, Some}
+use Rattle.std.specs.Prelude.{Bool, true, false}
+use Rattle.lj_session.specs.declared.body.LoadBody.{LoadBody}
 use Rattle.lj_session.specs.declared.command.Command.TheVariants.{Bye, Load}
 use Rattle.lj_session.specs.declared.refusal.Refusal.{Refusal}
 use Rattle.lj_session.specs.declared.refusal.Refusal.TheVariants as refusal
@@ -25,8 +26,8 @@ ends (Bad fault) = false
 ends (Last fault) = true
 
 -- the item with this body, where it is a LOAD
-abbrev pub filled : Item → List ℕ → Item
-filled (Command (Load name edge sigma step_factor mode _)) body = Command (Load name edge sigma step_factor mode (Some body))
-filled (Command command) body = Command command
-filled (Bad fault) body = Bad fault
-filled (Last fault) body = Last fault
+abbrev pub with_body : Item → LoadBody → Item
+with_body (Command (Load load)) body = Command (Load (record load { body = body }))
+with_body (Command command) body = Command command
+with_body (Bad fault) body = Bad fault
+with_body (Last fault) body = Last fault

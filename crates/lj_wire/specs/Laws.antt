@@ -1,11 +1,13 @@
 -- Laws of streams and of answers, each proved on the function of its name.
-use Rattle.std.specs.Prelude.{◌≡◌, ℕ, ◌+◌, ◌<◌, ◌≤◌, Bool, true, false, List, None}
+use Rattle.std.specs.Prelude.{◌≡◌, ℕ, ◌+◌, ◌<◌, ◌≤◌, Bool, true, false, List}
+use Rattle.lj_session.specs.declared.body.LoadBody.TheVariants.{Lost}
 use Rattle.lj_session.specs.Users.{User}
 use Rattle.lj_wire.specs.declared.item.Item.{Item}
+use Rattle.lj_wire.specs.declared.limits.TheConstants.{MAX_BODY_BYTES}
 use Rattle.lj_wire.specs.Items.{ends}
 use Rattle.lj_wire.specs.Commands.{announced, item_with, item_of}
 use Rattle.lj_wire.specs.Texts.{is_memory}
-use Rattle.lj_wire.specs.Told.{told}
+use Rattle.lj_wire.specs.Told.{answered, told}
 use Rattle.lj_wire.specs.Runs.{item_turns, user_turned, item_left}
 use Rattle.lj_wire.specs.Streams.{Splits}
 
@@ -20,7 +22,8 @@ SomeSplitting = (bytes : List ℕ) → (items : List Item) × (rest : List ℕ) 
 
 -- What is told says whether memory was refused: the mark may be read off the text.
 abbrev pub MarkIsTold : Type 0
-MarkIsTold = (user : User) (item : Item) (mark : Bool) → told user item mark ≡ told user item (is_memory (told user item mark).0)
+MarkIsTold = (user : User) (item : Item) (mark : Bool)
+    → told user item mark ≡ told user item (is_memory (told user item mark).0)
 
 -- While more than one turn is left, a turn does not change what is told in the end.
 abbrev pub TurnKeepsTold : Type 0
@@ -34,13 +37,14 @@ TurnLowersTurns = (user : User) (item : Item) → 1 < item_turns user item
 
 -- What runs does not end the connection, and what is left of it does not either.
 abbrev pub RunningGoesOn : Type 0
-RunningGoesOn = (user : User) (item : Item) → 0 < item_turns user item → (ends item ≡ false) × (ends (item_left item) ≡ false)
+RunningGoesOn = (user : User) (item : Item) → 0 < item_turns user item
+    → (ends item ≡ false) × (ends (item_left item) ≡ false)
 
--- A line whose body found no memory is told what it is told where memory is refused to it.
+-- A line whose body found no memory is answered what it is answered where memory is refused to it.
 abbrev pub BodyMissingIsMarked : Type 0
 BodyMissingIsMarked = (user : User) (line body : List ℕ) (mark : Bool) → 0 < announced line
-    → told user (item_with line None) mark ≡ told user (item_of line body) true
+    → answered user (item_with line Lost) mark ≡ answered user (item_of line body) true
 
 -- No line is followed by more than 1,048,576 bytes of body.
 abbrev pub BodyIsBounded : Type 0
-BodyIsBounded = (line : List ℕ) → announced line ≤ 1048576
+BodyIsBounded = (line : List ℕ) → announced line ≤ MAX_BODY_BYTES

@@ -1,8 +1,8 @@
 pub mod Ends
 pub mod Items
-pub mod Numbers
+pub mod Displacements
+pub mod Verbs
 pub mod Commands
-pub mod Parsing
 pub mod Texts
 pub mod Told
 pub mod Runs

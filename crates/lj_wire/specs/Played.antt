@@ -6,6 +6,7 @@ use Rattle.std.proofs.Common.{inl, inr, ap, sym, ◌∙◌, subst}
 use Rattle.std.proofs.lemmas.Bool.{and_parts, ltb-true, eqb-true}
 use Rattle.lj_fixed.specs.Decimal.{decimal_of, nano_of}
 use Rattle.lj_fixed.specs.Millionths.{millionths}
+use Rattle.lj_fixed.specs.Numbers.{number_of}
 use Rattle.lj_table.specs.Entries.{push_entry, energy_entry}
 use Rattle.lj_tile.specs.Pushes.{push}
 use Rattle.lj_step.specs.Motion.{force}
@@ -18,15 +19,16 @@ use Rattle.lj_session.specs.Users.{User, fresh}
 use Rattle.lj_session.specs.Answers.{performed}
 use Rattle.lj_wire.specs.declared.item.Item.{Item}
 use Rattle.lj_wire.specs.Items.{ends}
-use Rattle.lj_wire.specs.Numbers.{number_of, displacement_of}
+use Rattle.lj_wire.specs.declared.limits.TheConstants.{LONG_LINE_BYTES, MAX_ITEMS}
+use Rattle.lj_wire.specs.Displacements.{displacement_of}
 use Rattle.lj_wire.specs.Commands.{announced, item_of, count_of, item_of_words, body_len}
 use Rattle.lj_wire.specs.Texts.{text}
 use Rattle.lj_wire.specs.Told.{told, texts, last_user}
-use Rattle.lj_wire.specs.Streams.{IsLine, IsLineItem, IsPart, Splits, AreMarks, Dialogue, most_items}
+use Rattle.lj_wire.specs.Streams.{IsLine, IsLineItem, IsPart, Splits, AreMarks, Dialogue}
 
 -- all that a worked stream computes by
 unfoldable pub computed : Unit {0}
-unfolding digits decimal_of nano_of millionths push_entry energy_entry push force lines_of words_of atoms.number_of atoms.row_of_four atoms.row_of head_in behind_comment next_row rows_in frame_in reading name_of performed number_of displacement_of count_of item_of_words body_len text
+unfolding digits decimal_of nano_of millionths push_entry energy_entry push force lines_of words_of atoms.row_of_four atoms.row_of head_in behind_comment next_row rows_in frame_in reading name_of performed number_of displacement_of count_of item_of_words body_len text
 computed = tt
 
 -- a line, and the body behind it
@@ -62,7 +64,7 @@ items_of pieces = map piece_item pieces
 
 -- a line, by a test
 abbrev pub is_line : List ℕ → Bool
-is_line line = not (list_any is_line_feed line) && nat_lt (length line) 65536
+is_line line = not (list_any is_line_feed line) && nat_lt (length line) LONG_LINE_BYTES
 
 -- a line with the body that it announces, by a test
 abbrev pub is_piece : Piece → Bool
@@ -82,14 +84,14 @@ is_last (piece ∷ pieces) = false
 
 -- the pieces are items from number n on, and what follows is less than one, unless the last piece ends the connection
 abbrev pub are_pieces : ℕ → List Piece → Rest → Bool
-are_pieces n [] rest = nat_lt n most_items && is_part rest
+are_pieces n [] rest = nat_lt n MAX_ITEMS && is_part rest
 are_pieces n (piece ∷ pieces) rest =
-    nat_lt n most_items && is_piece piece && (if ends (piece_item piece) then is_last pieces else are_pieces (n + 1) pieces rest)
+    nat_lt n MAX_ITEMS && is_piece piece && (if ends (piece_item piece) then is_last pieces else are_pieces (n + 1) pieces rest)
 
 IsLine-from_test : (line : List ℕ) → is_line line ≡ true → IsLine line
 IsLine-from_test line h =
-    let p = and_parts (not (list_any is_line_feed line)) (nat_lt (length line) 65536) h in
-    (not-true (list_any is_line_feed line) p.0, ltb-true (length line) 65536 p.1)
+    let p = and_parts (not (list_any is_line_feed line)) (nat_lt (length line) LONG_LINE_BYTES) h in
+    (not-true (list_any is_line_feed line) p.0, ltb-true (length line) LONG_LINE_BYTES p.1)
   where
     not-true : (b : Bool) → not b ≡ true → b ≡ false
     not-true true e = cc
@@ -107,8 +109,8 @@ IsLineItem-from_test piece h =
       means = refl;
     }
 
-IsPart-from_test : (n : ℕ) (rest : Rest) → n < most_items → is_part rest ≡ true → IsPart n (rest_bytes rest)
-IsPart-from_test n nothing below h = (below, inl (refl, ltb-true 0 65536 refl))
+IsPart-from_test : (n : ℕ) (rest : Rest) → n < MAX_ITEMS → is_part rest ≡ true → IsPart n (rest_bytes rest)
+IsPart-from_test n nothing below h = (below, inl (refl, ltb-true 0 LONG_LINE_BYTES refl))
 IsPart-from_test n (open_line line) below h = (below, inl (IsLine-from_test line h))
 IsPart-from_test n (short line body) below h =
     let p = and_parts (is_line line) (nat_lt (length body) (announced line)) h in (
@@ -138,17 +140,17 @@ not_chosen false test other e h = h
 pub Splits-from_test : (n : ℕ) (pieces : List Piece) (rest : Rest) → are_pieces n pieces rest ≡ true
     → Splits n (stream_of pieces (rest_bytes rest)) (items_of pieces) (rest_bytes rest)
 Splits-from_test n [] rest h =
-    let p = and_parts (nat_lt n most_items) (is_part rest) h in
-    (refl, IsPart-from_test n rest (ltb-true n most_items p.0) p.1)
+    let p = and_parts (nat_lt n MAX_ITEMS) (is_part rest) h in
+    (refl, IsPart-from_test n rest (ltb-true n MAX_ITEMS p.0) p.1)
 Splits-from_test n (piece ∷ pieces) rest h =
     let ending = ends (piece_item piece) in
     let next = are_pieces (n + 1) pieces rest in
-    let p = and_parts (nat_lt n most_items && is_piece piece) (if ending then is_last pieces else next) h in
-    let q = and_parts (nat_lt n most_items) (is_piece piece) p.0 in (
+    let p = and_parts (nat_lt n MAX_ITEMS && is_piece piece) (if ending then is_last pieces else next) h in
+    let q = and_parts (nat_lt n MAX_ITEMS) (is_piece piece) p.0 in (
       piece.0 ++ 10 ∷ piece.1,
       stream_of pieces (rest_bytes rest),
       refl,
-      inl (ltb-true n most_items q.0, inl (IsLineItem-from_test piece q.1)),
+      inl (ltb-true n MAX_ITEMS q.0, inl (IsLineItem-from_test piece q.1)),
       (λ e. last_piece pieces (rest_bytes rest) (chosen ending (is_last pieces) next e p.1)),
       (λ e. Splits-from_test (n + 1) pieces rest (not_chosen ending (is_last pieces) next e p.1)),
     )

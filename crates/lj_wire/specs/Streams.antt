@@ -6,6 +6,7 @@ use Rattle.lj_session.specs.Users.{User}
 use Rattle.lj_wire.specs.declared.item.Fault.TheVariants.{Long, Enough}
 use Rattle.lj_wire.specs.declared.item.Item.{Item}
 use Rattle.lj_wire.specs.declared.item.Item.TheVariants.{Last}
+use Rattle.lj_wire.specs.declared.limits.TheConstants.{LONG_LINE_BYTES, MAX_ITEMS}
 use Rattle.lj_wire.specs.Items.{ends}
 use Rattle.lj_wire.specs.Commands.{announced, item_of}
 use Rattle.lj_wire.specs.Texts.{is_memory}
@@ -17,9 +18,9 @@ LacksLineFeed bytes = list_any is_line_feed bytes ≡ false
 
 -- a line without its line feed: fewer than 65,536 bytes
 abbrev pub IsLine : List ℕ → Type 0
-IsLine line = LacksLineFeed line × (length line < 65536)
+IsLine line = LacksLineFeed line × (length line < LONG_LINE_BYTES)
 
--- a line with its line feed, and behind it the body that it announces
+-- a line with its line feed, and after it the body that it announces
 pub record IsLineItem (bytes : List ℕ) (item : Item) : Type 0 where
   pub line : List ℕ
   pub body : List ℕ
@@ -31,18 +32,15 @@ pub record IsLineItem (bytes : List ℕ) (item : Item) : Type 0 where
 -- as many bytes without a line feed as no line has
 pub record IsLongItem (bytes : List ℕ) (item : Item) : Type 0 where
   pub one_line : LacksLineFeed bytes
-  pub long : length bytes ≡ 65536
+  pub long : length bytes ≡ LONG_LINE_BYTES
   pub means : item ≡ Last Long
 
--- how many items a connection may have before the last fault
-abbrev pub most_items : ℕ
-most_items = 1000000
-
--- the bytes of item number n, counted from 0: a line with its body, or a line too long; behind a million items the last fault, of no bytes
+-- The bytes of item number n, counted from 0: a line with its body, or a line too long. After a million items there is
+-- the last fault, of no bytes.
 abbrev pub IsItem : ℕ → List ℕ → Item → Type 0
 IsItem n bytes item =
-    (n < most_items) × (IsLineItem bytes item ⊎ IsLongItem bytes item)
-    ⊎ (n ≡ most_items) × (bytes ≡ []) × (item ≡ Last Enough)
+    (n < MAX_ITEMS) × (IsLineItem bytes item ⊎ IsLongItem bytes item)
+    ⊎ (n ≡ MAX_ITEMS) × (bytes ≡ []) × (item ≡ Last Enough)
 
 -- a line with its line feed, and less than the body that it announces
 pub record IsOpenBody (bytes : List ℕ) : Type 0 where
@@ -52,12 +50,12 @@ pub record IsOpenBody (bytes : List ℕ) : Type 0 where
   pub is_line : IsLine line
   pub announces : length body < announced line
 
--- less than a whole item, and nothing behind it
+-- less than a whole item, and nothing after it
 abbrev pub IsPart : ℕ → List ℕ → Type 0
-IsPart n bytes = (n < most_items) × (IsLine bytes ⊎ IsOpenBody bytes)
+IsPart n bytes = (n < MAX_ITEMS) × (IsLine bytes ⊎ IsOpenBody bytes)
 
 -- The bytes are these items, from number n on, and then a rest that is less than an item. None follows one that ends
--- the connection, behind which the rest may be anything.
+-- the connection, after which the rest may be anything.
 abbrev pub Splits : ℕ → List ℕ → List Item → List ℕ → Type 0
 Splits n bytes [] rest = (bytes ≡ rest) × IsPart n rest
 Splits n bytes (item ∷ items) rest =

@@ -1,109 +1,36 @@
-//! Commands as the lines that say them.
-ghost use Rattle.std.specs.Prelude.{◌≡◌, None};
-ghost use Rattle.lj_wire.specs.Commands.{one_name, two_names, name_and_number, plain, tug, list, mode_of, load, count_of, last_count, or_syntax, is_load, load_item, announced, item_with};
-ghost use Rattle.lj_wire.specs.Parsing.{command_of};
+//! Commands as the words that say them.
+ghost use Rattle.std.specs.Prelude.{◌≡◌, List, ℕ, [], ◌∷◌};
+ghost use Rattle.lj_session.specs.declared.body.LoadBody.TheVariants.{Unread};
 ghost use Rattle.lj_session.specs.declared.command.Command.TheVariants as command;
+ghost use Rattle.lj_wire.specs.Commands.{bare_command, count_of, list_command, load_command, mode_of, name_and_number, one_name, tug_command, two_names, verb_command};
 
-use crate::item::{Fault, Item};
-use crate::line::{is_over, words_in};
-use crate::number::{parse_displacement, parse_number};
+use crate::displacement::parse_displacement;
+use crate::limits::MAX_BODY_BYTES;
 use crate::verb::Verb;
 use crate::words::Words;
-use lj_fixed::parse_nano;
-use lj_session::{Command, Mode, Name};
+use lj_fixed::{parse_nano, parse_number};
+use lj_session::{Command, Load, LoadBody, Mode, Name};
 
 /// The most digits of the count of a LOAD line.
-const MOST_COUNT_DIGITS: usize = 7;
-
-/// The most bytes of the body of a LOAD.
-const MOST_BODY_BYTES: u64 = 1_048_576;
-
-/// How many bytes of body follow a line, which is given without its line feed: those that a LOAD
-/// line counts, at most 1,048,576, and none behind another.
-pub fn announced(line: &[u8]) -> usize
-    ensures { result ≡ announced line.now }
-{
-    if is_over(line) {
-        return 0;
-    }
-    let mut words = words_in(line);
-    let Some(word) = words.next() else {
-        return 0;
-    };
-    if !is_load(word) {
-        return 0;
-    }
-    last_count(words).unwrap_or(0)
-}
-
-/// The item of a line, which is given without its line feed. A LOAD has no body yet.
-pub fn parse_command(line: &[u8]) -> Item
-    ensures { result ≡ item_with line.now None }
-{
-    if is_over(line) {
-        return Item::Bad(Fault::Line);
-    }
-    let mut words = words_in(line);
-    let Some(word) = words.next() else {
-        return Item::Bad(Fault::Syntax);
-    };
-    if is_load(word) {
-        return load_item(words);
-    }
-    match Verb::parse(word) {
-        Some(verb) => or_syntax(parse_words(verb, words)),
-        None => Item::Bad(Fault::Command),
-    }
-}
-
-fn is_load(word: &[u8]) -> bool
-    ensures { result ≡ is_load word.now }
-{
-    word == b"LOAD".as_slice()
-}
-
-fn load_item(words: Words) -> Item
-    ensures { result ≡ load_item (last_count words.entry) None words.entry }
-{
-    match last_count(words.copy()) {
-        Some(_count) => or_syntax(parse_load(words)),
-        None => Item::Last(Fault::Body),
-    }
-}
-
-fn or_syntax(command: Option<Command>) -> Item
-    ensures { result ≡ or_syntax command }
-{
-    match command {
-        Some(command) => Item::Command(command),
-        None => Item::Bad(Fault::Syntax),
-    }
-}
-
-// The count that a LOAD line ends with.
-fn last_count(words: Words) -> Option<usize>
-    ensures { result ≡ last_count words.entry }
-{
-    parse_count(words.last()?)
-}
+const MAX_COUNT_DIGITS: usize = 7;
 
 // The count that a word says: 1 to 7 digits, at most 1,048,576.
-fn parse_count(word: &[u8]) -> Option<usize>
+pub(crate) fn parse_count(word: &[u8]) -> Option<usize>
     ensures { result ≡ count_of word.now }
 {
-    if word.len() > MOST_COUNT_DIGITS {
+    if word.len() > MAX_COUNT_DIGITS {
         return None;
     }
     let count = parse_number(word)?;
-    if count > MOST_BODY_BYTES {
+    if count > MAX_BODY_BYTES {
         return None;
     }
     Some(count as usize)
 }
 
-// The command that a first word and those behind it say.
-fn parse_words(verb: Verb, words: Words) -> Option<Command>
-    ensures { result ≡ command_of verb words.entry }
+// The command that a first word and those after it say.
+pub(crate) fn parse_words(verb: Verb, words: Words) -> Option<Command>
+    ensures { result ≡ verb_command verb words.entry }
 {
     match verb {
         Verb::Advance => {
@@ -170,25 +97,25 @@ fn name_and_number(mut words: Words) -> Option<(Name, u64)>
     Some((Name::parse(name)?, parse_number(number)?))
 }
 
-// The words behind LOAD: a name, three numbers of any shape, the mode, and the count.
-fn parse_load(mut words: Words) -> Option<Command>
-    ensures { result ≡ load None words.entry }
+// The LOAD of these words, if they say one. Its body is not read yet.
+pub(crate) fn parse_load(
+    name: &[u8],
+    edge: &[u8],
+    sigma: &[u8],
+    step_factor: &[u8],
+    mode: &[u8],
+) -> Option<Command>
+    ensures { (count : List ℕ) → result ≡ load_command Unread
+        (name.now ∷ edge.now ∷ sigma.now ∷ step_factor.now ∷ mode.now ∷ count ∷ []) }
 {
-    let name = words.next()?;
-    let edge = words.next()?;
-    let sigma = words.next()?;
-    let step_factor = words.next()?;
-    let mode = words.next()?;
-    let _count = words.next()?;
-    words.end()?;
-    Some(Command::Load {
+    Some(Command::Load(Load {
         name: Name::parse(name)?,
         edge: parse_nano(edge).ok(),
         sigma: parse_nano(sigma).ok(),
         step_factor: parse_number(step_factor),
         mode: parse_mode(mode)?,
-        body: None,
-    })
+        body: LoadBody::Unread,
+    }))
 }
 
 fn parse_mode(word: &[u8]) -> Option<Mode>
@@ -201,9 +128,9 @@ fn parse_mode(word: &[u8]) -> Option<Mode>
     }
 }
 
-// The words behind TUG: a name, an atom, and a displacement along each axis.
+// The words after TUG: a name, an atom, and a displacement along each axis.
 fn parse_tug(mut words: Words) -> Option<Command>
-    ensures { result ≡ tug words.entry }
+    ensures { result ≡ tug_command words.entry }
 {
     let name = words.next()?;
     let atom = words.next()?;
@@ -221,7 +148,7 @@ fn parse_tug(mut words: Words) -> Option<Command>
 }
 
 fn parse_list(mut words: Words) -> Option<Command>
-    ensures { result ≡ list words.entry }
+    ensures { result ≡ list_command words.entry }
 {
     let Some(name) = words.next() else {
         return Some(Command::List);
@@ -233,7 +160,7 @@ fn parse_list(mut words: Words) -> Option<Command>
 }
 
 fn parse_bye(words: Words) -> Option<Command>
-    ensures { result ≡ plain command.Bye words.entry }
+    ensures { result ≡ bare_command command.Bye words.entry }
 {
     words.end()?;
     Some(Command::Bye)

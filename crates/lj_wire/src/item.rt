@@ -1,10 +1,10 @@
 //! Items of a stream of bytes.
-ghost use Rattle.std.specs.Prelude.{◌≡◌};
-ghost use Rattle.std.specs.Prelude.{List, ℕ, None};
-ghost use Rattle.lj_wire.specs.Items.{refusal_of, ends, filled};
-ghost use Rattle.lj_wire.specs.Commands.{item_with, item_of};
+ghost use Rattle.std.specs.Prelude.{◌≡◌, List, ℕ};
+ghost use Rattle.lj_session.specs.declared.body.LoadBody.TheVariants.{Unread};
+ghost use Rattle.lj_wire.specs.Items.{refusal_of, ends, with_body};
+ghost use Rattle.lj_wire.specs.Commands.{item_with};
 
-use lj_session::{Body, Command, Refusal};
+use lj_session::{Command, Load, LoadBody, Refusal};
 
 /// What is wrong with an item that is no command.
 #[derive(Clone, Copy, Debug, PartialEq, Eq)]
@@ -27,7 +27,7 @@ pub enum Fault {
 #[derive(Debug, Drop)]
 pub enum Item {
     Command(Command),
-    /// The connection goes on behind it.
+    /// The connection goes on after it.
     Bad(Fault),
     /// The connection ends with it.
     Last(Fault),
@@ -60,28 +60,15 @@ impl Item {
     }
 
     /// The item with this body, where it is a LOAD.
-    pub fn with_body(self, body: Body) -> Item
-        ensures filled { result ≡ filled self body }
-        ensures whole { (line : List ℕ) → self ≡ item_with line None → result ≡ item_of line body }
+    pub fn with_body(self, body: LoadBody) -> Item
+        ensures value { result ≡ with_body self body }
+        ensures whole { (line : List ℕ) → self ≡ item_with line Unread → result ≡ item_with line body }
     {
         match self {
-            Item::Command(
-                Command::Load {
-                    name,
-                    edge,
-                    sigma,
-                    step_factor,
-                    mode,
-                    body: _none,
-                },
-            ) => Item::Command(Command::Load {
-                name,
-                edge,
-                sigma,
-                step_factor,
-                mode,
-                body: Some(body),
-            }),
+            Item::Command(Command::Load(load)) => {
+                let load = Load { body, ..load };
+                Item::Command(Command::Load(load))
+            }
             item => item,
         }
     }

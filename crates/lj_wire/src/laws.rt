@@ -1,5 +1,6 @@
 //! Laws of streams and of answers: functions that do nothing, whose contracts are the laws.
-ghost use Rattle.lj_wire.specs.Laws.{OneSplitting, SomeSplitting, MarkIsTold, TurnKeepsTold, TurnLowersTurns, RunningGoesOn, BodyMissingIsMarked, BodyIsBounded};
+ghost use Rattle.lj_wire.specs.Laws.{OneSplitting, SomeSplitting, MarkIsTold, TurnKeepsTold, TurnLowersTurns};
+ghost use Rattle.lj_wire.specs.Laws.{RunningGoesOn, BodyMissingIsMarked, BodyIsBounded};
 
 /// A stream has one splitting into items and a rest.
 pub fn one_splitting()
@@ -31,7 +32,7 @@ pub fn running_goes_on()
     ensures { RunningGoesOn }
 {}
 
-/// A line whose body found no memory is told what it is told where memory is refused to it.
+/// A line whose body found no memory is answered what it is answered where memory is refused to it.
 pub fn body_missing_is_marked()
     ensures { BodyMissingIsMarked }
 {}

@@ -1,14 +1,12 @@
 //! Lines of a stream.
 ghost use Rattle.std.specs.Prelude.{◌≡◌, ◌++◌, ◌∷◌, MatchOption};
-ghost use Rattle.std.specs.Str.Lines.{strip_carriage_return};
 ghost use Rattle.lj_wire.specs.Commands.{is_over, words_in};
 ghost use Rattle.lj_wire.specs.Streams.{LacksLineFeed};
 
+use crate::limits::MAX_LINE_BYTES;
 use crate::words::Words;
 use bstr::ByteSlice;
-
-/// The most bytes of a line that is a command.
-const MOST_BYTES: usize = 256;
+use lj_xyz::without_return;
 
 /// The first line of `stream` without its line feed, and what follows that line feed. `None` where
 /// `stream` has no line feed.
@@ -25,7 +23,7 @@ pub fn split_line(stream: &[u8]) -> Option<(&[u8], &[u8])>
 pub(crate) fn is_over(line: &[u8]) -> bool
     ensures { result ≡ is_over line.now }
 {
-    line.len() > MOST_BYTES
+    line.len() > MAX_LINE_BYTES
 }
 
 /// The words of a line, of which a carriage return at its end is no part.
@@ -33,13 +31,4 @@ pub(crate) fn words_in(line: &[u8]) -> Words<'_>
     ensures { result ≡ words_in line.now }
 {
     Words::new(without_return(line))
-}
-
-fn without_return(line: &[u8]) -> &[u8]
-    ensures { result.now ≡ strip_carriage_return line.now }
-{
-    match line {
-        [line @ .., b'\r'] => line,
-        _ => line,
-    }
 }

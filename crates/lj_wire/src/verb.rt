@@ -1,10 +1,10 @@
 //! The first words of commands other than LOAD.
 ghost use Rattle.std.specs.Prelude.{◌≡◌};
-ghost use Rattle.lj_wire.specs.Parsing.{verb_of};
+ghost use Rattle.lj_wire.specs.Verbs.{verb_of};
 
 /// The first word of a command other than LOAD.
 #[derive(Clone, Copy, Debug, PartialEq, Eq)]
-pub enum Verb {
+pub(crate) enum Verb {
     Advance,
     Reverse,
     Branch,

@@ -8,7 +8,7 @@ use std::marker::Model;
 /// The words of a line that are not yet taken. A word is a longest run of bytes that are neither
 /// space nor tab.
 #[derive(Debug, Drop)]
-pub struct Words<'a> {
+pub(crate) struct Words<'a> {
     rest: &'a [u8],
 }
 
@@ -27,13 +27,6 @@ impl<'a> Words<'a> {
         ensures { result ≡ words_of line.now }
     {
         Words { rest: line }
-    }
-
-    /// The same words once more.
-    pub fn copy(&self) -> Self
-        ensures { result ≡ self.now }
-    {
-        Words { rest: self.rest }
     }
 
     /// Whether no word is left: `None` where one is.

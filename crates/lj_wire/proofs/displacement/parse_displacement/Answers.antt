@@ -1,9 +1,9 @@
 use Rattle.std.proofs.Common.{◌∙◌, sym, FitsSigned, rules}
 use Rattle.std.specs.Int.{w128}
 use Rattle.std.proofs.lemmas.Int.{to_z-of_z}
-use Rattle.lj_wire.specs.Numbers.{displacement_of}
-use Rattle.lj_wire.proofs.Numbers.{displacement_read}
-use Rattle.lj_wire.proofs.number.parse_displacement.Goals as goal
+use Rattle.lj_wire.specs.Displacements.{displacement_of}
+use Rattle.lj_wire.proofs.Displacements.{displacement_read}
+use Rattle.lj_wire.proofs.displacement.parse_displacement.Goals as goal
 
 pub returns-in_err-parse_integer : goal.returns-in_err-parse_integer
 unfolding displacement_of

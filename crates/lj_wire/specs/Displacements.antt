@@ -1,17 +1,8 @@
--- Whole numbers as words.
-use Rattle.std.specs.Prelude.{ℕ, ◌^◌, Bool, ◌&&◌, nat_le, ℤ, pos, neg_ℤ, ◌-ℤ◌, int_le, List, length, drop, Option, Some, None, if◌then◌else◌}
-use Rattle.std.specs.List.{list_all}
-use Rattle.std.specs.Char.{is_ascii_digit}
+-- Displacements as words.
+use Rattle.std.specs.Prelude.{ℕ, ◌^◌, Bool, ◌&&◌, ℤ, pos, neg_ℤ, ◌-ℤ◌, int_le, List, drop, Option, Some, None, if◌then◌else◌}
 use Rattle.std.specs.Option.{option_map, option_and_then}
-use Rattle.std.specs.Str.Parse.{digits_value, starts_with_minus}
-
--- 1 to 19 digits
-abbrev pub is_number : List ℕ → Bool
-is_number word = nat_le 1 (length word) && nat_le (length word) 19 && list_all is_ascii_digit word
-
--- the number that a word says in base ten
-unfoldable pub number_of : List ℕ → Option ℕ
-number_of word = if is_number word then Some (digits_value 10 word) else None
+use Rattle.std.specs.Str.Parse.{starts_with_minus}
+use Rattle.lj_fixed.specs.Numbers.{number_of}
 
 -- a number, or with `-` before it the one below zero
 abbrev pub integer_of : List ℕ → Option ℤ
