@@ -10,3 +10,6 @@ mod Parsing
 pub mod Filling
 mod Bodies
 pub mod Known
+pub mod Buffers
+pub mod Taking
+pub mod Passing

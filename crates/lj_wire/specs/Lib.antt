@@ -1,3 +1,5 @@
+pub mod Ahead
+pub mod Steps
 pub mod Ends
 pub mod Items
 pub mod Displacements

@@ -7,7 +7,9 @@ mod item;
 mod laws;
 mod limits;
 mod line;
-mod reading;
+mod number;
+mod put;
+mod reader;
 mod verb;
 mod words;
 

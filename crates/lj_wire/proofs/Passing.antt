@@ -1,0 +1,61 @@
+-- A long line that is passed over: its bytes so far are taken, and only counted.
+use Rattle.std.proofs.Common.{◌≡◌, ℕ, ◌+◌, ◌-◌, ◌<◌, ◌≤◌, min, List, [], ◌∷◌, ◌++◌, length, take, drop, refl, sym, ap, ◌∙◌, subst, arith, append_assoc}
+use Rattle.std.proofs.lemmas.List.{take-append-drop, drop_at, drop_all, length-append, length-take-le}
+use Rattle.lj_wire.specs.Ahead.{Ahead, Takes, Grows}
+use Rattle.lj_wire.specs.Steps.{TakesLongLine}
+use Rattle.lj_wire.specs.Streams.{LacksLineFeed}
+use Rattle.lj_wire.proofs.Taking.{Takes-trans, Takes-kept, Takes-held, lacks_both}
+
+pub record Passing (old new : Ahead) (seen : ℕ) : Type 0 where
+  pub bytes : List ℕ
+  pub taken : Takes old new bytes
+  pub one_line : LacksLineFeed bytes
+  pub counted : length bytes ≡ seen
+  pub long : 256 < seen
+  pub bounded : seen ≤ 65536
+  pub held : seen < 65536 → new.held ≡ []
+  pub errors : new.errors ≡ old.errors
+
+-- a front of what is held is taken behind what was taken before
+pub taken_more : (old mid grown new : Ahead) (bytes front behind : List ℕ) (count : ℕ) → Takes old mid bytes → Grows mid grown count
+    → grown.held ≡ front ++ behind → new.held ≡ behind → new.unread ≡ grown.unread → Takes old new (bytes ++ front)
+taken_more old mid grown new bytes front behind count t g e is same =
+    Takes-trans old grown new bytes front (Takes-kept old mid grown bytes t g.kept) (Takes-held grown new front behind e is same)
+
+-- the line feed comes
+pub passing_feed : (old mid grown new : Ahead) (seen count wanted : ℕ) (line behind : List ℕ) → Passing old mid seen → Grows mid grown count
+    → wanted ≤ 65536 - seen → wanted ≤ length grown.held → take wanted grown.held ≡ line ++ 10 ∷ behind → LacksLineFeed line
+    → new.held ≡ drop (length line + 1) grown.held → new.unread ≡ grown.unread → TakesLongLine old new
+passing_feed old mid grown new seen count wanted line behind p g low within e one is same =
+    let rest = behind ++ drop wanted grown.held in
+    let cut : grown.held ≡ (line ++ 10 ∷ []) ++ rest =
+    sym (take-append-drop wanted grown.held) ∙ ap (λ (l : List ℕ). l ++ drop wanted grown.held) e
+        ∙ append_assoc line (10 ∷ behind) (drop wanted grown.held) ∙ sym (append_assoc line (10 ∷ []) rest) in
+    let count_is : length (line ++ 10 ∷ []) ≡ length line + 1 = length-append line (10 ∷ []) in
+    let left : new.held ≡ rest = is ∙ ap (drop (length line + 1)) cut ∙ drop_at (line ++ 10 ∷ []) rest (length line + 1) count_is in
+    let sizes = length-append line (10 ∷ behind) in
+    let shorter = length-take-le wanted grown.held within in
+    record {
+      line = p.bytes ++ line;
+      taken = subst (Takes old new) (sym (append_assoc p.bytes line (10 ∷ []))) (taken_more old mid grown new p.bytes (line ++ 10 ∷ []) rest count p.taken g cut left same);
+      is_line = (lacks_both p.bytes line p.one_line one, omega (arith, length-append p.bytes line, p.counted, ap length e, sizes, shorter));
+      long = omega (arith, length-append p.bytes line, p.counted, p.long);
+    }
+
+-- no line feed is among them
+pub passing_more : (old mid grown new : Ahead) (seen count wanted : ℕ) → Passing old mid seen → Grows mid grown count → grown.errors ≡ mid.errors
+    → seen < 65536 → wanted ≡ min (65536 - seen) (length grown.held) → LacksLineFeed (take wanted grown.held)
+    → new.held ≡ drop wanted grown.held → new.unread ≡ grown.unread → new.errors ≡ grown.errors → Passing old new (seen + wanted)
+passing_more old mid grown new seen count wanted p g errors more is one held unread same =
+    let within : wanted ≤ length grown.held = omega arith in
+    let front = take wanted grown.held in
+    record {
+      bytes = p.bytes ++ front;
+      taken = taken_more old mid grown new p.bytes front (drop wanted grown.held) count p.taken g (sym (take-append-drop wanted grown.held)) held unread;
+      one_line = lacks_both p.bytes front p.one_line one;
+      counted = length-append p.bytes front ∙ omega (arith, p.counted, length-take-le wanted grown.held within);
+      long = omega (arith, p.long);
+      bounded = omega arith;
+      held = λ less. held ∙ drop_all wanted grown.held (omega (arith, is, less));
+      errors = same ∙ errors ∙ p.errors;
+    }

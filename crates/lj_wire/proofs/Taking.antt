@@ -1,0 +1,63 @@
+-- What reading and taking do to what lies ahead of a reader.
+use Rattle.std.proofs.Common.{◌≡◌, ℕ, ◌+◌, ◌-◌, ◌<◌, ◌≤◌, Bool, true, false, ◌||◌, List, [], ◌∷◌, ◌++◌, length, take, drop, Option, Some, None, refl, sym, ap, ◌∙◌, subst, arith, append_assoc}
+use Rattle.std.proofs.lemmas.List.{append-nil, take-append-drop, take_at, drop_at, length-append}
+use Rattle.std.proofs.lemmas.List.Folds.{list_any-append}
+use Rattle.std.proofs.KnownBytes.{Consumes-nil, Consumes-trans, Keeps-refl, Keeps-trans, prepend_known-nil}
+use Rattle.std.specs.Io.KnownBytes.{prepend_known, Consumes, Keeps, IsAtEnd}
+use Rattle.std.specs.List.{list_any}
+use Rattle.lj_xyz.specs.Lines.{is_line_feed}
+use Rattle.lj_wire.specs.Ahead.{Ahead, left, Takes}
+use Rattle.lj_wire.specs.Streams.{LacksLineFeed}
+
+-- nothing is kept back and nothing taken
+pub Takes-none : (a : Ahead) → Takes a a []
+Takes-none a = Consumes-nil (left a)
+
+pub Takes-trans : (a b c : Ahead) (first second : List ℕ) → Takes a b first → Takes b c second → Takes a c (first ++ second)
+Takes-trans a b c first second p q = Consumes-trans (left a) (left b) (left c) first second p q
+
+-- what is only read is not yet taken
+pub Takes-kept : (a b c : Ahead) (bytes : List ℕ) → Takes a b bytes → Keeps (left b) (left c) → Takes a c bytes
+Takes-kept a b c bytes p q = consumed (left a) (left b) (left c) p q
+  where
+    consumed : (x y z : Option (List ℕ)) → Consumes x y bytes → Keeps y z → Consumes x z bytes
+    consumed None y z p q = tt
+    consumed (Some x) None z p q = absurd p
+    consumed (Some x) (Some y) None p q = absurd q
+    consumed (Some x) (Some y) (Some z) p q = p ∙ ap (λ (l : List ℕ). bytes ++ l) (sym q)
+
+pub Kept-takes : (a b c : Ahead) (bytes : List ℕ) → Keeps (left a) (left b) → Takes b c bytes → Takes a c bytes
+Kept-takes a b c bytes p q = consumed (left a) (left b) (left c) p q
+  where
+    consumed : (x y z : Option (List ℕ)) → Keeps x y → Consumes y z bytes → Consumes x z bytes
+    consumed None y z p q = tt
+    consumed (Some x) None z p q = absurd p
+    consumed (Some x) (Some y) None p q = absurd q
+    consumed (Some x) (Some y) (Some z) p q = sym p ∙ q
+
+-- a front of what is held is taken
+pub Takes-front : (front behind : List ℕ) (unread : Option (List ℕ)) → Consumes (prepend_known (front ++ behind) unread) (prepend_known behind unread) front
+Takes-front front behind None = tt
+Takes-front front behind (Some bytes) = append_assoc front behind bytes
+
+pub Takes-held : (a b : Ahead) (front behind : List ℕ) → a.held ≡ front ++ behind → b.held ≡ behind → b.unread ≡ a.unread → Takes a b front
+Takes-held a b front behind e is same =
+    subst (λ x. Consumes x (left b) front) (ap (λ h. prepend_known h a.unread) (sym e))
+    (subst (λ x. Consumes (prepend_known (front ++ behind) a.unread) x front) (ap (λ h. prepend_known h a.unread) (sym is) ∙ ap (λ u. prepend_known b.held u) (sym same))
+    (Takes-front front behind a.unread))
+
+-- all that is held is taken
+pub Takes-all : (a b : Ahead) → b.held ≡ [] → b.unread ≡ a.unread → Takes a b a.held
+Takes-all a b e same = Takes-held a b a.held [] (sym (append-nil a.held)) e same
+
+-- the end is reached where nothing is held and the source has none left
+pub at_end : (a : Ahead) → a.held ≡ [] → IsAtEnd a.unread → IsAtEnd (left a)
+at_end a e end = ended a.unread end
+  where
+    ended : (unread : Option (List ℕ)) → IsAtEnd unread → IsAtEnd (prepend_known a.held unread)
+    ended None q = tt
+    ended (Some bytes) q = ap (λ h. h ++ bytes) e ∙ q
+
+-- bytes without a line feed, one after the other
+pub lacks_both : (first second : List ℕ) → LacksLineFeed first → LacksLineFeed second → LacksLineFeed (first ++ second)
+lacks_both first second h k = list_any-append is_line_feed first second ∙ ap (λ b. b || list_any is_line_feed second) h ∙ k

@@ -1,0 +1,4 @@
+//! The reader of a stream of lines and bodies.
+
+mod buffer;
+mod input;

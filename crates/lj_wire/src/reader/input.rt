@@ -1,0 +1,163 @@
+//! What is read, line by line.
+ghost use Rattle.std.specs.Prelude.{◌≡◌, ℕ, ◌≤◌, ◌<◌, [], length, drop, IfOk, OnOk, OnErr};
+ghost use Rattle.lj_wire.specs.Ahead.{left, Grows, HoldsNoFeed, TakesPart};
+ghost use Rattle.std.specs.Io.KnownBytes.{Keeps};
+ghost use Rattle.lj_wire.specs.Ends.{Rises};
+ghost use Rattle.lj_wire.specs.Steps.{Finds, Passes};
+
+use super::buffer::Buffer;
+use crate::ends::{ReadFault, Source};
+use crate::line::split_line;
+use std::marker::Model;
+
+/// Bytes of a line are looked at where they are held, up to so many; a longer line is passed over.
+const MAX_COMMAND_BYTES: usize = 256;
+
+/// So many bytes without a line feed are no line.
+const MAX_LINE_BYTES: usize = 65_536;
+
+/// A source, and the bytes that were read from it and are not yet taken.
+#[derive(Drop)]
+pub(crate) struct Input<S: Source> {
+    buffer: Buffer,
+    source: S,
+}
+
+/// What stands first in the input.
+pub(crate) enum Front {
+    /// A line of so many bytes, and its line feed: they are held.
+    Line(usize),
+    /// More bytes than a command has.
+    Long,
+    /// Less than a line, and the input ends.
+    End,
+}
+
+/// What was passed over.
+pub(crate) enum Passed {
+    /// A line of more than 256 bytes.
+    Line,
+    /// 65,536 bytes without a line feed.
+    Long,
+    /// Less than a line, and the input ends.
+    End,
+}
+
+impl<S: Source> Model for Input<S> {
+    ghost use Rattle.lj_wire.specs.Ahead.{Ahead};
+
+    ghost Value = { Ahead };
+
+    ghost view = { λ input. record {
+        held = input.buffer;
+        unread = S.remaining input.source;
+        errors = S.errors input.source;
+    } };
+}
+
+impl<S: Source> Input<S> {
+    /// Reads nothing.
+    pub(crate) fn new(source: S) -> Self
+        ensures held { result.held ≡ [] }
+        ensures unread { result.unread ≡ S.remaining source }
+        ensures errors { result.errors ≡ S.errors source }
+    {
+        Input {
+            buffer: Buffer::new(),
+            source,
+        }
+    }
+
+    /// The bytes that are held.
+    pub(crate) fn held(&self) -> &[u8]
+        ensures value { result.now ≡ self.now.held }
+        ensures bounded { length result.now ≤ 8192 }
+    {
+        self.buffer.as_slice()
+    }
+
+    /// Takes the first `count` bytes of those that are held.
+    pub(crate) fn take(&mut self, count: usize)
+        requires { count ≤ length self.old.held }
+        ensures { self.new ≡ record self.old { held = drop count self.old.held } }
+    {
+        self.buffer.take(count);
+    }
+
+    /// Takes all bytes that are held.
+    pub(crate) fn clear(&mut self)
+        ensures { self.new ≡ record self.old { held = [] } }
+    {
+        self.buffer.clear();
+    }
+
+    /// Reads some bytes behind those that are held, and answers how many: 0 only at the end of the
+    /// input.
+    pub(crate) fn read_more(&mut self) -> Result<usize, ReadFault>
+        requires { length self.old.held < 8192 }
+        ensures grown { IfOk result (Grows self.old self.new) }
+        ensures counted { OnOk result (self.new.errors ≡ self.old.errors) }
+        ensures held { OnErr result (self.new.held ≡ self.old.held) }
+        ensures kept { OnErr result (Keeps (left self.old) (left self.new)) }
+        ensures risen { OnErr result (Rises self.old.errors self.new.errors) }
+    {
+        self.buffer.read_from(&mut self.source)
+    }
+
+    /// Reads until the first line is held, or more bytes than a command has, or the input ends.
+    /// What is held when it ends, or at a fault, is taken.
+    pub(crate) fn find_line(&mut self) -> Result<Front, ReadFault>
+        ensures found { IfOk result (λ front. Finds self.old front self.new) }
+        ensures counted { OnOk result (self.new.errors ≡ self.old.errors) }
+        ensures part { OnErr result (TakesPart self.old self.new) }
+        ensures risen { OnErr result (Rises self.old.errors self.new.errors) }
+    {
+        'reads: loop {
+            if let Some((line, _)) = split_line(self.held()) {
+                return Ok(Front::Line(line.len()));
+            }
+            if self.held().len() > MAX_COMMAND_BYTES {
+                return Ok(Front::Long);
+            }
+            match self.read_more() {
+                Ok(0) => {
+                    self.clear();
+                    return Ok(Front::End);
+                }
+                Ok(_) => {}
+                Err(fault) => {
+                    self.clear();
+                    return Err(fault);
+                }
+            }
+        }
+    }
+
+    /// Takes a line of which more bytes than a command has are held, with its line feed. Its bytes
+    /// are only counted.
+    pub(crate) fn pass_line(&mut self) -> Result<Passed, ReadFault>
+        requires { HoldsNoFeed self.old }
+        ensures passed { IfOk result (λ passed. Passes self.old passed self.new) }
+        ensures counted { OnOk result (self.new.errors ≡ self.old.errors) }
+        ensures part { OnErr result (TakesPart self.old self.new) }
+        ensures risen { OnErr result (Rises self.old.errors self.new.errors) }
+    {
+        let mut seen = self.held().len();
+        self.clear();
+        while seen < MAX_LINE_BYTES {
+            if self.read_more()? == 0 {
+                return Ok(Passed::End);
+            }
+            let wanted = (MAX_LINE_BYTES - seen).min(self.held().len());
+            let (front, _) = self.held().split_at(wanted);
+            if let Some((line, _)) = split_line(front) {
+                let count = line.len() + 1;
+                self.take(count);
+                return Ok(Passed::Line);
+            }
+            self.take(wanted);
+            seen += wanted;
+        }
+        Ok(Passed::Long)
+    }
+}
