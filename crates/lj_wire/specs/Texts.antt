@@ -1,7 +1,7 @@
 -- The text of a reply: its lines, each with its line feed.
 use Rattle.std.specs.Prelude.{ℕ, ◌+◌, Bool, List, [], ◌∷◌, ◌++◌, length, map, Option, Some, None, codes}
 use Rattle.std.specs.Fmt.{decimal, signed_decimal}
-use Rattle.std.specs.List.{join_with_byte, flat_map}
+use Rattle.std.specs.List.{join_with_byte, concat}
 use Rattle.std.specs.Str.{bytes_eq}
 use Rattle.lj_ring.specs.declared.coordinates.Place.{Place}
 use Rattle.lj_ring.specs.Places.{micro_of}
@@ -40,26 +40,32 @@ abbrev pub atom_line : ℕ → List ℕ → Place → List ℕ
 atom_line edge symbol place = ended (atom_text symbol (micro_of edge place.x) (micro_of edge place.y) (micro_of edge place.z))
 
 -- the lines of all atoms
-abbrev pub atom_lines : ℕ → List (List ℕ) → List Place → List ℕ
-atom_lines edge (symbol ∷ symbols) (place ∷ places) = atom_line edge symbol place ++ atom_lines edge symbols places
+abbrev pub atom_lines : ℕ → List (List ℕ) → List Place → List (List ℕ)
+atom_lines edge (symbol ∷ symbols) (place ∷ places) = atom_line edge symbol place ∷ atom_lines edge symbols places
 atom_lines edge (symbol ∷ symbols) [] = []
 atom_lines edge [] places = []
 
 -- the frame of a session: the number of its atoms, its step, and a line for each atom
-abbrev pub frame_text : Session → List ℕ
-frame_text session =
-    ended (count_text (atoms_of session)) ++ (ended (comment_text session.sim.step) ++ atom_lines session.units.edge session.symbols session.sim.cur)
+abbrev pub frame_lines : Session → List (List ℕ)
+frame_lines session =
+    ended (count_text (atoms_of session)) ∷ ended (comment_text session.sim.step)
+    ∷ atom_lines session.units.edge session.symbols session.sim.cur
 
 -- `OK DUMP`, and the frame
-abbrev pub dump_text : List ℕ → Option Session → List ℕ
-dump_text name (Some session) =
-    ok (codes "DUMP" ∷ name ∷ signed_decimal session.sim.step ∷ decimal (atoms_of session + 2) ∷ []) ++ frame_text session
-dump_text name None = []
+abbrev pub dump_lines : List ℕ → Option Session → List (List ℕ)
+dump_lines name (Some session) =
+    ok (codes "DUMP" ∷ name ∷ signed_decimal session.sim.step ∷ decimal (atoms_of session + 2) ∷ []) ∷ frame_lines session
+dump_lines name None = []
+
+-- `OK LIST`, and a line for each session
+abbrev pub session_lines : User → List (List ℕ)
+session_lines user = ok (codes "LIST" ∷ decimal (length user.sessions) ∷ []) ∷ map session_line user.sessions
 
 -- `OK LIST`, and a line for each that is saved in the session
-abbrev pub branches_text : List ℕ → Option Session → List ℕ
-branches_text name (Some session) = ok (codes "LIST" ∷ name ∷ decimal (length session.saved) ∷ []) ++ flat_map branch_line session.saved
-branches_text name None = []
+abbrev pub branch_lines : List ℕ → Option Session → List (List ℕ)
+branch_lines name (Some session) =
+    ok (codes "LIST" ∷ name ∷ decimal (length session.saved) ∷ []) ∷ map branch_line session.saved
+branch_lines name None = []
 
 -- the text of a reply, with the user after the command
 unfoldable pub text : User → Reply → List ℕ
@@ -74,12 +80,19 @@ text user (Measured name step atoms momentum kinetic potential) =
     ok (codes "MEASURE" ∷ name ∷ signed_decimal step ∷ decimal atoms ∷ (map signed_decimal momentum ++ decimal kinetic ∷ signed_decimal potential ∷ []))
 text user (Shown name step atom place) =
     ok (codes "SHOW" ∷ name ∷ signed_decimal step ∷ decimal atom ∷ decimal place.x ∷ decimal place.y ∷ decimal place.z ∷ [])
-text user (Dumped name) = dump_text name (named name user.sessions)
-text user Listed = ok (codes "LIST" ∷ decimal (length user.sessions) ∷ []) ++ flat_map session_line user.sessions
-text user (ListedBranches name) = branches_text name (named name user.sessions)
+text user (Dumped name) = concat (dump_lines name (named name user.sessions))
+text user Listed = concat (session_lines user)
+text user (ListedBranches name) = concat (branch_lines name (named name user.sessions))
 text user (Unloaded name) = ok (codes "DROP" ∷ name ∷ [])
 text user Bye = ok (codes "BYE" ∷ [])
 text user (Refused refusal) = ended (refusal_text refusal)
+
+-- the lines of a reply: DUMP and LIST have many, any other one
+unfoldable pub reply_lines : User → Reply → List (List ℕ)
+reply_lines user (Dumped name) = dump_lines name (named name user.sessions)
+reply_lines user Listed = session_lines user
+reply_lines user (ListedBranches name) = branch_lines name (named name user.sessions)
+reply_lines user reply = text user reply ∷ []
 
 -- the text that tells want of memory
 abbrev pub memory_text : List ℕ
