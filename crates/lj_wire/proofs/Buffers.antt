@@ -24,3 +24,10 @@ taken xs start end count inside =
     let parts : end - start ≡ count + (end - (start + count)) = omega arith in
     sym (ap (λ j. drop count (take j (drop start xs))) parts ∙ drop-take count _ (drop start xs)
     ∙ ap (take (end - (start + count))) (drop-drop count start xs))
+
+-- the first bytes of a room, after some are read behind them
+pub filled_more : (xs ys : List ℕ) (at k n : ℕ) → at ≤ length xs → n ≤ length ys → take (at + n) (put_mid at k xs ys) ≡ take at xs ++ take n ys
+filled_more xs ys at k n within fits =
+    let front = length-take-le at xs within in
+    let after = ys ++ post_of at k xs in
+    take-add at n (take at xs ++ after) ∙ (rw (take_at (take at xs) after at front, drop_at (take at xs) after at front, take-append-le n ys (post_of at k xs) fits) refl)

@@ -59,3 +59,37 @@ passing_more old mid grown new seen count wanted p g errors more is one held unr
       held = λ less. held ∙ drop_all wanted grown.held (omega (arith, is, less));
       errors = same ∙ errors ∙ p.errors;
     }
+
+-- so many bytes were to be taken, and so many of them are left
+pub record Counting (old new : Ahead) (count left : ℕ) : Type 0 where
+  pub bytes : List ℕ
+  pub taken : Takes old new bytes
+  pub counted : length bytes + left ≡ count
+  pub held : 0 < left → new.held ≡ []
+  pub errors : new.errors ≡ old.errors
+
+pub counting_start : (old new : Ahead) (count some : ℕ) → some ≡ min (length old.held) count
+    → new.held ≡ drop some old.held → new.unread ≡ old.unread → new.errors ≡ old.errors → Counting old new count (count - some)
+counting_start old new count some is held unread errors =
+    let within : some ≤ length old.held = omega arith in
+    record {
+      bytes = take some old.held;
+      taken = Takes-held old new (take some old.held) (drop some old.held) (sym (take-append-drop some old.held)) held unread;
+      counted = omega (arith, is, length-take-le some old.held within);
+      held = λ more. held ∙ drop_all some old.held (omega (arith, is, more));
+      errors = errors;
+    }
+
+pub counting_more : (old mid grown new : Ahead) (count left read some : ℕ) → Counting old mid count left → Grows mid grown read → grown.errors ≡ mid.errors
+    → some ≡ min (length grown.held) left → new.held ≡ drop some grown.held → new.unread ≡ grown.unread → new.errors ≡ grown.errors
+    → Counting old new count (left - some)
+counting_more old mid grown new count left read some p g errors is held unread same =
+    let within : some ≤ length grown.held = omega arith in
+    let front = take some grown.held in
+    record {
+      bytes = p.bytes ++ front;
+      taken = taken_more old mid grown new p.bytes front (drop some grown.held) read p.taken g (sym (take-append-drop some grown.held)) held unread;
+      counted = omega (arith, is, p.counted, length-append p.bytes front, length-take-le some grown.held within);
+      held = λ more. held ∙ drop_all some grown.held (omega (arith, is, more));
+      errors = same ∙ errors ∙ p.errors;
+    }

@@ -1,5 +1,5 @@
 -- The steps of reading an item: its line, and the body behind it.
-use Rattle.std.specs.Prelude.{◌≡◌, ℕ, ◌<◌, List, [], ◌∷◌, ◌++◌, length}
+use Rattle.std.specs.Prelude.{◌≡◌, ℕ, ◌<◌, Bool, true, false, List, [], ◌∷◌, ◌++◌, length}
 use Rattle.std.specs.Io.KnownBytes.{Keeps, IsAtEnd}
 use Rattle.lj_wire.specs.declared.reader.input.Front.{Front}
 use Rattle.lj_wire.specs.declared.reader.input.Front.TheVariants as front
@@ -33,3 +33,25 @@ abbrev pub Passes : Ahead → Passed → Ahead → Type 0
 Passes old passed.Line new = TakesLongLine old new
 Passes old passed.Long new = TakesLong old new
 Passes old passed.End new = TakesPart old new × IsAtEnd (left new)
+
+-- fewer bytes than so many were taken
+pub record TakesFewer (old new : Ahead) (count : ℕ) : Type 0 where
+  pub part : List ℕ
+  pub taken : Takes old new part
+  pub fewer : length part < count
+
+-- so many bytes were taken
+pub record TakesCount (old new : Ahead) (count : ℕ) : Type 0 where
+  pub bytes : List ℕ
+  pub taken : Takes old new bytes
+  pub counted : length bytes ≡ count
+
+-- a room was filled, or the input has ended before
+abbrev pub Fills : Ahead → Bool → List ℕ → Ahead → Type 0
+Fills old true room new = Takes old new room
+Fills old false room new = TakesFewer old new (length room) × IsAtEnd (left new)
+
+-- so many bytes were passed over, or the input has ended before
+abbrev pub PassesCount : Ahead → Bool → ℕ → Ahead → Type 0
+PassesCount old true count new = TakesCount old new count
+PassesCount old false count new = TakesFewer old new count × IsAtEnd (left new)

@@ -1,7 +1,7 @@
 //! What is read, line by line.
-ghost use Rattle.std.specs.Prelude.{◌≡◌, ℕ, ◌≤◌, ◌<◌, [], length, drop, IfOk, OnOk, OnErr};
-ghost use Rattle.lj_wire.specs.Ahead.{left, Grows, HoldsNoFeed, TakesPart};
-ghost use Rattle.std.specs.Io.KnownBytes.{Keeps};
+ghost use Rattle.std.specs.Prelude.{◌≡◌, ℕ, ◌≤◌, ◌<◌, [], length, take, drop, IfOk, OnOk, OnErr};
+ghost use Rattle.lj_wire.specs.Ahead.{left, Grows, Takes, HoldsNoFeed, TakesPart};
+ghost use Rattle.std.specs.Io.KnownBytes.{Keeps, IsAtEnd};
 ghost use Rattle.lj_wire.specs.Ends.{Rises};
 ghost use Rattle.lj_wire.specs.Steps.{Finds, Passes};
 
@@ -102,6 +102,21 @@ impl<S: Source> Input<S> {
         ensures risen { OnErr result (Rises self.old.errors self.new.errors) }
     {
         self.buffer.read_from(&mut self.source)
+    }
+
+    /// Reads some bytes into `room` and takes them, where none are held. Answers how many: 0 only at
+    /// the end of the input, or where there is no room.
+    pub(crate) fn read_into(&mut self, room: &mut [u8]) -> Result<usize, ReadFault>
+        requires { self.old.held ≡ [] }
+        ensures held { self.new.held ≡ [] }
+        ensures bound { IfOk result (λ n. n ≤ length room.new) }
+        ensures taken { IfOk result (λ n. Takes self.old self.new (take n room.new)) }
+        ensures ended { IfOk result (λ n. n ≡ 0 → 0 < length room.new → IsAtEnd (left self.new)) }
+        ensures counted { OnOk result (self.new.errors ≡ self.old.errors) }
+        ensures kept { OnErr result (Keeps (left self.old) (left self.new)) }
+        ensures risen { OnErr result (Rises self.old.errors self.new.errors) }
+    {
+        self.source.read(room)
     }
 
     /// Reads until the first line is held, or more bytes than a command has, or the input ends.

@@ -1,0 +1,15 @@
+use Rattle.std.proofs.Common.{◌-◌, ◌<◌, ◌≤◌, ◌≡◌, [], length, take}
+use Rattle.lj_wire.specs.Ahead.{Takes}
+use Rattle.lj_wire.proofs.reader.body.fill.Given as goal
+
+-- the first bytes of the room are taken, and none is held before it is full
+abbrev pub invariant-loop-at : goal.invariant-loop-at
+invariant-loop-at g l = record {
+  within : l.at ≤ length l.room;
+  taken : Takes l.fn.input l.input (take l.at l.room);
+  held : l.at < length l.room → l.input.held ≡ [];
+  errors : l.input.errors ≡ l.fn.input.errors;
+}
+
+abbrev pub decreases-loop-at : goal.decreases-loop-at
+decreases-loop-at g l = length l.room - l.at
