@@ -15,3 +15,5 @@ pub mod Steps
 pub mod Covers
 pub mod TaskCovers
 pub mod TileValues
+pub mod TilesTaken
+pub mod RoundTrip

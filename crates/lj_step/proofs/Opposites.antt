@@ -1,8 +1,7 @@
-use Rattle.std.proofs.Common.{ℕ, zero, suc, ◌+◌, ◌-◌, ◌*◌, ◌/◌, ◌%◌, ◌^◌, ◌<◌, ◌≤◌, ◌≡◌, ℤ, pos, negsuc, ◌*ℤ◌, neg_ℤ, int_div, unsigned_abs, Bool, true, false, ◌⊎◌, inl, inr, if◌then◌else◌, refl, sym, ap, ◌∙◌, arith}
+use Rattle.std.proofs.Common.{ℕ, zero, suc, ◌+◌, ◌-◌, ◌*◌, ◌/◌, ◌%◌, ◌^◌, ◌<◌, ◌≤◌, ◌≡◌, ℤ, pos, negsuc, ◌*ℤ◌, neg_ℤ, int_div, unsigned_abs, Bool, false, ◌⊎◌, inl, inr, if◌then◌else◌, refl, sym, ap, ◌∙◌, arith}
 use Rattle.std.proofs.Math.IntN.{zero-*ℤ, *ℤ-zero, *ℤ-negsuc, neg_ℤ-neg_ℤ}
 use Rattle.std.proofs.lemmas.Bool.{cases_lt, cases_eq, cases_Bool}
 use Rattle.std.proofs.lemmas.Bool.Decides.{nat_tests}
-use Rattle.std.proofs.lemmas.Nat.{mul-le, le-div}
 use Rattle.std.specs.Int.{cast_signed, w32}
 use Rattle.lj_ring.specs.declared.coordinates.Place.{Place}
 use Rattle.lj_ring.specs.Ring.{image, in_ring, square, distance}
@@ -86,18 +85,6 @@ distance_symmetric p q hp hq =
     let y = same_square (image q.y p.y) (image p.y q.y) (images_opposite p.y q.y hp.y hq.y) in
     let z = same_square (image q.z p.z) (image p.z q.z) (images_opposite p.z q.z hp.z hq.z) in
     cc (x, y, z)
-
--- a pair that interacts is nearer than half the box
-near_below : (u : Units) (s : ℕ) → IsScale u → interacts u s ≡ true → s < 2 ^ 62
-near_below u s h near =
-    let square_some : 65536 * 65536 ≤ u.sigma * u.sigma = mul-le 65536 65536 u.sigma u.sigma h.least h.least in
-    let square_most : (5 * u.sigma) * (5 * u.sigma) ≤ 2 ^ 32 * 2 ^ 32 = mul-le (5 * u.sigma) (5 * u.sigma) (2 ^ 32) (2 ^ 32) (omega (arith, h.most)) (omega (arith, h.most)) in
-    elim (cases_lt (128 * s) (800 * (u.sigma * u.sigma))) [
-      | inl under ↦ omega arith
-      | inr over ↦
-          let far : 800 ≤ 128 * s / (u.sigma * u.sigma) = le-div 800 (128 * s) (u.sigma * u.sigma) (omega arith) over in
-          grind (arith, nat_tests)
-    ]
 
 half_far : (z : ℤ) → z ≡ half → 2 ^ 62 ≤ square z
 half_far z e = rw (ap square e) (omega arith)
@@ -186,6 +173,6 @@ pub pushes_opposite : (u : Units) (p q : Place) → IsScale u → IsOnRing p →
 pushes_opposite u p q scale hp hq =
     let same = distance_symmetric p q hp hq in
     elim (cases_Bool (interacts u (distance p q))) [
-      | inl near ↦ near_pair u p q hp hq (near_below u (distance p q) scale near) same
+      | inl near ↦ near_pair u p q hp hq (scale.near (distance p q) near) same
       | inr far ↦ far_pair u p q far same
     ]

@@ -24,14 +24,17 @@ next_place_on_ring p c f = record {
   z = next_coordinate_below p.z c.z f.z;
 }
 
+pub next_on_ring : (u : Units) (prev cur : List Place) → AreOnRing (next_frame u prev cur)
+next_on_ring u prev cur i below =
+    let within : i < length cur = rw (← next_frame_length u prev cur) below in
+    rw (next_frame_at u prev cur i within) (next_place_on_ring _ _ _)
+
 -- a step leads from a whole simulation to a whole one
 pub stepped_whole : (u : Units) (sim : Simulation) → IsWhole sim → IsWhole (stepped u sim)
 stepped_whole u sim h = record {
   same = sym (next_frame_length u sim.prev sim.cur);
   prev = h.cur;
-  cur = λ i below.
-      let within : i < length sim.cur = rw (← next_frame_length u sim.prev sim.cur) below in
-      rw (next_frame_at u sim.prev sim.cur i within) (next_place_on_ring _ _ _);
+  cur = next_on_ring u sim.prev sim.cur;
 }
 
 back_coordinate : (p c f : ℕ) → p < 2 ^ 32 → next_coordinate (next_coordinate p c f) c f ≡ p
@@ -67,7 +70,7 @@ step_back u sim h =
     let step = same_step sim.step sim.dir in
     cc (frame, step)
 
-steps_more : (u : Units) (n : ℕ) (sim : Simulation) → steps u (suc n) sim ≡ stepped u (steps u n sim)
+pub steps_more : (u : Units) (n : ℕ) (sim : Simulation) → steps u (suc n) sim ≡ stepped u (steps u n sim)
 steps_more u zero sim = refl
 steps_more u (suc n) sim = steps_more u n (stepped u sim)
 

@@ -4,6 +4,7 @@ use Rattle.lj_tile.specs.declared.names.Kind.{Kind}
 use Rattle.lj_step.specs.declared.simulations.Direction.{Direction}
 use Rattle.lj_step.specs.declared.simulations.Direction.TheVariants.{Forward, Backward}
 use Rattle.lj_step.specs.declared.simulations.Sim.TheInside.{Inside}
+use Rattle.lj_step.specs.Laws.{AreOnRing}
 use Rattle.lj_step.specs.Live.{Live, OpenStep}
 use Rattle.lj_step.specs.Sums.{HasRoom, IsPartial}
 
@@ -24,12 +25,14 @@ live_of a = record {
   part = open_step_of a.partial.kind a.partial.awaited.items;
 }
 
--- both frames have one count of atoms, this and the last step number are at most 10^12 in size, and the sums of the open
+-- both frames have one count of atoms and lie on the ring, this and the last step number are at most 10^12 in size, and the sums of the open
 -- step are those of the tiles that are in
 pub record IsSound (a : Inside) : Type 0 where
   pub same : length a.prev.items ≡ length a.cur.items
   pub some : 1 ≤ length a.cur.items
   pub most : length a.cur.items ≤ 4096
+  pub prev_on_ring : AreOnRing a.prev.items
+  pub cur_on_ring : AreOnRing a.cur.items
   pub step_bound : unsigned_abs a.step ≤ 10 ^ 12
   pub last_bound : unsigned_abs (a.step -ℤ sign_of a.dir) ≤ 10 ^ 12
   pub room : HasRoom (length a.cur.items) a.partial

@@ -1,9 +1,9 @@
 -- What the laws of the motion are stated of.
-use Rattle.std.specs.Prelude.{ℕ, ◌+◌, ◌-◌, ◌*◌, ◌%◌, ◌^◌, ◌<◌, ◌≤◌, ◌≡◌, ℤ, pos, ◌+ℤ◌, List, [], ◌∷◌, length, map, sum_by}
+use Rattle.std.specs.Prelude.{ℕ, ◌+◌, ◌-◌, ◌%◌, ◌^◌, ◌<◌, ◌≡◌, true, ℤ, pos, ◌+ℤ◌, List, [], ◌∷◌, length, map, sum_by}
 use Rattle.std.specs.List.{range_with_len}
 use Rattle.lj_ring.specs.declared.coordinates.Place.{Place}
 use Rattle.lj_ring.specs.Ring.{ring_sum}
-use Rattle.lj_ring.specs.Scales.{Units}
+use Rattle.lj_ring.specs.Scales.{Units, interacts}
 use Rattle.lj_tile.specs.declared.pairs.Push.{Push}
 use Rattle.lj_tile.specs.Tiles.{Tile, tile_force, tile_energy}
 use Rattle.lj_step.specs.Motion.{Simulation, place_at, next_place}
@@ -24,10 +24,9 @@ pub record IsWhole (sim : Simulation) : Type 0 where
   pub prev : AreOnRing sim.prev
   pub cur : AreOnRing sim.cur
 
--- sigma of a scale: five of it are shorter than the box, so that no pair that interacts lies half the box apart
+-- a scale by which no pair that interacts lies half the box apart
 pub record IsScale (u : Units) : Type 0 where
-  pub least : 65536 ≤ u.sigma
-  pub most : 5 * u.sigma < 2 ^ 32
+  pub near : (s : ℕ) → interacts u s ≡ true → s < 2 ^ 62
 
 -- a difference on the ring
 abbrev pub ring_sub : ℕ → ℕ → ℕ

@@ -6,4 +6,5 @@ pub mod Sums
 pub mod Kept
 pub mod Saved
 pub mod Laws
+pub mod InOrder
 pub mod Worked

@@ -1,11 +1,12 @@
 -- The motion of a simulation: the reversible step by whole numbers, and what is measured of it.
-use Rattle.std.specs.Prelude.{ℕ, zero, suc, ◌+◌, ◌-◌, ◌*◌, ◌%◌, ◌^◌, ◌==◌, ℤ, pos, ◌+ℤ◌, ◌-ℤ◌, neg_ℤ, List, length, map, slice_index_or, slice_set, if◌then◌else◌}
+use Rattle.std.specs.Prelude.{ℕ, zero, suc, ◌+◌, ◌-◌, ◌*◌, ◌%◌, ◌^◌, ◌==◌, ℤ, pos, ◌+ℤ◌, ◌-ℤ◌, neg_ℤ, List, length, map, slice_set, if◌then◌else◌}
 use Rattle.std.specs.List.{range_with_len}
 use Rattle.lj_ring.specs.declared.coordinates.Place.{Place}
 use Rattle.lj_ring.specs.Ring.{image, distance, in_ring, sum_below, ring_sum, int_sum_below}
 use Rattle.lj_ring.specs.Scales.{Units}
 use Rattle.lj_tile.specs.declared.pairs.Push.{Push}
 use Rattle.lj_tile.specs.Pushes.{push, no_push, energy}
+pub use Rattle.lj_tile.specs.Tiles.{place_at}
 
 -- a simulation: the places of all atoms at `step`, and those at `step - dir`, where dir is 1 forward and -1 backward
 pub record Simulation : Type 0 where
@@ -17,10 +18,6 @@ pub record Simulation : Type 0 where
 -- a simulation begins with two frames at step 0, forward
 abbrev pub opening : List Place → List Place → Simulation
 opening prev cur = record { prev = prev; cur = cur; step = pos 0; dir = pos 1 }
-
--- the place of atom i in a frame
-abbrev pub place_at : List Place → ℕ → Place
-place_at frame i = slice_index_or frame i (record { x = 0; y = 0; z = 0 })
 
 -- what atom j adds to the push on atom i: its push, and nothing where it is atom i itself
 abbrev pub push_of : Units → List Place → ℕ → ℕ → Push

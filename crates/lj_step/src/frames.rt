@@ -1,4 +1,5 @@
 ghost use Rattle.std.specs.Prelude.{◌≡◌, length};
+ghost use Rattle.lj_step.specs.Laws.{AreOnRing, IsOnRing};
 ghost use Rattle.lj_step.specs.Motion as motion;
 
 use lj_ring::Place;
@@ -14,10 +15,13 @@ pub struct Frame {
 impl Model for Frame {
     ghost use Rattle.std.specs.Prelude.{List};
     ghost use Rattle.lj_ring.specs.declared.coordinates.Place.{Place};
+    ghost use Rattle.lj_step.specs.Laws.{AreOnRing};
 
     ghost Value = { List Place };
 
     ghost view = { λ f. f.places.items };
+
+    ghost invariant = { λ f. AreOnRing f.places.items };
 }
 
 impl Frame {
@@ -25,11 +29,13 @@ impl Frame {
     pub fn new(places: Vec<Place>) -> Frame
         ensures { result ≡ places.items }
     {
+        read_each(places.as_slice());
         Frame { places }
     }
 
     pub(crate) fn into_places(self) -> Vec<Place>
-        ensures { result.items ≡ self }
+        ensures value { result.items ≡ self }
+        ensures on_ring { AreOnRing result.items }
     {
         self.places
     }
@@ -41,6 +47,20 @@ impl Frame {
         self.places.as_slice().len()
     }
 }
+
+/// Reads each place, and does nothing with it: of what is read it is known that it lies on the ring.
+fn read_each(places: &[Place])
+    ensures { AreOnRing places.now }
+{
+    for place in places {
+        read(*place);
+    }
+}
+
+#[inline(always)]
+fn read(_place: Place)
+    ensures { IsOnRing _place }
+{}
 
 /// Two frames one step apart.
 #[derive(Drop)]

@@ -5,6 +5,7 @@ mod frames;
 pub mod laws;
 mod measures;
 mod partial;
+pub mod round_trip;
 mod simulations;
 mod snapshots;
 

@@ -4,6 +4,7 @@ ghost use Rattle.lj_ring.specs.Ring.{in_ring};
 ghost use Rattle.lj_tile.specs.Pushes.{no_push};
 ghost use Rattle.lj_step.specs.Motion as motion;
 ghost use Rattle.lj_step.specs.OpenSteps as steps;
+ghost use Rattle.lj_step.specs.Laws.{IsScale, IsWhole};
 ghost use Rattle.lj_step.specs.TileTasks.{HasTileValue, IsCovered};
 
 use crate::frames::{Frames, next_place, overwrite};
@@ -343,6 +344,15 @@ impl Sim {
         self.scale.edge()
     }
 
+    /// The scale: the edge of the box, sigma and the step factor. No pair that interacts lies half the box apart.
+    pub fn scale(&self) -> Scale
+        ensures value { result ≡ self.now.units }
+        ensures near { IsScale self.now.units }
+    {
+        let _reach = self.scale.reach();
+        self.scale
+    }
+
     /// The step number, of size at most 10^12.
     pub fn step(&self) -> i64
         ensures value { result ≡ self.now.sim.step }
@@ -364,6 +374,7 @@ impl Sim {
         ensures value { result ≡ length self.now.sim.cur }
         ensures some { 1 ≤ result }
         ensures most { result ≤ 4096 }
+        ensures whole { IsWhole self.now.sim }
     {
         self.cur.as_slice().len()
     }

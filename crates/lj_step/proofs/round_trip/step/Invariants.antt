@@ -1,0 +1,13 @@
+use Rattle.std.proofs.Common.{◌≡◌, length}
+use Rattle.lj_tile.specs.declared.names.Kind.TheVariants.{Force}
+use Rattle.lj_step.specs.OpenSteps.{cover}
+use Rattle.lj_step.specs.InOrder.{AwaitsFrom}
+use Rattle.lj_step.proofs.round_trip.step.Given as goal
+
+abbrev pub invariant-loop-i : goal.invariant-loop-i
+invariant-loop-i l = record {
+  units : l.sim.units ≡ l.fn.sim.units;
+  motion : l.sim.sim ≡ l.fn.sim.sim;
+  end : l.i-end ≡ length (cover Force (length l.sim.sim.cur));
+  tiles : AwaitsFrom Force (length l.sim.sim.cur) l.i l.sim.part;
+}
