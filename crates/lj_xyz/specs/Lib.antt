@@ -1,6 +1,7 @@
 pub mod Lines
 pub mod Symbols
 pub mod Kinds
+pub mod FaultTexts
 pub mod Atoms
 pub mod Frames
 pub mod Reading

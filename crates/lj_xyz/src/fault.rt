@@ -1,3 +1,4 @@
+//! What is wrong with a body, and where.
 ghost use Rattle.std.specs.Prelude.{◌≡◌};
 ghost use Rattle.lj_fixed.specs.declared.numbers.NumberFault.{NumberFault};
 ghost use Rattle.lj_xyz.specs.declared.fault.XyzError.TheVariants.{Memory, Fault};
@@ -5,29 +6,42 @@ ghost use Rattle.lj_xyz.specs.Kinds.{kind_of};
 
 use lj_fixed::NumberFault;
 use std::alloc::{AllocError, AllocFailed};
+use std::fmt;
 use thiserror::Error;
 
 /// What is wrong with a body.
 #[derive(Clone, Copy, Debug, PartialEq, Eq, Error)]
 pub enum XyzKind {
     /// There is no count line, or its first word is no number of atoms from 1 to 4,096.
-    #[error("no number of atoms")]
     Count,
     /// The comment line or an atom line is missing, or an atom line has fewer than four words.
-    #[error("a line is missing or too short")]
     Short,
     /// The first word of an atom line is no symbol.
-    #[error("not a symbol")]
     Symbol,
     /// A coordinate is no decimal word.
-    #[error("not a decimal number")]
     Number,
     /// A coordinate is beyond a million file units.
-    #[error("a coordinate out of range")]
     Range,
     /// There is no second frame, or it has another number of atoms.
-    #[error("no second frame of as many atoms")]
     Pair,
+}
+
+impl fmt::Display for XyzKind {
+    ghost use Rattle.std.specs.Prelude.{Some};
+    ghost use Rattle.lj_xyz.specs.FaultTexts.{kind_text};
+
+    ghost output = { λ kind. Some (kind_text kind) };
+
+    fn fmt<W: fmt::Write>(&self, f: &mut fmt::Formatter<W>) -> fmt::Result {
+        f.write_str(match self {
+            XyzKind::Count => "no number of atoms",
+            XyzKind::Short => "a line is missing or too short",
+            XyzKind::Symbol => "not a symbol",
+            XyzKind::Number => "not a decimal number",
+            XyzKind::Range => "a coordinate out of range",
+            XyzKind::Pair => "no second frame of as many atoms",
+        })
+    }
 }
 
 impl From<NumberFault> for XyzKind {
@@ -43,20 +57,42 @@ impl From<NumberFault> for XyzKind {
 
 /// The first fault of a body in reading order, and its line, counted from 1.
 #[derive(Clone, Copy, Debug, PartialEq, Eq, Error)]
-#[error("line {line}: {kind}")]
 pub struct XyzFault {
     pub kind: XyzKind,
     pub line: u64,
 }
 
+impl fmt::Display for XyzFault {
+    ghost use Rattle.std.specs.Prelude.{Some};
+    ghost use Rattle.lj_xyz.specs.FaultTexts.{fault_text};
+
+    ghost output = { λ fault. Some (fault_text fault) };
+
+    fn fmt<W: fmt::Write>(&self, f: &mut fmt::Formatter<W>) -> fmt::Result {
+        write!(f, "line {}: {}", self.line, self.kind)
+    }
+}
+
 /// Why no frame was read.
 #[derive(Debug, Drop, Error)]
 pub enum XyzError {
-    #[error(transparent)]
     Fault(XyzFault),
     /// There was no memory for the rows of a text that has no fault.
-    #[error("out of memory")]
     Memory,
+}
+
+impl fmt::Display for XyzError {
+    ghost use Rattle.std.specs.Prelude.{Some};
+    ghost use Rattle.lj_xyz.specs.FaultTexts.{error_text};
+
+    ghost output = { λ error. Some (error_text error) };
+
+    fn fmt<W: fmt::Write>(&self, f: &mut fmt::Formatter<W>) -> fmt::Result {
+        match self {
+            XyzError::Fault(fault) => write!(f, "{fault}"),
+            XyzError::Memory => f.write_str("out of memory"),
+        }
+    }
 }
 
 impl From<XyzFault> for XyzError {

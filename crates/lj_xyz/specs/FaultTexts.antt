@@ -1,0 +1,26 @@
+-- What is printed of a fault.
+use Rattle.std.specs.Prelude.{ℕ, List, ◌++◌, codes}
+use Rattle.std.specs.Fmt.{decimal}
+use Rattle.lj_xyz.specs.declared.fault.XyzError.{XyzError}
+use Rattle.lj_xyz.specs.declared.fault.XyzError.TheVariants.{Fault, Memory}
+use Rattle.lj_xyz.specs.declared.fault.XyzFault.{XyzFault}
+use Rattle.lj_xyz.specs.declared.fault.XyzKind.{XyzKind}
+use Rattle.lj_xyz.specs.declared.fault.XyzKind.TheVariants.{Count, Short, Symbol, Number, Range, Pair}
+
+-- what is wrong, in words
+abbrev pub kind_text : XyzKind → List ℕ
+kind_text Count = codes "no number of atoms"
+kind_text Short = codes "a line is missing or too short"
+kind_text Symbol = codes "not a symbol"
+kind_text Number = codes "not a decimal number"
+kind_text Range = codes "a coordinate out of range"
+kind_text Pair = codes "no second frame of as many atoms"
+
+-- the line, and what is wrong there
+abbrev pub fault_text : XyzFault → List ℕ
+fault_text fault = codes "line " ++ decimal fault.line ++ codes ": " ++ kind_text fault.kind
+
+-- why no frame was read
+abbrev pub error_text : XyzError → List ℕ
+error_text (Fault fault) = fault_text fault
+error_text Memory = codes "out of memory"
