@@ -4,14 +4,12 @@ use Rattle.std.proofs.Common.{Bor}
 use Rattle.std.specs.Prelude.{is_some}
 use Rattle.std.proofs.lemmas.Bool.{true≢false, false≢true}
 use Rattle.std.specs.Option.{option_map, option_copied}
-use Rattle.std.specs.Str.{bytes_eq}
-use Rattle.std.specs.Map.{set_value}
 use Rattle.lj_branch.specs.Named.{named, put, taken_out}
 use Rattle.lj_session.specs.Users.{Session, with_session}
 use Rattle.lj_session.specs.States.{Held, Owned, as_session, user_of, held_in, with_held, changed}
 use Rattle.lj_session.specs.declared.sessions.Sessions.TheInside.{Inside}
 use Rattle.lj_session.specs.Totals.{owned_of}
-use Rattle.lj_session.proofs.Entries.{named-seen, put-seen, taken-seen, put-same, set-put}
+use Rattle.lj_session.proofs.Entries.{named-seen, put-seen, taken-seen, put-same}
 
 -- a session that is held is one of the user
 pub named-held : (owned : Owned) (name : List ℕ) (held : Held) → held_in owned name ≡ Some held → named name (user_of owned).sessions ≡ Some (as_session held)
@@ -36,24 +34,6 @@ user_of-changed owned name change same = by (held_in owned name) refl
     by : (o : Option Held) → held_in owned name ≡ o → user_of (changed name change owned) ≡ user_of owned
     by None e = rw e refl
     by (Some held) e = rw e (user_of-put owned name (change held) ∙ (rw (same held) (ap (λ (s : List (List ℕ × Session)). record { quota = owned.quota; sessions = s }) (put-same name (user_of owned).sessions (as_session held) (named-held owned name held e)))))
-
--- The map of names in the code, and what is held.
-module _ (a : Inside) (old : Owned) (view : owned_of a ≡ old) (name : List ℕ) where
-  pub looked_up : (o : Option Held) → o ≡ named name a.sessions.entries → held_in old name ≡ o
-  looked_up o h = ap (λ (w : Owned). held_in w name) (sym view) ∙ sym h
-
-  module _ (held : Held) (found : Some held ≡ named name a.sessions.entries) (entries : List (List ℕ × Held)) (new : Held)
-      (set : entries ≡ set_value (bytes_eq name) a.sessions.entries new) where
-    -- a session written through the map
-    pub written : record { quota = a.quota; sessions = entries } ≡ with_held name new old
-    written =
-        ap (λ (es : List (List ℕ × Held)). record { quota = a.quota; sessions = es }) (set ∙ set-put name a.sessions.entries held new (sym found))
-        ∙ ap (with_held name new) view
-
-    -- the session that stood there, written once more
-    pub unwritten : new ≡ held → record { quota = a.quota; sessions = entries } ≡ old
-    unwritten same = written ∙ ap (λ (h : Held). with_held name h old) same
-        ∙ ap (λ (es : List (List ℕ × Held)). record { quota = old.quota; sessions = es }) (put-same name old.sessions held (looked_up (Some held) found))
 
 -- a look-up by reference, and what is there
 pub present : (owned : Owned) (name : List ℕ) (o : Option (Bor Held)) → option_copied o ≡ held_in owned name → is_some (named name (user_of owned).sessions) ≡ is_some o

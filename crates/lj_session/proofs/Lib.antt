@@ -3,12 +3,12 @@ pub mod Holding
 pub mod Others
 pub mod Reaching
 pub mod Performing
-pub mod Saving
 pub mod Loading
 pub mod Turning
 pub mod Tiles
 pub mod Outcomes
 pub mod Totals
+pub mod Writing
 pub mod Counts
 pub mod Results
 pub mod Limits

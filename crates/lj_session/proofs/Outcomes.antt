@@ -1,5 +1,6 @@
 -- What each command that changes a session comes to, of what is held.
-use Rattle.std.proofs.Common.{◌≡◌, ℕ, ◌<◌, ◌≤◌, ◌^◌, Bool, true, false, ℤ, unsigned_abs, List, length, Some, Result, Ok, Err, nat_lt, refl, sym, ap, ◌∙◌, arith, w64, to_z, of_z, FitsSigned}
+use Rattle.std.proofs.Common.{◌≡◌, ℕ, ◌<◌, ◌≤◌, ◌^◌, Bool, true, false, ℤ, unsigned_abs, List, length, Some, Result, Ok, nat_lt, refl, sym, ap, ◌∙◌, arith, w64, to_z, of_z, FitsSigned}
+use Rattle.std.specs.Prelude.{is_some}
 use Rattle.std.specs.Int.{w128}
 use Rattle.std.proofs.lemmas.Int.{to_z-of_z, fits_signed_from_abs}
 use Rattle.std.proofs.lemmas.Bool.{lt-ltb, le-ltb}
@@ -9,19 +10,17 @@ use Rattle.lj_step.specs.OpenSteps.{closed}
 use Rattle.lj_session.specs.declared.command.Command.{Command}
 use Rattle.lj_session.specs.declared.command.Command.TheVariants.{Advance, Reverse, Branch, Restore, Forget, Tug, Unload}
 use Rattle.lj_session.specs.declared.refusal.Refusal.{Refusal}
-use Rattle.lj_session.specs.declared.refusal.Refusal.TheVariants.{Memory}
 use Rattle.lj_session.specs.declared.reply.Reply.{Reply}
 use Rattle.lj_session.specs.declared.reply.Reply.TheVariants as reply
 use Rattle.lj_branch.specs.Named.{named, put, taken_out}
-use Rattle.lj_session.specs.Users.{Session, User, with_session}
+use Rattle.lj_session.specs.Users.{Session, User, with_session, branches_used}
 use Rattle.lj_session.specs.Answers.{session_named, performed, answer, settled, can_advance}
 use Rattle.lj_session.specs.Turns.{turned}
-use Rattle.lj_session.specs.States.{Held, Owned, Performs, as_session, user_of, held_in, with_held, turned_on, branch_admitted}
+use Rattle.lj_session.specs.States.{Held, Owned, Performs, as_session, user_of, held_in, with_held, turned_on}
 use Rattle.lj_session.proofs.Entries.{put-same}
 use Rattle.lj_session.proofs.Holding.{named-held, user_of-put, user_of-taken}
 use Rattle.lj_session.proofs.Others.{others-put, others-taken}
 use Rattle.lj_session.proofs.Performing as performing
-use Rattle.lj_session.proofs.Saving as saving
 
 -- a session with another simulation, and no step open
 abbrev pub moved_to : Held → Simulation → Held
@@ -60,17 +59,10 @@ module _ (old : Owned) (name : List ℕ) (held : Held) (found : held_in old name
   forget branch sim saved = put_in _ _ (keeping held (taken_out branch held.saved)) refl
       (performing.forget-done (user_of old) name false (as_session held) session branch sim saved)
 
-  pub branch-ok : (branch : List ℕ) → branch_admitted (user_of old) name branch ≡ Ok tt
-      → Performs old (Branch name branch) (Ok (reply.Branched name branch held.live.sim.step)) (with_held name (keeping held (put branch held.live.sim held.saved)) old)
-  branch-ok branch admitted =
-      let may = saving.new-admitted (user_of old) name branch (as_session held) session admitted in
-      put_in _ _ (keeping held (put branch held.live.sim held.saved)) refl
-      (saving.branch-done (user_of old) name branch (as_session held) session may.0 may.1)
-
-  pub branch-starved : (branch : List ℕ) → branch_admitted (user_of old) name branch ≡ Ok tt → Performs old (Branch name branch) (Err Memory) old
-  branch-starved branch admitted =
-      let may = saving.new-admitted (user_of old) name branch (as_session held) session admitted in
-      performing.starved old old _ (saving.branch-memory (user_of old) name branch (as_session held) session may.0 may.1)
+  pub branch : (saved_as : List ℕ) → is_some (named saved_as held.saved) ≡ false → nat_lt (branches_used (user_of old)) old.quota.branches ≡ true
+      → Performs old (Branch name saved_as) (Ok (reply.Branched name saved_as held.live.sim.step)) (with_held name (keeping held (put saved_as held.live.sim held.saved)) old)
+  branch saved_as new room = put_in _ _ (keeping held (put saved_as held.live.sim held.saved)) refl
+      (performing.branch-done (user_of old) name (as_session held) session saved_as new room)
 
   pub unload : Performs old (Unload name) (Ok (reply.Unloaded name)) (record old { sessions = taken_out name old.sessions })
   unload = performing.told old _ _ _
@@ -95,11 +87,6 @@ module _ (old : Owned) (name : List ℕ) (held : Held) (found : held_in old name
   turned-answer near =
       ap (λ r. (settled (user_of old) r).1) (performing.advance-on (user_of old) name false (as_session held) session 1 near)
       ∙ sym (user_of-put old name (turned_on held))
-
--- a reply that names the step, read as the code has it
-pub stated : (old new new' : Owned) (command : Command) (made : ℤ → Reply) (step step' : ℤ) → Performs old command (Ok (made step)) new → step' ≡ step → new' ≡ new
-    → Performs old command (Ok (made step')) new'
-stated old new new' command made step step' performs same next = rw (same, next) performs
 
 -- a step number fits its word
 pub read-step : (step : ℤ) → unsigned_abs step ≤ 10 ^ 12 → to_z w64 (of_z w64 step) ≡ step

@@ -1,14 +1,15 @@
 -- What each command comes to, case by case.
+use Rattle.std.specs.Prelude.{is_some}
 use Rattle.std.proofs.Common.{◌≡◌, ℕ, Bool, true, false, ℤ, List, [], ◌∷◌, Some, None, Result, Ok, Err, nat_lt, refl}
 use Rattle.lj_step.specs.Motion.{Simulation, place_at, steps, reversed, tugged, momentum, kinetic, potential}
 use Rattle.lj_session.specs.declared.command.Command.{Command}
-use Rattle.lj_session.specs.declared.command.Command.TheVariants.{Advance, Reverse, Restore, Forget, Tug, Measure, Show, Dump, List as ListSessions, ListBranches, Unload, Bye}
+use Rattle.lj_session.specs.declared.command.Command.TheVariants.{Advance, Reverse, Branch, Restore, Forget, Tug, Measure, Show, Dump, List as ListSessions, ListBranches, Unload, Bye}
 use Rattle.lj_session.specs.declared.refusal.Refusal.{Refusal}
-use Rattle.lj_session.specs.declared.refusal.Refusal.TheVariants.{NoSession, NoBranch, NoAtom, StepRange, Memory}
+use Rattle.lj_session.specs.declared.refusal.Refusal.TheVariants.{NoSession, NoBranch, BranchExists, NoAtom, QuotaBranches, StepRange, Memory}
 use Rattle.lj_session.specs.declared.reply.Reply.{Reply}
 use Rattle.lj_session.specs.declared.reply.Reply.TheVariants as reply
-use Rattle.lj_branch.specs.Named.{named, taken_out}
-use Rattle.lj_session.specs.Users.{Session, User, with_session, atoms_of}
+use Rattle.lj_branch.specs.Named.{named, put, taken_out}
+use Rattle.lj_session.specs.Users.{Session, User, with_session, atoms_of, branches_used}
 use Rattle.lj_session.specs.Answers.{performed, can_advance, with_sim}
 use Rattle.lj_session.specs.States.{Owned, OthersKept, Performs, outcome, user_of}
 
@@ -49,6 +50,10 @@ module _ (user : User) (name : List ℕ) (mark : Bool) where
     pub forget-none : (branch : List ℕ) → performed user (Forget name branch) mark ≡ Err NoSession
     unfolding performed
     forget-none branch = rw absent refl
+
+    pub branch-none : (branch : List ℕ) → performed user (Branch name branch) mark ≡ Err NoSession
+    unfolding performed
+    branch-none branch = rw absent refl
 
     pub tug-none : (atom : ℕ) (x y z : ℤ) → performed user (Tug name atom x y z) mark ≡ Err NoSession
     unfolding performed
@@ -106,6 +111,15 @@ module _ (user : User) (name : List ℕ) (mark : Bool) where
     unfolding performed
     forget-done branch sim saved = rw (found, saved) refl
 
+    pub branch-exists : (branch : List ℕ) → is_some (named branch session.saved) ≡ true → performed user (Branch name branch) mark ≡ Err BranchExists
+    unfolding performed
+    branch-exists branch taken = rw (found, taken) refl
+
+    pub branch-over : (branch : List ℕ) → is_some (named branch session.saved) ≡ false → nat_lt (branches_used user) user.quota.branches ≡ false
+        → performed user (Branch name branch) mark ≡ Err QuotaBranches
+    unfolding performed
+    branch-over branch new over = rw (found, new, over) refl
+
     pub tug-no_atom : (atom : ℕ) (x y z : ℤ) → nat_lt atom (atoms_of session) ≡ false → performed user (Tug name atom x y z) mark ≡ Err NoAtom
     unfolding performed
     tug-no_atom atom x y z past = rw (found, past) refl
@@ -141,6 +155,18 @@ module _ (user : User) (name : List ℕ) (mark : Bool) where
     pub unload-done : performed user (Unload name) mark ≡ Ok (reply.Unloaded name, record user { sessions = taken_out name user.sessions })
     unfolding performed
     unload-done = rw found refl
+
+-- a BRANCH that is refused for nothing else has memory, or not
+module _ (user : User) (name : List ℕ) (session : Session) (found : named name user.sessions ≡ Some session) (branch : List ℕ)
+    (new : is_some (named branch session.saved) ≡ false) (room : nat_lt (branches_used user) user.quota.branches ≡ true) where
+  pub branch-memory : performed user (Branch name branch) true ≡ Err Memory
+  unfolding performed
+  branch-memory = rw (found, new, room) refl
+
+  pub branch-done : performed user (Branch name branch) false
+      ≡ Ok (reply.Branched name branch session.sim.step, with_session name (record session { saved = put branch session.sim session.saved }) user)
+  unfolding performed
+  branch-done = rw (found, new, room) refl
 
 -- LIST and BYE are always answered
 pub list-done : (user : User) (mark : Bool) → performed user ListSessions mark ≡ Ok (reply.Listed, user)

@@ -65,49 +65,11 @@ module _ (old : Owned) (name : List ℕ) (new : Held) where
     pub branches-new : (used_by (with_held name new old)).branches ≡ (used_by old).branches + length new.saved
     branches-new = ap (λ (u : Used). u.branches) put_used ∙ sum-new name saved_of (user_of old).sessions (as_session new) none
 
--- The running totals, where what is held becomes `next`.
+-- The running totals, where a session is taken out and what is held becomes `next`.
 module _ (a : Inside) (old : Owned) (view : owned_of a ≡ old) (counted : a.used ≡ used_by (owned_of a)) (name : List ℕ) (held : Held)
     (found : held_in old name ≡ Some held) (next : Owned) where
-  pub used-old : a.used ≡ used_by old
+  used-old : a.used ≡ used_by old
   used-old = counted ∙ ap used_by view
-
-  module _ (new : Held) (is : next ≡ with_held name new old) (atoms : length new.live.sim.cur ≡ length held.live.sim.cur) where
-    -- the session has as many atoms and saved simulations as before
-    pub used-kept : length new.saved ≡ length held.saved → a.used ≡ used_by next
-    used-kept saved = used-old ∙ sym (used-same old name new held found atoms saved) ∙ ap used_by (sym is)
-
-    -- it has one saved simulation more
-    pub used-saved : length new.saved ≡ length held.saved + 1 → record { sessions = a.used.sessions; atoms = a.used.atoms; branches = a.used.branches + 1 } ≡ used_by next
-    used-saved saved =
-        let s = sessions-changed old name new held found in
-        let t = atoms-changed old name new held found in
-        let u = branches-changed old name new held found in
-        let before = used-old in
-        same_used (record { sessions = a.used.sessions; atoms = a.used.atoms; branches = a.used.branches + 1 }) (used_by (with_held name new old))
-        (ap (λ (v : Used). v.sessions) before ∙ sym s)
-        (let b = ap (λ (v : Used). v.atoms) before in omega (arith, b, t, atoms))
-        (let b = ap (λ (v : Used). v.branches) before in omega (arith, b, u, saved))
-        ∙ ap used_by (sym is)
-
-    -- it has one less
-    pub used-forgotten : length new.saved + 1 ≡ length held.saved → record { sessions = a.used.sessions; atoms = a.used.atoms; branches = a.used.branches - 1 } ≡ used_by next
-    used-forgotten saved =
-        let s = sessions-changed old name new held found in
-        let t = atoms-changed old name new held found in
-        let u = branches-changed old name new held found in
-        let before = used-old in
-        same_used (record { sessions = a.used.sessions; atoms = a.used.atoms; branches = a.used.branches - 1 }) (used_by (with_held name new old))
-        (ap (λ (v : Used). v.sessions) before ∙ sym s)
-        (let b = ap (λ (v : Used). v.atoms) before in omega (arith, b, t, atoms))
-        (let b = ap (λ (v : Used). v.branches) before in omega (arith, b, u, saved))
-        ∙ ap used_by (sym is)
-
-    -- so there was one
-    pub one-saved : length new.saved + 1 ≡ length held.saved → 1 ≤ a.used.branches
-    one-saved saved =
-        let u = branches-changed old name new held found in
-        let b = ap (λ (v : Used). v.branches) used-old in
-        omega (arith, b, u, saved)
 
   -- the session is taken out
   module _ (is : next ≡ record old { sessions = taken_out name old.sessions }) where

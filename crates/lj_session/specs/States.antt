@@ -1,8 +1,7 @@
 -- What the code holds of a user, open steps and all, and the user of the definition that it stands for.
-use Rattle.std.specs.Prelude.{◌≡◌, ◌≢◌, OnOk, ℕ, ◌+◌, ◌-◌, ◌≤◌, ◌^◌, unsigned_abs, Bool, true, false, List, [], ◌∷◌, length, map, slice_get, Option, Some, None, Result, Ok, Err, not, nat_lt, is_some}
+use Rattle.std.specs.Prelude.{◌≡◌, ◌≢◌, OnOk, ℕ, ◌+◌, ◌-◌, ◌≤◌, ◌^◌, unsigned_abs, Bool, true, false, List, [], ◌∷◌, length, map, slice_get, Option, Some, None, Result, Ok, Err}
 use Rattle.std.specs.Option.{ForSome, option_map, option_and_then}
 use Rattle.std.specs.List.{find, range_with_len}
-use Rattle.lj_xyz.specs.Atoms.{◌>>=◌}
 use Rattle.lj_tile.specs.declared.names.Label.{Label}
 use Rattle.lj_tile.specs.declared.names.Kind.{Kind}
 use Rattle.lj_tile.specs.declared.names.Kind.TheVariants.{Force}
@@ -15,12 +14,11 @@ use Rattle.lj_quota.specs.declared.Used.{Used}
 use Rattle.lj_session.specs.declared.command.Command.{Command}
 use Rattle.lj_session.specs.declared.command.Command.TheVariants.{Advance}
 use Rattle.lj_session.specs.declared.refusal.Refusal.{Refusal}
-use Rattle.lj_session.specs.declared.refusal.Refusal.TheVariants.{BranchExists, QuotaBranches, Memory}
+use Rattle.lj_session.specs.declared.refusal.Refusal.TheVariants.{Memory}
 use Rattle.lj_session.specs.declared.reply.Reply.{Reply}
 use Rattle.lj_branch.specs.Named.{named, put}
 use Rattle.lj_session.specs.Users.{Session, User, fresh, sessions_used, atoms_used, branches_used}
-use Rattle.lj_session.specs.Loads.{unless}
-use Rattle.lj_session.specs.Answers.{session_named, session_of, performed, answer, can_advance}
+use Rattle.lj_session.specs.Answers.{session_named, performed, answer, can_advance}
 
 -- A session as it is held: the symbols of its atoms, its simulation with its scale and its open step, and what is saved
 -- in it. The first `passed` tiles of the open step's cover have been posted, or were in when their turn came.
@@ -154,13 +152,6 @@ IsHere owned _ = Unit {0}
 abbrev pub outcome : Result Reply Refusal → User → Result (Reply × User) Refusal
 outcome (Ok reply) next = Ok (reply, next)
 outcome (Err refusal) next = Err refusal
-
--- whether a BRANCH may save, as far as memory is found for it: else its first refusal
-abbrev pub branch_admitted : User → List ℕ → List ℕ → Result (Unit {0}) Refusal
-branch_admitted user name branch = do
-  session ← session_of user name
-  new ← unless (not (is_some (named branch session.saved))) BranchExists
-  unless (nat_lt (branches_used user) user.quota.branches) QuotaBranches
 
 -- Every session but that of the command is held as it was, its open step and what is posted of it included.
 abbrev pub OthersKept : Command → Owned → Owned → Type 0

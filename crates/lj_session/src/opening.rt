@@ -53,38 +53,45 @@ impl Opening {
     }
 
     /// The session that opens with these frames. Of one frame both are made, so that the atoms are at rest.
-    pub fn session(&self, alloc: Global, scale: Scale) -> Result<Session, AllocError>
-        ensures { IfOk result (λ session. session ≡ session_of scale self.now.first (last_of self.now.first self.now.second)) }
+    pub fn session(self, alloc: Global, scale: Scale) -> Result<Session, AllocError>
+        ensures { IfOk result (λ session. session ≡ session_of scale self.first (last_of self.first self.second)) }
     {
         let edge = scale.edge();
+        let prev = places_of(alloc, self.first.as_slice(), &edge)?;
+        let cur = self.last_places(alloc, &edge, prev.as_slice())?;
         let frames = Frames {
-            prev: Frame::new(places_of(alloc, self.first.as_slice(), &edge)?),
-            cur: Frame::new(places_of(alloc, self.last(), &edge)?),
+            prev: Frame::new(prev),
+            cur: Frame::new(cur),
         };
-        let symbols = symbols_of(alloc, self.first.as_slice())?;
         let sim = Sim::new(alloc, frames, scale)?;
+        let symbols = symbols_of(alloc, self.first)?;
         Ok(Session::new(symbols, sim, Branches::new(alloc)))
     }
 
-    /// The frame that stands at the opening.
-    fn last(&self) -> &[Row]
-        ensures { result.now ≡ last_of self.now.first self.now.second }
+    /// The places of the last frame: those of the first, which are at hand, where there is no other.
+    fn last_places(
+        &self,
+        alloc: Global,
+        edge: &Edge,
+        first: &[Place],
+    ) -> Result<Vec<Place>, AllocError>
+        requires { first.now ≡ places_in edge.now self.now.first }
+        ensures { IfOk result (λ places. places.items ≡ places_in edge.now (last_of self.now.first self.now.second)) }
     {
         match &self.second {
-            Some(second) => second.as_slice(),
-            None => self.first.as_slice(),
+            Some(second) => places_of(alloc, second.as_slice(), edge),
+            None => first.to_vec(alloc),
         }
     }
 }
 
-fn symbols_of(alloc: Global, rows: &[Row]) -> Result<Vec<Symbol>, AllocError>
-    ensures { IfOk result (λ symbols. symbols.items ≡ map (λ row. row.symbol) rows.now) }
+fn symbols_of(alloc: Global, rows: Rows) -> Result<Vec<Symbol>, AllocError>
+    ensures { IfOk result (λ symbols. symbols.items ≡ map (λ row. row.symbol) rows) }
 {
-    let mut symbols = Vec::with_capacity(alloc, rows.len())?;
-    for row in rows {
-        symbols.push(Symbol::new(row.symbol.as_bytes()).unwrap())?;
-    }
-    Ok(symbols)
+    rows.into_vec()
+        .into_iter()
+        .map(|row| row.symbol)
+        .collect(alloc)
 }
 
 fn places_of(alloc: Global, rows: &[Row], edge: &Edge) -> Result<Vec<Place>, AllocError>

@@ -1,4 +1,4 @@
-//! LOAD.
+//! LOAD, and DROP.
 ghost use Rattle.std.specs.Prelude.{◌≡◌, OnErr};
 ghost use Rattle.lj_session.specs.declared.command.Command.TheVariants as commands;
 ghost use Rattle.lj_session.specs.Loads as definition;
@@ -15,6 +15,7 @@ use crate::sessions::Sessions;
 use lj_fixed::Nano;
 use lj_quota::{may_load, may_session};
 use lj_ring::{Scale, ScaleFault};
+use lj_tile::Name;
 
 impl Sessions {
     /// Loads a session from a body.
@@ -42,6 +43,21 @@ impl Sessions {
         self.used.sessions += 1;
         self.used.atoms += atoms as u64;
         Ok(Reply::Loaded { name, atoms })
+    }
+
+    /// Gives up a session. The others keep their order.
+    pub fn unload(&mut self, name: Name) -> Result<Reply, Refusal>
+        ensures performs { Performs self.old (commands.Unload name) result self.new }
+        ensures quota { self.new.quota ≡ self.old.quota }
+        ensures unchanged { OnErr result (self.new ≡ self.old) }
+    {
+        let Some(session) = self.sessions.shift_remove(&name) else {
+            return Err(Refusal::NoSession);
+        };
+        self.used.sessions -= 1;
+        self.used.atoms -= session.sim().count() as u64;
+        self.used.branches -= session.branches().len() as u64;
+        Ok(Reply::Unloaded { name })
     }
 
     /// The scale of a LOAD, as far as its body is not looked at.

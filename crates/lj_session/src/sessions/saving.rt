@@ -1,7 +1,7 @@
 //! BRANCH, RESTORE and FORGET.
 ghost use Rattle.std.specs.Prelude.{◌≡◌, OnErr};
 ghost use Rattle.lj_session.specs.declared.command.Command.TheVariants as commands;
-ghost use Rattle.lj_session.specs.States.{Performs, branch_admitted, user_of};
+ghost use Rattle.lj_session.specs.States.{Performs};
 
 use crate::refusal::Refusal;
 use crate::reply::Reply;
@@ -16,28 +16,17 @@ impl Sessions {
         ensures quota { self.new.quota ≡ self.old.quota }
         ensures unchanged { OnErr result (self.new ≡ self.old) }
     {
-        self.admit_branch(&name, &branch)?;
         let Some(session) = self.sessions.get_mut(&name) else {
             return Err(Refusal::NoSession);
         };
+        if session.branches().count_of(&branch).is_some() {
+            return Err(Refusal::BranchExists);
+        }
+        may_branch(&self.quota, &self.used)?;
         session.save(branch.copy())?;
         let step = session.sim().step();
         self.used.branches += 1;
         Ok(Reply::Branched { name, branch, step })
-    }
-
-    /// Whether one may be saved, as far as memory is found for it.
-    fn admit_branch(&self, name: &Name, branch: &Name) -> Result<(), Refusal>
-        ensures { result ≡ branch_admitted (user_of self.now) name.now branch.now }
-    {
-        let Some(session) = self.find(name) else {
-            return Err(Refusal::NoSession);
-        };
-        if session.branches().count_of(branch).is_some() {
-            return Err(Refusal::BranchExists);
-        }
-        may_branch(&self.quota, &self.used)?;
-        Ok(())
     }
 
     /// Goes back to what is saved in a session under a name.

@@ -1,8 +1,8 @@
-//! SHOW, DUMP, LIST of a session, and DROP.
-ghost use Rattle.std.specs.Prelude.{◌≡◌, Bool, OnErr};
+//! SHOW, DUMP and LIST of a session.
+ghost use Rattle.std.specs.Prelude.{◌≡◌, Bool};
 ghost use Rattle.lj_session.specs.declared.command.Command.TheVariants as commands;
 ghost use Rattle.lj_session.specs.Answers.{performed};
-ghost use Rattle.lj_session.specs.States.{Performs, outcome, user_of};
+ghost use Rattle.lj_session.specs.States.{outcome, user_of};
 
 use crate::refusal::Refusal;
 use crate::reply::Reply;
@@ -50,20 +50,5 @@ impl Sessions {
             return Err(Refusal::NoSession);
         }
         Ok(Reply::ListedBranches { name })
-    }
-
-    /// Gives up a session. The others keep their order.
-    pub fn unload(&mut self, name: Name) -> Result<Reply, Refusal>
-        ensures performs { Performs self.old (commands.Unload name) result self.new }
-        ensures quota { self.new.quota ≡ self.old.quota }
-        ensures unchanged { OnErr result (self.new ≡ self.old) }
-    {
-        let Some(session) = self.sessions.shift_remove(&name) else {
-            return Err(Refusal::NoSession);
-        };
-        self.used.sessions -= 1;
-        self.used.atoms -= session.sim().count() as u64;
-        self.used.branches -= session.branches().len() as u64;
-        Ok(Reply::Unloaded { name })
     }
 }

@@ -1,46 +1,27 @@
-use Rattle.std.proofs.Common.{Some, ℕ, length, refl, sym, ap, ◌∙◌}
+use Rattle.std.proofs.Common.{ℕ, length, refl, ap}
 use Rattle.lj_step.specs.OpenSteps.{number_of}
-use Rattle.lj_session.proofs.Holding.{looked_up, written, unwritten, changed-some, user_of-kept}
-use Rattle.lj_session.proofs.Totals.{used-kept}
+use Rattle.lj_session.specs.States.{Held, as_session, with_tile_in}
 use Rattle.lj_session.proofs.Results.{on_ok-then, on_err-then, same-either}
-use Rattle.lj_session.specs.States.{Held, as_session, with_held, user_of, with_tile_in}
+use Rattle.lj_session.proofs.Writing.{writes, changed_by, unchanged, user_kept, totals_kept}
 use Rattle.lj_session.proofs.sessions.Sessions.accept.Goals as goal
 
 pub invariant_of-self-2 : goal.invariant_of-self-2
 invariant_of-self-2 c =
-    let old = c.args.self.now in
-    let held = c.in-Some.session.now in
-    let found = looked_up c.self.inside old c.self.view_is c.args.label.now.session (Some held) c.in-Some.ensures.value in
-    let new = c.accept.new.self in
-    let is = written c.self.inside old c.self.view_is c.args.label.now.session held c.in-Some.ensures.value _ new (c.get_mut.follows.holds new).0 in
-    let kept = same-either {C = ℕ × ℕ} c.accept.result (λ (h : Held). (length h.live.sim.cur, length h.saved)) new held (with_tile_in (number_of c.args.done) held)
-    c.accept.ensures.taken c.accept.ensures.unchanged refl in
-    used-kept c.self.inside old c.self.view_is c.self.invariant c.args.label.now.session held found _ new is (ap (λ p. p.0) kept) (ap (λ p. p.1) kept)
+    let kept = same-either {C = ℕ × ℕ} c.accept.result (λ (h : Held). (length h.live.sim.cur, length h.saved)) c.accept.new.self c.in-Some.session.now
+    (with_tile_in (number_of c.args.done) c.in-Some.session.now) c.accept.ensures.taken c.accept.ensures.unchanged refl in
+    totals_kept (writes c.self.inside c.args.self.now c.self.view_is c.self.invariant c.args.label.now.session _ c.in-Some.ensures.value _ c.accept.new.self (c.get_mut.follows.holds c.accept.new.self).0)
+    (ap (λ p. p.0) kept) (ap (λ p. p.1) kept)
 
 pub returns-clause-taken : goal.returns-clause-taken
-returns-clause-taken c =
-    let old = c.args.self.now in
-    let held = c.in-Some.session.now in
-    let found = looked_up c.self.inside old c.self.view_is c.args.label.now.session (Some held) c.in-Some.ensures.value in
-    let new = c.accept.new.self in
-    let is = written c.self.inside old c.self.view_is c.args.label.now.session held c.in-Some.ensures.value _ new (c.get_mut.follows.holds new).0 in
-    on_ok-then c.accept.result (λ taken. is ∙ (ap (λ (h : Held). with_held c.args.label.now.session h old) taken ∙ sym (changed-some old c.args.label.now.session (with_tile_in (number_of c.args.done)) held found))) c.accept.ensures.taken
+returns-clause-taken c = on_ok-then c.accept.result
+    (changed_by (writes c.self.inside c.args.self.now c.self.view_is c.self.invariant c.args.label.now.session _ c.in-Some.ensures.value _ c.accept.new.self (c.get_mut.follows.holds c.accept.new.self).0) (with_tile_in (number_of c.args.done)))
+    c.accept.ensures.taken
 
 pub returns-clause-user : goal.returns-clause-user
-returns-clause-user c =
-    let old = c.args.self.now in
-    let held = c.in-Some.session.now in
-    let found = looked_up c.self.inside old c.self.view_is c.args.label.now.session (Some held) c.in-Some.ensures.value in
-    let new = c.accept.new.self in
-    let is = written c.self.inside old c.self.view_is c.args.label.now.session held c.in-Some.ensures.value _ new (c.get_mut.follows.holds new).0 in
-    let kept = same-either c.accept.result as_session new held (with_tile_in (number_of c.args.done) held) c.accept.ensures.taken c.accept.ensures.unchanged refl in
-    ap user_of is ∙ user_of-kept old c.args.label.now.session held new found kept
+returns-clause-user c = user_kept (writes c.self.inside c.args.self.now c.self.view_is c.self.invariant c.args.label.now.session _ c.in-Some.ensures.value _ c.accept.new.self (c.get_mut.follows.holds c.accept.new.self).0)
+    (same-either c.accept.result as_session c.accept.new.self c.in-Some.session.now (with_tile_in (number_of c.args.done) c.in-Some.session.now)
+    c.accept.ensures.taken c.accept.ensures.unchanged refl)
 
 pub returns-clause-unchanged : goal.returns-clause-unchanged
-returns-clause-unchanged c =
-    let old = c.args.self.now in
-    let held = c.in-Some.session.now in
-    let found = looked_up c.self.inside old c.self.view_is c.args.label.now.session (Some held) c.in-Some.ensures.value in
-    let new = c.accept.new.self in
-    let is = written c.self.inside old c.self.view_is c.args.label.now.session held c.in-Some.ensures.value _ new (c.get_mut.follows.holds new).0 in
-    on_err-then c.accept.result (λ same. unwritten c.self.inside old c.self.view_is c.args.label.now.session held c.in-Some.ensures.value _ new (c.get_mut.follows.holds new).0 same) c.accept.ensures.unchanged
+returns-clause-unchanged c = on_err-then c.accept.result (unchanged (writes c.self.inside c.args.self.now c.self.view_is c.self.invariant c.args.label.now.session _ c.in-Some.ensures.value _ c.accept.new.self (c.get_mut.follows.holds c.accept.new.self).0))
+    c.accept.ensures.unchanged

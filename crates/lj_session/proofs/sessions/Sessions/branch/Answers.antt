@@ -1,82 +1,91 @@
-use Rattle.std.proofs.Common.{Some, None, false, length, sym, ap, ◌∙◌}
-use Rattle.lj_step.specs.Live.{Live}
+use Rattle.std.proofs.Common.{◌+◌, false, length, refl, sym, ap, ◌∙◌}
 use Rattle.std.specs.Prelude.{is_some}
-use Rattle.lj_session.specs.declared.reply.Reply.TheVariants as reply
+use Rattle.lj_step.specs.Live.{Live}
 use Rattle.lj_branch.specs.Named.{named, put}
+use Rattle.lj_quota.specs.declared.Over.TheVariants.{Branches}
+use Rattle.lj_session.specs.Faults.{quota_refusal}
+use Rattle.lj_session.specs.declared.reply.Reply.TheVariants as reply
+use Rattle.lj_session.specs.States.{Held, as_session, user_of}
 use Rattle.lj_session.proofs.Entries.{length-new}
-use Rattle.lj_session.proofs.Holding.{named-held, named-absent, looked_up, written, unwritten}
+use Rattle.lj_session.proofs.Limits.{over-limit, same_over, branches-over, branches-room}
 use Rattle.lj_session.proofs.Performing as performing
-use Rattle.lj_session.proofs.Saving as saving
 use Rattle.lj_session.proofs.Outcomes as outcomes
-use Rattle.lj_session.proofs.Outcomes.{keeping, stated, read-step}
-use Rattle.lj_session.proofs.Results.{performs-refused, performs-starved, on_err, none-of, not-saved}
-use Rattle.lj_session.proofs.Totals.{used-kept, used-saved}
-use Rattle.lj_session.specs.States.{Held, as_session, user_of, with_held}
+use Rattle.lj_session.proofs.Outcomes.{keeping, read-step}
+use Rattle.lj_session.proofs.Results.{performs-refused, performs-starved, on_err, none-of, not-saved, is_some-counted}
+use Rattle.lj_session.proofs.Writing.{not_there, writes, session_there, unchanged, totals_unchanged, totals_saved, told_at}
 use Rattle.lj_session.proofs.sessions.Sessions.branch.Goals as goal
-
-pub returns-in_err-admit_branch-clause-performs : goal.returns-in_err-admit_branch-clause-performs
-returns-in_err-admit_branch-clause-performs c =
-    let old = c.args.self.now in
-    performs-refused old _ _ c.from_residual.result c.in_err-admit_branch.field-0.0 c.from_residual.ensures.1
-    (performing.refused old _ _ _ (saving.branch-not_admitted (user_of old) c.args.name c.args.branch false c.in_err-admit_branch.field-0.0 (sym c.in_err-admit_branch.ensures)))
 
 pub returns-in_default-clause-performs : goal.returns-in_default-clause-performs
 returns-in_default-clause-performs c =
-    let old = c.args.self.now in
-    let absent = looked_up c.self.inside old c.self.view_is c.args.name None c.in_default.ensures.value in
-    performing.refused old _ _ _ (saving.branch-none (user_of old) c.args.name c.args.branch false (named-absent old c.args.name absent))
+    performing.refused c.args.self.now _ _ _ (performing.branch-none (user_of c.args.self.now) c.args.name false
+    (not_there c.self.inside c.args.self.now c.self.view_is c.args.name c.in_default.ensures.value) c.args.branch)
+
+pub invariant_of-self-then-is_some : goal.invariant_of-self-then-is_some
+invariant_of-self-then-is_some c = totals_unchanged (writes c.self.inside c.args.self.now c.self.view_is c.self.invariant c.args.name _ c.in-Some.ensures.value _ c.in-Some.session.now (c.get_mut.follows.holds c.in-Some.session.now).0) refl
+
+pub returns-then-is_some-clause-performs : goal.returns-then-is_some-clause-performs
+returns-then-is_some-clause-performs c =
+    let held = c.in-Some.session.now in
+    performing.refused c.args.self.now _ _ _ (performing.branch-exists (user_of c.args.self.now) c.args.name false (as_session held)
+    (session_there (writes c.self.inside c.args.self.now c.self.view_is c.self.invariant c.args.name _ c.in-Some.ensures.value _ held (c.get_mut.follows.holds held).0)) c.args.branch
+    (is_some-counted c.args.branch held.saved c.branches.result.now c.count_of.result c.branches.ensures c.count_of.ensures ∙ (sym c.is_some.ensures ∙ c.if-is_some.true)))
+
+pub returns-then-is_some-clause-unchanged : goal.returns-then-is_some-clause-unchanged
+returns-then-is_some-clause-unchanged c = unchanged (writes c.self.inside c.args.self.now c.self.view_is c.self.invariant c.args.name _ c.in-Some.ensures.value _ c.in-Some.session.now (c.get_mut.follows.holds c.in-Some.session.now).0) refl
+
+pub invariant_of-self-in_err-may_branch : goal.invariant_of-self-in_err-may_branch
+invariant_of-self-in_err-may_branch c = totals_unchanged (writes c.self.inside c.args.self.now c.self.view_is c.self.invariant c.args.name _ c.in-Some.ensures.value _ c.in-Some.session.now (c.get_mut.follows.holds c.in-Some.session.now).0) refl
+
+pub returns-in_err-may_branch-clause-performs : goal.returns-in_err-may_branch-clause-performs
+returns-in_err-may_branch-clause-performs c =
+    let held = c.in-Some.session.now in
+    let over = over-limit (c.self.inside.used.branches + 1) c.self.inside.quota.branches c.in_err-may_branch.ensures.may.1 in
+    let which = same_over c.in_err-may_branch.field-0.0 Branches (c.in_err-may_branch.ensures.over.1 over) in
+    performs-refused c.args.self.now _ _ c.from_residual.result (quota_refusal c.in_err-may_branch.field-0.0) c.from_residual.ensures.1
+    (rw which (performing.refused c.args.self.now _ _ _ (performing.branch-over (user_of c.args.self.now) c.args.name false (as_session held)
+    (session_there (writes c.self.inside c.args.self.now c.self.view_is c.self.invariant c.args.name _ c.in-Some.ensures.value _ held (c.get_mut.follows.holds held).0)) c.args.branch
+    (is_some-counted c.args.branch held.saved c.branches.result.now c.count_of.result c.branches.ensures c.count_of.ensures ∙ (sym c.is_some.ensures ∙ c.if-is_some.false))
+    (branches-over c.self.inside c.args.self.now c.self.view_is c.self.invariant over))))
+
+pub returns-in_err-may_branch-clause-unchanged : goal.returns-in_err-may_branch-clause-unchanged
+returns-in_err-may_branch-clause-unchanged c = on_err c.from_residual.result (unchanged (writes c.self.inside c.args.self.now c.self.view_is c.self.invariant c.args.name _ c.in-Some.ensures.value _ c.in-Some.session.now (c.get_mut.follows.holds c.in-Some.session.now).0) refl)
 
 pub invariant_of-self-in_err-save : goal.invariant_of-self-in_err-save
-invariant_of-self-in_err-save c =
-    let old = c.args.self.now in
-    let held = c.in-Some.session.now in
-    let found = looked_up c.self.inside old c.self.view_is c.args.name (Some held) c.in-Some.ensures.value in
-    let new = c.save.new.self in
-    let same = c.in_err-save.ensures.unchanged in
-    used-kept c.self.inside old c.self.view_is c.self.invariant c.args.name held found _ new
-    (written c.self.inside old c.self.view_is c.args.name held c.in-Some.ensures.value _ new (c.get_mut.follows.holds new).0)
-    (ap (λ (h : Held). length h.live.sim.cur) same) (ap (λ (h : Held). length h.saved) same)
+invariant_of-self-in_err-save c = totals_unchanged (writes c.self.inside c.args.self.now c.self.view_is c.self.invariant c.args.name _ c.in-Some.ensures.value _ c.save.new.self (c.get_mut.follows.holds c.save.new.self).0)
+    c.in_err-save.ensures.unchanged
 
 pub returns-in_err-save-clause-performs : goal.returns-in_err-save-clause-performs
 returns-in_err-save-clause-performs c =
-    let old = c.args.self.now in
     let held = c.in-Some.session.now in
-    let found = looked_up c.self.inside old c.self.view_is c.args.name (Some held) c.in-Some.ensures.value in
-    performs-refused old _ _ c.from_residual-in_err-save.result _ c.from_residual-in_err-save.ensures.1
-    (let session = named-held old c.args.name held found in
-    let may = saving.new-admitted (user_of old) c.args.name c.args.branch (as_session held) session (sym c.in_ok-admit_branch.ensures) in
-    performs-starved old _ _ _ (not-saved c.in_err-save.field-0.0 (is_some (named c.copy.result held.saved)) c.in_err-save.ensures.exists.0 (ap (λ b. is_some (named b held.saved)) c.copy.ensures ∙ may.0))
-    (saving.branch-memory (user_of old) c.args.name c.args.branch (as_session held) session may.0 may.1))
+    let new = is_some-counted c.args.branch held.saved c.branches.result.now c.count_of.result c.branches.ensures c.count_of.ensures ∙ (sym c.is_some.ensures ∙ c.if-is_some.false) in
+    performs-refused c.args.self.now _ _ c.from_residual-in_err-save.result _ c.from_residual-in_err-save.ensures.1
+    (performs-starved c.args.self.now _ _ _
+    (not-saved c.in_err-save.field-0.0 (is_some (named c.copy.result held.saved)) c.in_err-save.ensures.exists.0 (ap (λ b. is_some (named b held.saved)) c.copy.ensures ∙ new))
+    (performing.branch-memory (user_of c.args.self.now) c.args.name (as_session held)
+    (session_there (writes c.self.inside c.args.self.now c.self.view_is c.self.invariant c.args.name _ c.in-Some.ensures.value _ held (c.get_mut.follows.holds held).0)) c.args.branch new
+    (branches-room c.self.inside c.args.self.now c.self.view_is c.self.invariant (c.in_ok-may_branch.ensures.may.0 refl))))
 
 pub returns-in_err-save-clause-unchanged : goal.returns-in_err-save-clause-unchanged
-returns-in_err-save-clause-unchanged c =
-    let held = c.in-Some.session.now in
-    let new = c.save.new.self in
-    on_err c.from_residual-in_err-save.result
-    (unwritten c.self.inside c.args.self.now c.self.view_is c.args.name held c.in-Some.ensures.value _ new (c.get_mut.follows.holds new).0 (c.in_err-save.ensures.unchanged))
+returns-in_err-save-clause-unchanged c = on_err c.from_residual-in_err-save.result (unchanged (writes c.self.inside c.args.self.now c.self.view_is c.self.invariant c.args.name _ c.in-Some.ensures.value _ c.save.new.self (c.get_mut.follows.holds c.save.new.self).0)
+    c.in_err-save.ensures.unchanged)
 
 pub invariant_of-self-2 : goal.invariant_of-self-2
 invariant_of-self-2 c =
-    let old = c.args.self.now in
     let held = c.in-Some.session.now in
-    let found = looked_up c.self.inside old c.self.view_is c.args.name (Some held) c.in-Some.ensures.value in
-    let new = c.save.new.self in
-    let may = saving.new-admitted (user_of old) c.args.name c.args.branch (as_session held) (named-held old c.args.name held found) (sym c.in_ok-admit_branch.ensures) in
-    used-saved c.self.inside old c.self.view_is c.self.invariant c.args.name held found _ new
-    (written c.self.inside old c.self.view_is c.args.name held c.in-Some.ensures.value _ new (c.get_mut.follows.holds new).0)
+    let new = is_some-counted c.args.branch held.saved c.branches.result.now c.count_of.result c.branches.ensures c.count_of.ensures ∙ (sym c.is_some.ensures ∙ c.if-is_some.false) in
+    totals_saved (writes c.self.inside c.args.self.now c.self.view_is c.self.invariant c.args.name _ c.in-Some.ensures.value _ c.save.new.self (c.get_mut.follows.holds c.save.new.self).0)
     (ap (λ (h : Held). length h.live.sim.cur) c.in_ok-save.ensures.saved)
     (ap (λ (h : Held). length h.saved) c.in_ok-save.ensures.saved
     ∙ (ap (λ b. length (put b held.live.sim held.saved)) c.copy.ensures
-    ∙ length-new c.args.branch held.saved held.live.sim (none-of (named c.args.branch held.saved) may.0)))
+    ∙ length-new c.args.branch held.saved held.live.sim (none-of (named c.args.branch held.saved) new)))
 
 pub returns-clause-performs : goal.returns-clause-performs
 returns-clause-performs c =
-    let old = c.args.self.now in
     let held = c.in-Some.session.now in
-    let found = looked_up c.self.inside old c.self.view_is c.args.name (Some held) c.in-Some.ensures.value in
-    let new = c.save.new.self in
+    let written = writes c.self.inside c.args.self.now c.self.view_is c.self.invariant c.args.name _ c.in-Some.ensures.value _ c.save.new.self (c.get_mut.follows.holds c.save.new.self).0 in
+    let new = is_some-counted c.args.branch held.saved c.branches.result.now c.count_of.result c.branches.ensures c.count_of.ensures ∙ (sym c.is_some.ensures ∙ c.if-is_some.false) in
     let saved = c.in_ok-save.ensures.saved ∙ ap (λ b. keeping held (put b held.live.sim held.saved)) c.copy.ensures in
-    stated old _ _ _ (reply.Branched c.args.name c.args.branch) _ _
-    (outcomes.branch-ok old c.args.name held found c.args.branch (sym c.in_ok-admit_branch.ensures))
-    (read-step c.step-step.result c.step-step.ensures.most ∙ (c.step-step.ensures.value ∙ ap (λ (l : Live). l.sim.step) c.sim.ensures ∙ ap (λ (h : Held). h.live.sim.step) saved))
-    ((written c.self.inside old c.self.view_is c.args.name held c.in-Some.ensures.value _ new (c.get_mut.follows.holds new).0) ∙ ap (λ (h : Held). with_held c.args.name h old) saved)
+    told_at written _ (reply.Branched c.args.name c.args.branch) _ _ _
+    (outcomes.branch c.args.self.now c.args.name held written.found c.args.branch new
+    (branches-room c.self.inside c.args.self.now c.self.view_is c.self.invariant (c.in_ok-may_branch.ensures.may.0 refl)))
+    (read-step c.step-step.result c.step-step.ensures.most ∙ (c.step-step.ensures.value ∙ ap (λ (l : Live). l.sim.step) c.sim.ensures ∙ ap (λ (h : Held). h.live.sim.step) saved)) saved

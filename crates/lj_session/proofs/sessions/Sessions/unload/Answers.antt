@@ -1,6 +1,7 @@
-use Rattle.std.proofs.Common.{Some, None, false, length, refl, ap, ◌∙◌, arith}
+use Rattle.std.proofs.Common.{Some, false, length, refl, ap, ◌∙◌, arith}
 use Rattle.lj_step.specs.Live.{Live}
-use Rattle.lj_session.proofs.Holding.{named-absent, looked_up, taken-of}
+use Rattle.lj_session.proofs.Holding.{taken-of}
+use Rattle.lj_session.proofs.Writing.{looked_up, not_there}
 use Rattle.lj_session.proofs.Performing as performing
 use Rattle.lj_session.proofs.Outcomes as outcomes
 use Rattle.lj_session.proofs.Outcomes.{written-to}
@@ -11,8 +12,7 @@ use Rattle.lj_session.proofs.sessions.Sessions.unload.Goals as goal
 pub returns-in_default-clause-performs : goal.returns-in_default-clause-performs
 returns-in_default-clause-performs c =
     let old = c.args.self.now in
-    let absent = looked_up c.self.inside old c.self.view_is c.args.name None c.in_default.ensures.value in
-    performing.refused old _ _ _ (performing.unload-none (user_of old) c.args.name false (named-absent old c.args.name absent))
+    performing.refused old _ _ _ (performing.unload-none (user_of old) c.args.name false (not_there c.self.inside old c.self.view_is c.args.name c.in_default.ensures.value))
 
 pub overflow_sub-self-2 : goal.overflow_sub-self-2
 overflow_sub-self-2 c =

@@ -1,0 +1,100 @@
+-- A session written through the map of names in the code: what is held then, its user, and the running totals.
+use Rattle.std.proofs.Common.{◌≡◌, ℕ, ◌+◌, ◌-◌, ◌≤◌, ℤ, List, length, Option, Some, None, Ok, sym, ap, ◌∙◌, arith}
+use Rattle.std.specs.Str.{bytes_eq}
+use Rattle.std.specs.Map.{set_value}
+use Rattle.lj_branch.specs.Named.{named}
+use Rattle.lj_quota.specs.declared.Used.{Used}
+use Rattle.lj_session.specs.declared.command.Command.{Command}
+use Rattle.lj_session.specs.declared.reply.Reply.{Reply}
+use Rattle.lj_session.specs.declared.sessions.Sessions.TheInside.{Inside}
+use Rattle.lj_session.specs.States.{Held, Owned, Performs, as_session, user_of, used_by, held_in, with_held, changed}
+use Rattle.lj_session.specs.Totals.{owned_of}
+use Rattle.lj_session.proofs.Entries.{put-same, set-put}
+use Rattle.lj_session.proofs.Holding.{named-held, named-absent, changed-some, user_of-kept}
+use Rattle.lj_session.proofs.Totals.{same_used, used-same, sessions-changed, atoms-changed, branches-changed}
+
+-- in the map a name is looked up as among what is held
+pub looked_up : (a : Inside) (old : Owned) → owned_of a ≡ old → (name : List ℕ) (found : Option Held) → found ≡ named name a.sessions.entries → held_in old name ≡ found
+looked_up a old view name found h = ap (λ (owned : Owned). held_in owned name) (sym view) ∙ sym h
+
+-- what is not in the map is no session of the user
+pub not_there : (a : Inside) (old : Owned) → owned_of a ≡ old → (name : List ℕ) → None ≡ named name a.sessions.entries
+    → named name (user_of old).sessions ≡ None
+not_there a old view name h = named-absent old name (looked_up a old view name None h)
+
+-- The session that a name stands for becomes another one, and `next` is held then.
+pub record Writes (a : Inside) (old : Owned) (name : List ℕ) (held new : Held) (next : Owned) : Type 0 where
+  pub found : held_in old name ≡ Some held
+  pub is : next ≡ with_held name new old
+  pub counted : a.used ≡ used_by old
+
+pub writes : (a : Inside) (old : Owned) → owned_of a ≡ old → a.used ≡ used_by (owned_of a) → (name : List ℕ) (held : Held)
+    → Some held ≡ named name a.sessions.entries → (entries : List (List ℕ × Held)) (new : Held)
+    → entries ≡ set_value (bytes_eq name) a.sessions.entries new → Writes a old name held new (record { quota = a.quota; sessions = entries })
+writes a old view counted name held found entries new set = record {
+  found = looked_up a old view name (Some held) found;
+  is = ap (λ (es : List (List ℕ × Held)). record { quota = a.quota; sessions = es }) (set ∙ set-put name a.sessions.entries held new (sym found))
+      ∙ ap (with_held name new) view;
+  counted = counted ∙ ap used_by view;
+}
+
+module _ {a : Inside} {old : Owned} {name : List ℕ} {held new : Held} {next : Owned} (w : Writes a old name held new next) where
+  pub session_there : named name (user_of old).sessions ≡ Some (as_session held)
+  session_there = named-held old name held w.found
+
+  -- the same session, written once more
+  pub unchanged : new ≡ held → next ≡ old
+  unchanged same = w.is ∙ ap (λ (h : Held). with_held name h old) same
+      ∙ ap (λ (es : List (List ℕ × Held)). record { quota = old.quota; sessions = es }) (put-same name old.sessions held w.found)
+
+  pub changed_by : (change : Held → Held) → new ≡ change held → next ≡ changed name change old
+  changed_by change same = w.is ∙ ap (λ (h : Held). with_held name h old) same ∙ sym (changed-some old name change held w.found)
+
+  pub user_kept : as_session new ≡ as_session held → user_of next ≡ user_of old
+  user_kept same = ap user_of w.is ∙ user_of-kept old name held new w.found same
+
+  -- a command that is told so
+  pub told_as : (command : Command) (reply : Reply) (other : Held) → Performs old command (Ok reply) (with_held name other old) → new ≡ other
+      → Performs old command (Ok reply) next
+  told_as command reply other performs same = rw (w.is, same) performs
+
+  -- one whose reply names a step number, as the code reads it
+  pub told_at : (command : Command) (made : ℤ → Reply) (step read : ℤ) (other : Held) → Performs old command (Ok (made step)) (with_held name other old)
+      → read ≡ step → new ≡ other → Performs old command (Ok (made read)) next
+  told_at command made step read other performs same_step same = told_as command (made read) other (rw same_step performs) same
+
+  -- the totals, where the session has as many atoms and as many saved simulations as before
+  pub totals_kept : length new.live.sim.cur ≡ length held.live.sim.cur → length new.saved ≡ length held.saved → a.used ≡ used_by next
+  totals_kept atoms saved = w.counted ∙ sym (used-same old name new held w.found atoms saved) ∙ ap used_by (sym w.is)
+
+  pub totals_unchanged : new ≡ held → a.used ≡ used_by next
+  totals_unchanged same = w.counted ∙ ap used_by (sym (unchanged same))
+
+  module _ (atoms : length new.live.sim.cur ≡ length held.live.sim.cur) where
+    -- with other numbers of saved simulations
+    totals_with : (branches : ℕ) → branches + length held.saved ≡ a.used.branches + length new.saved
+        → record { sessions = a.used.sessions; atoms = a.used.atoms; branches = branches } ≡ used_by next
+    totals_with branches saved =
+        let s = sessions-changed old name new held w.found in
+        let t = atoms-changed old name new held w.found in
+        let u = branches-changed old name new held w.found in
+        same_used (record { sessions = a.used.sessions; atoms = a.used.atoms; branches = branches }) (used_by (with_held name new old))
+        (ap (λ (v : Used). v.sessions) w.counted ∙ sym s)
+        (let b = ap (λ (v : Used). v.atoms) w.counted in omega (arith, b, t, atoms))
+        (let b = ap (λ (v : Used). v.branches) w.counted in omega (arith, b, u, saved))
+        ∙ ap used_by (sym w.is)
+
+    pub totals_saved : length new.saved ≡ length held.saved + 1
+        → record { sessions = a.used.sessions; atoms = a.used.atoms; branches = a.used.branches + 1 } ≡ used_by next
+    totals_saved saved = totals_with (a.used.branches + 1) (omega (arith, saved))
+
+    -- where one is taken out there was one
+    pub one_saved : length new.saved + 1 ≡ length held.saved → 1 ≤ a.used.branches
+    one_saved saved =
+        let u = branches-changed old name new held w.found in
+        let b = ap (λ (v : Used). v.branches) w.counted in
+        omega (arith, b, u, saved)
+
+    pub totals_forgotten : length new.saved + 1 ≡ length held.saved
+        → record { sessions = a.used.sessions; atoms = a.used.atoms; branches = a.used.branches - 1 } ≡ used_by next
+    totals_forgotten saved = let some = one_saved saved in totals_with (a.used.branches - 1) (omega (arith, saved, some))
