@@ -1,4 +1,5 @@
-use Rattle.std.proofs.Common.{ℕ, zero, suc, ◌+◌, ◌-◌, ◌*◌, ◌/◌, ◌%◌, ◌^◌, ◌<◌, ◌≤◌, ◌≡◌, ℤ, pos, negsuc, ◌+ℤ◌, ◌-ℤ◌, ◌*ℤ◌, int_div, unsigned_abs, FitsSigned, w32, w64, of_z, to_z, neg_ℤ, refl, sym, ap, ◌∙◌, rules, arith}
+-- Pushes: their size, their rounding, and which are none.
+use Rattle.std.proofs.Common.{ℕ, zero, suc, ◌-◌, ◌*◌, ◌/◌, ◌%◌, ◌^◌, ◌<◌, ◌≤◌, ◌≡◌, ℤ, pos, negsuc, ◌+ℤ◌, ◌-ℤ◌, ◌*ℤ◌, int_div, unsigned_abs, FitsSigned, w32, w64, of_z, to_z, neg_ℤ, refl, sym, ap, ◌∙◌, arith}
 use Rattle.std.proofs.lemmas.Int.{ints, unsigned_abs-mul, fits_signed_from_abs, to_z-of_z}
 use Rattle.std.proofs.lemmas.Nat.{mul-le}
 use Rattle.std.proofs.Math.IntN.{zero-*ℤ, *ℤ-zero}
@@ -40,18 +41,66 @@ push_fits factor image small fits =
     let size = product_size factor image small fits in
     fits_signed_from_abs w64 _ (rw quotient_size (omega (arith, size)))
 
--- what the code computes along an axis, conversions and all
-pub along : (factor image : ℤ) → unsigned_abs factor < 2 ^ 61 → FitsSigned w32 image
-    → of_z w64 (to_z w64 (of_z w64 (to_z w128 (of_z w128 (int_div (to_z w128 (of_z w128 (to_z w128 (of_z w128 factor) *ℤ to_z w128 (of_z w128 image)))) (pos (2 ^ 56))))))) % 2 ^ 32
-    ≡ in_ring (int_div (factor *ℤ image) (pos (2 ^ 56)))
-along factor image small fits =
+-- a table entry times the step factor
+pub factor_size : (entry : ℤ) (strength : ℕ) → unsigned_abs entry < 2 ^ 37 → strength ≤ 2 ^ 24
+    → unsigned_abs (entry *ℤ pos strength) < 2 ^ 61
+factor_size entry strength small few = omega (arith, small_product entry (pos strength) (2 ^ 37 - 1) (2 ^ 24) (omega arith) few)
+
+pub factor_fits : (entry : ℤ) (strength : ℕ) → unsigned_abs entry < 2 ^ 37 → strength ≤ 2 ^ 24 → FitsSigned w64 (entry *ℤ pos strength)
+factor_fits entry strength small few = fits_signed_from_abs w64 _ (omega (arith, factor_size entry strength small few))
+
+-- the product in 128 bits
+wide_product : (factor image : ℤ) → unsigned_abs factor < 2 ^ 61 → FitsSigned w32 image → FitsSigned w128 (factor *ℤ image)
+wide_product factor image small fits = fits_signed_from_abs w128 _ (omega (arith, product_size factor image small fits))
+
+-- its quotient in 128 bits
+wide_quotient : (factor image : ℤ) → unsigned_abs factor < 2 ^ 61 → FitsSigned w32 image
+    → FitsSigned w128 (int_div (factor *ℤ image) (pos (2 ^ 56)))
+wide_quotient factor image small fits =
     let size = product_size factor image small fits in
+    fits_signed_from_abs w128 _ (rw quotient_size (omega (arith, size)))
+
+-- the product as the code computes it, conversions and all
+abbrev pub product_of : ℤ → ℤ → ℤ
+product_of factor image = to_z w128 (of_z w128 factor) *ℤ to_z w128 (of_z w128 image)
+
+product_is : (factor image : ℤ) → unsigned_abs factor < 2 ^ 61 → FitsSigned w32 image → product_of factor image ≡ factor *ℤ image
+product_is factor image small fits =
     let f : FitsSigned w128 factor = fits_signed_from_abs w128 factor (omega arith) in
     let i : FitsSigned w128 image = fits_signed_from_abs w128 image (omega (arith, image_size image fits)) in
-    let product : FitsSigned w128 (factor *ℤ image) = fits_signed_from_abs w128 _ (omega (arith, size)) in
-    let narrow : FitsSigned w64 (int_div (factor *ℤ image) (pos (2 ^ 56))) = push_fits factor image small fits in
-    let wide : FitsSigned w128 (int_div (factor *ℤ image) (pos (2 ^ 56))) = fits_signed_from_abs w128 _ (rw quotient_size (omega (arith, size))) in
-    rw (to_z-of_z w128 factor f, to_z-of_z w128 image i, to_z-of_z w128 (factor *ℤ image) product, to_z-of_z w128 _ wide, to_z-of_z w64 _ narrow)
+    rw (to_z-of_z w128 factor f, to_z-of_z w128 image i) refl
+
+-- its quotient likewise
+abbrev pub quotient_of : ℤ → ℤ → ℤ
+quotient_of factor image = int_div (to_z w128 (of_z w128 (product_of factor image))) (pos (2 ^ 56))
+
+quotient_is : (factor image : ℤ) → unsigned_abs factor < 2 ^ 61 → FitsSigned w32 image
+    → quotient_of factor image ≡ int_div (factor *ℤ image) (pos (2 ^ 56))
+quotient_is factor image small fits =
+    rw (product_is factor image small fits, to_z-of_z w128 (factor *ℤ image) (wide_product factor image small fits)) refl
+
+-- the product fits
+pub product_fits : (factor image : ℤ) → unsigned_abs factor < 2 ^ 61 → FitsSigned w32 image → FitsSigned w128 (product_of factor image)
+product_fits factor image small fits = rw (product_is factor image small fits) (wide_product factor image small fits)
+
+-- its quotient fits
+pub quotient_fits : (factor image : ℤ) → unsigned_abs factor < 2 ^ 61 → FitsSigned w32 image → FitsSigned w128 (quotient_of factor image)
+quotient_fits factor image small fits = rw (quotient_is factor image small fits) (wide_quotient factor image small fits)
+
+-- the quotient fits 64 bits
+pub narrow_fits : (factor image : ℤ) → unsigned_abs factor < 2 ^ 61 → FitsSigned w32 image
+    → FitsSigned w64 (to_z w128 (of_z w128 (quotient_of factor image)))
+narrow_fits factor image small fits =
+    rw (quotient_is factor image small fits, to_z-of_z w128 _ (wide_quotient factor image small fits))
+    (push_fits factor image small fits)
+
+-- what the code computes along an axis
+pub along : (factor image : ℤ) → unsigned_abs factor < 2 ^ 61 → FitsSigned w32 image
+    → of_z w64 (to_z w64 (of_z w64 (to_z w128 (of_z w128 (quotient_of factor image))))) % 2 ^ 32
+    ≡ in_ring (int_div (factor *ℤ image) (pos (2 ^ 56)))
+along factor image small fits =
+    let narrow = push_fits factor image small fits in
+    rw (quotient_is factor image small fits, to_z-of_z w128 _ (wide_quotient factor image small fits), to_z-of_z w64 _ narrow)
     (low_bits _ narrow)
 
 -- a push by its three parts
