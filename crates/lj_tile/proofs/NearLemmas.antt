@@ -1,3 +1,4 @@
+-- The quick test of which places are near, lane by lane.
 use Rattle.std.proofs.Common.{ℕ, zero, suc, ◌+◌, ◌-◌, ◌*◌, ◌/◌, ◌%◌, ◌^◌, ◌<◌, ◌≤◌, ◌≡◌, min, Bool, true, false, cond, ltb, nat_lt, unsigned_abs, List, length, get_or, map, replicate, refl, sym, ap, ◌∙◌, w32, arith}
 use Rattle.std.specs.Simd.Lanes.{zip2, sel_l, mask_l}
 use Rattle.std.specs.Int.{cast_signed, bit_at, div_ceil}

@@ -1,3 +1,4 @@
+-- The test of equal blocks.
 use Rattle.std.proofs.Common.{◌≡◌, Bool, List, rules}
 use Rattle.std.specs.Bool.{Decides}
 use Rattle.std.proofs.lemmas.Slice.Eq.{slice_eq-Decides}

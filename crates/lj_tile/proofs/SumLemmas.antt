@@ -1,4 +1,5 @@
-use Rattle.std.proofs.Common.{ℕ, zero, suc, ◌+◌, ◌-◌, ◌*◌, ◌/◌, ◌%◌, ◌^◌, ◌<◌, ◌≤◌, ◌≡◌, ◌≢◌, ◌==◌, not, Bool, true, false, ℤ, pos, ◌+ℤ◌, unsigned_abs, FitsSigned, w64, to_z, of_z, List, length, refl, sym, ap, subst, min, ◌∙◌, inl, inr, ◌⊎◌, nat_lt, add-one, arith}
+-- Sums of pushes and of energies, place by place, and the bits of a mask.
+use Rattle.std.proofs.Common.{ℕ, zero, suc, ◌+◌, ◌-◌, ◌*◌, ◌/◌, ◌%◌, ◌^◌, ◌<◌, ◌≤◌, ◌≡◌, ◌≢◌, ◌==◌, Bool, true, false, ℤ, pos, ◌+ℤ◌, unsigned_abs, FitsSigned, w64, to_z, of_z, length, refl, sym, ap, min, ◌∙◌, inl, inr, ◌⊎◌, add-one, arith}
 use Rattle.std.specs.Int.{bit_at, trailing_zeros}
 use Rattle.std.proofs.lemmas.Nat.{shr-shr}
 use Rattle.std.proofs.lemmas.Nat.Bits.{bit_at-trailing_zeros, bit_at_above, bit_at-zero}
@@ -7,7 +8,6 @@ use Rattle.std.proofs.lemmas.Bool.{cases_eq, cases_lt}
 use Rattle.std.proofs.lemmas.Nat.{mul-le}
 use Rattle.std.proofs.lemmas.Bool.Decides.{nat_tests}
 use Rattle.std.proofs.lemmas.Int.{ints, fits_signed_from_abs, to_z-of_z}
-use Rattle.lj_ring.specs.declared.coordinates.Place.{Place}
 use Rattle.lj_ring.specs.Ring.{sum_below, ring_sum, int_sum_below, distance}
 use Rattle.lj_ring.specs.Scales.{interacts}
 use Rattle.lj_table.specs.Entries.{push_at}
@@ -16,7 +16,7 @@ use Rattle.lj_tile.specs.Pushes.{push, no_push, plus, energy}
 use Rattle.lj_tile.specs.declared.names.Kind.TheVariants.{Energy}
 use Rattle.lj_tile.specs.Near.{IsReach}
 use Rattle.lj_tile.proofs.PushLemmas.{nothing_is}
-use Rattle.lj_tile.specs.Tiles.{place_at, chosen_push, chosen_energy, push_sum}
+use Rattle.lj_tile.specs.Tiles.{place_at, chosen_energy, push_sum}
 use Rattle.lj_tile.specs.Tasks.{Work, IsTask, atom, are_apart, are_in_order, push_of, force_below, task_force, task_energy}
 
 pub force_all : (w : Work) (t : ℕ) → force_below w t (length w.b) ≡ task_force w t

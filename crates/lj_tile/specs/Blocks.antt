@@ -1,5 +1,5 @@
 -- When two blocks of places are equal.
-use Rattle.std.specs.Prelude.{ℕ, Bool, ◌==◌, List}
+use Rattle.std.specs.Prelude.{Bool, ◌==◌, List}
 use Rattle.std.specs.Ordering.{on, eq_of_both}
 use Rattle.std.specs.Cmp.{IsEquivalence, on_equiv}
 use Rattle.std.specs.Cmp.Lexicographic.{pointwise, lists_equiv}
@@ -15,4 +15,8 @@ abbrev pub same_places : List Place → List Place → Bool
 same_places = pointwise same_place
 
 pub same_places-equiv : IsEquivalence same_places
-same_places-equiv = lists_equiv (and_equiv (and_equiv (on_equiv (λ p. p.x) nat_eq_equiv) (on_equiv (λ p. p.y) nat_eq_equiv)) (on_equiv (λ p. p.z) nat_eq_equiv))
+same_places-equiv =
+    let x = on_equiv (λ (p : Place). p.x) nat_eq_equiv in
+    let y = on_equiv (λ (p : Place). p.y) nat_eq_equiv in
+    let z = on_equiv (λ (p : Place). p.z) nat_eq_equiv in
+    lists_equiv (and_equiv (and_equiv x y) z)

@@ -7,7 +7,11 @@ use Rattle.lj_tile.specs.Tiles.{place_at}
 
 -- the place whose coordinates are the s-th of each axis
 abbrev pub column_place : Columns → ℕ → Place
-column_place columns s = record { x = slice_index columns.x s; y = slice_index columns.y s; z = slice_index columns.z s }
+column_place columns s = record {
+  x = slice_index columns.x s;
+  y = slice_index columns.y s;
+  z = slice_index columns.z s;
+}
 
 -- a place in whole units of 2^16
 abbrev pub coarse_place : Place → Place

@@ -1,5 +1,5 @@
 -- The push and the energy of a pair of atoms.
-use Rattle.std.specs.Prelude.{ℕ, ◌+◌, ◌*◌, ◌%◌, ◌^◌, ◌≡◌, refl, ℤ, pos, ◌*ℤ◌, int_div}
+use Rattle.std.specs.Prelude.{ℕ, ◌+◌, ◌%◌, ◌^◌, ℤ, pos, ◌*ℤ◌, int_div}
 use Rattle.lj_ring.specs.declared.coordinates.Place.{Place}
 use Rattle.lj_ring.specs.Ring.{image, distance, in_ring}
 use Rattle.lj_ring.specs.Scales.{Units}

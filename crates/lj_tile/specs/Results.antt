@@ -1,7 +1,6 @@
 -- The sums that a result keeps.
 use Rattle.std.specs.Prelude.{ℕ, ◌≡◌, ◌<◌, ℤ, pos, length, slice_index_or}
 use Rattle.lj_tile.specs.declared.pairs.Push.{Push}
-use Rattle.lj_tile.specs.declared.names.Kind.{Kind}
 use Rattle.lj_tile.specs.declared.names.Kind.TheVariants.{Force, Energy}
 use Rattle.lj_tile.specs.declared.results.Sums.{Sums}
 use Rattle.lj_tile.specs.declared.results.Sums.TheVariants.{Pushes, Energies}

@@ -5,8 +5,8 @@ use Rattle.lj_ring.specs.Ring.{ring_sum, int_sum_below}
 use Rattle.lj_ring.specs.Scales.{Units}
 use Rattle.lj_tile.specs.declared.pairs.Push.{Push}
 use Rattle.lj_tile.specs.declared.names.TaskName.{TaskName}
-use Rattle.lj_tile.specs.declared.names.Kind.{Kind}
-use Rattle.lj_tile.specs.declared.names.Kind.TheVariants.{Force, Energy}
+use Rattle.lj_tile.specs.declared.names.Kind.TheVariants.{Energy}
+use Rattle.lj_tile.specs.declared.blocks.TheConstants.{BLOCK}
 use Rattle.lj_tile.specs.Tiles.{place_at, push_sum, chosen_push, chosen_energy}
 
 -- the value of a task: its name, the scale of its simulation, and the places of its two blocks
@@ -18,7 +18,7 @@ pub record Work : Type 0 where
 
 -- the number of the atom at place t of block n
 abbrev pub atom : ℕ → ℕ → ℕ
-atom n t = 64 * n + t
+atom n t = BLOCK * n + t
 
 -- place t of the first block and place s of the second are of different atoms
 abbrev pub are_apart : Work → ℕ → ℕ → Bool
@@ -28,7 +28,7 @@ are_apart w t s = not (atom w.name.bi t == atom w.name.bj s)
 abbrev pub are_in_order : Work → ℕ → ℕ → Bool
 are_in_order w t s = nat_lt (atom w.name.bi t) (atom w.name.bj s)
 
--- the value of a force task, for place t of its first block: the ring sum of the pushes of the second block's other atoms
+-- the value of a force task, for place t of its first block: the ring sum of the pushes of the second's other atoms
 abbrev pub task_force : Work → ℕ → Push
 task_force w t = push_sum w.units (place_at w.a t) w.b (are_apart w t)
 
@@ -47,14 +47,16 @@ force_below w t n = record {
 -- the value of an energy task: the sum of the energies of the pairs i < j, i in the first block and j in the second
 unfoldable pub task_energy : Work → ℤ
 task_energy w =
-    int_sum_below (length w.b) (λ s. int_sum_below (length w.a) (λ t. chosen_energy w.units (are_in_order w t s) (place_at w.a t) (place_at w.b s)))
+    int_sum_below (length w.b) (λ s.
+    int_sum_below (length w.a) (λ t. chosen_energy w.units (are_in_order w t s) (place_at w.a t) (place_at w.b s)))
 
--- what is true of each task: its blocks have 1 to 64 places, those of one block are the same twice, and an energy task has its blocks in order
+-- what is true of each task: its blocks have 1 to 64 places, those of one block are the same twice, and an energy task
+-- has its blocks in order
 pub record IsTask (w : Work) : Type 0 where
   pub some_first : 1 ≤ length w.a
   pub some_second : 1 ≤ length w.b
-  pub most_first : length w.a ≤ 64
-  pub most_second : length w.b ≤ 64
+  pub most_first : length w.a ≤ BLOCK
+  pub most_second : length w.b ≤ BLOCK
   pub first_index : w.name.bi < 64
   pub second_index : w.name.bj < 64
   pub diagonal : w.name.bi ≡ w.name.bj → w.a ≡ w.b

@@ -3,6 +3,7 @@ use Rattle.std.specs.Prelude.{ℕ, ◌/◌, ◌==◌, ◌&&◌, ◌≡◌, ◌�
 use Rattle.lj_ring.specs.declared.coordinates.Place.{Place}
 use Rattle.lj_ring.specs.Ring.{distance, ring_sum, int_sum_below}
 use Rattle.lj_ring.specs.Scales.{Units, interacts}
+use Rattle.lj_tile.specs.declared.blocks.TheConstants.{BLOCK}
 use Rattle.lj_tile.specs.declared.pairs.Push.{Push}
 use Rattle.lj_tile.specs.Pushes.{push, no_push, energy}
 
@@ -42,10 +43,11 @@ IsEnergyTile tile = (i j : ℕ) → tile i j ≡ true → i < j
 abbrev pub tile_force : Units → List Place → Tile → ℕ → Push
 tile_force u frame tile i = push_sum u (place_at frame i) frame (tile i)
 
--- the value of an energy tile on a frame: the sum of the energies of its pairs i < j, which is 0 for one that does not interact
+-- the value of an energy tile on a frame: the sum of the energies of its pairs i < j
 abbrev pub tile_energy : Units → List Place → Tile → ℤ
 tile_energy u frame tile =
-    int_sum_below (length frame) (λ j. int_sum_below j (λ i. chosen_energy u (tile i j) (place_at frame i) (place_at frame j)))
+    int_sum_below (length frame) (λ j.
+    int_sum_below j (λ i. chosen_energy u (tile i j) (place_at frame i) (place_at frame j)))
 
 -- in how many tiles of a list the pair lies
 abbrev pub times : ℕ → ℕ → List Tile → ℕ
@@ -55,7 +57,7 @@ times i j tiles = count_by (λ tile. tile i j) tiles
 abbrev pub are_near : Units → List Place → ℕ → ℕ → Bool
 are_near u frame i j = interacts u (distance (place_at frame i) (place_at frame j))
 
--- a cover for forces: each ordered pair of different atoms lies in one tile if it interacts, and in one at most if it does not
+-- a cover for forces: each ordered pair of different atoms lies in one tile if it interacts, and else in one at most
 pub record IsForceCover (u : Units) (frame : List Place) (tiles : List Tile) : Type 0 where
   pub near : (i j : ℕ) → i < length frame → j < length frame → i ≢ j → are_near u frame i j ≡ true → times i j tiles ≡ 1
   pub far : (i j : ℕ) → i < length frame → j < length frame → i ≢ j → are_near u frame i j ≡ false → times i j tiles ≤ 1
@@ -66,11 +68,11 @@ pub record IsEnergyCover (u : Units) (frame : List Place) (tiles : List Tile) : 
   pub near : (i j : ℕ) → i < j → j < length frame → are_near u frame i j ≡ true → times i j tiles ≡ 1
   pub far : (i j : ℕ) → i < j → j < length frame → are_near u frame i j ≡ false → times i j tiles ≤ 1
 
--- place t of block n is that of atom 64 n + t
+-- the block that an atom stands in
 abbrev pub block_of : ℕ → ℕ
-block_of i = i / 64
+block_of i = i / BLOCK
 
--- the force tile of an ordered pair of blocks: the pairs of different atoms, the first in the one and the second in the other
+-- the force tile of an ordered pair of blocks: the pairs of different atoms, one in each
 abbrev pub force_tile : ℕ → ℕ → Tile
 force_tile bi bj i j = block_of i == bi && block_of j == bj && not (i == j)
 

@@ -3,7 +3,6 @@ use Rattle.std.specs.Prelude.{◌≡◌, ◌∷◌, [], ℕ, pos, negsuc, List, 
 use Rattle.lj_ring.specs.declared.coordinates.Place.{Place}
 use Rattle.lj_ring.specs.Scales.{Units}
 use Rattle.lj_table.specs.Entries.{push_entry, energy_entry}
-use Rattle.lj_tile.specs.declared.pairs.Push.{Push}
 use Rattle.lj_tile.specs.declared.names.Kind.{Kind}
 use Rattle.lj_tile.specs.declared.names.Kind.TheVariants.{Force, Energy}
 use Rattle.lj_tile.specs.Pushes.{push}
@@ -14,15 +13,19 @@ use Rattle.lj_tile.specs.Tasks.{Work, task_force, task_energy}
 abbrev pub dimer_units : Units
 dimer_units = record { edge = 256000000000; sigma = 16777216; strength = 131072 }
 
+-- a place on the x axis
 abbrev pub on_x : ℕ → Place
 on_x x = record { x = x; y = 0; z = 0 }
 
+-- the first atom alone
 abbrev pub left : List Place
 left = on_x 0 ∷ []
 
+-- the second atom alone
 abbrev pub right : List Place
 right = on_x 25165824 ∷ []
 
+-- both atoms
 abbrev pub both : List Place
 both = on_x 0 ∷ on_x 25165824 ∷ []
 
@@ -58,7 +61,7 @@ pub two_blocks_energy : task_energy (task_of Energy 0 1 left right) ≡ negsuc 5
 unfolding task_energy energy_entry
 two_blocks_energy = refl
 
--- the tile of a block with itself on a frame of these two atoms, and that of another block, which has none of their pairs
+-- on a frame of these two atoms the tile of their block with itself, and that of another block, with no pair of them
 pub tile_left : tile_force dimer_units both (force_tile 0 0) 0 ≡ record { x = 589; y = 0; z = 0 }
 unfolding push_sum push push_entry
 tile_left = refl

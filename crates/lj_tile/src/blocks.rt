@@ -1,3 +1,4 @@
+//! Blocks of places of atoms.
 ghost use Rattle.std.specs.Prelude.{◌≡◌, ◌≤◌, ◌↔◌, length, IsTrue};
 ghost use Rattle.std.specs.Cmp.{partial_equiv_from_equiv};
 ghost use Rattle.lj_tile.specs.Blocks.{same_places, same_places-equiv};
@@ -10,7 +11,7 @@ pub const BLOCK: usize = 64;
 
 const ORIGIN: Place = Place { x: 0, y: 0, z: 0 };
 
-/// A block of places of atoms that stand next to each other in the file, at most 64.
+/// A block of places of atoms that stand next to each other in the file, at most `BLOCK`.
 #[derive(Debug, Drop)]
 pub struct Block {
     cells: [Place; BLOCK],
@@ -20,18 +21,19 @@ pub struct Block {
 impl Model for Block {
     ghost use Rattle.std.specs.Prelude.{◌≤◌, List, take};
     ghost use Rattle.lj_ring.specs.declared.coordinates.Place.{Place};
+    ghost use Rattle.lj_tile.specs.declared.blocks.TheConstants.{BLOCK};
 
     ghost Value = { List Place };
 
     ghost view = { λ b. take b.count b.cells };
 
-    ghost invariant = { λ b. b.count ≤ 64 };
+    ghost invariant = { λ b. b.count ≤ BLOCK };
 }
 
 impl Block {
     /// The block of these places.
     pub fn new(places: &[Place]) -> Block
-        requires { length places.now ≤ 64 }
+        requires { length places.now ≤ BLOCK }
         ensures { result ≡ places.now }
     {
         let mut cells = [ORIGIN; BLOCK];
@@ -46,7 +48,7 @@ impl Block {
     #[inline]
     pub fn places(&self) -> &[Place]
         ensures value { result.now ≡ self.now }
-        ensures most { length result.now ≤ 64 }
+        ensures most { length result.now ≤ BLOCK }
     {
         &self.cells[..self.count]
     }

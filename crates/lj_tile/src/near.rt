@@ -1,3 +1,4 @@
+//! A quick test of which places of a block may be near one, all of them at once.
 ghost use Rattle.std.specs.Prelude.{◌≡◌, ◌≤◌, ◌<◌, ◌+◌, ◌-◌, ◌*◌, ◌/◌, ◌%◌, ◌^◌, ℕ, min, length, slice_index, unsigned_abs};
 ghost use Rattle.std.specs.Int.{bit_at};
 ghost use Rattle.lj_ring.specs.declared.coordinates.Place.{Place};
@@ -18,7 +19,7 @@ pub(crate) struct Columns {
 
 impl Columns {
     pub(crate) fn new(places: &[Place]) -> Columns
-        requires { length places.now ≤ 64 }
+        requires { length places.now ≤ BLOCK }
         ensures { HasColumns result places.now }
     {
         let mut x = [0; BLOCK];
@@ -36,12 +37,12 @@ impl Columns {
         }
     }
 
-    /// A mask of the places: where a bit is 0, the squared distance of that place and `here` is not below `reach` less 3, in
-    /// units of 2^48.
+    /// A mask of the places: where a bit is 0, the squared distance of that place and `here` is not below `reach` less
+    /// 3, in units of 2^48.
     #[inline]
     pub(crate) fn near(&self, here: &Place, reach: u16) -> u64
-        ensures { (k : ℕ) (there : Place) → k < 64 → bit_at result k ≡ 0 → column_place self.now k ≡ coarse_place there
-            → reach * 2 ^ 48 ≤ distance here.now there + 3 * 2 ^ 48 }
+        ensures { (k : ℕ) (there : Place) → k < BLOCK → bit_at result k ≡ 0
+            → column_place self.now k ≡ coarse_place there → reach * 2 ^ 48 ≤ distance here.now there + 3 * 2 ^ 48 }
     {
         let x = coarse_sizes(self.x, here.x);
         let y = coarse_sizes(self.y, here.y);
@@ -58,13 +59,13 @@ fn coarse(coordinate: u32) -> u16
     (coordinate >> 16) as u16
 }
 
-/// The sizes of the images of coordinates, of which `there` has the whole units of 2^16, in whole units of 2^24. They may be
-/// too great by what was cut off, less than 2^16.
+/// The sizes of the images of coordinates, of which `there` has the whole units of 2^16, in whole units of 2^24. They
+/// may be too great by what was cut off, less than 2^16.
 #[inline(always)]
 fn coarse_sizes(there: u16x64, here: u32) -> u16x64
-    ensures least { (k c : ℕ) → k < 64 → slice_index there k ≡ c / 2 ^ 16
+    ensures least { (k c : ℕ) → k < BLOCK → slice_index there k ≡ c / 2 ^ 16
         → slice_index result k * 2 ^ 24 < unsigned_abs (image here c) + 2 ^ 16 }
-    ensures small { (k : ℕ) → k < 64 → slice_index result k ≤ 2 ^ 7 }
+    ensures small { (k : ℕ) → k < BLOCK → slice_index result k ≤ 2 ^ 7 }
 {
     let here = splat(coarse(here));
     shift_by_8(lesser(differences(there, here), differences(here, there)))
@@ -72,38 +73,38 @@ fn coarse_sizes(there: u16x64, here: u32) -> u16x64
 
 #[inline(always)]
 fn splat(number: u16) -> u16x64
-    ensures { (k : ℕ) → k < 64 → slice_index result k ≡ number }
+    ensures { (k : ℕ) → k < BLOCK → slice_index result k ≡ number }
 {
     u16x64::splat(number)
 }
 
 #[inline(always)]
 fn differences(a: u16x64, b: u16x64) -> u16x64
-    ensures { (k : ℕ) → k < 64 → slice_index result k ≡ (slice_index a k + (2 ^ 16 - slice_index b k)) % 2 ^ 16 }
+    ensures { (k : ℕ) → k < BLOCK → slice_index result k ≡ (slice_index a k + (2 ^ 16 - slice_index b k)) % 2 ^ 16 }
 {
     a - b
 }
 
 #[inline(always)]
 fn lesser(a: u16x64, b: u16x64) -> u16x64
-    ensures { (k : ℕ) → k < 64 → slice_index result k ≡ min (slice_index a k) (slice_index b k) }
+    ensures { (k : ℕ) → k < BLOCK → slice_index result k ≡ min (slice_index a k) (slice_index b k) }
 {
     a.simd_min(b)
 }
 
 #[inline(always)]
 fn shift_by_8(v: u16x64) -> u16x64
-    ensures { (k : ℕ) → k < 64 → slice_index result k ≡ slice_index v k / 2 ^ 8 }
+    ensures { (k : ℕ) → k < BLOCK → slice_index result k ≡ slice_index v k / 2 ^ 8 }
 {
     v >> u16x64::splat(8)
 }
 
 #[inline(always)]
 fn sums_of_squares(x: u16x64, y: u16x64, z: u16x64) -> u16x64
-    requires x_small { (k : ℕ) → k < 64 → slice_index x k ≤ 2 ^ 7 }
-    requires y_small { (k : ℕ) → k < 64 → slice_index y k ≤ 2 ^ 7 }
-    requires z_small { (k : ℕ) → k < 64 → slice_index z k ≤ 2 ^ 7 }
-    ensures { (k : ℕ) → k < 64 → slice_index result k ≡
+    requires x_small { (k : ℕ) → k < BLOCK → slice_index x k ≤ 2 ^ 7 }
+    requires y_small { (k : ℕ) → k < BLOCK → slice_index y k ≤ 2 ^ 7 }
+    requires z_small { (k : ℕ) → k < BLOCK → slice_index z k ≤ 2 ^ 7 }
+    ensures { (k : ℕ) → k < BLOCK → slice_index result k ≡
         slice_index x k * slice_index x k + slice_index y k * slice_index y k + slice_index z k * slice_index z k }
 {
     x * x + y * y + z * z
@@ -112,7 +113,7 @@ fn sums_of_squares(x: u16x64, y: u16x64, z: u16x64) -> u16x64
 /// Bit k tells whether lane k is below `reach`.
 #[inline(always)]
 fn below(v: u16x64, reach: u16) -> u64
-    ensures { (k : ℕ) → k < 64 → bit_at result k ≡ 0 → reach ≤ slice_index v k }
+    ensures { (k : ℕ) → k < BLOCK → bit_at result k ≡ 0 → reach ≤ slice_index v k }
 {
     v.simd_lt(u16x64::splat(reach)).to_bitmask()
 }

@@ -1,3 +1,4 @@
+//! The push of a pair of atoms.
 ghost use Rattle.std.specs.Prelude.{◌≡◌, ◌≤◌, ◌<◌, ◌^◌, pos, ◌*ℤ◌, int_div, unsigned_abs};
 ghost use Rattle.lj_ring.specs.Ring.{in_ring};
 ghost use Rattle.lj_tile.specs.Pushes as pushes;

@@ -1,3 +1,4 @@
+//! Results of tasks.
 ghost use Rattle.std.specs.Prelude.{◌≡◌, ◌<◌, length, ◌∷◌, []};
 ghost use Rattle.lj_tile.specs.declared.names.Kind.TheVariants.{Force, Energy};
 ghost use Rattle.lj_tile.specs.Tasks.{task_force, task_energy};
@@ -20,7 +21,7 @@ enum Sums {
 
 impl Sums {
     fn push_at(&self, t: usize) -> Push
-        requires { t < 64 }
+        requires { t < BLOCK }
         ensures { result ≡ kept_push self.now t }
     {
         match self {

@@ -1,3 +1,4 @@
+//! The sums of a task: of pushes and of energies.
 ghost use Rattle.std.specs.Prelude.{◌≡◌, ◌≤◌, ◌<◌, ◌+◌, ◌*◌, ◌^◌, ℕ, length, slice_index_or, min, unsigned_abs};
 ghost use Rattle.std.specs.Int.{bit_at};
 ghost use Rattle.lj_ring.specs.Ring.{int_sum_below};
@@ -27,8 +28,8 @@ pub(crate) fn force_sums(task: &Task, table: &Table) -> [Push; BLOCK]
     sums
 }
 
-/// The sum of the pushes on place `t` of the first block. It looks closely only at those places of the second block that
-/// may interact with it.
+/// The sum of the pushes on place `t` of the first block. It looks closely only at those places of the second block
+/// that may interact with it.
 #[inline]
 fn push_on(t: usize, task: &Task, columns: &Columns, reach: u16, table: &Table) -> Push
     requires within { t < length task.now.a }
@@ -40,12 +41,12 @@ fn push_on(t: usize, task: &Task, columns: &Columns, reach: u16, table: &Table) 
     pushes_of(near, t, task, table)
 }
 
-/// The sum of the pushes on place `t` of the first block. Only those places of the second block are looked at whose bit in
-/// `near` is set.
+/// The sum of the pushes on place `t` of the first block. Only those places of the second block are looked at whose bit
+/// in `near` is set.
 #[inline]
 fn pushes_of(near: u64, t: usize, task: &Task, table: &Table) -> Push
     requires first { t < length task.now.a }
-    requires most { length task.now.b ≤ 64 }
+    requires most { length task.now.b ≤ BLOCK }
     requires near { (s : ℕ) → s < length task.now.b → bit_at near s ≡ 0 → push_of task.now t s ≡ no_push }
     ensures { result ≡ task_force task.now t }
 {
@@ -62,12 +63,12 @@ fn pushes_of(near: u64, t: usize, task: &Task, table: &Table) -> Push
     sum
 }
 
-/// `before` with the push of place `s` of the second block, if there is one, on place `t` of the first. An atom's own push on
-/// itself is none.
+/// `before` with the push of place `s` of the second block, if there is one, on place `t` of the first. An atom's own
+/// push on itself is none.
 #[inline]
 fn with_push_of(s: usize, before: Push, t: usize, task: &Task, table: &Table) -> Push
     requires first { t < length task.now.a }
-    requires few { s < 128 }
+    requires few { s < 2 * BLOCK }
     requires before { before ≡ force_below task.now t (min s (length task.now.b)) }
     ensures { result ≡ force_below task.now t (min (s + 1) (length task.now.b)) }
 {
@@ -96,7 +97,7 @@ fn energy_before(s: usize, task: &Task, table: &Table) -> i64
     requires within { s < length task.now.b }
     ensures value { let w = task.now in result ≡ int_sum_below (length w.a) (λ t.
         chosen_energy w.units (are_in_order w t s) (place_at w.a t) (place_at w.b s)) }
-    ensures size { unsigned_abs result ≤ 64 * 2 ^ 37 }
+    ensures size { unsigned_abs result ≤ BLOCK * 2 ^ 37 }
 {
     let there = task.second()[s];
     let earlier = if task.name().bi == task.name().bj {
@@ -110,7 +111,7 @@ fn energy_before(s: usize, task: &Task, table: &Table) -> i64
 /// The sum of the energies of the atom at `there` with the first `count` of `places`.
 fn energy_with(there: &Place, count: usize, places: &[Place], scale: &Scale, table: &Table) -> i64
     requires within { count ≤ length places.now }
-    requires few { length places.now ≤ 64 }
+    requires few { length places.now ≤ BLOCK }
     ensures value { result ≡ int_sum_below count (λ t. energy scale.now (place_at places.now t) there.now) }
     ensures size { unsigned_abs result ≤ count * 2 ^ 37 }
 {

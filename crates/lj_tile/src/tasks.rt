@@ -1,3 +1,4 @@
+//! Tasks.
 ghost use Rattle.std.specs.Prelude.{◌≡◌, ◌≤◌, ◌<◌, ◌↔◌, length, IsTrue};
 ghost use Rattle.lj_tile.specs.declared.names.Kind.TheVariants.{Energy};
 ghost use Rattle.lj_tile.specs.Tasks.{IsTask};
@@ -7,8 +8,8 @@ use crate::names::TaskName;
 use lj_ring::{Place, Scale};
 use std::marker::Model;
 
-/// A task: one tile of a step, with all that it takes to compute it. Its first block has the atoms whose sums a force task
-/// gives; place t of block n is atom 64 n + t.
+/// A task: one tile of a step, with all that it takes to compute it. Its first block has the atoms whose sums a force
+/// task gives; place t of block n is atom 64 n + t.
 #[derive(PartialEq, Eq, Debug, Drop)]
 pub struct Task {
     name: TaskName,

@@ -1,3 +1,4 @@
+//! Tests against worked numbers, and each public call once.
 ghost use Rattle.std.specs.Prelude.{◌≡◌, IfSome, Some, length};
 
 use crate::{Block, Done, Kind, Label, Name, Task, TaskName, compute};

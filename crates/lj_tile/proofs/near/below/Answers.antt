@@ -1,4 +1,4 @@
-use Rattle.std.proofs.Common.{◌≡◌, ◌<◌, length, map, ltb, sym, ap, ◌∙◌, w16, arith}
+use Rattle.std.proofs.Common.{ltb, sym, ap, ◌∙◌, w16, arith}
 use Rattle.std.specs.Int.{bit_at}
 use Rattle.std.proofs.lemmas.Simd.{bitmask_splat}
 use Rattle.lj_tile.proofs.NearLemmas.{not_below}

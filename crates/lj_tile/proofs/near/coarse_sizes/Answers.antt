@@ -1,6 +1,5 @@
-use Rattle.std.proofs.Common.{◌≡◌, ◌≤◌, ◌<◌, ◌+◌, ◌*◌, ◌/◌, ◌^◌, ℕ, slice_index, unsigned_abs, refl, sym, ◌∙◌, arith}
+use Rattle.std.proofs.Common.{◌≡◌, ◌<◌, ◌/◌, ◌^◌, ℕ, slice_index, refl, arith}
 use Rattle.std.proofs.lemmas.Simd.{Each1-get_or}
-use Rattle.lj_ring.specs.Ring.{image}
 use Rattle.lj_tile.proofs.NearLemmas.{coarse_size, coarse_least, coarse_small}
 use Rattle.lj_tile.proofs.near.coarse_sizes.Goals as goal
 

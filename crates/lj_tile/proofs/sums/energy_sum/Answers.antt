@@ -1,4 +1,4 @@
-use Rattle.std.proofs.Common.{◌≡◌, ◌≤◌, ◌<◌, ◌*◌, ◌^◌, ◌∙◌, ap, unsigned_abs, length, arith}
+use Rattle.std.proofs.Common.{◌≡◌, ◌<◌, ◌*◌, ◌^◌, ◌∙◌, ap, length, arith}
 use Rattle.lj_ring.specs.Ring.{int_sum_below}
 use Rattle.lj_tile.proofs.SumLemmas.{energy_row, energy_all, sum_fits, sum_is, sum_size, int_sum_more}
 use Rattle.lj_tile.proofs.sums.energy_sum.Goals as goal

@@ -1,4 +1,4 @@
-use Rattle.std.proofs.Common.{◌≡◌, ◌≤◌, ◌<◌, ◌*◌, ◌^◌, ◌∙◌, ap, unsigned_abs, arith}
+use Rattle.std.proofs.Common.{◌≤◌, ◌^◌, ◌∙◌, ap, unsigned_abs, arith}
 use Rattle.lj_tile.specs.Pushes.{energy}
 use Rattle.lj_tile.specs.Tiles.{place_at}
 use Rattle.lj_table.specs.Entries.{energy_at}

@@ -1,4 +1,4 @@
-use Rattle.std.proofs.Common.{ℕ, ◌≡◌, ◌≤◌, ◌-◌, min, length}
+use Rattle.std.proofs.Common.{◌≡◌, ◌≤◌, ◌-◌, min, length}
 use Rattle.lj_tile.specs.Tasks.{force_below}
 use Rattle.lj_tile.proofs.SumLemmas.{IsFrom}
 use Rattle.lj_tile.proofs.sums.pushes_of.Given as goal

@@ -1,4 +1,4 @@
-use Rattle.std.proofs.Common.{◌≡◌, ◌<◌, ◌+◌, min, length, sym, ap, ◌∙◌, arith}
+use Rattle.std.proofs.Common.{◌≡◌, ◌<◌, ◌+◌, min, length, ap, ◌∙◌, arith}
 use Rattle.lj_tile.specs.Pushes.{plus}
 use Rattle.lj_tile.specs.Tasks.{force_below}
 use Rattle.lj_tile.proofs.SumLemmas.{force_below_more, push_counts}

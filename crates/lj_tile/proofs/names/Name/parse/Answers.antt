@@ -1,4 +1,4 @@
-use Rattle.std.proofs.Common.{arith, rules, sym, ◌∙◌}
+use Rattle.std.proofs.Common.{rules, sym, ◌∙◌}
 use Rattle.lj_tile.specs.Names.{name_of}
 use Rattle.lj_tile.proofs.NameLemmas.{IsOk-from_name}
 use Rattle.lj_tile.proofs.names.Name.parse.Goals as goal

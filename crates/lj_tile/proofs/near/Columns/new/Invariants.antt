@@ -1,5 +1,4 @@
 use Rattle.std.proofs.Common.{◌≡◌, ◌<◌, ◌/◌, ◌^◌, ℕ, length, slice_index}
-use Rattle.lj_ring.specs.declared.coordinates.Place.{Place}
 use Rattle.lj_tile.specs.Tiles.{place_at}
 use Rattle.lj_tile.proofs.near.Columns.new.Given as goal
 
