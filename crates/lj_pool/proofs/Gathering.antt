@@ -1,10 +1,11 @@
 -- The step of a running command over a pool: the next task is that of the first tile that is awaited and not posted; what is
 -- owed is awaited; and whatever result comes, what is owed stays the tasks of the tiles that are posted and not in.
-use Rattle.std.proofs.Common.{◌≡◌, ◌≢◌, ℕ, zero, suc, ◌+◌, ◌-◌, ◌*◌, ◌<◌, ◌≤◌, Bool, true, false, nat_le, List, [], ◌∷◌, ◌++◌, length, map, take, get_or, slice_index_or, slice_set, slice_get, count_by, cond, Option, Some, None, ◌⊎◌, inl, inr, refl, sym, ap, ◌∙◌, subst, arith, get_or-set_same, get_or-set_other}
-use Rattle.std.specs.Prelude.{IsSomeAnd}
+use Rattle.std.proofs.Common.{◌≡◌, ℕ, zero, suc, ◌+◌, ◌-◌, ◌<◌, ◌≤◌, Bool, true, false, nat_le, List, [], ◌∷◌, ◌++◌, length, map, take, get_or, slice_index_or, slice_set, count_by, cond, Option, Some, None, Result, Ok, Err, inl, inr, refl, sym, ap, ◌∙◌, subst, arith, get_or-set_same, get_or-set_other}
+use Rattle.std.specs.Prelude.{◌↔◌, IsSomeAnd, IsOk, OnOk, OnErr, is_ok}
+use Rattle.std.proofs.lemmas.List.Elements.{Contains-append_right}
 use Rattle.std.specs.List.{filter, find, range_with_len, Contains}
 use Rattle.std.specs.Option.{option_map, option_map_or, option_and_then}
-use Rattle.std.proofs.lemmas.Bool.{cases_Bool, cases_lt, cases_eq, true≢false, leb-true}
+use Rattle.std.proofs.lemmas.Bool.{cases_Bool, cases_lt, cases_eq, true≢false, false≢true, leb-true}
 use Rattle.std.proofs.lemmas.List.{get_or_past, map-append}
 use Rattle.std.proofs.lemmas.List.Sums.{sum_by-set, get_or-le-sum_by}
 use Rattle.std.proofs.lemmas.List.FromFn.{get_or-map-range_with_len, length-map-range_with_len}
@@ -12,12 +13,12 @@ use Rattle.std.proofs.lemmas.Option.{none-some, same_Some, slice_get-get_or}
 use Rattle.lj_tile.specs.declared.names.Label.{Label}
 use Rattle.lj_tile.specs.declared.names.Kind.{Kind}
 use Rattle.lj_tile.specs.Tasks.{Work}
-use Rattle.lj_step.specs.Live.{Live, OpenStep}
+use Rattle.lj_step.specs.Live.{Live}
 use Rattle.lj_step.specs.OpenSteps.{cover, awaits_in, awaits_at, tiles_in, tiles_of, task_of, task_in as task_in_step, task_at, number_of, with_tile, AwaitsIn, is_whole}
 use Rattle.lj_session.specs.States.{Held, held_in, next_tile, next_of, next_task, passed_to, with_posted, with_tile_in, AwaitsOf, whole_of}
-use Rattle.lj_session.specs.Owners.{Owning, step_in, label_in, task_in, changed_in, with_task_posted, with_task_in, IsWanted, is_ready}
+use Rattle.lj_session.specs.Owners.{Owning, label_in, task_in, changed_in, with_task_posted, with_task_in, IsWanted, is_ready}
 use Rattle.lj_session.proofs.Owning.{held_in-changed}
-use Rattle.lj_pool.specs.Seen.{Seen, TakesOff, IsStray, IsHandedOut}
+use Rattle.lj_pool.specs.Seen.{Seen, TakesOff, IsHandedOut, one_more}
 use Rattle.lj_pool.specs.Gathering.{times, is_awaited, posted_tiles, Gathers, awaited_of, awaited_by, awaited_in, unposted_of, unposted_by, unposted_in, left_in}
 use Rattle.lj_pool.proofs.Numbers.{times-filter, times-none, times-take, times-range, none_set, images-kept, images-taken, found_next, found_none}
 
@@ -317,3 +318,37 @@ module _ (owner : Owning) (owed : List Work) (t : Gathers owner owed) where
         (take t.held.passed tiles) awaited_there.0
         (λ h. stray.absent (subst (λ ws. Contains ws work) (sym (same ∙ t.owed_is)) (subst (Contains (map task (posted_tiles t.flags t.held.passed tiles))) (sym awaited_there.1) h)))
         ∙ sym t.owed_is ∙ sym same ∙ sym stray.owed)
+
+  -- a result that comes is taken in, or refused: then it was not owed
+  module _ {A B : Type 0} (work : Work) (old new : Seen) (same : old.owed ≡ owed) (handed : IsHandedOut work old new) (next : Owning) where
+    pub comes_gathers : (r : Result A B) → (IsOk r ↔ IsWanted owner work) → OnOk r (next ≡ with_task_in work owner) → OnErr r (next ≡ owner) → Gathers next new.owed
+    comes_gathers (Ok a) accepted taken refused =
+        subst (λ owner. Gathers owner new.owed) (sym taken) (gathers_taken work (accepted.0 refl) old new same handed)
+    comes_gathers (Err b) accepted taken refused =
+        subst (λ owner. Gathers owner new.owed) (sym refused) (by handed)
+      where
+        owes : TakesOff work old new → Contains old.owed work
+        owes off = subst (λ ws. Contains ws work) (sym off.was) (Contains-append_right off.front (work ∷ off.behind) work (0, omega arith, refl))
+
+        by : IsHandedOut work old new → Gathers owner new.owed
+        by (inl off) = absurd (false≢true (accepted.1 (owed_wanted work (subst (λ ws. Contains ws work) same (owes off)))))
+        by (inr stray) = subst (Gathers owner) (sym (stray.owed ∙ same)) t
+
+    pub comes_unposted : (r : Result A B) → (IsOk r ↔ IsWanted owner work) → OnOk r (next ≡ with_task_in work owner) → OnErr r (next ≡ owner) → unposted_in next ≡ unposted_in owner
+    comes_unposted (Ok a) accepted taken refused = ap unposted_in taken ∙ taken_unposted work (accepted.0 refl)
+    comes_unposted (Err b) accepted taken refused = ap unposted_in refused
+
+    pub comes_fewer : (r : Result A B) → (IsOk r ↔ IsWanted owner work) → OnOk r (next ≡ with_task_in work owner) → is_ok r ≡ true → awaited_in next + 1 ≡ awaited_in owner
+    comes_fewer (Ok a) accepted taken is = ap (λ owner. awaited_in owner + 1) taken ∙ taken_fewer work (accepted.0 refl)
+    comes_fewer (Err b) accepted taken is = absurd (false≢true is)
+
+    pub comes_stray : (r : Result A B) → (IsOk r ↔ IsWanted owner work) → is_ok r ≡ false → new.strays ≡ one_more old.strays
+    comes_stray (Ok a) accepted is = absurd (true≢false is)
+    comes_stray (Err b) accepted is = by handed
+      where
+        owes : TakesOff work old new → Contains old.owed work
+        owes off = subst (λ ws. Contains ws work) (sym off.was) (Contains-append_right off.front (work ∷ off.behind) work (0, omega arith, refl))
+
+        by : IsHandedOut work old new → new.strays ≡ one_more old.strays
+        by (inl off) = absurd (false≢true (accepted.1 (owed_wanted work (subst (λ ws. Contains ws work) same (owes off)))))
+        by (inr stray) = stray.strays

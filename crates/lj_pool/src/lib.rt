@@ -3,6 +3,7 @@
 
 mod inline;
 mod pool;
+mod running;
 
 pub use inline::InlinePool;
 pub use pool::{MAX_OWED, Pool, Refused};

@@ -1,0 +1,16 @@
+use Rattle.std.proofs.Common.{◌+◌, ◌-◌, ◌*◌, ◌<◌}
+use Rattle.lj_pool.specs.Gathering.{Gathers, SameRun, awaited_in, unposted_in}
+use Rattle.lj_pool.specs.Counting.{Rises, RisesStrays}
+use Rattle.lj_pool.proofs.running.gather.Given as goal
+
+abbrev pub invariant-loop-owner : goal.invariant-loop-owner
+invariant-loop-owner g l = record {
+  gathers : Gathers l.owner (g.P.Pool.seen l.pool).owed;
+  same : SameRun l.initial.owner l.owner;
+  counted : Rises (awaited_in l.initial.owner - awaited_in l.owner) (g.P.Pool.seen l.initial.pool) (g.P.Pool.seen l.pool);
+  in_a_row : RisesStrays l.strays (g.P.Pool.seen l.initial.pool) (g.P.Pool.seen l.pool);
+  few : l.strays < 4096;
+}
+
+abbrev pub decreases-loop-owner : goal.decreases-loop-owner
+decreases-loop-owner g l = 5000 * awaited_in l.owner + unposted_in l.owner + (4096 - l.strays)
