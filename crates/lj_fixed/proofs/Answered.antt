@@ -17,7 +17,8 @@ use Rattle.std.specs.Prelude.{nat_abs}
 use Rattle.lj_fixed.specs.declared.numbers.NumberFault.{NumberFault}
 use Rattle.lj_fixed.specs.declared.numbers.NumberFault.TheVariants.{BadNumber, OutOfRange}
 use Rattle.lj_fixed.specs.declared.words.Numeral.{Numeral}
-use Rattle.lj_fixed.specs.Decimal.{Decimal, is_exponent_letter, is_short_number, is_exponent, exponent_of, decimal_of, rounded, places_up, places_down, nano_size, nano_limit, nano_or_fault, nano_of, with_sign}
+use Rattle.lj_fixed.specs.declared.numbers.TheConstants.{MAX_NANO}
+use Rattle.lj_fixed.specs.Decimal.{Decimal, is_exponent_letter, is_short_number, is_exponent, exponent_of, decimal_of, rounded, places_up, places_down, nano_size, nano_or_fault, nano_of, with_sign}
 use Rattle.lj_fixed.specs.Reading.{Leads, within_limit, whole_of, behind_whole, fraction_at, fraction_of, tail_of, begins_exponent}
 use Rattle.lj_fixed.specs.StandsFor.{StandsFor, AreAlike}
 use Rattle.lj_fixed.proofs.Grammar.{read_digits, decimal_with, decimal_of-read, decimal_of-tail, after_first-stop}
@@ -158,7 +159,7 @@ beyond_decimal o None numeral s e alike read size h = cc
 beyond_decimal None (Some r) numeral s e alike read size h = absurd alike
 beyond_decimal (Some d) (Some r) numeral s e alike read size h =
     let same : r ≡ numeral = cc in
-    beyond_at (nat_le (nano_size d) nano_limit) d.negative (nano_size d) s e (size d (subst (λ (m : Numeral). StandsFor m d) same alike)) h
+    beyond_at (nat_le (nano_size d) MAX_NANO) d.negative (nano_size d) s e (size d (subst (λ (m : Numeral). StandsFor m d) same alike)) h
 
 within_decimal : (o : Option Decimal) (r : Option Numeral) (numeral : Numeral) (s : Option ℕ) (n : ℕ) → AreAlike r o → (◌≡◌ {A = Result Numeral NumberFault} (Ok numeral) (ok_or r BadNumber)) → ((d : Decimal) → StandsFor numeral d → s ≡ within_limit (nano_size d)) → (◌≡◌ {A = Result ℕ NumberFault} (Ok n) (ok_or s OutOfRange)) → Ok (with_sign numeral.negative n) ≡ nano_or_fault o
 within_decimal o None numeral s n alike read size h = cc
@@ -166,7 +167,7 @@ within_decimal None (Some r) numeral s n alike read size h = absurd alike
 within_decimal (Some d) (Some r) numeral s n alike read size h =
     let same : r ≡ numeral = cc in
     let stands : StandsFor numeral d = subst (λ (m : Numeral). StandsFor m d) same alike in
-    ap (λ (b : Bool). Ok (with_sign b n)) stands.negative ∙ within_at (nat_le (nano_size d) nano_limit) d.negative (nano_size d) n s (size d stands) h
+    ap (λ (b : Bool). Ok (with_sign b n)) stands.negative ∙ within_at (nat_le (nano_size d) MAX_NANO) d.negative (nano_size d) n s (size d stands) h
 
 -- the same of a word
 pub nano_of-bad : (word : List ℕ) (r : Option Numeral) (e : NumberFault) → AreAlike r (decimal_of word) → (◌≡◌ {A = Result Numeral NumberFault} (Err e) (ok_or r BadNumber)) → Err e ≡ nano_of word

@@ -8,7 +8,8 @@ use Rattle.std.proofs.lemmas.Str.{digit_value_digit}
 use Rattle.std.specs.Bool.{then_some}
 use Rattle.std.specs.Char.{is_ascii_digit, digit_value}
 use Rattle.std.specs.Str.Parse.{digits_value_after}
-use Rattle.lj_fixed.specs.Decimal.{rounded, nano_limit}
+use Rattle.lj_fixed.specs.declared.numbers.TheConstants.{MAX_NANO}
+use Rattle.lj_fixed.specs.Decimal.{rounded}
 use Rattle.lj_fixed.specs.Reading.{Leads, within_limit}
 use Rattle.lj_fixed.proofs.Rounding.{ten-pow_pos, ten-pow-suc, rounded_tenths, rounded_whole, rounded_cancel, le-rounded, rounded_small}
 
@@ -55,16 +56,16 @@ rounded_below number dropped n up low l =
     ∙ sym (ap (λ (d : ℕ). rounded number d) (ten-pow-suc low) ∙ rounded_tenths number (10 ^ low) (ten-pow_pos low))
 
 -- a size above the limit is no nano
-pub within_limit_above : (x : ℕ) → nano_limit < x → within_limit x ≡ None
-within_limit_above x h = ap (λ (b : Bool). cond b (Some x) None) (lt-leb x nano_limit h)
+pub within_limit_above : (x : ℕ) → MAX_NANO < x → within_limit x ≡ None
+within_limit_above x h = ap (λ (b : Bool). cond b (Some x) None) (lt-leb x MAX_NANO h)
 
 -- the test of the limit, as a program makes it
 then_some-cond : (b : Bool) (x : ℕ) → then_some b x ≡ cond b (Some x) None
 then_some-cond true x = refl
 then_some-cond false x = refl
 
-pub then_some_within : (x : ℕ) → then_some (nat_le x nano_limit) x ≡ within_limit x
-then_some_within x = then_some-cond (nat_le x nano_limit) x
+pub then_some_within : (x : ℕ) → then_some (nat_le x MAX_NANO) x ≡ within_limit x
+then_some_within x = then_some-cond (nat_le x MAX_NANO) x
 
 -- a number that was read whole, times a power of ten
 rounded_above_whole : (n down over : ℕ) → rounded (n * 10 ^ (down + over)) (10 ^ down) ≡ n * 10 ^ over
@@ -104,7 +105,7 @@ rounded_below_sub number dropped n up down l h =
     ap (λ (i : ℕ). rounded number (10 ^ i)) one ∙ sym (rounded_below number dropped n up low l) ∙ ap (λ (i : ℕ). rounded (n * 10 ^ up) (10 ^ i)) all
 
 -- any number at all, times twenty tens, is beyond the limit
-pub twenty_tens : (number power : ℕ) → 0 < number → 20 ≤ power → nano_limit < number * 10 ^ power
+pub twenty_tens : (number power : ℕ) → 0 < number → 20 ≤ power → MAX_NANO < number * 10 ^ power
 twenty_tens number power some many =
     let most : 10 ^ 20 ≤ 10 ^ power = pow-le-pow_right (omega arith) many in
     let one : 1 * 10 ^ power ≤ number * 10 ^ power = mul-le-mul_right (10 ^ power) some in

@@ -4,6 +4,8 @@ use Rattle.std.specs.List.{list_any, before_first, after_first}
 use Rattle.std.specs.Option.{option_map}
 use Rattle.std.specs.Str.{all_ascii_digits}
 use Rattle.std.specs.Str.Parse.{digits_value, starts_with_minus, without_leading_sign, signed_digits_value}
+use Rattle.lj_fixed.specs.declared.numbers.TheConstants.{MAX_NANO}
+use Rattle.lj_fixed.specs.declared.words.TheConstants.{MAX_EXPONENT_DIGITS, MAX_WORD_BYTES, NANO_PLACES}
 use Rattle.lj_fixed.specs.declared.numbers.NumberFault.{NumberFault}
 use Rattle.lj_fixed.specs.declared.numbers.NumberFault.TheVariants.{BadNumber, OutOfRange}
 
@@ -24,7 +26,7 @@ is_exponent_letter c = c == 101 || c == 69 || c == 100 || c == 68
 
 -- one to three digits
 abbrev pub is_short_number : List ℕ → Bool
-is_short_number digits = nat_lt 0 (length digits) && nat_le (length digits) 3 && all_ascii_digits digits
+is_short_number digits = nat_lt 0 (length digits) && nat_le (length digits) MAX_EXPONENT_DIGITS && all_ascii_digits digits
 
 -- an optional sign and one to three digits
 abbrev pub is_exponent : List ℕ → Bool
@@ -47,7 +49,7 @@ decimal_of word =
     let whole = before_first is_point mantissa in
     let fraction = after_first is_point mantissa in
     let digits = whole ++ fraction in
-    if nat_le (length word) 40 && nat_lt 0 (length digits) && all_ascii_digits digits
+    if nat_le (length word) MAX_WORD_BYTES && nat_lt 0 (length digits) && all_ascii_digits digits
     then option_map (λ exponent. record {
       negative = starts_with_minus word;
       digits = digits_value 10 digits;
@@ -78,20 +80,16 @@ rounded n d = (2 * n + d) / (2 * d)
 
 -- the size of a decimal's value in billionths
 abbrev pub nano_size : Decimal → ℕ
-nano_size d = rounded (numerator d * 10 ^ 9) (denominator d)
+nano_size d = rounded (numerator d * 10 ^ NANO_PLACES) (denominator d)
 
 -- n or -n
 abbrev pub with_sign : Bool → ℕ → ℤ
 with_sign negative n = if negative then neg_ℤ (pos n) else pos n
 
--- the largest size of a nano: a million file units
-abbrev pub nano_limit : ℕ
-nano_limit = 10 ^ 15
-
 -- the nano of a decimal, if there is one
 abbrev pub nano_or_fault : Option Decimal → Result ℤ NumberFault
 nano_or_fault None = Err BadNumber
-nano_or_fault (Some d) = if nat_le (nano_size d) nano_limit then Ok (with_sign d.negative (nano_size d)) else Err OutOfRange
+nano_or_fault (Some d) = if nat_le (nano_size d) MAX_NANO then Ok (with_sign d.negative (nano_size d)) else Err OutOfRange
 
 -- the nano that a word writes: `BadNumber` outside the grammar, and `OutOfRange` beyond the limit
 unfoldable pub nano_of : List ℕ → Result ℤ NumberFault

@@ -1,5 +1,6 @@
 pub mod Decimal
 pub mod Numbers
+pub mod FaultTexts
 pub mod Millionths
 pub mod Reading
 pub mod StandsFor

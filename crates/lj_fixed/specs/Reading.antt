@@ -2,7 +2,8 @@
 use Rattle.std.specs.Prelude.{◌≡◌, ℕ, ◌/◌, ◌^◌, ◌<◌, ◌≤◌, Bool, ◌||◌, ◌==◌, nat_le, List, [], length, drop, if◌then◌else◌, slice_index, Option, Some, None}
 use Rattle.std.specs.Char.{is_ascii_digit}
 use Rattle.std.specs.List.{prefix_len, take_while}
-use Rattle.lj_fixed.specs.Decimal.{is_point, is_exponent_letter, nano_limit}
+use Rattle.lj_fixed.specs.declared.numbers.TheConstants.{MAX_NANO}
+use Rattle.lj_fixed.specs.Decimal.{is_point, is_exponent_letter}
 
 -- n without its last digits, so many as were dropped; some are dropped only behind eighteen others
 pub record Leads (number dropped n : ℕ) : Type 0 where
@@ -11,7 +12,7 @@ pub record Leads (number dropped n : ℕ) : Type 0 where
 
 -- the size of a nano, if it is one
 abbrev pub within_limit : ℕ → Option ℕ
-within_limit size = if nat_le size nano_limit then Some size else None
+within_limit size = if nat_le size MAX_NANO then Some size else None
 
 -- the digits at the front of a text, and what stands behind them
 abbrev pub whole_of : List ℕ → List ℕ

@@ -1,12 +1,12 @@
-// The digits of a number, as far as they matter to a nano.
+//! The digits of a number, as far as they matter to a nano.
 ghost use Rattle.std.specs.Prelude.{◌≡◌, ℕ, ◌+◌, ◌*◌, ◌^◌, ◌<◌, ◌≤◌, MatchOption, length, take};
 ghost use Rattle.std.specs.Char.{is_ascii_digit};
 ghost use Rattle.std.specs.List.{prefix_len};
 ghost use Rattle.std.specs.Str.Parse.{digits_value_after};
-ghost use Rattle.lj_fixed.specs.Decimal.{rounded, nano_limit};
+ghost use Rattle.lj_fixed.specs.Decimal.{rounded};
 ghost use Rattle.lj_fixed.specs.Reading.{Leads, within_limit};
 
-use crate::numbers::NANO_LIMIT;
+use crate::numbers::MAX_NANO;
 
 // A number from here on has eighteen digits, and takes no more.
 const FULL: u64 = 100_000_000_000_000_000;
@@ -41,9 +41,9 @@ fn power_of_ten(power: u32) -> Option<u64>
     POWERS_OF_TEN.get(power as usize).copied()
 }
 
-// `number` times ten to a power, or nothing if that is above `NANO_LIMIT`.
+// `number` times ten to a power, or nothing if that is above `MAX_NANO`.
 fn raised(number: u64, power: u32) -> Option<u64>
-    ensures { MatchOption result (nano_limit < number * 10 ^ power)
+    ensures { MatchOption result (MAX_NANO < number * 10 ^ power)
         (λ value. value ≡ number * 10 ^ power) }
 {
     if number == 0 {
@@ -123,7 +123,7 @@ impl Significand {
         (significand, text.len())
     }
 
-    // The number times ten to the power `up` over ten to the power `down`, rounded, if it is at most `NANO_LIMIT`.
+    // The number times ten to the power `up` over ten to the power `down`, rounded, if it is at most `MAX_NANO`.
     pub fn scaled(self, up: u32, down: u32) -> Option<u64>
         requires { self.dropped + up < 2 ^ 32 }
         ensures { (n : ℕ) → Leads self.number self.dropped n
@@ -135,6 +135,6 @@ impl Significand {
         } else {
             lowered(self.number, down - up)
         };
-        (size <= NANO_LIMIT).then_some(size)
+        (size <= MAX_NANO).then_some(size)
     }
 }

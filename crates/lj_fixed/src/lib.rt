@@ -7,8 +7,8 @@ mod printing;
 mod whole;
 mod words;
 
-pub use numbers::{NANO_LIMIT, Nano, NumberFault};
-pub use printing::micro_text;
+pub use numbers::{MAX_NANO, Nano, NumberFault};
+pub use printing::{MAX_MICRO_BYTES, micro_text};
 pub use whole::parse_number;
 pub use words::parse_nano;
 

@@ -1,20 +1,35 @@
-// Numbers in billionths of a file unit.
+//! Numbers in billionths of a file unit.
 ghost use Rattle.std.specs.Prelude.{◌≡◌, ◌≤◌, ◌^◌, ◌↔◌, IsSome, IfSome, unsigned_abs};
-ghost use Rattle.lj_fixed.specs.Decimal.{nano_limit, with_sign};
+ghost use Rattle.lj_fixed.specs.Decimal.{with_sign};
 
+use std::fmt;
 use std::marker::Model;
 use thiserror::Error;
 
 /// The largest size of a [`Nano`]: a million file units.
-pub const NANO_LIMIT: u64 = 1_000_000_000_000_000;
+pub const MAX_NANO: u64 = 1_000_000_000_000_000;
 
 /// Why a decimal word is no [`Nano`].
 #[derive(Clone, Copy, Debug, PartialEq, Eq, Error)]
 pub enum NumberFault {
-    #[error("not a decimal number")]
+    /// It is outside the grammar of decimal words.
     BadNumber,
-    #[error("a number beyond a million file units")]
+    /// It is beyond a million file units.
     OutOfRange,
+}
+
+impl fmt::Display for NumberFault {
+    ghost use Rattle.std.specs.Prelude.{Some};
+    ghost use Rattle.lj_fixed.specs.FaultTexts.{fault_text};
+
+    ghost output = { λ fault. Some (fault_text fault) };
+
+    fn fmt<W: fmt::Write>(&self, f: &mut fmt::Formatter<W>) -> fmt::Result {
+        f.write_str(match self {
+            NumberFault::BadNumber => "not a decimal number",
+            NumberFault::OutOfRange => "a number beyond a million file units",
+        })
+    }
 }
 
 /// A number in billionths of a file unit, at most a million file units in size.
@@ -23,24 +38,24 @@ pub struct Nano(i64);
 
 impl Model for Nano {
     ghost use Rattle.std.specs.Prelude.{ℤ, ◌≤◌, unsigned_abs};
-    ghost use Rattle.lj_fixed.specs.Decimal.{nano_limit};
+    ghost use Rattle.lj_fixed.specs.declared.numbers.TheConstants.{MAX_NANO};
 
     ghost Value = { ℤ };
 
     ghost view = { λ n. n.0 };
 
-    ghost invariant = { λ n. unsigned_abs n.0 ≤ nano_limit };
+    ghost invariant = { λ n. unsigned_abs n.0 ≤ MAX_NANO };
 
     ghost inverse = { λ z. record { 0 = z } };
 }
 
 impl Nano {
-    /// The number of that many billionths, if its size is at most [`NANO_LIMIT`].
+    /// The number of that many billionths, if its size is at most [`MAX_NANO`].
     pub fn new(billionths: i64) -> Option<Nano>
-        ensures within { IsSome result ↔ (unsigned_abs billionths ≤ nano_limit) }
+        ensures within { IsSome result ↔ (unsigned_abs billionths ≤ MAX_NANO) }
         ensures value { IfSome result (λ nano. nano ≡ billionths) }
     {
-        if billionths.unsigned_abs() <= NANO_LIMIT {
+        if billionths.unsigned_abs() <= MAX_NANO {
             Some(Nano(billionths))
         } else {
             None
@@ -50,14 +65,14 @@ impl Nano {
     /// How many billionths it is.
     pub fn get(self) -> i64
         ensures value { result ≡ self }
-        ensures within { unsigned_abs result ≤ nano_limit }
+        ensures within { unsigned_abs result ≤ MAX_NANO }
     {
         self.0
     }
 
     // The number of a sign and a size.
     pub(crate) fn with_sign(negative: bool, size: u64) -> Nano
-        requires { size ≤ nano_limit }
+        requires { size ≤ MAX_NANO }
         ensures { result ≡ with_sign negative size }
     {
         let size = size as i64;

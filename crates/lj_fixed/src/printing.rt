@@ -1,4 +1,4 @@
-// Millionths of a file unit as text.
+//! Millionths of a file unit as text.
 ghost use Rattle.std.specs.Prelude.{◌≡◌, ◌+◌, ◌++◌, ◌<◌, ◌≤◌, ◌^◌};
 ghost use Rattle.arrayvec.specs.ArrayString.{array_string_len};
 ghost use Rattle.lj_fixed.specs.Millionths.{last_digits, millionths};
@@ -6,12 +6,15 @@ ghost use Rattle.lj_fixed.specs.Millionths.{last_digits, millionths};
 use arrayvec::ArrayString;
 use itoa::Buffer;
 
+/// The most bytes of a printed number of millionths.
+pub const MAX_MICRO_BYTES: usize = 32;
+
 const MILLION: u64 = 1_000_000;
 
 // Appends six digits, zeros in front included.
-fn push_six_digits(text: &mut ArrayString<32>, number: u64)
+fn push_six_digits(text: &mut ArrayString<MAX_MICRO_BYTES>, number: u64)
     requires number { number < 10 ^ 6 }
-    requires room { array_string_len text.old + 6 ≤ 32 }
+    requires room { array_string_len text.old + 6 ≤ MAX_MICRO_BYTES }
     ensures { text.new.bytes ≡ text.old.bytes ++ last_digits 6 number }
 {
     for power in [100_000, 10_000, 1_000, 100, 10, 1] {
@@ -21,7 +24,7 @@ fn push_six_digits(text: &mut ArrayString<32>, number: u64)
 
 /// So many millionths as a decimal: the whole part, a point and six decimals.
 #[tactic(auto, unfolding(crate::specs::Millionths::millionths))]
-pub fn micro_text(micros: u64) -> ArrayString<32>
+pub fn micro_text(micros: u64) -> ArrayString<MAX_MICRO_BYTES>
     ensures { result.bytes ≡ millionths micros }
 {
     let mut text = ArrayString::new();

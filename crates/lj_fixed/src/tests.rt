@@ -1,4 +1,5 @@
-use crate::{NANO_LIMIT, Nano, NumberFault, micro_text, parse_nano};
+//! Words and texts from outside.
+use crate::{MAX_NANO, Nano, NumberFault, micro_text, parse_nano};
 use NumberFault::{BadNumber, OutOfRange};
 use std::test::Fail;
 
@@ -72,7 +73,7 @@ fn reads_long_words(rt: HostRuntime) {
 
 #[test]
 fn makes_a_nano_up_to_the_limit(rt: HostRuntime) -> Result<(), Fail> {
-    let limit = NANO_LIMIT as i64;
+    let limit = MAX_NANO as i64;
     assert_eq!(rt; Nano::new(-limit).ok_or("lowest")?.get(), -limit);
     assert_eq!(rt; Nano::new(limit + 1), None);
     assert_eq!(rt; Nano::new(-limit - 1), None);

@@ -1,16 +1,20 @@
-// Decimal words, read from left to right.
+//! Decimal words, read from left to right.
 ghost use Rattle.std.specs.Prelude.{◌≡◌, ℕ, ◌++◌, ◌<◌, ◌≤◌, ◌^◌, ◌+◌, pos, negsuc, ◌≤ℤ◌, length, Some, None, if◌then◌else◌, IfSome};
 ghost use Rattle.std.specs.Str.Parse.{digits_value, digits_value_after, starts_with_minus, without_leading_sign, signed_digits_value};
+ghost use Rattle.lj_fixed.specs.declared.words.TheConstants.{MAX_WORD_BYTES};
 ghost use Rattle.lj_fixed.specs.Decimal.{Decimal, is_exponent_letter, is_short_number, is_exponent, exponent_of, decimal_of, nano_size, nano_of};
 ghost use Rattle.lj_fixed.specs.Reading.{Leads, within_limit, fraction_at, tail_at, whole_of, fraction_of, tail_of, begins_exponent};
 
 use crate::digits::Significand;
 use crate::numbers::{Nano, NumberFault};
 
-const MAX_WORD_LENGTH: usize = 40;
+/// The most bytes of a decimal word.
+const MAX_WORD_BYTES: usize = 40;
 
+/// The most digits of an exponent.
 const MAX_EXPONENT_DIGITS: usize = 3;
 
+/// The decimal places of a billionth.
 const NANO_PLACES: u32 = 9;
 
 // The digits of a mantissa, how many they are and how many of them stand behind the point; and what comes next.
@@ -29,8 +33,8 @@ struct Numeral {
     significand: Significand,
     behind: u32,
     exponent: i32,
-    ghost few_dropped: { significand.dropped ≤ 40 },
-    ghost few_behind: { behind ≤ 40 },
+    ghost few_dropped: { significand.dropped ≤ MAX_WORD_BYTES },
+    ghost few_behind: { behind ≤ MAX_WORD_BYTES },
     ghost lowest: { negsuc 998 ≤ℤ exponent },
     ghost highest: { exponent ≤ℤ pos 999 },
 }
@@ -69,14 +73,14 @@ fn read_fraction(whole: Significand, rest: &[u8]) -> (Significand, usize, &[u8])
 
 // The digits at the front of a text, with a point before, among or behind them or without one.
 fn read_mantissa(text: &[u8]) -> Mantissa<'_>
-    requires { length text.now ≤ 40 }
+    requires { length text.now ≤ MAX_WORD_BYTES }
     ensures number { Leads result.significand.number result.significand.dropped
         (digits_value 10 (whole_of text.now ++ fraction_of text.now)) }
     ensures count { result.count ≡ length (whole_of text.now ++ fraction_of text.now) }
     ensures behind { result.behind ≡ length (fraction_of text.now) }
     ensures tail { result.tail.now ≡ tail_of text.now }
-    ensures few_dropped { result.significand.dropped ≤ 40 }
-    ensures few_behind { result.behind ≤ 40 }
+    ensures few_dropped { result.significand.dropped ≤ MAX_WORD_BYTES }
+    ensures few_behind { result.behind ≤ MAX_WORD_BYTES }
 {
     let (whole, count) = Significand::zero().read_on(text);
     let (significand, behind, tail) = read_fraction(whole, &text[count..]);
@@ -142,7 +146,7 @@ impl Numeral {
     fn read(word: &[u8]) -> Option<Numeral>
         ensures { AreAlike result (decimal_of word.now) }
     {
-        if word.len() > MAX_WORD_LENGTH {
+        if word.len() > MAX_WORD_BYTES {
             return None;
         }
         let (negative, text) = split_sign(word);
