@@ -2,6 +2,7 @@
 use Rattle.std.specs.Prelude.{ℕ, ◌*◌, ◌^◌, ◌<◌, ◌≤◌, ◌≡◌}
 use Rattle.std.specs.Int.{div_ceil}
 use Rattle.lj_ring.specs.Scales.{Units}
+use Rattle.lj_ring.specs.declared.units.TheConstants.{MIN_SIGMA, MAX_STEP_FACTOR}
 use Rattle.lj_ring.specs.declared.units.Scale.TheInside.{Inside}
 
 -- the first squared distance out of reach: a quarter of 25 sigma², rounded up
@@ -12,18 +13,20 @@ reach_of square = div_ceil (25 * square) 4
 abbrev pub inverse_of : ℕ → ℕ
 inverse_of square = div_ceil (2 ^ 95) square
 
+-- the scale that is kept
 abbrev pub units_of_kept : Inside → Units
 units_of_kept a = record { edge = a.edge; sigma = a.sigma; strength = a.strength }
 
 -- the kept numbers are those of sigma
 pub record IsKept (a : Inside) : Type 0 where
-  pub sigma_least : 65536 ≤ a.sigma
+  pub sigma_least : MIN_SIGMA ≤ a.sigma
   pub sigma_most : 5 * a.sigma < 2 ^ 32
-  pub strength_most : a.strength ≤ 2 ^ 24
+  pub strength_most : a.strength ≤ MAX_STEP_FACTOR
   pub square_is : a.sigma_square ≡ a.sigma * a.sigma
   pub reach_is : a.reach ≡ reach_of (a.sigma * a.sigma)
   pub inverse_is : a.inverse ≡ inverse_of (a.sigma * a.sigma)
 
+-- what is kept of a scale
 abbrev pub kept_of : Units → Inside
 kept_of u = record {
   edge = u.edge;

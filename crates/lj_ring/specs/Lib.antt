@@ -2,3 +2,4 @@ pub mod Ring
 pub mod Places
 pub mod Scales
 pub mod Kept
+pub mod FaultTexts

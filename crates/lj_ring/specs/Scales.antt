@@ -1,5 +1,6 @@
 -- The scale of a simulation, and the bins of squared distance that its tables stand on.
 use Rattle.std.specs.Prelude.{ℕ, ◌*◌, ◌/◌, ◌^◌, ℤ, pos, ◌&&◌, Bool, int_le, nat_le, nat_lt, if◌then◌else◌, max, unsigned_abs, Result, Ok, Err}
+use Rattle.lj_ring.specs.declared.units.TheConstants.{MIN_EDGE, MAX_EDGE, MIN_SIGMA, MAX_STEP_FACTOR, BINS}
 use Rattle.lj_ring.specs.declared.units.ScaleFault.{ScaleFault}
 use Rattle.lj_ring.specs.declared.units.ScaleFault.TheVariants.{Edge, Sigma, StepFactor}
 use Rattle.lj_ring.specs.Places.{units_of}
@@ -12,15 +13,16 @@ pub record Units : Type 0 where
 
 -- an edge is 10^6 to 10^15 nano
 abbrev pub edge_fits : ℤ → Bool
-edge_fits edge = int_le (pos (10 ^ 6)) edge && int_le edge (pos (10 ^ 15))
+edge_fits edge = int_le (pos MIN_EDGE) edge && int_le edge (pos MAX_EDGE)
 
--- sigma is 65536 ring units at the least, and five of them are shorter than the box, so that the cutoff of 2.5 sigma lies below half the box
+-- sigma is 65536 ring units at the least, and five of them are shorter than the box, so that the cutoff of 2.5 sigma
+-- lies below half the box
 abbrev pub sigma_fits : ℤ → Bool
-sigma_fits sigma = int_le (pos 65536) sigma && nat_lt (5 * unsigned_abs sigma) (2 ^ 32)
+sigma_fits sigma = int_le (pos MIN_SIGMA) sigma && nat_lt (5 * unsigned_abs sigma) (2 ^ 32)
 
 -- a step factor is 1 to 2^24
 abbrev pub strength_fits : ℕ → Bool
-strength_fits strength = nat_le 1 strength && nat_le strength (2 ^ 24)
+strength_fits strength = nat_le 1 strength && nat_le strength MAX_STEP_FACTOR
 
 -- the scale of an edge and a sigma in nano and a step factor, or the first of the three that does not fit
 abbrev pub scale_of : ℤ → ℤ → ℕ → Result Units ScaleFault
@@ -40,7 +42,7 @@ bin u s = 128 * s / (u.sigma * u.sigma)
 
 -- a pair at this squared distance interacts: it lies within the cutoff of 2.5 sigma, bin 800
 abbrev pub interacts : Units → ℕ → Bool
-interacts u s = nat_lt (bin u s) 800
+interacts u s = nat_lt (bin u s) BINS
 
 -- the bin whose entry a pair in bin k uses: the closest pairs use that of bin 64
 abbrev pub entry : ℕ → ℕ

@@ -1,3 +1,4 @@
+//! Places on the ring, their images and squared distances, and the positions that they stand for.
 ghost use Rattle.std.specs.Prelude.{◌≡◌, ◌≤◌, ◌^◌, ◌*◌};
 ghost use Rattle.lj_ring.specs.Places as places;
 ghost use Rattle.lj_ring.specs.Ring as ring;

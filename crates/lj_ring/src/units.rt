@@ -1,10 +1,27 @@
+//! The edge of the box, and the scale of a simulation.
 ghost use Rattle.std.specs.Prelude.{ℕ, ◌≡◌, ◌≤◌, ◌<◌, ◌+◌, ◌*◌, ◌/◌, ◌^◌, ◌⊎◌, IsTrue, IsFalse, IfSome, MatchOption, SomeIff, unsigned_abs, nat_lt, true, false};
 ghost use Rattle.lj_ring.specs.Places.{units_of};
 ghost use Rattle.lj_ring.specs.Scales.{edge_fits, sigma_fits, strength_fits, scale_of, bin, interacts};
 
-use lj_fixed::Nano;
+use lj_fixed::{MAX_NANO, Nano};
+use std::fmt;
 use std::marker::Model;
 use thiserror::Error;
+
+/// The least edge of a box, in nano.
+const MIN_EDGE: u64 = 1_000_000;
+
+/// The greatest edge of a box, in nano.
+const MAX_EDGE: u64 = MAX_NANO;
+
+/// The least sigma, in ring units.
+const MIN_SIGMA: u32 = 65_536;
+
+/// The greatest step factor, in units of 2^-32.
+const MAX_STEP_FACTOR: u32 = 1 << 24;
+
+/// Bins of squared distance within reach: 128 to the square of sigma.
+pub const BINS: usize = 800;
 
 /// The edge of the cubic box, 10^6 to 10^15 nano (billionths of a file unit).
 #[derive(Clone, Copy, PartialEq, Eq, Debug)]
@@ -13,13 +30,14 @@ pub struct Edge {
 }
 
 impl Model for Edge {
-    ghost use Rattle.std.specs.Prelude.{ℕ, ◌≤◌, ◌^◌};
+    ghost use Rattle.std.specs.Prelude.{ℕ, ◌≤◌};
+    ghost use Rattle.lj_ring.specs.declared.units.TheConstants.{MIN_EDGE, MAX_EDGE};
 
     ghost Value = { ℕ };
 
     ghost view = { λ e. e.nano };
 
-    ghost invariant = { λ e. (10 ^ 6 ≤ e.nano) × (e.nano ≤ 10 ^ 15) };
+    ghost invariant = { λ e. (MIN_EDGE ≤ e.nano) × (e.nano ≤ MAX_EDGE) };
 
     ghost inverse = { λ n. record { nano = n } };
 }
@@ -29,8 +47,8 @@ impl Edge {
     #[inline]
     pub fn nano(&self) -> u64
         ensures value { result ≡ self.now }
-        ensures least { 10 ^ 6 ≤ result }
-        ensures most { result ≤ 10 ^ 15 }
+        ensures least { MIN_EDGE ≤ result }
+        ensures most { result ≤ MAX_EDGE }
     {
         self.nano
     }
@@ -39,11 +57,9 @@ impl Edge {
     fn new(length: Nano) -> Option<Edge>
         ensures { SomeIff result (IsTrue (edge_fits length)) (unsigned_abs length) }
     {
-        let nano = length.get();
-        if 1_000_000 <= nano && nano <= 1_000_000_000_000_000 {
-            Some(Edge {
-                nano: nano.unsigned_abs(),
-            })
+        let nano = u64::try_from(length.get()).ok()?;
+        if MIN_EDGE <= nano && nano <= MAX_EDGE {
+            Some(Edge { nano })
         } else {
             None
         }
@@ -53,12 +69,27 @@ impl Edge {
 /// Why a scale is refused: the first of the three that does not fit.
 #[derive(Clone, Copy, PartialEq, Eq, Debug, Error)]
 pub enum ScaleFault {
-    #[error("the edge is not 10^6 to 10^15 nano")]
+    /// The edge is not 10^6 to 10^15 nano.
     Edge,
-    #[error("sigma is below 2^-16 of the edge, or a fifth of it or more")]
+    /// Sigma is below 2^-16 of the edge, or a fifth of it or more.
     Sigma,
-    #[error("the step factor is not 1 to 2^24")]
+    /// The step factor is not 1 to 2^24.
     StepFactor,
+}
+
+impl fmt::Display for ScaleFault {
+    ghost use Rattle.std.specs.Prelude.{Some};
+    ghost use Rattle.lj_ring.specs.FaultTexts.{fault_text};
+
+    ghost output = { λ fault. Some (fault_text fault) };
+
+    fn fmt<W: fmt::Write>(&self, f: &mut fmt::Formatter<W>) -> fmt::Result {
+        f.write_str(match self {
+            ScaleFault::Edge => "the edge is not 10^6 to 10^15 nano",
+            ScaleFault::Sigma => "sigma is below 2^-16 of the edge, or a fifth of it or more",
+            ScaleFault::StepFactor => "the step factor is not 1 to 2^24",
+        })
+    }
 }
 
 /// The scale of a simulation: the edge of its box, sigma in ring units, and the step factor dt² ε / (m σ²) in units of
@@ -120,7 +151,7 @@ impl Scale {
     #[inline]
     pub fn strength(&self) -> u32
         ensures value { result ≡ self.now.strength }
-        ensures most { result ≤ 2 ^ 24 }
+        ensures most { result ≤ MAX_STEP_FACTOR }
     {
         self.strength
     }
@@ -134,7 +165,7 @@ impl Scale {
         self.reach
     }
 
-    /// The bin, below 800, of a pair at squared distance `s`, or None where it does not interact.
+    /// The bin, below [`BINS`], of a pair at squared distance `s`, or None where it does not interact.
     #[inline]
     pub fn bin_within_reach(&self, s: u64) -> Option<usize>
         ensures reach { MatchOption result (interacts self.now s ≡ false) (λ _. interacts self.now s ≡ true) }
@@ -149,9 +180,9 @@ impl Scale {
     }
 
     fn of(edge: Edge, sigma: u32, strength: u32) -> Scale
-        requires sigma_least { 65536 ≤ sigma }
+        requires sigma_least { MIN_SIGMA ≤ sigma }
         requires sigma_most { 5 * sigma < 2 ^ 32 }
-        requires strength_most { strength ≤ 2 ^ 24 }
+        requires strength_most { strength ≤ MAX_STEP_FACTOR }
         ensures { result ≡ record { edge = edge; sigma = sigma; strength = strength } }
     {
         let sigma_square = u64::from(sigma) * u64::from(sigma);
@@ -176,7 +207,7 @@ fn sigma_in_units(sigma: Nano, edge: &Edge) -> Option<u32>
         return None;
     }
     let units = (u128::from(sigma.unsigned_abs()) << 32) / u128::from(edge.nano());
-    if 65536 <= units && 5 * units < 1 << 32 {
+    if u128::from(MIN_SIGMA) <= units && 5 * units < 1 << 32 {
         Some(units as u32)
     } else {
         None
@@ -186,7 +217,7 @@ fn sigma_in_units(sigma: Nano, edge: &Edge) -> Option<u32>
 fn step_factor(h: u64) -> Option<u32>
     ensures { SomeIff result (IsTrue (strength_fits h)) h }
 {
-    if 1 <= h && h <= 1 << 24 {
+    if 1 <= h && h <= u64::from(MAX_STEP_FACTOR) {
         Some(h as u32)
     } else {
         None
@@ -196,9 +227,9 @@ fn step_factor(h: u64) -> Option<u32>
 /// `128 s / sigma_square`, by a guess that is mostly right, and else by the division.
 #[inline]
 fn quotient(s: u64, sigma_square: u64, inverse: u64) -> usize
-    requires { 128 * s < 800 * sigma_square }
+    requires { 128 * s < BINS * sigma_square }
     ensures value { result ≡ 128 * s / sigma_square }
-    ensures within { result < 800 }
+    ensures within { result < BINS }
 {
     let guess = (u128::from(s) * u128::from(inverse)) >> 88;
     let scaled = u128::from(s) * 128;
