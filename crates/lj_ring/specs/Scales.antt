@@ -1,6 +1,6 @@
 -- The scale of a simulation, and the bins of squared distance that its tables stand on.
 use Rattle.std.specs.Prelude.{ℕ, ◌*◌, ◌/◌, ◌^◌, ℤ, pos, ◌&&◌, Bool, int_le, nat_le, nat_lt, if◌then◌else◌, max, unsigned_abs, Result, Ok, Err}
-use Rattle.lj_ring.specs.declared.units.TheConstants.{MIN_EDGE, MAX_EDGE, MIN_SIGMA, MAX_STEP_FACTOR, BINS}
+use Rattle.lj_ring.specs.declared.units.TheConstants.{MIN_EDGE, MAX_EDGE, MIN_SIGMA, MAX_STEP_FACTOR, BINS, MIN_BIN}
 use Rattle.lj_ring.specs.declared.units.ScaleFault.{ScaleFault}
 use Rattle.lj_ring.specs.declared.units.ScaleFault.TheVariants.{Edge, Sigma, StepFactor}
 use Rattle.lj_ring.specs.Places.{units_of}
@@ -46,4 +46,4 @@ interacts u s = nat_lt (bin u s) BINS
 
 -- the bin whose entry a pair in bin k uses: the closest pairs use that of bin 64
 abbrev pub entry : ℕ → ℕ
-entry k = max k 64
+entry k = max k MIN_BIN

@@ -5,4 +5,4 @@ mod coordinates;
 mod units;
 
 pub use coordinates::{Place, dist2, image, micro_of, place_of};
-pub use units::{BINS, Edge, Scale, ScaleFault};
+pub use units::{BINS, Edge, MIN_BIN, Scale, ScaleFault};

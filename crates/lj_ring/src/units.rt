@@ -23,6 +23,9 @@ const MAX_STEP_FACTOR: u32 = 1 << 24;
 /// Bins of squared distance within reach: 128 to the square of sigma.
 pub const BINS: usize = 800;
 
+/// The bin whose entries closer pairs use too.
+pub const MIN_BIN: u16 = 64;
+
 /// The edge of the cubic box, 10^6 to 10^15 nano (billionths of a file unit).
 #[derive(Clone, Copy, PartialEq, Eq, Debug)]
 pub struct Edge {

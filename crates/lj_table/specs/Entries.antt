@@ -1,5 +1,6 @@
 -- The entries of the Lennard-Jones tables, at the centres of the bins of squared distance.
 use Rattle.std.specs.Prelude.{ℕ, ◌+◌, ◌*◌, ◌^◌, ◌<◌, ◌≡◌, ℤ, pos, ◌-ℤ◌, ◌*ℤ◌, int_div, unsigned_abs, List, length, slice_index_or, if◌then◌else◌}
+use Rattle.lj_ring.specs.declared.units.TheConstants.{BINS}
 use Rattle.lj_ring.specs.Scales.{Units, bin, interacts, entry}
 
 -- the centre of bin k, in 256ths of sigma²: n = 2k + 1, so that (σ/r)² there is 2^8 / n
@@ -18,17 +19,18 @@ energy_entry k = int_div (pos (2 ^ 50) *ℤ (pos (2 ^ 24) -ℤ pos (centre k ^ 3
 abbrev pub looked_up : (ℕ → ℤ) → Units → ℕ → ℤ
 looked_up entry_of u s = if interacts u s then entry_of (entry (bin u s)) else pos 0
 
--- the push and the energy of a pair at a squared distance
+-- the push of a pair at a squared distance
 abbrev pub push_at : Units → ℕ → ℤ
 push_at u s = looked_up push_entry u s
 
+-- the energy of a pair at a squared distance
 abbrev pub energy_at : Units → ℕ → ℤ
 energy_at u s = looked_up energy_entry u s
 
--- the cells of a table are the entries of the bins, each below 64 that of bin 64
+-- the cells of a table are the entries of the bins, each below bin 64 that of bin 64
 abbrev pub HasEntries : (ℕ → ℤ) → List ℤ → Type 0
-HasEntries entry_of cells = (k : ℕ) → k < 800 → slice_index_or cells k (pos 0) ≡ entry_of (entry k)
+HasEntries entry_of cells = (k : ℕ) → k < BINS → slice_index_or cells k (pos 0) ≡ entry_of (entry k)
 
 -- each cell of a table is below 2^37 in size
 abbrev pub AreSmall : List ℤ → Type 0
-AreSmall cells = (k : ℕ) → k < 800 → unsigned_abs (slice_index_or cells k (pos 0)) < 2 ^ 37
+AreSmall cells = (k : ℕ) → k < BINS → unsigned_abs (slice_index_or cells k (pos 0)) < 2 ^ 37

@@ -1,13 +1,11 @@
-ghost use Rattle.std.specs.Prelude.{◌≡◌, ◌≤◌, ◌<◌, ◌^◌, unsigned_abs};
-ghost use Rattle.lj_table.specs.Entries.{HasEntries, AreSmall, push_entry, energy_entry, push_at, energy_at};
+//! The tables of the entries of all bins within reach.
+ghost use Rattle.std.specs.Prelude.{◌≡◌, ℕ, ℤ, ◌≤◌, ◌<◌, ◌^◌, unsigned_abs};
+ghost use Rattle.lj_table.specs.Entries.{HasEntries, AreSmall, push_entry, energy_entry, push_at, energy_at, looked_up};
 
 use crate::entries;
-use lj_ring::Scale;
+use lj_ring::{BINS, MIN_BIN, Scale};
 
-/// Bins of squared distance within reach: 128 to the square of sigma.
-const BINS: usize = 800;
-
-/// The pushes and energies of the bins within reach. The cells below bin 64 repeat that of bin 64.
+/// The pushes and energies of the bins within reach. The cells below bin [`MIN_BIN`] repeat that of this bin.
 #[derive(Drop)]
 pub struct Table {
     pushes: [i64; BINS],
@@ -23,9 +21,9 @@ impl Table {
     pub fn new() -> Table {
         let mut pushes = [0; BINS];
         let mut energies = [0; BINS];
-        for k in 0..800u16 {
-            pushes[usize::from(k)] = entries::push_entry(k.max(64));
-            energies[usize::from(k)] = entries::energy_entry(k.max(64));
+        for k in 0..BINS as u16 {
+            pushes[usize::from(k)] = entries::push_entry(k.max(MIN_BIN));
+            energies[usize::from(k)] = entries::energy_entry(k.max(MIN_BIN));
         }
         Table { pushes, energies }
     }
@@ -36,10 +34,7 @@ impl Table {
         ensures value { result ≡ push_at scale.now s }
         ensures size { unsigned_abs result < 2 ^ 37 }
     {
-        match scale.bin_within_reach(s) {
-            Some(bin) => self.pushes[bin],
-            None => 0,
-        }
+        looked_up(&self.pushes, s, scale)
     }
 
     /// The energy of a pair at squared distance `s` (square ring units), in units of 2^-24 ε; 0 out of reach.
@@ -48,9 +43,19 @@ impl Table {
         ensures value { result ≡ energy_at scale.now s }
         ensures size { unsigned_abs result < 2 ^ 37 }
     {
-        match scale.bin_within_reach(s) {
-            Some(bin) => self.energies[bin],
-            None => 0,
-        }
+        looked_up(&self.energies, s, scale)
+    }
+}
+
+// The cell of a pair at squared distance `s`, and 0 out of reach.
+#[inline]
+fn looked_up(cells: &[i64; BINS], s: u64, scale: &Scale) -> i64
+    requires { AreSmall cells.now }
+    ensures value { (entry_of : ℕ → ℤ) → HasEntries entry_of cells.now → result ≡ looked_up entry_of scale.now s }
+    ensures size { unsigned_abs result < 2 ^ 37 }
+{
+    match scale.bin_within_reach(s) {
+        Some(bin) => cells[bin],
+        None => 0,
     }
 }
