@@ -1,9 +1,10 @@
 //! Quotas: how many sessions, atoms and saved simulations a user may have.
 #![tactic(auto)]
 
-ghost use Rattle.std.specs.Prelude.{◌≡◌, ◌↔◌, ◌≤◌, ◌<◌, ◌+◌, IsOk, IsErrOf, IsTrue};
+ghost use Rattle.std.specs.Prelude.{◌≡◌, ◌↔◌, ◌≤◌, ◌<◌, ◌+◌, IsOk, IsErrOf, IfErr};
 ghost use Rattle.lj_quota.specs.declared.Over.TheVariants.{Sessions, Atoms, Branches};
 
+use std::fmt;
 use thiserror::Error;
 
 /// The most that a user may have.
@@ -14,6 +15,15 @@ pub struct Quota {
     pub atoms: u64,
     /// Saved simulations of all sessions together.
     pub branches: u64,
+}
+
+impl Quota {
+    /// The quota of a user for whom no other is given.
+    pub const USUAL: Quota = Quota {
+        sessions: 8,
+        atoms: 16_384,
+        branches: 16,
+    };
 }
 
 /// What a user has.
@@ -29,12 +39,24 @@ pub struct Used {
 /// What there would be too many of.
 #[derive(Clone, Copy, PartialEq, Eq, Debug, Error)]
 pub enum Over {
-    #[error("the quota of sessions is used up")]
     Sessions,
-    #[error("the quota of atoms has no room for these")]
     Atoms,
-    #[error("the quota of saved simulations is used up")]
     Branches,
+}
+
+impl fmt::Display for Over {
+    ghost use Rattle.std.specs.Prelude.{Some};
+    ghost use Rattle.lj_quota.specs.OverTexts.{over_text};
+
+    ghost output = { λ over. Some (over_text over) };
+
+    fn fmt<W: fmt::Write>(&self, f: &mut fmt::Formatter<W>) -> fmt::Result {
+        f.write_str(match self {
+            Over::Sessions => "the quota of sessions is used up",
+            Over::Atoms => "the quota of atoms has no room for these",
+            Over::Branches => "the quota of saved simulations is used up",
+        })
+    }
 }
 
 /// Whether one session more, of this many atoms, stays within the quota. Where both are over it, the answer is
@@ -47,10 +69,7 @@ pub fn may_load(quota: &Quota, used: &Used, atoms: u64) -> Result<(), Over>
         ↔ ((used.now.sessions + 1 ≤ quota.now.sessions) × (quota.now.atoms < used.now.atoms + atoms)) }
 {
     may_session(quota, used)?;
-    if !is_within(used.atoms, atoms, quota.atoms) {
-        return Err(Over::Atoms);
-    }
-    Ok(())
+    may(used.atoms, atoms, quota.atoms, Over::Atoms)
 }
 
 /// Whether one session more stays within the quota.
@@ -58,10 +77,7 @@ pub fn may_session(quota: &Quota, used: &Used) -> Result<(), Over>
     ensures may { IsOk result ↔ (used.now.sessions + 1 ≤ quota.now.sessions) }
     ensures over { IsErrOf result Sessions ↔ (quota.now.sessions < used.now.sessions + 1) }
 {
-    if !is_within(used.sessions, 1, quota.sessions) {
-        return Err(Over::Sessions);
-    }
-    Ok(())
+    may(used.sessions, 1, quota.sessions, Over::Sessions)
 }
 
 /// Whether one saved simulation more stays within the quota.
@@ -69,19 +85,17 @@ pub fn may_branch(quota: &Quota, used: &Used) -> Result<(), Over>
     ensures may { IsOk result ↔ (used.now.branches + 1 ≤ quota.now.branches) }
     ensures over { IsErrOf result Branches ↔ (quota.now.branches < used.now.branches + 1) }
 {
-    if !is_within(used.branches, 1, quota.branches) {
-        return Err(Over::Branches);
-    }
-    Ok(())
+    may(used.branches, 1, quota.branches, Over::Branches)
 }
 
-/// Whether the used and the new together are at most the limit. Their sum may pass the numbers of a word.
-fn is_within(used: u64, new: u64, limit: u64) -> bool
-    ensures { IsTrue result ↔ (used + new ≤ limit) }
+// Whether the used and the new together are at most the limit. Their sum may pass the numbers of a word.
+fn may(used: u64, new: u64, limit: u64, over: Over) -> Result<(), Over>
+    ensures within { IsOk result ↔ (used + new ≤ limit) }
+    ensures over { IfErr result (λ error. error ≡ over) }
 {
     match used.checked_add(new) {
-        Some(total) => total <= limit,
-        None => false,
+        Some(total) if total <= limit => Ok(()),
+        _ => Err(over),
     }
 }
 
@@ -89,45 +103,26 @@ fn is_within(used: u64, new: u64, limit: u64) -> bool
 mod tests {
     use super::*;
 
-    const QUOTA: Quota = Quota {
-        sessions: 1,
-        atoms: 10,
-        branches: 2,
-    };
-
-    #[test]
-    fn a_load_fills_the_quota_and_no_more(rt: HostRuntime) {
-        let fresh = Used {
-            sessions: 0,
-            atoms: 0,
-            branches: 0,
-        };
-        assert_eq!(rt; may_load(&QUOTA, &fresh, 10), Ok(()));
-        assert_eq!(rt; may_load(&QUOTA, &fresh, 11), Err(Over::Atoms));
-        assert_eq!(rt; may_load(&QUOTA, &fresh, u64::MAX), Err(Over::Atoms));
-    }
-
-    #[test]
-    fn sessions_are_answered_before_atoms(rt: HostRuntime) {
-        let full = Used {
-            sessions: 1,
-            atoms: 10,
-            branches: 2,
-        };
-        assert_eq!(rt; may_load(&QUOTA, &full, 1), Err(Over::Sessions));
-        assert_eq!(rt; may_session(&QUOTA, &full), Err(Over::Sessions));
-        assert_eq!(rt; may_branch(&QUOTA, &full), Err(Over::Branches));
-    }
-
     #[test]
     fn the_last_place_is_free(rt: HostRuntime) {
+        let quota = Quota::USUAL;
         let nearly = Used {
-            sessions: 0,
-            atoms: 9,
-            branches: 1,
+            sessions: 7,
+            atoms: 16_383,
+            branches: 15,
         };
-        assert_eq!(rt; may_session(&QUOTA, &nearly), Ok(()));
-        assert_eq!(rt; may_load(&QUOTA, &nearly, 1), Ok(()));
-        assert_eq!(rt; may_branch(&QUOTA, &nearly), Ok(()));
+        assert_eq!(rt; may_session(&quota, &nearly), Ok(()));
+        assert_eq!(rt; may_load(&quota, &nearly, 1), Ok(()));
+        assert_eq!(rt; may_load(&quota, &nearly, 2), Err(Over::Atoms));
+        assert_eq!(rt; may_load(&quota, &nearly, u64::MAX), Err(Over::Atoms));
+        assert_eq!(rt; may_branch(&quota, &nearly), Ok(()));
+        let full = Used {
+            sessions: 8,
+            atoms: 16_384,
+            branches: 16,
+        };
+        assert_eq!(rt; may_load(&quota, &full, 1), Err(Over::Sessions));
+        assert_eq!(rt; may_session(&quota, &full), Err(Over::Sessions));
+        assert_eq!(rt; may_branch(&quota, &full), Err(Over::Branches));
     }
 }
