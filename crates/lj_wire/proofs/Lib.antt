@@ -1,3 +1,4 @@
+pub mod ReplyLines
 pub mod Splitting
 pub mod Marks
 mod Turns

@@ -5,6 +5,7 @@ pub mod Items
 pub mod Displacements
 pub mod Verbs
 pub mod Commands
+pub mod Lines
 pub mod Texts
 pub mod Told
 pub mod Runs

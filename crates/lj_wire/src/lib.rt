@@ -7,9 +7,8 @@ mod item;
 mod laws;
 mod limits;
 mod line;
-mod number;
-mod put;
-mod reader;
+mod reading;
+mod replies;
 mod verb;
 mod words;
 
@@ -21,3 +20,4 @@ pub use laws::{
 pub use limits::{LONG_LINE_BYTES, MAX_BODY_BYTES, MAX_ITEMS, MAX_LINE_BYTES};
 pub use line::split_line;
 pub use reading::{Reading, parse_command, read_line};
+pub use replies::{Line, MAX_REPLY_LINE_BYTES};

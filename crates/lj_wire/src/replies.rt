@@ -1,0 +1,305 @@
+//! The lines of replies.
+ghost use Rattle.std.specs.Prelude.{◌≡◌, ◌<◌, ◌≤◌, ◌+◌, ◌++◌, [], ◌∷◌, ℕ, List, length, map, slice_get, codes, Some, IfSome};
+ghost use Rattle.std.specs.List.{flat_map};
+ghost use Rattle.std.specs.Fmt.{decimal, signed_decimal};
+ghost use Rattle.std.specs.Option.{ForSome, option_map};
+ghost use Rattle.arrayvec.specs.ArrayVec.{array_vec_len};
+ghost use Rattle.lj_session.specs.Refusals.{refusal_text};
+ghost use Rattle.lj_session.specs.Users.{named};
+ghost use Rattle.lj_session.specs.States.{held_at, names, user_of, as_session};
+ghost use Rattle.lj_wire.specs.Texts.{ok, ended, text, reply_lines, line_of, session_line, branch_line, atom_lines};
+ghost use Rattle.lj_wire.specs.Lines.{blank_and};
+
+use arrayvec::ArrayVec;
+use itoa::{Buffer, Integer};
+use lj_branch::Branches;
+use lj_ring::{Place, micro_of};
+use lj_session::{Name, Refusal, Reply, UserState};
+use lj_xyz::FrameLine;
+
+/// The most bytes of a line of a reply, with its line feed.
+pub const MAX_REPLY_LINE_BYTES: usize = 256;
+
+/// A line of a reply, with its line feed.
+pub type Line = ArrayVec<u8, MAX_REPLY_LINE_BYTES>;
+
+/// Appends a text, for which there is room.
+fn push(line: &mut Line, text: &[u8])
+    requires { array_vec_len line.old + length text.now ≤ MAX_REPLY_LINE_BYTES }
+    ensures text { line.new.items ≡ line.old.items ++ text.now }
+    ensures count { array_vec_len line.new ≡ array_vec_len line.old + length text.now }
+{
+    let _fits = line.try_extend_from_slice(text);
+}
+
+/// Appends a blank and a word.
+fn push_word(line: &mut Line, word: &[u8])
+    requires { array_vec_len line.old + length word.now + 1 ≤ MAX_REPLY_LINE_BYTES }
+    ensures text { line.new.items ≡ line.old.items ++ blank_and word.now }
+    ensures count { array_vec_len line.new ≡ array_vec_len line.old + length word.now + 1 }
+{
+    line.push(b' ');
+    push(line, word);
+}
+
+/// Appends a blank and a number.
+fn push_number<I: Integer>(line: &mut Line, number: I)
+    requires { array_vec_len line.old + I.MAX_STR_LEN + 1 ≤ MAX_REPLY_LINE_BYTES }
+    ensures text { line.new.items ≡ line.old.items ++ blank_and (I.text number) }
+    ensures count { array_vec_len line.new ≤ array_vec_len line.old + I.MAX_STR_LEN + 1 }
+{
+    push_word(line, Buffer::new().format(number).as_bytes());
+}
+
+/// A line that begins with `OK` and the word of a command.
+fn begin(verb: &[u8]) -> Line
+    requires { length verb.now ≤ 16 }
+    ensures text { result.items ≡ codes "OK" ++ blank_and verb.now }
+    ensures count { array_vec_len result ≤ 19 }
+{
+    let mut line = Line::new();
+    push(&mut line, b"OK");
+    push_word(&mut line, verb);
+    line
+}
+
+/// The line with its line feed.
+fn end(mut line: Line) -> Line
+    requires { array_vec_len line < MAX_REPLY_LINE_BYTES }
+    ensures { result.items ≡ ended line.items }
+{
+    line.push(b'\n');
+    line
+}
+
+/// `OK LOAD s 0 atoms`.
+fn loaded_line(name: &Name, atoms: usize) -> Line
+    ensures { result.items ≡ ok (codes "LOAD" ∷ name.now ∷ codes "0" ∷ decimal atoms ∷ []) }
+{
+    let mut line = begin(b"LOAD");
+    push_word(&mut line, name.as_bytes());
+    push_word(&mut line, b"0");
+    push_number(&mut line, atoms);
+    end(line)
+}
+
+/// `OK`, the word of a command, a session and a step number.
+fn step_line(verb: &[u8], name: &Name, step: i64) -> Line
+    requires { length verb.now ≤ 16 }
+    ensures { result.items ≡ ok (verb.now ∷ name.now ∷ signed_decimal step ∷ []) }
+{
+    let mut line = begin(verb);
+    push_word(&mut line, name.as_bytes());
+    push_number(&mut line, step);
+    end(line)
+}
+
+/// `OK`, the word of a command, and a session.
+fn name_line(verb: &[u8], name: &Name) -> Line
+    requires { length verb.now ≤ 16 }
+    ensures { result.items ≡ ok (verb.now ∷ name.now ∷ []) }
+{
+    let mut line = begin(verb);
+    push_word(&mut line, name.as_bytes());
+    end(line)
+}
+
+/// `OK`, the word of a command, a session, and a name under which something is saved in it.
+fn names_line(verb: &[u8], name: &Name, branch: &Name) -> Line
+    requires { length verb.now ≤ 16 }
+    ensures { result.items ≡ ok (verb.now ∷ name.now ∷ branch.now ∷ []) }
+{
+    let mut line = begin(verb);
+    push_word(&mut line, name.as_bytes());
+    push_word(&mut line, branch.as_bytes());
+    end(line)
+}
+
+/// The same with a step number.
+fn names_and_step_line(verb: &[u8], name: &Name, branch: &Name, step: i64) -> Line
+    requires { length verb.now ≤ 16 }
+    ensures { result.items ≡ ok (verb.now ∷ name.now ∷ branch.now ∷ signed_decimal step ∷ []) }
+{
+    let mut line = begin(verb);
+    push_word(&mut line, name.as_bytes());
+    push_word(&mut line, branch.as_bytes());
+    push_number(&mut line, step);
+    end(line)
+}
+
+/// `OK TUG s i step`.
+fn tugged_line(name: &Name, atom: u64, step: i64) -> Line
+    ensures { result.items ≡ ok (codes "TUG" ∷ name.now ∷ decimal atom ∷ signed_decimal step ∷ []) }
+{
+    let mut line = begin(b"TUG");
+    push_word(&mut line, name.as_bytes());
+    push_number(&mut line, atom);
+    push_number(&mut line, step);
+    end(line)
+}
+
+/// `OK SHOW s step i x y z`.
+fn shown_line(name: &Name, step: i64, atom: u64, place: &Place) -> Line
+    ensures { result.items ≡ ok (codes "SHOW" ∷ name.now ∷ signed_decimal step ∷ decimal atom
+        ∷ decimal place.now.x ∷ decimal place.now.y ∷ decimal place.now.z ∷ []) }
+{
+    let mut line = begin(b"SHOW");
+    push_word(&mut line, name.as_bytes());
+    push_number(&mut line, step);
+    push_number(&mut line, atom);
+    push_number(&mut line, place.x);
+    push_number(&mut line, place.y);
+    push_number(&mut line, place.z);
+    end(line)
+}
+
+/// `OK MEASURE s step atoms`, the head of the reply to MEASURE.
+fn begin_measured(name: &Name, step: i64, atoms: usize) -> Line
+    ensures text { result.items ≡ codes "OK" ++ blank_and (codes "MEASURE") ++ blank_and name.now
+        ++ blank_and (signed_decimal step) ++ blank_and (decimal atoms) }
+    ensures count { array_vec_len result ≤ 78 }
+{
+    let mut line = begin(b"MEASURE");
+    push_word(&mut line, name.as_bytes());
+    push_number(&mut line, step);
+    push_number(&mut line, atoms);
+    line
+}
+
+/// Appends the three sums of a momentum.
+fn push_momentum(line: &mut Line, momentum: &[i64; 3])
+    requires { array_vec_len line.old + 63 ≤ MAX_REPLY_LINE_BYTES }
+    ensures text { line.new.items ≡ line.old.items ++ flat_map blank_and (map signed_decimal momentum.now) }
+    ensures count { array_vec_len line.new ≤ array_vec_len line.old + 63 }
+{
+    let [x, y, z] = momentum;
+    push_number(line, *x);
+    push_number(line, *y);
+    push_number(line, *z);
+}
+
+/// A line of a frame with its line feed.
+fn frame_line(text: &FrameLine) -> Line
+    ensures { result.items ≡ ended text.now.items }
+{
+    let mut line = Line::new();
+    push(&mut line, text.as_slice());
+    end(line)
+}
+
+/// The line of a refusal.
+fn refused_line(refusal: Refusal) -> Line
+    ensures { result.items ≡ ended (refusal_text refusal) }
+{
+    let mut line = Line::new();
+    let number = refusal.number();
+    push(&mut line, b"ERR ");
+    push(&mut line, Buffer::new().format(number / 10).as_bytes());
+    push(&mut line, Buffer::new().format(number % 10).as_bytes());
+    push_word(&mut line, refusal.name().as_bytes());
+    if let Refusal::Xyz(fault) = refusal {
+        push(&mut line, b" line");
+        push_number(&mut line, fault.line);
+    }
+    end(line)
+}
+
+/// `OK MEASURE s step atoms mx my mz kinetic potential`.
+fn measured_line(
+    name: &Name,
+    step: i64,
+    atoms: usize,
+    momentum: &[i64; 3],
+    kinetic: u128,
+    potential: i128,
+) -> Line
+    ensures { result.items ≡ ok (codes "MEASURE" ∷ name.now ∷ signed_decimal step ∷ decimal atoms
+        ∷ (map signed_decimal momentum.now ++ decimal kinetic ∷ signed_decimal potential ∷ [])) }
+{
+    let mut line = begin_measured(name, step, atoms);
+    push_momentum(&mut line, momentum);
+    push_number(&mut line, kinetic);
+    push_number(&mut line, potential);
+    end(line)
+}
+
+/// `OK LIST k`.
+fn listed_line(sessions: usize) -> Line
+    ensures { result.items ≡ ok (codes "LIST" ∷ decimal sessions ∷ []) }
+{
+    let mut line = begin(b"LIST");
+    push_number(&mut line, sessions);
+    end(line)
+}
+
+/// `OK LIST s k`.
+fn listed_branches_line(name: &Name, branches: usize) -> Line
+    ensures { result.items ≡ ok (codes "LIST" ∷ name.now ∷ decimal branches ∷ []) }
+{
+    let mut line = begin(b"LIST");
+    push_word(&mut line, name.as_bytes());
+    push_number(&mut line, branches);
+    end(line)
+}
+
+/// `OK DUMP s step lines`.
+fn dumped_line(name: &Name, step: i64, lines: usize) -> Line
+    ensures { result.items ≡ ok (codes "DUMP" ∷ name.now ∷ signed_decimal step ∷ decimal lines ∷ []) }
+{
+    let mut line = begin(b"DUMP");
+    push_word(&mut line, name.as_bytes());
+    push_number(&mut line, step);
+    push_number(&mut line, lines);
+    end(line)
+}
+
+/// The line of a session in a list: its name, its step, how many atoms it has and how much is saved in it.
+fn entry_line(name: &Name, step: i64, atoms: usize, branches: usize) -> Line
+    ensures { result.items ≡ line_of (name.now ∷ signed_decimal step ∷ decimal atoms ∷ decimal branches ∷ []) }
+{
+    let mut line = Line::new();
+    push(&mut line, name.as_bytes());
+    push_number(&mut line, step);
+    push_number(&mut line, atoms);
+    push_number(&mut line, branches);
+    end(line)
+}
+
+/// The line of the i-th session in a list.
+fn session_line(state: &UserState, i: usize) -> Line
+    requires { i < length state.now.sessions }
+    ensures { Some result.items ≡ option_map session_line (slice_get (user_of state.now).sessions i) }
+{
+    let sim = state.sim_at(i);
+    let branches = state.branches_at(i);
+    entry_line(state.name_at(i), sim.step(), sim.count(), branches.len())
+}
+
+/// The line of the i-th that is saved in a session.
+fn branch_line(branches: &Branches, i: usize) -> Line
+    requires { i < length branches.now }
+    ensures { Some result.items ≡ option_map branch_line (slice_get branches.now i) }
+{
+    let mut line = Line::new();
+    push(&mut line, branches.name_at(i).as_bytes());
+    push_number(&mut line, branches.step_at(i));
+    end(line)
+}
+
+/// The line of an atom in a frame of the i-th session.
+fn atom_line(state: &UserState, i: usize, atom: usize) -> Line
+    requires session { i < length state.now.sessions }
+    requires atom { ForSome (held_at state.now i) (λ held. atom < length held.live.sim.cur) }
+    ensures { IfSome (held_at state.now i) (λ held.
+        Some result.items ≡ slice_get (atom_lines held.live.units.edge held.symbols held.live.sim.cur) atom) }
+{
+    let edge = state.edge_at(i);
+    let Place { x, y, z } = state.sim_at(i).place(atom);
+    let symbol = state.symbol_at(i, atom);
+    frame_line(&lj_xyz::atom_line(
+        symbol,
+        micro_of(x, &edge),
+        micro_of(y, &edge),
+        micro_of(z, &edge),
+    ))
+}
