@@ -21,9 +21,9 @@ use Rattle.lj_session.specs.declared.refusal.Refusal.TheVariants.{Exists, QuotaS
 use Rattle.lj_session.specs.declared.reply.Reply.TheVariants as reply
 use Rattle.lj_branch.specs.Named.{named}
 use Rattle.lj_session.specs.Users.{Session, User, with_session, atoms_of, atoms_used, sessions_used}
-use Rattle.lj_session.specs.Loads.{admitted, body_held, scale_of_load, scale_refusal, reading_mode, place_in, opened, session_of_frames}
+use Rattle.lj_session.specs.Loads.{admitted, body_held, scale_of_load, scale_refusal, reading_mode, place_in, session_from, session_of_frames}
 use Rattle.lj_session.specs.Answers.{performed}
-use Rattle.lj_session.specs.Openings.{frames_of, last_of, session_of}
+use Rattle.lj_session.specs.Openings.{frames_of, last_of, held_from}
 use Rattle.lj_session.specs.Faults.{xyz_refusal}
 use Rattle.lj_session.specs.States.{Held, Owned, Performs, as_session, user_of, held_in, with_held}
 use Rattle.lj_session.proofs.Entries.{by_test, named-seen}
@@ -32,7 +32,7 @@ use Rattle.lj_session.proofs.Others.{others-put}
 use Rattle.lj_session.proofs.Performing.{told, refused, starved}
 
 -- the session of the frames that were read
-pub session-frames : (units : Units) (first : List Row) (second : Option (List Row)) → session_of_frames units (frames_of first second) ≡ opened units first (last_of first second)
+pub session-frames : (units : Units) (first : List Row) (second : Option (List Row)) → session_of_frames units (frames_of first second) ≡ session_from units first (last_of first second)
 session-frames units first None = refl
 session-frames units first (Some second) = refl
 
@@ -89,7 +89,7 @@ module _ (user : User) (load : Load) where
 
       module _ (first : List Row) (second : Option (List Row)) (read : reading (reading_mode load.mode) (lines_of body) ≡ Ok (frames_of first second)) where
         abbrev session_loaded : Session
-        session_loaded = opened units first (last_of first second)
+        session_loaded = session_from units first (last_of first second)
 
         pub load-over : nat_le (atoms_used user + atoms_of session_loaded) user.quota.atoms ≡ false → performed user (commands.Load load) false ≡ Err QuotaAtoms
         unfolding performed
@@ -101,7 +101,7 @@ module _ (user : User) (load : Load) where
         load-done room = rw (scale, held, read, session-frames units first second, room) refl
 
 -- how many atoms a session has that opens with frames of one count
-pub atoms-opened : (units : Units) (first last : List Row) → length last ≡ length first → atoms_of (opened units first last) ≡ length first
+pub atoms-opened : (units : Units) (first last : List Row) → length last ≡ length first → atoms_of (session_from units first last) ≡ length first
 atoms-opened units first last same = length-map last (place_in units.edge) ∙ same
 
 module _ (old new : Owned) (load : Load) (units : Units) (scale : admitted (user_of old) load ≡ Ok units) where
@@ -131,14 +131,14 @@ module _ (old new : Owned) (load : Load) (units : Units) (scale : admitted (user
           (ap (λ n. nat_le (atoms_used (user_of old) + n) old.quota.atoms) (atoms-opened units first (last_of first second) same) ∙ over))
 
       pub loaded : (atoms : ℕ) → atoms ≡ length first → nat_le (atoms_used (user_of old) + length first) old.quota.atoms ≡ true
-          → new ≡ with_held load.name (session_of units first (last_of first second)) old
+          → new ≡ with_held load.name (held_from units first (last_of first second)) old
           → Performs old (commands.Load load) (Ok (reply.Loaded load.name atoms)) new
       loaded atoms its room is = told old new _ _
           (load-done (user_of old) load units scale body held first second read
           (ap (λ n. nat_le (atoms_used (user_of old) + n) old.quota.atoms) count ∙ room)
-          ∙ (ap (λ n. Ok (reply.Loaded load.name n, with_session load.name (opened units first (last_of first second)) (user_of old))) (count ∙ sym its)
-          ∙ ap (λ (u : User). Ok (reply.Loaded load.name atoms, u)) (sym (ap user_of is ∙ user_of-put old load.name (session_of units first (last_of first second))))))
-          (λ other apart. ap (λ (o : Owned). held_in o other) is ∙ others-put old load.name (session_of units first (last_of first second)) other apart)
+          ∙ (ap (λ n. Ok (reply.Loaded load.name n, with_session load.name (session_from units first (last_of first second)) (user_of old))) (count ∙ sym its)
+          ∙ ap (λ (u : User). Ok (reply.Loaded load.name atoms, u)) (sym (ap user_of is ∙ user_of-put old load.name (held_from units first (last_of first second))))))
+          (λ other apart. ap (λ (o : Owned). held_in o other) is ∙ others-put old load.name (held_from units first (last_of first second)) other apart)
         where
-          count : atoms_of (opened units first (last_of first second)) ≡ length first
+          count : atoms_of (session_from units first (last_of first second)) ≡ length first
           count = atoms-opened units first (last_of first second) same

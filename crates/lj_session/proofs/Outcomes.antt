@@ -6,7 +6,6 @@ use Rattle.std.proofs.lemmas.Int.{to_z-of_z, fits_signed_from_abs}
 use Rattle.std.proofs.lemmas.Bool.{lt-ltb, le-ltb}
 use Rattle.lj_ring.specs.declared.coordinates.Place.{Place}
 use Rattle.lj_step.specs.Motion.{Simulation, reversed, tugged}
-use Rattle.lj_step.specs.OpenSteps.{closed}
 use Rattle.lj_session.specs.declared.command.Command.{Command}
 use Rattle.lj_session.specs.declared.command.Command.TheVariants.{Advance, Reverse, Branch, Restore, Forget, Tug, Unload}
 use Rattle.lj_session.specs.declared.refusal.Refusal.{Refusal}
@@ -16,19 +15,11 @@ use Rattle.lj_branch.specs.Named.{named, put, taken_out}
 use Rattle.lj_session.specs.Users.{Session, User, with_session, branches_used}
 use Rattle.lj_session.specs.Answers.{session_named, performed, answer, settled, can_advance}
 use Rattle.lj_session.specs.Turns.{turned}
-use Rattle.lj_session.specs.States.{Held, Owned, Performs, as_session, user_of, held_in, with_held, turned_on}
+use Rattle.lj_session.specs.States.{Held, Owned, Performs, moved_to, keeping, as_session, user_of, held_in, with_held, turned_on}
 use Rattle.lj_session.proofs.Entries.{put-same}
 use Rattle.lj_session.proofs.Holding.{named-held, user_of-put, user_of-taken}
 use Rattle.lj_session.proofs.Others.{others-put, others-taken}
 use Rattle.lj_session.proofs.Performing as performing
-
--- a session with another simulation, and no step open
-abbrev pub moved_to : Held → Simulation → Held
-moved_to held sim = record held { live = closed held.live sim }
-
--- with other saved simulations
-abbrev pub keeping : Held → List (List ℕ × Simulation) → Held
-keeping held saved = record held { saved = saved }
 
 module _ (old : Owned) (name : List ℕ) (held : Held) (found : held_in old name ≡ Some held) where
   session : named name (user_of old).sessions ≡ Some (as_session held)

@@ -19,7 +19,7 @@ use Rattle.lj_session.specs.Users.{User}
 use Rattle.lj_session.specs.Answers.{session_named, performed, answer, can_advance}
 use Rattle.lj_session.specs.Turns.{turns, turned, rest_of}
 use Rattle.lj_session.specs.States.{Held, Owned, IsHere, IsWhole, CanTurn, as_session, user_of, held_in, changed, with_step, with_posted, passed_to, next_tile, with_tile_in, turned_on, is_whole_in, whole_of}
-use Rattle.lj_session.specs.Running.{CanTake, CanRun, Runs, IfGoes, command_of, session_of, sums_of}
+use Rattle.lj_session.specs.Running.{CanTake, CanRun, Runs, IfGoes, command_of, session_name, sums_of}
 use Rattle.lj_session.specs.Owners.{label_in}
 use Rattle.lj_session.proofs.Entries as entries
 use Rattle.lj_session.proofs.Holding.{named-held, named-absent}
@@ -47,10 +47,10 @@ able_moved (Advance name n) old new e able = record {
 able_moved (Measure name) old new e able = tt
 
 -- a step of its kind opened, it runs
-pub runs_begun : (owned : Owned) (running : Running) → CanRun owned running → Runs (changed (session_of running) (with_step (sums_of running)) owned) running
+pub runs_begun : (owned : Owned) (running : Running) → CanRun owned running → Runs (changed (session_name running) (with_step (sums_of running)) owned) running
 runs_begun owned running can = record {
   held = with_step (sums_of running) can.held;
-  there = held_in-changed owned (session_of running) (with_step (sums_of running)) can.held can.there;
+  there = held_in-changed owned (session_name running) (with_step (sums_of running)) can.held can.there;
   able = able_moved running can.held (with_step (sums_of running) can.held) refl can.able;
   is_open = refl;
 }
@@ -58,10 +58,10 @@ runs_begun owned running can = record {
 -- it runs on through a change that leaves simulation and kind
 runs_on : (owned : Owned) (running : Running) (change : Held → Held) → ((held : Held) → (change held).live.sim ≡ held.live.sim)
     → ((held : Held) → kind_of (change held).live.part ≡ kind_of held.live.part)
-    → Runs owned running → Runs (changed (session_of running) change owned) running
+    → Runs owned running → Runs (changed (session_name running) change owned) running
 runs_on owned running change sim kind r = record {
   held = change r.held;
-  there = held_in-changed owned (session_of running) change r.held r.there;
+  there = held_in-changed owned (session_name running) change r.held r.there;
   able = able_moved running r.held (change r.held) (sim r.held) r.able;
   is_open = kind r.held ∙ r.is_open;
 }
@@ -70,7 +70,7 @@ passed_live : (o : Option ℕ) (held : Held) → (passed_to o held).live ≡ hel
 passed_live None held = refl
 passed_live (Some i) held = refl
 
-pub runs_posted : (owned : Owned) (running : Running) → Runs owned running → Runs (changed (session_of running) with_posted owned) running
+pub runs_posted : (owned : Owned) (running : Running) → Runs owned running → Runs (changed (session_name running) with_posted owned) running
 runs_posted owned running r =
     runs_on owned running with_posted (λ held. ap (λ l. l.sim) (passed_live (next_tile held) held))
     (λ held. ap (λ l. kind_of l.part) (passed_live (next_tile held) held)) r
@@ -79,7 +79,7 @@ kind_kept : (k : ℕ) (part : Option OpenStep) → kind_of (with_tile k part) �
 kind_kept k None = refl
 kind_kept k (Some p) = refl
 
-pub runs_taken : (owned : Owned) (running : Running) (k : ℕ) → Runs owned running → Runs (changed (session_of running) (with_tile_in k) owned) running
+pub runs_taken : (owned : Owned) (running : Running) (k : ℕ) → Runs owned running → Runs (changed (session_name running) (with_tile_in k) owned) running
 runs_taken owned running k r = runs_on owned running (with_tile_in k) (λ held. refl) (λ held. kind_kept k held.live.part) r
 
 -- what takes a turn can run
@@ -118,8 +118,8 @@ takes owned (Advance name n) r = advance-turns-near (user_of owned) name n (as_s
 takes owned (Measure name) r = measure-turns-one (user_of owned) name (as_session r.held) (named-held owned name r.held r.there)
 
 -- the whole step of what runs
-pub step_whole : (owned : Owned) (running : Running) → Runs owned running → is_whole_in owned (session_of running) ≡ true
-    → (held : Held) → held_in owned (session_of running) ≡ Some held → IsWhole (sums_of running) held
+pub step_whole : (owned : Owned) (running : Running) → Runs owned running → is_whole_in owned (session_name running) ≡ true
+    → (held : Held) → held_in owned (session_name running) ≡ Some held → IsWhole (sums_of running) held
 step_whole owned running r whole held e =
     let same : r.held ≡ held = same_Some r.held held (sym r.there ∙ e) in
     subst (λ (h : Held). IsWhole (sums_of running) h) same (record { kind = r.is_open; whole = ap whole_of (sym r.there) ∙ whole })
@@ -172,13 +172,13 @@ goes_weaker (outcomes.Replied reply) P Q f h = tt
 goes_weaker (outcomes.Goes left) P Q f h = f left h
 
 -- the session of what runs is that of its command
-pub session_of-named : (running : Running) → Some (session_of running) ≡ session_named (command_of running)
-session_of-named (Advance name n) = refl
-session_of-named (Measure name) = refl
+pub session_name-named : (running : Running) → Some (session_name running) ≡ session_named (command_of running)
+session_name-named (Advance name n) = refl
+session_name-named (Measure name) = refl
 
 -- the label of the tasks of what runs
 pub label_of : (state : Owned) (user : ℕ) (running : Running)
-    → label_in (record { state = state; number = user; rest = Some (command_of running) }) ≡ Some (record { user = user; session = session_of running })
+    → label_in (record { state = state; number = user; rest = Some (command_of running) }) ≡ Some (record { user = user; session = session_name running })
 label_of state user (Advance name n) = refl
 label_of state user (Measure name) = refl
 
@@ -189,7 +189,7 @@ pub runs_accepted : (state new : Owned) (user : ℕ) (running : Option Running) 
 runs_accepted state new user None label k result e r taken same = tt
 runs_accepted state new user (Some running) label k (Err stray) e r taken same = subst (λ (owned : Owned). Runs owned running) (sym same) r
 runs_accepted state new user (Some running) label k (Ok done) e r taken same =
-    let named : label.session ≡ session_of running = ap (λ (l : Label). l.session) (same_Some label (record { user = user; session = session_of running }) (e ∙ label_of state user running)) in
+    let named : label.session ≡ session_name running = ap (λ (l : Label). l.session) (same_Some label (record { user = user; session = session_name running }) (e ∙ label_of state user running)) in
     subst (λ (owned : Owned). Runs owned running) (sym (taken ∙ ap (λ name. changed name (with_tile_in k) state) named)) (runs_taken state running k r)
 
 -- what is left is answered as the whole is

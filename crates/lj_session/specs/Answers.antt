@@ -1,5 +1,5 @@
 -- What a command answers: a reply, and the user after it. A refusal leaves the user as it was.
-use Rattle.std.specs.Prelude.{ℕ, ◌^◌, Bool, ◌&&◌, not, nat_le, nat_lt, is_some, pos, ◌+ℤ◌, ◌*ℤ◌, unsigned_abs, List, [], ◌∷◌, Option, Some, None, Result, Ok, Err}
+use Rattle.std.specs.Prelude.{◌≡◌, ℕ, ◌^◌, Bool, ◌&&◌, not, nat_le, nat_lt, is_some, pos, ◌+ℤ◌, ◌*ℤ◌, unsigned_abs, List, [], ◌∷◌, Option, Some, None, Result, Ok, Err}
 use Rattle.lj_step.specs.Motion.{Simulation, place_at, steps, reversed, tugged, momentum, kinetic, potential}
 use Rattle.lj_xyz.specs.Atoms.{◌>>=◌}
 use Rattle.lj_session.specs.declared.command.Command.{Command}
@@ -74,7 +74,8 @@ performed user (Branch name branch) mark = do
   new ← unless (not (is_some (named branch session.saved))) BranchExists
   room ← unless (nat_lt (branches_used user) user.quota.branches) QuotaBranches
   held ← unless (not mark) Memory
-  Ok (reply.Branched name branch session.sim.step, with_session name (record session { saved = put branch session.sim session.saved }) user)
+  let next = record session { saved = put branch session.sim session.saved } in
+      Ok (reply.Branched name branch session.sim.step, with_session name next user)
 performed user (Restore name branch) mark = do
   session ← session_of user name
   sim ← saved_in session branch
@@ -92,7 +93,8 @@ performed user (Measure name) mark = do
   session ← session_of user name
   let sim = session.sim in
       let m = momentum sim in
-      Ok (reply.Measured name sim.step (atoms_of session) (m.x ∷ m.y ∷ m.z ∷ []) (kinetic sim) (potential session.units sim.cur), user)
+      let energy = potential session.units sim.cur in
+      Ok (reply.Measured name sim.step (atoms_of session) (m.x ∷ m.y ∷ m.z ∷ []) (kinetic sim) energy, user)
 performed user (Show name atom) mark = do
   session ← session_of user name
   there ← has_atom session atom
@@ -117,3 +119,11 @@ settled user (Err refusal) = (reply.Refused refusal, user)
 -- What a command answers. The mark says that memory was refused to it; it matters to LOAD and BRANCH alone.
 abbrev pub answer : User → Command → Bool → Reply × User
 answer user command mark = settled user (performed user command mark)
+
+-- A command is answered so, whether memory is refused to it or not.
+abbrev pub IsAnswer : User → Command → Reply → User → Type 0
+IsAnswer user command reply next = (mark : Bool) → (reply, next) ≡ answer user command mark
+
+-- What is left of a command is answered in the end as the whole is.
+abbrev pub AnswersAlike : User → Command → User → Command → Type 0
+AnswersAlike next left user command = (mark : Bool) → answer next left mark ≡ answer user command mark

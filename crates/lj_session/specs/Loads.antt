@@ -70,8 +70,8 @@ abbrev pub places_in : ℕ → List Row → List Place
 places_in edge rows = map (place_in edge) rows
 
 -- the session that opens with two frames, under the symbols of the first
-abbrev pub opened : Units → List Row → List Row → Session
-opened units first second = record {
+abbrev pub session_from : Units → List Row → List Row → Session
+session_from units first second = record {
   symbols = map (λ row. row.symbol) first;
   units = units;
   sim = opening (places_in units.edge first) (places_in units.edge second);
@@ -80,9 +80,9 @@ opened units first second = record {
 
 -- of one frame both are made, so that the atoms are at rest
 abbrev pub session_of_frames : Units → List (List Row) → Session
-session_of_frames units [] = opened units [] []
-session_of_frames units (only ∷ []) = opened units only only
-session_of_frames units (first ∷ second ∷ others) = opened units first second
+session_of_frames units [] = session_from units [] []
+session_of_frames units (only ∷ []) = session_from units only only
+session_of_frames units (first ∷ second ∷ others) = session_from units first second
 
 -- frames, or the fault of a body as a refusal
 abbrev pub frames_or_refusal : Result (List (List Row)) XyzFault → Result (List (List Row)) Refusal

@@ -17,8 +17,8 @@ last_of first None = first
 last_of first (Some second) = second
 
 -- the session that opens with two frames, under the symbols of the first
-abbrev pub session_of : Units → List Row → List Row → Held
-session_of units first last = record {
+abbrev pub held_from : Units → List Row → List Row → Held
+held_from units first last = record {
   symbols = map (λ row. row.symbol) first;
   live = record { units = units; sim = opening (places_in units.edge first) (places_in units.edge last); part = None };
   passed = 0;

@@ -12,7 +12,7 @@ use Rattle.lj_session.specs.declared.refusal.Refusal.TheVariants.{Memory}
 use Rattle.lj_session.specs.declared.reply.Reply.{Reply}
 use Rattle.lj_session.specs.declared.reply.Reply.TheVariants.{Refused}
 use Rattle.lj_session.specs.Users.{User}
-use Rattle.lj_session.specs.Answers.{answer}
+use Rattle.lj_session.specs.Answers.{answer, IsAnswer}
 use Rattle.lj_session.specs.Turns.{turns, rest_of}
 use Rattle.lj_session.specs.States.{Held, Owned, user_of, changed, with_step, next_task, with_posted, IsAwaited, with_tile_in, is_whole_in, turned_on}
 
@@ -70,8 +70,8 @@ abbrev pub with_task_posted : Owning → Owning
 with_task_posted owner = with_state (changed_in (step_in owner) with_posted owner.state) owner
 
 -- the task is that of a tile that the step of the running command awaits
-abbrev pub IsWanted : Owning → Work → Type 0
-IsWanted owner work = IsSomeAnd (label_in owner) (λ label. IsAwaited owner.state label work)
+abbrev pub IsAwaitedIn : Owning → Work → Type 0
+IsAwaitedIn owner work = IsSomeAnd (label_in owner) (λ label. IsAwaited owner.state label work)
 
 -- that tile is in
 abbrev pub with_task_in : Work → Owning → Owning
@@ -81,11 +81,16 @@ with_task_in work owner = with_state (changed_in (step_in owner) (with_tile_in (
 abbrev pub is_ready : Owning → Bool
 is_ready owner = option_map_or (λ step. is_whole_in owner.state step.0) (step_in owner) false
 
+-- the step of a command turned in its session
+abbrev pub turned_in : Command → Owned → Owned
+turned_in command owned = changed_in (step_of command) turned_on owned
+
 -- the step turned, and the next one of what is left of the command open
 abbrev pub turned_from : Command → Owning → Owning
-turned_from command owner = begun (rest_of command) (with_state (changed_in (step_of command) turned_on owner.state) owner)
+turned_from command owner = begun (rest_of command) (with_state (turned_in command owner.state) owner)
 
--- A command is answered at once: reply and next user are the definition's under some mark, which is set only for the memory refusal.
+-- A command is answered at once: reply and next user are the definition's under some mark, which is set only for the
+-- memory refusal.
 pub record IsAnswered (user : User) (command : Command) (reply : Reply) (next : User) : Type 0 where
   pub mark : Bool
   pub answers : (reply, next) ≡ answer user command mark
@@ -93,4 +98,4 @@ pub record IsAnswered (user : User) (command : Command) (reply : Reply) (next : 
 
 -- What is left of the running command is answered: reply and next user are the definition's.
 abbrev pub IsReplied : Owning → Reply → User → Type 0
-IsReplied owner reply next = IfSome owner.rest (λ command. (mark : Bool) → (reply, next) ≡ answer (user_in owner) command mark)
+IsReplied owner reply next = IfSome owner.rest (λ command. IsAnswer (user_in owner) command reply next)

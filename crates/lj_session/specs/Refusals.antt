@@ -16,61 +16,61 @@ xyz_number kind.Range = 34
 xyz_number kind.Pair = 35
 
 -- its name
-abbrev pub xyz_title : XyzKind → List ℕ
-xyz_title kind.Count = codes "XYZ_COUNT"
-xyz_title kind.Short = codes "XYZ_SHORT"
-xyz_title kind.Symbol = codes "XYZ_SYMBOL"
-xyz_title kind.Number = codes "XYZ_NUMBER"
-xyz_title kind.Range = codes "XYZ_RANGE"
-xyz_title kind.Pair = codes "XYZ_PAIR"
+abbrev pub xyz_name : XyzKind → List ℕ
+xyz_name kind.Count = codes "XYZ_COUNT"
+xyz_name kind.Short = codes "XYZ_SHORT"
+xyz_name kind.Symbol = codes "XYZ_SYMBOL"
+xyz_name kind.Number = codes "XYZ_NUMBER"
+xyz_name kind.Range = codes "XYZ_RANGE"
+xyz_name kind.Pair = codes "XYZ_PAIR"
 
 -- the number of a refusal
-abbrev pub number_of : Refusal → ℕ
-number_of Denied = 1
-number_of Line = 2
-number_of Syntax = 3
-number_of Body = 4
-number_of Long = 5
-number_of Command = 6
-number_of Enough = 8
-number_of NoSession = 10
-number_of Exists = 11
-number_of NoBranch = 12
-number_of BranchExists = 13
-number_of NoAtom = 14
-number_of QuotaSessions = 20
-number_of QuotaAtoms = 21
-number_of QuotaBranches = 22
-number_of StepRange = 23
-number_of (Xyz fault) = xyz_number fault.kind
-number_of Edge = 36
-number_of Sigma = 37
-number_of StepFactor = 38
-number_of Memory = 90
+abbrev pub refusal_number : Refusal → ℕ
+refusal_number Denied = 1
+refusal_number Line = 2
+refusal_number Syntax = 3
+refusal_number Body = 4
+refusal_number Long = 5
+refusal_number Command = 6
+refusal_number Enough = 8
+refusal_number NoSession = 10
+refusal_number Exists = 11
+refusal_number NoBranch = 12
+refusal_number BranchExists = 13
+refusal_number NoAtom = 14
+refusal_number QuotaSessions = 20
+refusal_number QuotaAtoms = 21
+refusal_number QuotaBranches = 22
+refusal_number StepRange = 23
+refusal_number (Xyz fault) = xyz_number fault.kind
+refusal_number Edge = 36
+refusal_number Sigma = 37
+refusal_number StepFactor = 38
+refusal_number Memory = 90
 
 -- its name
-abbrev pub title_of : Refusal → List ℕ
-title_of Denied = codes "DENIED"
-title_of Line = codes "LINE"
-title_of Syntax = codes "SYNTAX"
-title_of Body = codes "BODY"
-title_of Long = codes "LONG"
-title_of Command = codes "COMMAND"
-title_of Enough = codes "ENOUGH"
-title_of NoSession = codes "NO_SESSION"
-title_of Exists = codes "EXISTS"
-title_of NoBranch = codes "NO_BRANCH"
-title_of BranchExists = codes "BRANCH_EXISTS"
-title_of NoAtom = codes "NO_ATOM"
-title_of QuotaSessions = codes "QUOTA_SESSIONS"
-title_of QuotaAtoms = codes "QUOTA_ATOMS"
-title_of QuotaBranches = codes "QUOTA_BRANCHES"
-title_of StepRange = codes "STEP_RANGE"
-title_of (Xyz fault) = xyz_title fault.kind
-title_of Edge = codes "EDGE"
-title_of Sigma = codes "SIGMA"
-title_of StepFactor = codes "STEP_FACTOR"
-title_of Memory = codes "MEMORY"
+abbrev pub refusal_name : Refusal → List ℕ
+refusal_name Denied = codes "DENIED"
+refusal_name Line = codes "LINE"
+refusal_name Syntax = codes "SYNTAX"
+refusal_name Body = codes "BODY"
+refusal_name Long = codes "LONG"
+refusal_name Command = codes "COMMAND"
+refusal_name Enough = codes "ENOUGH"
+refusal_name NoSession = codes "NO_SESSION"
+refusal_name Exists = codes "EXISTS"
+refusal_name NoBranch = codes "NO_BRANCH"
+refusal_name BranchExists = codes "BRANCH_EXISTS"
+refusal_name NoAtom = codes "NO_ATOM"
+refusal_name QuotaSessions = codes "QUOTA_SESSIONS"
+refusal_name QuotaAtoms = codes "QUOTA_ATOMS"
+refusal_name QuotaBranches = codes "QUOTA_BRANCHES"
+refusal_name StepRange = codes "STEP_RANGE"
+refusal_name (Xyz fault) = xyz_name fault.kind
+refusal_name Edge = codes "EDGE"
+refusal_name Sigma = codes "SIGMA"
+refusal_name StepFactor = codes "STEP_FACTOR"
+refusal_name Memory = codes "MEMORY"
 
 -- the fault of a body stands at a line of it
 abbrev pub place_text : Refusal → List ℕ
@@ -80,5 +80,6 @@ place_text _ = []
 -- `ERR`, the number in two digits, the name, and the line of a body if there is one
 abbrev pub refusal_text : Refusal → List ℕ
 refusal_text refusal =
-    let number = number_of refusal in
-    codes "ERR " ++ (decimal (number / 10) ++ (decimal (number % 10) ++ (codes " " ++ (title_of refusal ++ place_text refusal))))
+    let number = refusal_number refusal in
+    let named = refusal_name refusal ++ place_text refusal in
+    codes "ERR " ++ (decimal (number / 10) ++ (decimal (number % 10) ++ (codes " " ++ named)))

@@ -19,9 +19,9 @@ command_of (Advance name n) = command.Advance name n
 command_of (Measure name) = command.Measure name
 
 -- the session whose steps it takes
-abbrev pub session_of : Running → List ℕ
-session_of (Advance name n) = name
-session_of (Measure name) = name
+abbrev pub session_name : Running → List ℕ
+session_name (Advance name n) = name
+session_name (Measure name) = name
 
 -- what a step of it sums
 abbrev pub sums_of : Running → Kind
@@ -42,13 +42,13 @@ CanTake (Measure name) held = Unit {0}
 -- A command can run: its session is there, and can take the steps that are left.
 pub record CanRun (owned : Owned) (running : Running) : Type 0 where
   pub held : Held
-  pub there : held_in owned (session_of running) ≡ Some held
+  pub there : held_in owned (session_name running) ≡ Some held
   pub able : CanTake running held
 
 -- A command runs: it can, and a step of its kind is open.
 pub record Runs (owned : Owned) (running : Running) : Type 0 where
   pub held : Held
-  pub there : held_in owned (session_of running) ≡ Some held
+  pub there : held_in owned (session_name running) ≡ Some held
   pub able : CanTake running held
   pub is_open : kind_of held.live.part ≡ Some (sums_of running)
 

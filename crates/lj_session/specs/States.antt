@@ -1,5 +1,5 @@
 -- What the code holds of a user, open steps and all, and the user of the definition that it stands for.
-use Rattle.std.specs.Prelude.{◌≡◌, ◌≢◌, OnOk, ℕ, ◌+◌, ◌-◌, ◌≤◌, ◌^◌, unsigned_abs, Bool, true, false, List, [], ◌∷◌, length, map, slice_get, Option, Some, None, Result, Ok, Err}
+use Rattle.std.specs.Prelude.{◌≡◌, ◌≢◌, OnOk, IsSomeAnd, ℕ, ◌+◌, ◌-◌, ◌≤◌, ◌^◌, unsigned_abs, Bool, true, false, List, [], ◌∷◌, length, map, slice_get, Option, Some, None, Result, Ok, Err}
 use Rattle.std.specs.Option.{ForSome, option_map, option_and_then}
 use Rattle.std.specs.List.{find, range_with_len}
 use Rattle.lj_tile.specs.declared.names.Label.{Label}
@@ -110,12 +110,8 @@ abbrev pub with_posted : Held → Held
 with_posted held = passed_to (next_tile held) held
 
 -- the task is that of a tile that the open step of its session awaits
-abbrev pub AwaitsOf : Label → Work → Option Held → Type 0
-AwaitsOf label work None = ⊥
-AwaitsOf label work (Some held) = Awaits held.live label work
-
 abbrev pub IsAwaited : Owned → Label → Work → Type 0
-IsAwaited owned label work = AwaitsOf label work (held_in owned label.session)
+IsAwaited owned label work = IsSomeAnd (held_in owned label.session) (λ held. Awaits held.live label work)
 
 -- one tile more is in
 abbrev pub with_tile_in : ℕ → Held → Held
@@ -129,9 +125,17 @@ whole_of (Some held) = is_whole held.live.part
 abbrev pub is_whole_in : Owned → List ℕ → Bool
 is_whole_in owned name = whole_of (held_in owned name)
 
+-- with another simulation, and no step open
+abbrev pub moved_to : Held → Simulation → Held
+moved_to held sim = record held { live = closed held.live sim }
+
+-- with other saved simulations
+abbrev pub keeping : Held → List (List ℕ × Simulation) → Held
+keeping held saved = record held { saved = saved }
+
 -- one step on, and no step open
 abbrev pub turned_on : Held → Held
-turned_on held = record held { live = closed held.live (stepped held.live.units held.live.sim) }
+turned_on held = moved_to held (stepped held.live.units held.live.sim)
 
 -- a whole step of a kind is open
 pub record IsWhole (expected : Kind) (held : Held) : Type 0 where
@@ -153,9 +157,14 @@ abbrev pub outcome : Result Reply Refusal → User → Result (Reply × User) Re
 outcome (Ok reply) next = Ok (reply, next)
 outcome (Err refusal) next = Err refusal
 
+-- A command only reads, and comes to this, whether memory is refused to it or not.
+abbrev pub Reads : Owned → Command → Result Reply Refusal → Type 0
+Reads owned command result = (mark : Bool) → performed (user_of owned) command mark ≡ outcome result (user_of owned)
+
 -- Every session but that of the command is held as it was, its open step and what is posted of it included.
 abbrev pub OthersKept : Command → Owned → Owned → Type 0
-OthersKept command old new = (other : List ℕ) → session_named command ≢ Some other → held_in new other ≡ held_in old other
+OthersKept command old new =
+    (other : List ℕ) → session_named command ≢ Some other → held_in new other ≡ held_in old other
 
 -- A command is performed as the definition says, under some mark, which is set only for the memory refusal.
 pub record Performs (old : Owned) (command : Command) (result : Result Reply Refusal) (new : Owned) : Type 0 where

@@ -4,7 +4,7 @@ ghost use Rattle.lj_xyz.specs.Atoms.{is_count};
 ghost use Rattle.lj_xyz.specs.Lines.{lines_of};
 ghost use Rattle.lj_xyz.specs.Reading.{reading, Gives};
 ghost use Rattle.lj_session.specs.Loads.{reading_mode, places_in};
-ghost use Rattle.lj_session.specs.Openings.{frames_of, last_of, session_of};
+ghost use Rattle.lj_session.specs.Openings.{frames_of, last_of, held_from};
 
 use crate::body::Body;
 use crate::command::Mode;
@@ -27,7 +27,8 @@ pub(crate) struct Opening {
 impl Opening {
     /// Reads what a mode asks for.
     pub fn read(alloc: Global, mode: Mode, body: &Body) -> Result<Opening, XyzError>
-        ensures { Gives (λ opening. frames_of opening.first opening.second) result (reading (reading_mode mode) (lines_of body.now)) }
+        ensures { let frames = reading (reading_mode mode) (lines_of body.now) in
+            Gives (λ opening. frames_of opening.first opening.second) result frames }
     {
         match mode {
             Mode::Rest => Ok(Opening {
@@ -54,7 +55,7 @@ impl Opening {
 
     /// The session that opens with these frames. Of one frame both are made, so that the atoms are at rest.
     pub fn session(self, alloc: Global, scale: Scale) -> Result<Session, AllocError>
-        ensures { IfOk result (λ session. session ≡ session_of scale self.first (last_of self.first self.second)) }
+        ensures { IfOk result (λ session. session ≡ held_from scale self.first (last_of self.first self.second)) }
     {
         let edge = scale.edge();
         let prev = places_of(alloc, self.first.as_slice(), &edge)?;

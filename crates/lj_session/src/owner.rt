@@ -1,8 +1,8 @@
 //! The owner of a user's state: a command is begun, and what takes time goes out as tasks that anyone may compute.
 ghost use Rattle.std.specs.Prelude.{◌≡◌, ◌↔◌, ◌<◌, ◌+◌, ℕ, Bool, true, Some, None, IsOk, IsSome, IsTrue, IfSome, IfErr, OnOk, OnErr, OnSome, IfNone};
-ghost use Rattle.lj_session.specs.Answers.{answer};
+ghost use Rattle.lj_session.specs.Answers.{AnswersAlike};
 ghost use Rattle.lj_session.specs.Turns.{turns, turned, rest_of};
-ghost use Rattle.lj_session.specs.Owners.{IsAnswered, IsReplied, IsWanted, user_in, turns_left, begun, label_in, task_in, with_task_posted, with_task_in, is_ready, turned_from};
+ghost use Rattle.lj_session.specs.Owners.{IsAnswered, IsReplied, IsAwaitedIn, user_in, turns_left, begun, label_in, task_in, with_task_posted, with_task_in, is_ready, turned_from};
 ghost use Rattle.lj_session.specs.States.{OthersKept};
 ghost use Rattle.lj_session.specs.Begins.{IfAnswered, OnRunning, OnRefused, reply_of};
 
@@ -24,7 +24,8 @@ pub enum Begin {
     Running,
 }
 
-/// Owns a user's state, and the command that runs on it. The state stays as the current step began until that is turned.
+/// Owns a user's state, and the command that runs on it. The state stays as the current step began until that step is
+/// turned.
 #[derive(Drop)]
 pub struct Owner {
     state: UserState,
@@ -56,8 +57,8 @@ impl Owner {
         }
     }
 
-    /// Begins a command. One that takes no turn is answered at once; of another the first step is opened. Only LOAD and
-    /// BRANCH take memory.
+    /// Begins a command. One that takes no turn is answered at once; of another the first step is opened. Only LOAD
+    /// and BRANCH take memory.
     pub fn begin(&mut self, command: Command) -> Begin
         requires idle { self.old.rest ≡ None }
         ensures at_once { IfAnswered result (λ _. turns (user_in self.old) command ≡ 0) }
@@ -97,10 +98,10 @@ impl Owner {
         }
     }
 
-    /// Takes in the result of a task that the step of the running command awaits. Another is handed back, and nothing has
-    /// changed.
+    /// Takes in the result of a task that the step of the running command awaits. Another is handed back, and nothing
+    /// has changed.
     pub fn accept(&mut self, done: Done) -> Result<(), Stray>
-        ensures accepted { IsOk result ↔ IsWanted self.old done }
+        ensures accepted { IsOk result ↔ IsAwaitedIn self.old done }
         ensures taken { OnOk result (self.new ≡ with_task_in done self.old) }
         ensures user { user_in self.new ≡ user_in self.old }
         ensures stray { IfErr result (λ s. s.done ≡ done) }
@@ -129,8 +130,10 @@ impl Owner {
         ensures replied { IfSome result (λ reply. IsReplied self.old reply (user_in self.new)) }
         ensures idle { OnSome result (self.new.rest ≡ None) }
         ensures opened { IfNone result (IfSome self.old.rest (λ command. self.new ≡ turned_from command self.old)) }
-        ensures turned { IfNone result (IfSome self.old.rest (λ command. user_in self.new ≡ turned (user_in self.old) command)) }
-        ensures kept { IfNone result (IfSome self.old.rest (λ command. (mark : Bool) → answer (user_in self.new) (rest_of command) mark ≡ answer (user_in self.old) command mark)) }
+        ensures turned { let user = user_in self.old in
+            IfNone result (IfSome self.old.rest (λ command. user_in self.new ≡ turned user command)) }
+        ensures kept { IfNone result (IfSome self.old.rest (λ command.
+            AnswersAlike (user_in self.new) (rest_of command) (user_in self.old) command)) }
         ensures fewer { IfNone result (turns_left self.new + 1 ≡ turns_left self.old) }
         ensures others { IfSome self.old.rest (λ command. OthersKept command self.old.state self.new.state) }
         ensures quota { self.new.state.quota ≡ self.old.state.quota }

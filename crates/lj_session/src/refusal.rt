@@ -1,6 +1,6 @@
 //! Refusals, each with its number and its name.
 ghost use Rattle.std.specs.Prelude.{◌≡◌};
-ghost use Rattle.lj_session.specs.Refusals.{number_of, title_of, xyz_number, xyz_title};
+ghost use Rattle.lj_session.specs.Refusals.{refusal_number, refusal_name, xyz_number, xyz_name};
 
 use lj_xyz::{XyzFault, XyzKind};
 use std::fmt;
@@ -55,7 +55,7 @@ pub enum Refusal {
 impl Refusal {
     /// The number, 1 to 90.
     pub fn number(self) -> u8
-        ensures { result ≡ number_of self }
+        ensures { result ≡ refusal_number self }
     {
         match self {
             Refusal::Denied => 1,
@@ -84,7 +84,7 @@ impl Refusal {
 
     /// The name, in capitals.
     pub fn name(self) -> &'static str
-        ensures { result.now ≡ title_of self }
+        ensures { result.now ≡ refusal_name self }
     {
         match self {
             Refusal::Denied => "DENIED",
@@ -126,7 +126,7 @@ fn xyz_number(kind: XyzKind) -> u8
 }
 
 fn xyz_name(kind: XyzKind) -> &'static str
-    ensures { result.now ≡ xyz_title kind }
+    ensures { result.now ≡ xyz_name kind }
 {
     match kind {
         XyzKind::Count => "XYZ_COUNT",

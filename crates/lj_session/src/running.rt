@@ -1,10 +1,10 @@
 //! A command that runs, as far as it is left.
 ghost use Rattle.std.specs.Prelude.{◌≡◌, ◌↔◌, ◌<◌, ◌+◌, ◌-◌, ℕ, Bool, true, IsSome, IfSome};
-ghost use Rattle.lj_session.specs.Answers.{answer};
+ghost use Rattle.lj_session.specs.Answers.{IsAnswer, AnswersAlike};
 ghost use Rattle.lj_session.specs.Turns.{turns, turned, rest_of};
 ghost use Rattle.lj_session.specs.States.{OthersKept, user_of, changed, with_step, turned_on, is_whole_in};
-ghost use Rattle.lj_session.specs.Owners.{step_of, opened_for, changed_in};
-ghost use Rattle.lj_session.specs.Running.{CanRun, Runs, command_of, session_of, sums_of, IfReplied, IfGoes};
+ghost use Rattle.lj_session.specs.Owners.{step_of, opened_for, turned_in};
+ghost use Rattle.lj_session.specs.Running.{CanRun, Runs, command_of, session_name, sums_of, IfReplied, IfGoes};
 ghost use Rattle.lj_session.specs.declared.running.Running.TheVariants.{Advance};
 ghost use Rattle.lj_session.specs.declared.command.Command.TheVariants as commands;
 ghost use Rattle.lj_tile.specs.declared.names.Kind.TheVariants.{Force};
@@ -53,7 +53,7 @@ impl Running {
 
     /// The session whose steps it takes.
     pub fn session(&self) -> &Name
-        ensures { result.now ≡ session_of self.now }
+        ensures { result.now ≡ session_name self.now }
     {
         match self {
             Running::Advance { name, .. } => name,
@@ -74,15 +74,19 @@ impl Running {
     /// Turns the step, which is whole. The next one is opened if there is one.
     pub fn turn(self, state: &mut UserState) -> Turned
         requires runs { Runs state.old self }
-        requires whole { is_whole_in state.old (session_of self) ≡ true }
+        requires whole { is_whole_in state.old (session_name self) ≡ true }
         ensures last { IfReplied result (λ _. turns (user_of state.old) (command_of self) ≡ 1) }
-        ensures replied { IfReplied result (λ reply. (mark : Bool) → (reply, user_of state.new) ≡ answer (user_of state.old) (command_of self) mark) }
+        ensures replied { let user = user_of state.old in
+            IfReplied result (λ reply. IsAnswer user (command_of self) reply (user_of state.new)) }
         ensures more { IfGoes result (λ _. 1 < turns (user_of state.old) (command_of self)) }
         ensures left { IfGoes result (λ left. command_of left ≡ rest_of (command_of self)) }
-        ensures fewer { IfGoes result (λ left. turns (user_of state.new) (command_of left) + 1 ≡ turns (user_of state.old) (command_of self)) }
+        ensures fewer { let before = turns (user_of state.old) (command_of self) in
+            IfGoes result (λ left. turns (user_of state.new) (command_of left) + 1 ≡ before) }
         ensures user { IfGoes result (λ _. user_of state.new ≡ turned (user_of state.old) (command_of self)) }
-        ensures kept { IfGoes result (λ left. (mark : Bool) → answer (user_of state.new) (command_of left) mark ≡ answer (user_of state.old) (command_of self) mark) }
-        ensures opened { IfGoes result (λ left. state.new ≡ opened_for (step_of (command_of left)) (changed_in (step_of (command_of self)) turned_on state.old)) }
+        ensures kept { IfGoes result (λ left.
+            AnswersAlike (user_of state.new) (command_of left) (user_of state.old) (command_of self)) }
+        ensures opened { IfGoes result (λ left.
+            state.new ≡ opened_for (step_of (command_of left)) (turned_in (command_of self) state.old)) }
         ensures runs { IfGoes result (Runs state.new) }
         ensures others { OthersKept (command_of self) state.old state.new }
         ensures quota { state.new.quota ≡ state.old.quota }
@@ -99,12 +103,15 @@ fn advance(state: &mut UserState, name: Name, steps: u64) -> Turned
     requires runs { Runs state.old (Advance name steps) }
     requires whole { is_whole_in state.old name ≡ true }
     ensures last { IfReplied result (λ _. turns (user_of state.old) (commands.Advance name steps) ≡ 1) }
-    ensures replied { IfReplied result (λ reply. (mark : Bool) → (reply, user_of state.new) ≡ answer (user_of state.old) (commands.Advance name steps) mark) }
+    ensures replied { let command = commands.Advance name steps in
+        IfReplied result (λ reply. IsAnswer (user_of state.old) command reply (user_of state.new)) }
     ensures more { IfGoes result (λ _. 1 < steps) }
     ensures left { IfGoes result (λ left. left ≡ Advance name (steps - 1)) }
-    ensures fewer { IfGoes result (λ _. turns (user_of state.new) (commands.Advance name (steps - 1)) + 1 ≡ turns (user_of state.old) (commands.Advance name steps)) }
+    ensures fewer { let before = turns (user_of state.old) (commands.Advance name steps) in
+        IfGoes result (λ _. turns (user_of state.new) (commands.Advance name (steps - 1)) + 1 ≡ before) }
     ensures user { IfGoes result (λ _. user_of state.new ≡ turned (user_of state.old) (commands.Advance name steps)) }
-    ensures opened { IfGoes result (λ _. state.new ≡ changed name (with_step Force) (changed name turned_on state.old)) }
+    ensures opened { let turned = changed name turned_on state.old in
+        IfGoes result (λ _. state.new ≡ changed name (with_step Force) turned) }
     ensures runs { IfGoes result (Runs state.new) }
     ensures others { OthersKept (commands.Advance name steps) state.old state.new }
     ensures quota { state.new.quota ≡ state.old.quota }

@@ -8,7 +8,7 @@ ghost use Rattle.lj_branch.specs.Named.{named, put, taken_out};
 ghost use Rattle.lj_session.specs.Users.{atoms_of};
 ghost use Rattle.lj_session.specs.Answers.{can_advance};
 ghost use Rattle.lj_session.specs.States as states;
-ghost use Rattle.lj_session.specs.States.{as_session, IsWhole, CanTurn};
+ghost use Rattle.lj_session.specs.States.{as_session, moved_to, keeping, IsWhole, CanTurn};
 
 use lj_branch::{Branches, NoBranch, SaveFault};
 use lj_step::{Displacement, Sim, Stray};
@@ -17,10 +17,10 @@ use lj_xyz::Symbol;
 use std::marker::Model;
 
 /// The most steps of one command.
-const MOST_STEPS: u64 = 1_000_000;
+const MAX_STEPS: u64 = 1_000_000;
 
 /// The largest size of a step number.
-const MOST_STEP: u64 = 1_000_000_000_000;
+const MAX_STEP_NUMBER: u64 = 1_000_000_000_000;
 
 /// The symbols of some atoms, their simulation, and what is saved of it.
 #[derive(Drop)]
@@ -85,16 +85,16 @@ impl Session {
         ensures value { result ≡ can_advance (as_session self.now) steps }
         ensures here { IsTrue result → unsigned_abs self.now.live.sim.step ≤ 10 ^ 12 }
     {
-        if steps > MOST_STEPS {
+        if steps > MAX_STEPS {
             return false;
         }
         let target = self.sim.step() + self.sim.dir() * steps as i64;
-        target.unsigned_abs() <= MOST_STEP
+        target.unsigned_abs() <= MAX_STEP_NUMBER
     }
 
     /// Turns the motion back. No step is open then.
     pub fn reverse(&mut self)
-        ensures value { self.new ≡ record self.old { live = steps.closed self.old.live (motion.reversed self.old.live.sim) } }
+        ensures value { self.new ≡ moved_to self.old (motion.reversed self.old.live.sim) }
         ensures count { length self.new.live.sim.cur ≡ length self.old.live.sim.cur }
     {
         self.sim.reverse();
@@ -103,7 +103,8 @@ impl Session {
     /// Gives an atom a displacement more for each step. No step is open then.
     pub fn tug(&mut self, atom: usize, by: Displacement)
         requires { atom < length self.old.live.sim.cur }
-        ensures { self.new ≡ record self.old { live = steps.closed self.old.live (motion.tugged atom (record { x = by.x; y = by.y; z = by.z }) self.old.live.sim) } }
+        ensures { let sim = motion.tugged atom (record { x = by.x; y = by.y; z = by.z }) self.old.live.sim in
+            self.new ≡ moved_to self.old sim }
     {
         self.sim.tug(atom, by);
     }
@@ -114,7 +115,7 @@ impl Session {
     /// `Exists` where the name is taken, else `Memory`. Nothing has changed then.
     pub fn save(&mut self, branch: Name) -> Result<(), SaveFault>
         ensures exists { IsErrOf result Exists ↔ IsSome (named branch self.old.saved) }
-        ensures saved { OnOk result (self.new ≡ record self.old { saved = put branch self.old.live.sim self.old.saved }) }
+        ensures saved { OnOk result (self.new ≡ keeping self.old (put branch self.old.live.sim self.old.saved)) }
         ensures unchanged { OnErr result (self.new ≡ self.old) }
     {
         self.branches.save(branch, &self.sim)
@@ -126,7 +127,8 @@ impl Session {
     /// `NoBranch` where nothing is saved under it. Nothing has changed then.
     pub fn restore(&mut self, branch: &Name) -> Result<(), NoBranch>
         ensures found { IsOk result ↔ IsSome (named branch.now self.old.saved) }
-        ensures restored { OnOk result (IfSome (named branch.now self.old.saved) (λ sim. self.new ≡ record self.old { live = steps.closed self.old.live sim })) }
+        ensures restored { let saved = named branch.now self.old.saved in
+            OnOk result (IfSome saved (λ sim. self.new ≡ moved_to self.old sim)) }
         ensures count { length self.new.live.sim.cur ≡ length self.old.live.sim.cur }
         ensures unchanged { OnErr result (self.new ≡ self.old) }
     {
@@ -139,7 +141,7 @@ impl Session {
     /// `NoBranch` where nothing is saved under it. Nothing has changed then.
     pub fn forget(&mut self, branch: &Name) -> Result<(), NoBranch>
         ensures found { IsOk result ↔ IsSome (named branch.now self.old.saved) }
-        ensures taken { OnOk result (self.new ≡ record self.old { saved = taken_out branch.now self.old.saved }) }
+        ensures taken { OnOk result (self.new ≡ keeping self.old (taken_out branch.now self.old.saved)) }
         ensures unchanged { OnErr result (self.new ≡ self.old) }
     {
         self.branches.forget(branch)

@@ -6,10 +6,9 @@ ghost use Rattle.std.specs.Str.{bytes_eq};
 ghost use Rattle.lj_tile.specs.declared.names.Kind.TheVariants.{Energy};
 ghost use Rattle.lj_step.specs.OpenSteps.{number_of};
 ghost use Rattle.lj_session.specs.declared.command.Command.TheVariants.{Advance, Measure};
-ghost use Rattle.lj_session.specs.Answers.{performed};
 ghost use Rattle.lj_session.specs.Turns.{turns, turned};
 ghost use Rattle.lj_session.specs.States as states;
-ghost use Rattle.lj_session.specs.States.{Reached, IsHere, Performs, CanTurn, IsWhole, IsAwaited, empty, user_of, used_by, names, held_in, held_at, changed, with_step, with_posted, with_tile_in, turned_on, is_whole_in};
+ghost use Rattle.lj_session.specs.States.{Reached, IsHere, Performs, Reads, CanTurn, IsWhole, IsAwaited, empty, user_of, used_by, names, held_in, held_at, changed, with_step, with_posted, with_tile_in, turned_on, is_whole_in};
 
 use crate::command::Command;
 use crate::refusal::Refusal;
@@ -165,7 +164,7 @@ impl UserState {
         self.sessions.post(name);
     }
 
-    /// Takes in the result of a tile that a session's open step awaits. Another is handed back, and nothing has changed.
+    /// Takes in the result of a tile that a session's open step awaits. Another is handed back, and nothing changes.
     pub(crate) fn accept(&mut self, label: &Label, done: Done) -> Result<(), Stray>
         ensures accepted { IsOk result ↔ IsAwaited self.old label.now done }
         ensures taken { OnOk result (self.new ≡ changed label.now.session (with_tile_in (number_of done)) self.old) }
@@ -196,7 +195,7 @@ impl UserState {
     /// The reply to an ADVANCE that has no step left to go.
     pub(crate) fn advanced(&self, name: Name) -> Reply
         requires { IsSome (held_in self.now name) }
-        ensures { (mark : Bool) → performed (user_of self.now) (Advance name 0) mark ≡ Ok (result, user_of self.now) }
+        ensures { Reads self.now (Advance name 0) (Ok result) }
     {
         self.sessions.advanced(name)
     }
@@ -205,7 +204,7 @@ impl UserState {
     pub(crate) fn measured(&self, name: Name) -> Reply
         requires session { IsSome (held_in self.now name) }
         requires whole { ForSome (held_in self.now name) (IsWhole Energy) }
-        ensures { (mark : Bool) → performed (user_of self.now) (Measure name) mark ≡ Ok (result, user_of self.now) }
+        ensures { Reads self.now (Measure name) (Ok result) }
     {
         self.sessions.measured(name)
     }

@@ -3,9 +3,8 @@ ghost use Rattle.std.specs.Prelude.{◌≡◌, ◌<◌, Bool, Ok, IsSome};
 ghost use Rattle.std.specs.Option.{ForSome};
 ghost use Rattle.lj_tile.specs.declared.names.Kind.TheVariants.{Energy};
 ghost use Rattle.lj_session.specs.declared.command.Command.TheVariants as commands;
-ghost use Rattle.lj_session.specs.Answers.{performed};
 ghost use Rattle.lj_session.specs.Turns as definition;
-ghost use Rattle.lj_session.specs.States.{IsHere, IsWhole, outcome, user_of, held_in};
+ghost use Rattle.lj_session.specs.States.{IsHere, IsWhole, Reads, user_of, held_in};
 
 use crate::command::Command;
 use crate::refusal::Refusal;
@@ -52,8 +51,7 @@ impl Sessions {
     /// An ADVANCE that takes no turn: it is refused, or by 0.
     pub fn advance_at_once(&self, name: Name, steps: u64) -> Result<Reply, Refusal>
         requires { definition.turns (user_of self.now) (commands.Advance name steps) ≡ 0 }
-        ensures { (mark : Bool) →
-            performed (user_of self.now) (commands.Advance name steps) mark ≡ outcome result (user_of self.now) }
+        ensures { Reads self.now (commands.Advance name steps) result }
     {
         let Some(session) = self.find(&name) else {
             return Err(Refusal::NoSession);
@@ -67,7 +65,7 @@ impl Sessions {
     /// The reply to an ADVANCE that has no step left to go.
     pub fn advanced(&self, name: Name) -> Reply
         requires { IsSome (held_in self.now name) }
-        ensures { (mark : Bool) → performed (user_of self.now) (commands.Advance name 0) mark ≡ Ok (result, user_of self.now) }
+        ensures { Reads self.now (commands.Advance name 0) (Ok result) }
     {
         let step = self.session(&name).sim().step();
         Reply::Advanced { name, step }
@@ -76,8 +74,7 @@ impl Sessions {
     /// A MEASURE that takes no turn: it is refused.
     pub fn measure_at_once(&self, name: Name) -> Result<Reply, Refusal>
         requires { definition.turns (user_of self.now) (commands.Measure name) ≡ 0 }
-        ensures { (mark : Bool) →
-            performed (user_of self.now) (commands.Measure name) mark ≡ outcome result (user_of self.now) }
+        ensures { Reads self.now (commands.Measure name) result }
     {
         Err(Refusal::NoSession)
     }
@@ -86,7 +83,7 @@ impl Sessions {
     pub fn measured(&self, name: Name) -> Reply
         requires session { IsSome (held_in self.now name) }
         requires whole { ForSome (held_in self.now name) (IsWhole Energy) }
-        ensures { (mark : Bool) → performed (user_of self.now) (commands.Measure name) mark ≡ Ok (result, user_of self.now) }
+        ensures { Reads self.now (commands.Measure name) (Ok result) }
     {
         let sim = self.session(&name).sim();
         Reply::Measured {

@@ -1,8 +1,7 @@
 //! SHOW, DUMP and LIST of a session.
 ghost use Rattle.std.specs.Prelude.{◌≡◌, Bool};
 ghost use Rattle.lj_session.specs.declared.command.Command.TheVariants as commands;
-ghost use Rattle.lj_session.specs.Answers.{performed};
-ghost use Rattle.lj_session.specs.States.{outcome, user_of};
+ghost use Rattle.lj_session.specs.States.{Reads};
 
 use crate::refusal::Refusal;
 use crate::reply::Reply;
@@ -12,8 +11,7 @@ use lj_tile::Name;
 impl Sessions {
     /// Shows the place of an atom of a session.
     pub fn show(&self, name: Name, atom: u64) -> Result<Reply, Refusal>
-        ensures { (mark : Bool) →
-            performed (user_of self.now) (commands.Show name atom) mark ≡ outcome result (user_of self.now) }
+        ensures { Reads self.now (commands.Show name atom) result }
     {
         let Some(session) = self.find(&name) else {
             return Err(Refusal::NoSession);
@@ -32,8 +30,7 @@ impl Sessions {
 
     /// Writes out the frame of a session.
     pub fn dump(&self, name: Name) -> Result<Reply, Refusal>
-        ensures { (mark : Bool) →
-            performed (user_of self.now) (commands.Dump name) mark ≡ outcome result (user_of self.now) }
+        ensures { Reads self.now (commands.Dump name) result }
     {
         if self.find(&name).is_none() {
             return Err(Refusal::NoSession);
@@ -43,8 +40,7 @@ impl Sessions {
 
     /// Lists what is saved in a session.
     pub fn list_branches(&self, name: Name) -> Result<Reply, Refusal>
-        ensures { (mark : Bool) →
-            performed (user_of self.now) (commands.ListBranches name) mark ≡ outcome result (user_of self.now) }
+        ensures { Reads self.now (commands.ListBranches name) result }
     {
         if self.find(&name).is_none() {
             return Err(Refusal::NoSession);

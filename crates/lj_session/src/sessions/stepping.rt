@@ -41,7 +41,7 @@ impl Sessions {
         session.post();
     }
 
-    /// Takes in the result of a tile that a session's open step awaits. Another is handed back, and nothing has changed.
+    /// Takes in the result of a tile that a session's open step awaits. Another is handed back, and nothing changes.
     pub fn accept(&mut self, label: &Label, done: Done) -> Result<(), Stray>
         ensures accepted { IsOk result ↔ IsAwaited self.old label.now done }
         ensures taken { OnOk result (self.new ≡ changed label.now.session (with_tile_in (number_of done)) self.old) }

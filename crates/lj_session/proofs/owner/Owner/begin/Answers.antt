@@ -3,10 +3,10 @@ use Rattle.lj_session.specs.States.{Owned, held_in, changed, with_step}
 use Rattle.lj_session.specs.Answers.{session_named}
 use Rattle.lj_session.specs.KeptOwners.{owning_of}
 use Rattle.lj_session.specs.Owners.{Owning}
-use Rattle.lj_session.specs.Running.{Runs, session_of}
+use Rattle.lj_session.specs.Running.{Runs, session_name}
 use Rattle.lj_session.proofs.Others.{others-changed, refused-unchanged}
 use Rattle.lj_session.proofs.Results.{on_err-then}
-use Rattle.lj_session.proofs.Owning.{runs_begun, session_of-named}
+use Rattle.lj_session.proofs.Owning.{runs_begun, session_name-named}
 use Rattle.lj_session.proofs.owner.Owner.begin.Goals as goal
 
 pub invariant_of-self-2 : goal.invariant_of-self-2
@@ -15,7 +15,7 @@ invariant_of-self-2 c =
     let running = c.in-Some.running in
     let opened = c.open_step.ensures.opened
     ∙ ap (λ name. changed name (with_step c.sums.result) state) c.session.ensures
-    ∙ ap (λ kind. changed (session_of running) (with_step kind) state) c.sums.ensures in
+    ∙ ap (λ kind. changed (session_name running) (with_step kind) state) c.sums.ensures in
     subst (λ (owned : Owned). Runs owned running) (sym opened) (runs_begun state running c.in-Some.ensures.can)
 
 pub returns-in_default-clause-unchanged : goal.returns-in_default-clause-unchanged
@@ -28,7 +28,7 @@ returns-in_default-clause-unchanged c =
 pub returns-clause-others : goal.returns-clause-others
 returns-clause-others c = λ other apart.
     let running = c.in-Some.running in
-    let named = session_of-named running ∙ ap session_named c.in-Some.ensures.whole in
+    let named = session_name-named running ∙ ap session_named c.in-Some.ensures.whole in
     ap (λ (owned : Owned). held_in owned other) (c.open_step.ensures.opened ∙ ap (λ name. changed name (with_step c.sums.result) c.self.inside.state) c.session.ensures)
-    ∙ others-changed c.self.inside.state (session_of running) (with_step c.sums.result) other (λ same. apart (sym named ∙ same))
+    ∙ others-changed c.self.inside.state (session_name running) (with_step c.sums.result) other (λ same. apart (sym named ∙ same))
     ∙ ap (λ (owner : Owning). held_in owner.state other) c.self.view_is

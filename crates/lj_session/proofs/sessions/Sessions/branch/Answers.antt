@@ -5,12 +5,12 @@ use Rattle.lj_branch.specs.Named.{named, put}
 use Rattle.lj_quota.specs.declared.Over.TheVariants.{Branches}
 use Rattle.lj_session.specs.Faults.{quota_refusal}
 use Rattle.lj_session.specs.declared.reply.Reply.TheVariants as reply
-use Rattle.lj_session.specs.States.{Held, as_session, user_of}
+use Rattle.lj_session.specs.States.{Held, keeping, as_session, user_of}
 use Rattle.lj_session.proofs.Entries.{length-new}
 use Rattle.lj_session.proofs.Limits.{over-limit, same_over, branches-over, branches-room}
 use Rattle.lj_session.proofs.Performing as performing
 use Rattle.lj_session.proofs.Outcomes as outcomes
-use Rattle.lj_session.proofs.Outcomes.{keeping, read-step}
+use Rattle.lj_session.proofs.Outcomes.{read-step}
 use Rattle.lj_session.proofs.Results.{performs-refused, performs-starved, on_err, none-of, not-saved, is_some-counted}
 use Rattle.lj_session.proofs.Writing.{not_there, writes, session_there, unchanged, totals_unchanged, totals_saved, told_at}
 use Rattle.lj_session.proofs.sessions.Sessions.branch.Goals as goal

@@ -2,7 +2,7 @@ use Rattle.std.proofs.Common.{◌+◌, false, length, refl, sym, ◌∙◌}
 use Rattle.lj_quota.specs.declared.Over.TheVariants.{Atoms}
 use Rattle.lj_session.specs.declared.refusal.Refusal.TheVariants.{Memory}
 use Rattle.lj_session.specs.Faults.{quota_refusal, xyz_refusal}
-use Rattle.lj_session.specs.Openings.{last_of, session_of}
+use Rattle.lj_session.specs.Openings.{last_of, held_from}
 use Rattle.lj_session.proofs.Holding.{inserted}
 use Rattle.lj_session.proofs.Performing.{refused}
 use Rattle.lj_session.proofs.Loading as loading
@@ -58,7 +58,7 @@ pub invariant_of-self-2 : goal.invariant_of-self-2
 invariant_of-self-2 c =
     let old = c.args.self.now in
     let opening = c.in_ok-opening.opening in
-    let made = session_of c.in_ok-scale.scale opening.first (last_of opening.first opening.second) in
+    let made = held_from c.in_ok-scale.scale opening.first (last_of opening.first opening.second) in
     used-more c.self.inside old c.self.view_is c.self.invariant c.args.load.name (loading.absent-admitted old old c.args.load c.in_ok-scale.scale (sym c.in_ok-scale.ensures)) _ made
     (inserted c.self.inside old c.self.view_is c.args.load.name c.copy.result c.copy.ensures _ c.in_ok-session.session made c.in_ok-session.ensures c.in_ok-insert.ensures.entries)
     c.count-atoms.result (c.count-atoms.ensures.value ∙ sym (loading.atoms-opened c.in_ok-scale.scale opening.first (last_of opening.first opening.second) opening.same)) refl
@@ -67,7 +67,7 @@ pub returns-clause-performs : goal.returns-clause-performs
 returns-clause-performs c =
     let old = c.args.self.now in
     let opening = c.in_ok-opening.opening in
-    let made = session_of c.in_ok-scale.scale opening.first (last_of opening.first opening.second) in
+    let made = held_from c.in_ok-scale.scale opening.first (last_of opening.first opening.second) in
     (loading.loaded old _ c.args.load c.in_ok-scale.scale (sym c.in_ok-scale.ensures) c.in-Read.body c.in-Read.is opening.first opening.second c.in_ok-opening.ensures opening.same
     c.count-atoms.result c.count-atoms.ensures.value
     (atoms-room c.self.inside old c.self.view_is c.self.invariant c.count-atoms.result (length opening.first) c.count-atoms.ensures.value (c.in_ok-may_load.ensures.may.0 refl).1)

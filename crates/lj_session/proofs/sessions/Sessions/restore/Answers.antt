@@ -2,10 +2,10 @@ use Rattle.std.proofs.Common.{◌≡◌, false, length, refl, ap, ◌∙◌}
 use Rattle.lj_step.specs.Live.{Live}
 use Rattle.lj_branch.specs.Named.{named}
 use Rattle.lj_session.specs.declared.reply.Reply.TheVariants as reply
-use Rattle.lj_session.specs.States.{Held, as_session, user_of}
+use Rattle.lj_session.specs.States.{Held, moved_to, as_session, user_of}
 use Rattle.lj_session.proofs.Performing as performing
 use Rattle.lj_session.proofs.Outcomes as outcomes
-use Rattle.lj_session.proofs.Outcomes.{moved_to, read-step}
+use Rattle.lj_session.proofs.Outcomes.{read-step}
 use Rattle.lj_session.proofs.Results.{performs-refused, on_err, none-if, some-with}
 use Rattle.lj_session.proofs.Writing.{not_there, writes, session_there, unchanged, totals_kept, totals_unchanged, told_at}
 use Rattle.lj_session.proofs.sessions.Sessions.restore.Goals as goal
