@@ -14,8 +14,4 @@ pub mod Laws
 pub mod Progress
 pub mod Played
 pub mod Worked
-pub mod WorkedBodies
-pub mod WorkedUsers
-pub mod WorkedLines
 pub mod WorkedLimits
-pub mod WorkedChain

@@ -28,10 +28,12 @@ use Rattle.lj_wire.specs.Streams.{IsLine, IsLineItem, IsPart, Splits, AreMarks, 
 
 -- all that a worked stream computes by
 unfoldable pub computed : Unit {0}
-unfolding digits decimal_of nano_of millionths push_entry energy_entry push force lines_of words_of atoms.row_of_four atoms.row_of head_in behind_comment next_row rows_in frame_in reading name_of performed number_of displacement_of count_of item_of_words body_len text
+unfolding digits decimal_of nano_of number_of millionths push_entry energy_entry push force lines_of words_of
+    atoms.row_of_four atoms.row_of head_in behind_comment next_row rows_in frame_in reading name_of performed
+    displacement_of count_of item_of_words body_len text
 computed = tt
 
--- a line, and the body behind it
+-- a line, and the body after it
 abbrev pub Piece : Type 0
 Piece = List ℕ × List ℕ
 
@@ -39,7 +41,8 @@ Piece = List ℕ × List ℕ
 abbrev pub piece_item : Piece → Item
 piece_item piece = item_of piece.0 piece.1
 
--- what stands behind the pieces: nothing, a line that is cut short, a line whose body is, or whatever is not read any more
+-- What stands after the pieces: nothing, a line that is cut short, a line whose body is, or whatever is not read any
+-- more.
 pub data Rest : Type 0 where
   nothing : Rest
   open_line : List ℕ → Rest
@@ -86,7 +89,8 @@ is_last (piece ∷ pieces) = false
 abbrev pub are_pieces : ℕ → List Piece → Rest → Bool
 are_pieces n [] rest = nat_lt n MAX_ITEMS && is_part rest
 are_pieces n (piece ∷ pieces) rest =
-    nat_lt n MAX_ITEMS && is_piece piece && (if ends (piece_item piece) then is_last pieces else are_pieces (n + 1) pieces rest)
+    nat_lt n MAX_ITEMS && is_piece piece
+    && (if ends (piece_item piece) then is_last pieces else are_pieces (n + 1) pieces rest)
 
 IsLine-from_test : (line : List ℕ) → is_line line ≡ true → IsLine line
 IsLine-from_test line h =
@@ -125,7 +129,8 @@ IsPart-from_test n (short line body) below h =
     )
 IsPart-from_test n (unread bytes) below h = cc
 
-last_piece : (pieces : List Piece) (rest : List ℕ) → is_last pieces ≡ true → (items_of pieces ≡ []) × (stream_of pieces rest ≡ rest)
+last_piece : (pieces : List Piece) (rest : List ℕ) → is_last pieces ≡ true
+    → (items_of pieces ≡ []) × (stream_of pieces rest ≡ rest)
 last_piece [] rest h = (refl, refl)
 last_piece (piece ∷ pieces) rest h = cc
 
@@ -161,7 +166,8 @@ unset items = map (λ item. false) items
 
 texts-unset : (user : User) (items : List Item) → texts user items (unset items) ≡ texts user items []
 texts-unset user [] = refl
-texts-unset user (item ∷ items) = ap (λ others. (told user item false).0 ∷ others) (texts-unset (told user item false).1 items)
+texts-unset user (item ∷ items) =
+    let next = told user item false in ap (λ others. next.0 ∷ others) (texts-unset next.1 items)
 
 AreMarks-unset : (user : User) (items : List Item) → AreMarks (unset items) (texts user items (unset items))
 AreMarks-unset user [] = tt
@@ -188,9 +194,9 @@ cut (suc n) bytes =
     (line, take (announced line) behind) ∷ cut n (drop (announced line) behind)
 
 -- so many items are cut off the stream, and a rest is left; what is written for them follows by computation
-pub played : (allowed : Quota) (count : ℕ) (rest : Rest) (bytes written : List ℕ) → bytes ≡ stream_of (cut count bytes) (rest_bytes rest)
-    → are_pieces 0 (cut count bytes) rest ≡ true → written ≡ concat (texts (fresh allowed) (items_of (cut count bytes)) [])
-    → IsWritten allowed bytes written
+pub played : (allowed : Quota) (count : ℕ) (rest : Rest) (bytes written : List ℕ)
+    → bytes ≡ stream_of (cut count bytes) (rest_bytes rest) → are_pieces 0 (cut count bytes) rest ≡ true
+    → written ≡ concat (texts (fresh allowed) (items_of (cut count bytes)) []) → IsWritten allowed bytes written
 played allowed count rest bytes written whole test told =
     let pieces = cut count bytes in
     let items = items_of pieces in (

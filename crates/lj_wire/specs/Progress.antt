@@ -14,7 +14,8 @@ Takes n bytes (item ∷ items) left =
     (front : List ℕ) × (behind : List ℕ) × (bytes ≡ front ++ behind) × IsItem n front item
     × (ends item ≡ false) × Takes (n + 1) behind items left
 
--- So many items of the bytes are answered, from a user on, by what is written; the other bytes are left, and the next user.
+-- So many items of the bytes are answered, from a user on, by what is written; the other bytes are left, and the next
+-- user.
 pub record Progress (user : User) (bytes : List ℕ) (count : ℕ) (written left : List ℕ) (next : User) : Type 0 where
   pub items : List Item
   pub marks : List Bool

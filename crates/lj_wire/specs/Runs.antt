@@ -1,4 +1,5 @@
--- Of the items that run: how many turns one takes, the user after a turn, and what is then left of it.
+-- Items that run take turns, ADVANCE one for each step: how many turns an item takes, the user after a turn, and what
+-- is then left of the item.
 use Rattle.std.specs.Prelude.{ℕ}
 use Rattle.lj_session.specs.Users.{User}
 use Rattle.lj_session.specs.Turns.{turns, turned, rest_of}

@@ -1,34 +1,8 @@
--- Worked streams, from the bytes read to the bytes written, by computation: the motion of one and two atoms.
+-- Worked streams, from the bytes read to the bytes written, by computation.
 use Rattle.std.specs.Prelude.{◌++◌, codes, refl}
-use Rattle.lj_wire.specs.Played.{IsWritten, computed, nothing, played, usual}
+use Rattle.lj_wire.specs.Played.{IsWritten, computed, nothing, played, quota, short, unread, usual}
 
--- one step: each atom is pushed towards the other by 589
-pub one_step : IsWritten usual
-    (codes "LOAD a 256 1 131072 rest 28\n2\ndimer\nAr 0 0 0\nAr 1.5 0 0\nADVANCE a 1\nSHOW a 0\nSHOW a 1\n")
-    (codes "OK LOAD a 0 2\nOK ADVANCE a 1\nOK SHOW a 1 0 589 0 0\nOK SHOW a 1 1 25165235 0 0\n")
-unfolding computed
-one_step = played usual 4 nothing _ _ refl refl refl
-
--- one step more
-pub two_steps : IsWritten usual
-    (codes "LOAD a 256 1 131072 rest 28\n2\ndimer\nAr 0 0 0\nAr 1.5 0 0\nADVANCE a 1\nSHOW a 0\nSHOW a 1\n"
-    ++ codes "ADVANCE a 1\nSHOW a 0\nSHOW a 1\n")
-    (codes "OK LOAD a 0 2\nOK ADVANCE a 1\nOK SHOW a 1 0 589 0 0\nOK SHOW a 1 1 25165235 0 0\nOK ADVANCE a 2\n"
-    ++ codes "OK SHOW a 2 0 1774 0 0\nOK SHOW a 2 1 25164050 0 0\n")
-unfolding computed
-two_steps = played usual 7 nothing _ _ refl refl refl
-
--- what is measured after two steps, and the frame in file units
-pub measured_and_dumped : IsWritten usual
-    (codes "LOAD a 256 1 131072 rest 28\n2\ndimer\nAr 0 0 0\nAr 1.5 0 0\nADVANCE a 1\nSHOW a 0\nSHOW a 1\n"
-    ++ codes "ADVANCE a 1\nSHOW a 0\nSHOW a 1\nMEASURE a\nDUMP a\n")
-    (codes "OK LOAD a 0 2\nOK ADVANCE a 1\nOK SHOW a 1 0 589 0 0\nOK SHOW a 1 1 25165235 0 0\nOK ADVANCE a 2\n"
-    ++ (codes "OK SHOW a 2 0 1774 0 0\nOK SHOW a 2 1 25164050 0 0\nOK MEASURE a 2 2 0 0 0 2808450 -5399727\n"
-    ++ codes "OK DUMP a 2 4\n2\nstep 2\nAr 0.000105 0.000000 0.000000\nAr 1.499894 0.000000 0.000000\n"))
-unfolding computed
-measured_and_dumped = played usual 9 nothing _ _ refl refl refl
-
--- turned back, the frames come again, and past the opening too
+-- two atoms: their steps, measures and frame; turned back, the frames come again, and past the opening too
 pub there_and_back : IsWritten usual
     (codes "LOAD a 256 1 131072 rest 28\n2\ndimer\nAr 0 0 0\nAr 1.5 0 0\nADVANCE a 1\nSHOW a 0\nSHOW a 1\n"
     ++ (codes "ADVANCE a 1\nSHOW a 0\nSHOW a 1\nMEASURE a\nDUMP a\nREVERSE a\nSHOW a 0\nADVANCE a 1\nSHOW a 0\n"
@@ -50,18 +24,46 @@ pub two_frames : IsWritten usual
 unfolding computed
 two_frames = played usual 5 nothing _ _ refl refl refl
 
--- two atoms at one place do not push each other
-pub one_place : IsWritten usual
-    (codes "LOAD c 256 1 131072 rest 20\n2\nz\nX 1 1 1\nX 1 1 1\nADVANCE c 3\nSHOW c 0\nMEASURE c\n")
-    (codes "OK LOAD c 0 2\nOK ADVANCE c 3\nOK SHOW c 3 0 16777216 16777216 16777216\n"
-    ++ codes "OK MEASURE c 3 2 0 0 0 0 3574550947\n")
+-- a saved simulation is a copy, which a tug does not change, and stays when it is restored; the quota allows one
+pub one_branch : IsWritten (quota 8 16384 1)
+    (codes "LOAD a 256 1 131072 rest 28\n2\ndimer\nAr 0 0 0\nAr 1.5 0 0\nADVANCE a 1\nBRANCH a k\nMEASURE a\n"
+    ++ (codes "TUG a 0 5 0 0\nADVANCE a 1\nSHOW a 0\nRESTORE a k\nMEASURE a\nBRANCH a m\nRESTORE a k\nADVANCE a 0\n"
+    ++ codes "LIST a\nFORGET a k\nBRANCH a m\n"))
+    (codes "OK LOAD a 0 2\nOK ADVANCE a 1\nOK BRANCH a k 1\nOK MEASURE a 1 2 0 0 0 693842 -5399727\nOK TUG a 0 1\n"
+    ++ (codes "OK ADVANCE a 2\nOK SHOW a 2 0 1779 0 0\nOK RESTORE a k 1\nOK MEASURE a 1 2 0 0 0 693842 -5399727\n"
+    ++ (codes "ERR 22 QUOTA_BRANCHES\nOK RESTORE a k 1\nOK ADVANCE a 1\nOK LIST a 1\nk 1\nOK FORGET a k\n"
+    ++ codes "OK BRANCH a m 1\n")))
 unfolding computed
-one_place = played usual 4 nothing _ _ refl refl refl
+one_branch = played (quota 8 16384 1) 15 nothing _ _ refl refl refl
 
--- two atoms half a box apart are out of reach; in a box a little smaller sigma does not fit
-pub half_a_box_apart : IsWritten usual
-    (codes "LOAD d 5 1 131072 rest 22\n2\nh\nX 0 0 0\nX 2.5 0 0\nADVANCE d 1\nSHOW d 1\nMEASURE d\n"
-    ++ codes "LOAD e 4.99 1 131072 rest 22\n2\nh\nX 0 0 0\nX 2.5 0 0\n")
-    (codes "OK LOAD d 0 2\nOK ADVANCE d 1\nOK SHOW d 1 1 2147483648 0 0\nOK MEASURE d 1 2 0 0 0 0 0\nERR 37 SIGMA\n")
+-- carriage returns, a column that is not used and a last line without line feed; and bodies that are cut short
+pub short_bodies : IsWritten usual
+    (codes "LOAD g 256 1 1 rest 35\n2\r\nc\r\nNa 0 0 0 1.0\r\nCl 1.5 0 0 -1.0LOAD k 256 1 1 rest 13\n2\nc\n"
+    ++ codes "Na 0 0 0\nLOAD k 256 1 1 rest 4\n0\nc\nLOAD k 256 1 1 rest 0\n")
+    (codes "OK LOAD g 0 2\nERR 31 XYZ_SHORT line 4\nERR 30 XYZ_COUNT line 1\nERR 30 XYZ_COUNT line 1\n")
 unfolding computed
-half_a_box_apart = played usual 5 nothing _ _ refl refl refl
+short_bodies = played usual 4 nothing _ _ refl refl refl
+
+-- a LOAD line with a count has its body read, whatever else is wrong with it
+pub wrong_load : IsWritten usual
+    (codes "LOAD 5\n12345LOAD a 256 1 1 move 3\nLI\nLOAD a! 256 1 1 rest 3\nLI\nLOAD a 256 1 1 rest 3 3\nLI\n"
+    ++ codes "LOAD a 0.0009 x 0 rest 3\nLI\nLIST\n")
+    (codes "ERR 03 SYNTAX\nERR 03 SYNTAX\nERR 03 SYNTAX\nERR 03 SYNTAX\nERR 36 EDGE\nOK LIST 0\n")
+unfolding computed
+wrong_load = played usual 6 nothing _ _ refl refl refl
+
+-- a body that is cut short is no item
+pub cut_body : IsWritten usual
+    (codes "LIST\nLOAD a 256 1 1 rest 28\n2\ndimer\n")
+    (codes "OK LIST 0\n")
+unfolding computed
+cut_body = played usual 1 (short (codes "LOAD a 256 1 1 rest 28") (codes "2\ndimer\n")) _ _ refl refl refl
+
+-- refusals, and BYE, after which nothing is read
+pub refusals : IsWritten usual
+    (codes "LOAD a 256 1 131072 rest 28\n2\ndimer\nAr 0 0 0\nAr 1.5 0 0\nSHOW a 2\nSHOW z 0\nadvance a 1\n"
+    ++ codes "ADVANCE a\nADVANCE a 1000001\nRESTORE a q\n\nBYE\nLIST\n")
+    (codes "OK LOAD a 0 2\nERR 14 NO_ATOM\nERR 10 NO_SESSION\nERR 06 COMMAND\nERR 03 SYNTAX\nERR 23 STEP_RANGE\n"
+    ++ codes "ERR 12 NO_BRANCH\nERR 03 SYNTAX\nOK BYE\n")
+unfolding computed
+refusals = played usual 9 (unread (codes "LIST\n")) _ _ refl refl refl

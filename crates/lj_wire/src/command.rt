@@ -2,7 +2,8 @@
 ghost use Rattle.std.specs.Prelude.{◌≡◌, List, ℕ, [], ◌∷◌};
 ghost use Rattle.lj_session.specs.declared.body.LoadBody.TheVariants.{Unread};
 ghost use Rattle.lj_session.specs.declared.command.Command.TheVariants as command;
-ghost use Rattle.lj_wire.specs.Commands.{bare_command, count_of, list_command, load_command, mode_of, name_and_number, one_name, tug_command, two_names, verb_command};
+ghost use Rattle.lj_wire.specs.Commands.{count_of, mode_of, name_and_number, one_name, two_names};
+ghost use Rattle.lj_wire.specs.Commands.{bare_command, list_command, load_command, tug_command, verb_command};
 
 use crate::displacement::parse_displacement;
 use crate::limits::MAX_BODY_BYTES;
@@ -138,6 +139,12 @@ fn parse_tug(mut words: Words) -> Option<Command>
     let y = words.next()?;
     let z = words.next()?;
     words.end()?;
+    tug_of(name, atom, x, y, z)
+}
+
+fn tug_of(name: &[u8], atom: &[u8], x: &[u8], y: &[u8], z: &[u8]) -> Option<Command>
+    ensures { result ≡ tug_command (name.now ∷ atom.now ∷ x.now ∷ y.now ∷ z.now ∷ []) }
+{
     Some(Command::Tug {
         name: Name::parse(name)?,
         atom: parse_number(atom)?,

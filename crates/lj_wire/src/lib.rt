@@ -19,5 +19,4 @@ pub use laws::{
 };
 pub use limits::{LONG_LINE_BYTES, MAX_BODY_BYTES, MAX_ITEMS, MAX_LINE_BYTES};
 pub use line::split_line;
-pub use reading::{Reading, parse_command, read_line};
-pub use replies::{Line, MAX_REPLY_LINE_BYTES};
+pub use reading::{LineReading, parse_command, read_line};

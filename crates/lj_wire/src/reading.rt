@@ -1,7 +1,8 @@
 //! What a line says: its item, and the body that follows it.
 ghost use Rattle.std.specs.Prelude.{◌≡◌, unwrap_or};
 ghost use Rattle.lj_session.specs.declared.body.LoadBody.TheVariants.{Unread};
-ghost use Rattle.lj_wire.specs.Commands.{announced, counted_item, item_with, last_count, load_command, or_syntax, over_item};
+ghost use Rattle.lj_wire.specs.Commands.{announced, item_with, last_count, load_command};
+ghost use Rattle.lj_wire.specs.Commands.{counted_item, or_syntax, over_item};
 ghost use Rattle.lj_wire.specs.Verbs.{is_load};
 
 use crate::command::{parse_count, parse_load, parse_words};
@@ -14,7 +15,7 @@ use lj_session::Command;
 
 /// What a line says.
 #[derive(Debug, Drop)]
-pub struct Reading {
+pub struct LineReading {
     /// The item of the line. The body of a LOAD is not read yet.
     pub item: Item,
     /// How many bytes of body follow the line: those that a LOAD line counts, at most 1,048,576, and
@@ -23,7 +24,7 @@ pub struct Reading {
 }
 
 /// Reads a line, which is given without its line feed.
-pub fn read_line(line: &[u8]) -> Reading
+pub fn read_line(line: &[u8]) -> LineReading
     ensures item { result.item ≡ item_with line.now Unread }
     ensures body { result.body ≡ announced line.now }
 {
@@ -50,10 +51,10 @@ pub fn parse_command(line: &[u8]) -> Item
     read_line(line).item
 }
 
-fn without_body(item: Item) -> Reading
+fn without_body(item: Item) -> LineReading
     ensures { result ≡ record { item = item; body = 0 } }
 {
-    Reading { item, body: 0 }
+    LineReading { item, body: 0 }
 }
 
 // The item of a line that is too long for a command.
@@ -84,7 +85,7 @@ fn or_syntax(command: Option<Command>) -> Item
 
 // The words after LOAD: a name, three numbers of any shape, the mode, and the count. Of fewer words,
 // or more, the last one is the count too.
-fn read_load(mut words: Words) -> Reading
+fn read_load(mut words: Words) -> LineReading
     ensures item { result.item ≡ counted_item (last_count words.entry) (load_command Unread words.entry) }
     ensures body { result.body ≡ unwrap_or (last_count words.entry) 0 }
 {
@@ -116,12 +117,12 @@ fn read_load(mut words: Words) -> Reading
 }
 
 // What a LOAD line with this count says, if its words say this command.
-fn counted(count: Option<usize>, command: Option<Command>) -> Reading
+fn counted(count: Option<usize>, command: Option<Command>) -> LineReading
     ensures item { result.item ≡ counted_item count command }
     ensures body { result.body ≡ unwrap_or count 0 }
 {
     match count {
-        Some(body) => Reading {
+        Some(body) => LineReading {
             item: or_syntax(command),
             body,
         },
