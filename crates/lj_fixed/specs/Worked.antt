@@ -1,7 +1,8 @@
--- Words and their nanos, and printed millionths, worked out.
-use Rattle.std.specs.Prelude.{◌≡◌, pos, negsuc, Ok, Err, codes, refl}
+-- Words and their numbers, and printed millionths, worked out.
+use Rattle.std.specs.Prelude.{◌≡◌, pos, negsuc, Some, None, Ok, Err, codes, refl}
 use Rattle.std.specs.Fmt.{digits}
 use Rattle.lj_fixed.specs.Decimal.{decimal_of, nano_of}
+use Rattle.lj_fixed.specs.Numbers.{number_of}
 use Rattle.lj_fixed.specs.Millionths.{millionths}
 use Rattle.lj_fixed.specs.declared.numbers.NumberFault.TheVariants.{BadNumber, OutOfRange}
 
@@ -112,3 +113,15 @@ above_one = refl
 most_millionths : millionths 18446744073709551615 ≡ codes "18446744073709.551615"
 unfolding millionths digits
 most_millionths = refl
+
+nineteen_digits : number_of (codes "9999999999999999999") ≡ Some 9999999999999999999
+unfolding number_of
+nineteen_digits = refl
+
+twenty_digits : number_of (codes "00000000000000000001") ≡ None
+unfolding number_of
+twenty_digits = refl
+
+signed : number_of (codes "+1") ≡ None
+unfolding number_of
+signed = refl

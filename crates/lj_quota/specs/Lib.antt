@@ -1,1 +1,2 @@
 pub mod OverTexts
+pub mod Worked

@@ -3,3 +3,4 @@ pub mod Places
 pub mod Scales
 pub mod Kept
 pub mod FaultTexts
+pub mod Worked

@@ -5,6 +5,7 @@ use Rattle.lj_fixed.specs.Decimal.{nano_of}
 use Rattle.lj_fixed.specs.Numbers.{number_of}
 use Rattle.lj_xyz.specs.declared.fault.XyzKind.{XyzKind}
 use Rattle.lj_xyz.specs.declared.fault.XyzKind.TheVariants as kind
+use Rattle.lj_xyz.specs.declared.reader.TheConstants.{MAX_ATOMS}
 use Rattle.lj_xyz.specs.declared.row.Row.{Row}
 use Rattle.lj_xyz.specs.Lines.{words_of}
 use Rattle.lj_xyz.specs.Kinds.{kind_of}
@@ -12,7 +13,7 @@ use Rattle.lj_xyz.specs.Symbols.{is_symbol}
 
 -- a number of atoms that a frame may have
 abbrev pub is_count : ℕ → Bool
-is_count n = nat_le 1 n && nat_le n 4096
+is_count n = nat_le 1 n && nat_le n MAX_ATOMS
 
 -- a number, if a frame may have so many atoms
 abbrev pub count_if : Option ℕ → Option ℕ

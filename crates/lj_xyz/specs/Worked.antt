@@ -68,6 +68,22 @@ no_atoms : answer rest (codes "0\nc\n") ≡ fault kind.Count 1
 unfolding answer fault
 no_atoms = refl
 
+too_many_atoms : answer rest (codes "4097\nc\n") ≡ fault kind.Count 1
+unfolding answer fault
+too_many_atoms = refl
+
+most_atoms : answer rest (codes "4096\n") ≡ fault kind.Short 2
+unfolding answer fault
+most_atoms = refl
+
+long_symbol : answer rest (codes "1\nc\nABCDEFGHIJKLMNOPQ 0 0 0\n") ≡ fault kind.Symbol 3
+unfolding answer fault
+long_symbol = refl
+
+longest_symbol : answer rest (codes "1\nc\nABCDEFGHIJKLMNOP . 0 0\n") ≡ fault kind.Number 3
+unfolding answer fault
+longest_symbol = refl
+
 empty_body : answer rest [] ≡ fault kind.Count 1
 unfolding answer fault
 empty_body = refl

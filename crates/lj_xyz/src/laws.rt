@@ -1,3 +1,4 @@
+//! Laws of reading.
 ghost use Rattle.std.specs.Prelude.{◌≡◌, ℕ, List, Result};
 ghost use Rattle.lj_xyz.specs.declared.fault.XyzFault.{XyzFault};
 ghost use Rattle.lj_xyz.specs.declared.row.Row.{Row};

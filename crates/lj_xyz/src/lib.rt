@@ -12,7 +12,7 @@ mod writer;
 pub use fault::{XyzError, XyzFault, XyzKind};
 pub use laws::one_reading;
 pub use lines::{split_word, without_return};
-pub use reader::{read_pair, read_rest};
+pub use reader::{MAX_ATOMS, read_pair, read_rest};
 pub use row::{FramePair, Row, Rows};
 pub use symbol::Symbol;
 pub use writer::{FrameLine, atom_line, comment_line, count_line};

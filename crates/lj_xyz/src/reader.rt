@@ -1,3 +1,4 @@
+//! The frames of a text, read from its first line to its last.
 ghost use Rattle.std.specs.Prelude.{◌≡◌, ◌≤◌, ◌↔◌, [], ◌∷◌, ◌++◌, length, Ok, Err, IfOk, IfSome, IsSomeAnd, IsTrue};
 ghost use Rattle.lj_xyz.specs.declared.fault.XyzFault.{XyzFault};
 ghost use Rattle.lj_xyz.specs.Lines.{lines_of};
@@ -14,7 +15,7 @@ use lj_fixed::{parse_nano, parse_number};
 use std::alloc::Global;
 
 /// The most atoms that a frame may have.
-const MAX_ATOMS: u64 = 4096;
+pub const MAX_ATOMS: usize = 4096;
 
 /// Which frame is read: the first, or the second, which has as many atoms as the first.
 #[derive(Clone, Copy)]
@@ -54,7 +55,7 @@ fn count_of(word: &[u8]) -> Option<usize>
     ensures { result ≡ count_of word.now }
 {
     let number = parse_number(word)?;
-    if number == 0 || number > MAX_ATOMS {
+    if number == 0 || number > MAX_ATOMS as u64 {
         return None;
     }
     Some(number as usize)

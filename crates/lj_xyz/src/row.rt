@@ -1,3 +1,4 @@
+//! The atoms that are read.
 ghost use Rattle.std.specs.Prelude.{◌≡◌, ◌==◌, length};
 
 use crate::symbol::Symbol;

@@ -1,3 +1,4 @@
+//! Symbols of atoms.
 ghost use Rattle.std.specs.Prelude.{IsTrue, SomeIff, ◌≡◌};
 ghost use Rattle.lj_xyz.specs.Symbols.{is_symbol};
 
@@ -5,12 +6,12 @@ use arrayvec::ArrayVec;
 use std::marker::Model;
 
 /// The most bytes of a symbol.
-const CAPACITY: usize = 16;
+pub const MAX_SYMBOL_BYTES: usize = 16;
 
 /// The symbol of an atom: 1 to 16 bytes, each in 0x21 to 0x7E.
 #[derive(Debug, Drop)]
 pub struct Symbol {
-    bytes: ArrayVec<u8, CAPACITY>,
+    bytes: ArrayVec<u8, MAX_SYMBOL_BYTES>,
 }
 
 impl Model for Symbol {
@@ -28,7 +29,7 @@ impl Model for Symbol {
 fn is_symbol(word: &[u8]) -> bool
     ensures { result ≡ is_symbol word.now }
 {
-    !word.is_empty() && word.len() <= CAPACITY && word.iter().all(u8::is_ascii_graphic)
+    !word.is_empty() && word.len() <= MAX_SYMBOL_BYTES && word.iter().all(u8::is_ascii_graphic)
 }
 
 impl Symbol {

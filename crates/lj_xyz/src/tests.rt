@@ -40,18 +40,38 @@ const UNEVEN: &str = "2\na\nX 0 0 0\nX 1 0 0\n3\nb\nX 0 0 0\nX 1 0 0\nX 2 0 0\n"
 const FAULTS: [(Mode, &str, XyzKind, u64); 33] = [
     // The first frame: its count line, its comment line and its atoms.
     (Mode::One, "\n \n\t", XyzKind::Count, 4),
-    (Mode::One, "\n\n00000000000000000001\nc\nX 0 0 0\n", XyzKind::Count, 3),
+    (
+        Mode::One,
+        "\n\n00000000000000000001\nc\nX 0 0 0\n",
+        XyzKind::Count,
+        3,
+    ),
     (Mode::One, "\r\r\n1\nc\nX 0 0 0\n", XyzKind::Count, 1),
     (Mode::One, "4097\nc\n", XyzKind::Count, 1),
     (Mode::One, "\n4096\r\n", XyzKind::Short, 3),
     (Mode::One, "2\nc\nNa 0 0 0\n", XyzKind::Short, 4),
     (Mode::One, "1\nc\nX\u{b}0\u{b}0\u{b}0\n", XyzKind::Short, 3),
-    (Mode::One, "1\nc\nABCDEFGHIJKLMNOPQ 0 0 0\n", XyzKind::Symbol, 3),
-    (Mode::One, "2\nc\nX 0 0 0\nX\u{1} . 1e7 0\n", XyzKind::Symbol, 4),
+    (
+        Mode::One,
+        "1\nc\nABCDEFGHIJKLMNOPQ 0 0 0\n",
+        XyzKind::Symbol,
+        3,
+    ),
+    (
+        Mode::One,
+        "2\nc\nX 0 0 0\nX\u{1} . 1e7 0\n",
+        XyzKind::Symbol,
+        4,
+    ),
     (Mode::One, "1\nn\nH x 1e7 0\n", XyzKind::Number, 3),
     (Mode::One, "1\nn\nH 0 1*^3 0\n", XyzKind::Number, 3),
     (Mode::One, "1\nn\nH 0 0 0\r\r\n", XyzKind::Number, 3),
-    (Mode::One, "1\nn\nH 1000000.0000000005 0 0\n", XyzKind::Range, 3),
+    (
+        Mode::One,
+        "1\nn\nH 1000000.0000000005 0 0\n",
+        XyzKind::Range,
+        3,
+    ),
     (Mode::One, "1\nn\nH 0 1e7 x\n", XyzKind::Range, 3),
     (Mode::One, "2\nn\nH 0 0 0\nH 0 0 1d99", XyzKind::Range, 4),
     (Mode::Two, "", XyzKind::Count, 1),
@@ -67,13 +87,38 @@ const FAULTS: [(Mode, &str, XyzKind, u64); 33] = [
     (Mode::Two, "1\na\nX 0 0 0\n\n4096", XyzKind::Pair, 5),
     // Its own faults.
     (Mode::Two, "1\na\nX 0 0 0\n0\n", XyzKind::Count, 4),
-    (Mode::Two, "1\na\nX 0 0 0\r\n\r\n4097\r\n", XyzKind::Count, 5),
+    (
+        Mode::Two,
+        "1\na\nX 0 0 0\r\n\r\n4097\r\n",
+        XyzKind::Count,
+        5,
+    ),
     (Mode::Two, "1\na\nX 0 0 0\n1", XyzKind::Short, 5),
-    (Mode::Two, "2\na\nX 0 0 0\nX 0 0 0\n2\nb\nX 0 0 0\n", XyzKind::Short, 8),
+    (
+        Mode::Two,
+        "2\na\nX 0 0 0\nX 0 0 0\n2\nb\nX 0 0 0\n",
+        XyzKind::Short,
+        8,
+    ),
     (Mode::Two, "1\na\nX 0 0 0\n1\nb\nX 0 0\n", XyzKind::Short, 6),
-    (Mode::Two, "1\na\nX 0 0 0\n1\nb\n\u{1} 0 0 0\n", XyzKind::Symbol, 6),
-    (Mode::Two, "1\na\nX 0 0 0\n1\nb\nX 0 . 0\n", XyzKind::Number, 6),
-    (Mode::Two, "1\na\nX 0 0 0\n\n1\nb\nX 0 0 1e7\n", XyzKind::Range, 7),
+    (
+        Mode::Two,
+        "1\na\nX 0 0 0\n1\nb\n\u{1} 0 0 0\n",
+        XyzKind::Symbol,
+        6,
+    ),
+    (
+        Mode::Two,
+        "1\na\nX 0 0 0\n1\nb\nX 0 . 0\n",
+        XyzKind::Number,
+        6,
+    ),
+    (
+        Mode::Two,
+        "1\na\nX 0 0 0\n\n1\nb\nX 0 0 1e7\n",
+        XyzKind::Range,
+        7,
+    ),
 ];
 
 // A fault is answered though a growth is refused.
