@@ -14,3 +14,4 @@ pub mod Known
 pub mod Buffers
 pub mod Taking
 pub mod Passing
+pub mod Wholes

@@ -1,6 +1,7 @@
 -- A long line that is passed over: its bytes so far are taken, and only counted.
 use Rattle.std.proofs.Common.{◌≡◌, ℕ, ◌+◌, ◌-◌, ◌<◌, ◌≤◌, min, List, [], ◌∷◌, ◌++◌, length, take, drop, refl, sym, ap, ◌∙◌, subst, arith, append_assoc}
 use Rattle.std.proofs.lemmas.List.{take-append-drop, drop_at, drop_all, length-append, length-take-le}
+use Rattle.lj_wire.specs.declared.limits.TheConstants.{MAX_LINE_BYTES, LONG_LINE_BYTES}
 use Rattle.lj_wire.specs.Ahead.{Ahead, Takes, Grows}
 use Rattle.lj_wire.specs.Steps.{TakesLongLine}
 use Rattle.lj_wire.specs.Streams.{LacksLineFeed}
@@ -11,9 +12,9 @@ pub record Passing (old new : Ahead) (seen : ℕ) : Type 0 where
   pub taken : Takes old new bytes
   pub one_line : LacksLineFeed bytes
   pub counted : length bytes ≡ seen
-  pub long : 256 < seen
-  pub bounded : seen ≤ 65536
-  pub held : seen < 65536 → new.held ≡ []
+  pub long : MAX_LINE_BYTES < seen
+  pub bounded : seen ≤ LONG_LINE_BYTES
+  pub held : seen < LONG_LINE_BYTES → new.held ≡ []
   pub errors : new.errors ≡ old.errors
 
 -- a front of what is held is taken behind what was taken before
@@ -24,13 +25,13 @@ taken_more old mid grown new bytes front behind count t g e is same =
 
 -- the line feed comes
 pub passing_feed : (old mid grown new : Ahead) (seen count wanted : ℕ) (line behind : List ℕ) → Passing old mid seen → Grows mid grown count
-    → wanted ≤ 65536 - seen → wanted ≤ length grown.held → take wanted grown.held ≡ line ++ 10 ∷ behind → LacksLineFeed line
+    → wanted ≤ LONG_LINE_BYTES - seen → wanted ≤ length grown.held → take wanted grown.held ≡ line ++ 10 ∷ behind → LacksLineFeed line
     → new.held ≡ drop (length line + 1) grown.held → new.unread ≡ grown.unread → TakesLongLine old new
 passing_feed old mid grown new seen count wanted line behind p g low within e one is same =
     let rest = behind ++ drop wanted grown.held in
     let cut : grown.held ≡ (line ++ 10 ∷ []) ++ rest =
     sym (take-append-drop wanted grown.held) ∙ ap (λ (l : List ℕ). l ++ drop wanted grown.held) e
-        ∙ append_assoc line (10 ∷ behind) (drop wanted grown.held) ∙ sym (append_assoc line (10 ∷ []) rest) in
+    ∙ append_assoc line (10 ∷ behind) (drop wanted grown.held) ∙ sym (append_assoc line (10 ∷ []) rest) in
     let count_is : length (line ++ 10 ∷ []) ≡ length line + 1 = length-append line (10 ∷ []) in
     let left : new.held ≡ rest = is ∙ ap (drop (length line + 1)) cut ∙ drop_at (line ++ 10 ∷ []) rest (length line + 1) count_is in
     let sizes = length-append line (10 ∷ behind) in
@@ -44,7 +45,7 @@ passing_feed old mid grown new seen count wanted line behind p g low within e on
 
 -- no line feed is among them
 pub passing_more : (old mid grown new : Ahead) (seen count wanted : ℕ) → Passing old mid seen → Grows mid grown count → grown.errors ≡ mid.errors
-    → seen < 65536 → wanted ≡ min (65536 - seen) (length grown.held) → LacksLineFeed (take wanted grown.held)
+    → seen < LONG_LINE_BYTES → wanted ≡ min (LONG_LINE_BYTES - seen) (length grown.held) → LacksLineFeed (take wanted grown.held)
     → new.held ≡ drop wanted grown.held → new.unread ≡ grown.unread → new.errors ≡ grown.errors → Passing old new (seen + wanted)
 passing_more old mid grown new seen count wanted p g errors more is one held unread same =
     let within : wanted ≤ length grown.held = omega arith in

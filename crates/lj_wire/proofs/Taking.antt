@@ -6,19 +6,19 @@ use Rattle.std.proofs.KnownBytes.{Consumes-nil, Consumes-trans, Keeps-refl, Keep
 use Rattle.std.specs.Io.KnownBytes.{prepend_known, Consumes, Keeps, IsAtEnd}
 use Rattle.std.specs.List.{list_any}
 use Rattle.lj_xyz.specs.Lines.{is_line_feed}
-use Rattle.lj_wire.specs.Ahead.{Ahead, left, Takes}
+use Rattle.lj_wire.specs.Ahead.{Ahead, untaken, Takes}
 use Rattle.lj_wire.specs.Streams.{LacksLineFeed}
 
 -- nothing is kept back and nothing taken
 pub Takes-none : (a : Ahead) → Takes a a []
-Takes-none a = Consumes-nil (left a)
+Takes-none a = Consumes-nil (untaken a)
 
 pub Takes-trans : (a b c : Ahead) (first second : List ℕ) → Takes a b first → Takes b c second → Takes a c (first ++ second)
-Takes-trans a b c first second p q = Consumes-trans (left a) (left b) (left c) first second p q
+Takes-trans a b c first second p q = Consumes-trans (untaken a) (untaken b) (untaken c) first second p q
 
 -- what is only read is not yet taken
-pub Takes-kept : (a b c : Ahead) (bytes : List ℕ) → Takes a b bytes → Keeps (left b) (left c) → Takes a c bytes
-Takes-kept a b c bytes p q = consumed (left a) (left b) (left c) p q
+pub Takes-kept : (a b c : Ahead) (bytes : List ℕ) → Takes a b bytes → Keeps (untaken b) (untaken c) → Takes a c bytes
+Takes-kept a b c bytes p q = consumed (untaken a) (untaken b) (untaken c) p q
   where
     consumed : (x y z : Option (List ℕ)) → Consumes x y bytes → Keeps y z → Consumes x z bytes
     consumed None y z p q = tt
@@ -26,8 +26,8 @@ Takes-kept a b c bytes p q = consumed (left a) (left b) (left c) p q
     consumed (Some x) (Some y) None p q = absurd q
     consumed (Some x) (Some y) (Some z) p q = p ∙ ap (λ (l : List ℕ). bytes ++ l) (sym q)
 
-pub Kept-takes : (a b c : Ahead) (bytes : List ℕ) → Keeps (left a) (left b) → Takes b c bytes → Takes a c bytes
-Kept-takes a b c bytes p q = consumed (left a) (left b) (left c) p q
+pub Kept-takes : (a b c : Ahead) (bytes : List ℕ) → Keeps (untaken a) (untaken b) → Takes b c bytes → Takes a c bytes
+Kept-takes a b c bytes p q = consumed (untaken a) (untaken b) (untaken c) p q
   where
     consumed : (x y z : Option (List ℕ)) → Keeps x y → Consumes y z bytes → Consumes x z bytes
     consumed None y z p q = tt
@@ -42,7 +42,7 @@ Takes-front front behind (Some bytes) = append_assoc front behind bytes
 
 pub Takes-held : (a b : Ahead) (front behind : List ℕ) → a.held ≡ front ++ behind → b.held ≡ behind → b.unread ≡ a.unread → Takes a b front
 Takes-held a b front behind e is same =
-    subst (λ x. Consumes x (left b) front) (ap (λ h. prepend_known h a.unread) (sym e))
+    subst (λ x. Consumes x (untaken b) front) (ap (λ h. prepend_known h a.unread) (sym e))
     (subst (λ x. Consumes (prepend_known (front ++ behind) a.unread) x front) (ap (λ h. prepend_known h a.unread) (sym is) ∙ ap (λ u. prepend_known b.held u) (sym same))
     (Takes-front front behind a.unread))
 
@@ -51,7 +51,7 @@ pub Takes-all : (a b : Ahead) → b.held ≡ [] → b.unread ≡ a.unread → Ta
 Takes-all a b e same = Takes-held a b a.held [] (sym (append-nil a.held)) e same
 
 -- the end is reached where nothing is held and the source has none left
-pub at_end : (a : Ahead) → a.held ≡ [] → IsAtEnd a.unread → IsAtEnd (left a)
+pub at_end : (a : Ahead) → a.held ≡ [] → IsAtEnd a.unread → IsAtEnd (untaken a)
 at_end a e end = ended a.unread end
   where
     ended : (unread : Option (List ℕ)) → IsAtEnd unread → IsAtEnd (prepend_known a.held unread)

@@ -1,7 +1,8 @@
 -- What lies ahead of a reader: the bytes that are held, and then those that its source has left.
 use Rattle.std.specs.Prelude.{◌≡◌, ℕ, ◌+◌, ◌<◌, ◌≤◌, List, [], ◌∷◌, ◌++◌, length, Option}
 use Rattle.std.specs.Io.KnownBytes.{prepend_known, Consumes, Keeps, IsAtEnd}
-use Rattle.lj_wire.specs.Ends.{Rises}
+use Rattle.lj_wire.specs.declared.limits.TheConstants.{MAX_LINE_BYTES}
+use Rattle.lj_wire.specs.declared.reader.buffer.TheConstants.{MAX_HELD_BYTES}
 use Rattle.lj_wire.specs.Streams.{LacksLineFeed, IsLine}
 
 -- the bytes that are held, those that the source has left where it tells them, and its count of errors
@@ -11,20 +12,20 @@ pub record Ahead : Type 0 where
   pub errors : Option ℕ
 
 -- the bytes that are not yet taken, where the source tells them
-abbrev pub left : Ahead → Option (List ℕ)
-left ahead = prepend_known ahead.held ahead.unread
+abbrev pub untaken : Ahead → Option (List ℕ)
+untaken ahead = prepend_known ahead.held ahead.unread
 
 -- so many bytes more are held, none only at the end of the input
 pub record Grows (old new : Ahead) (count : ℕ) : Type 0 where
   pub more : List ℕ
   pub counted : length more ≡ count
   pub held : new.held ≡ old.held ++ more
-  pub kept : Keeps (left old) (left new)
+  pub kept : Keeps (untaken old) (untaken new)
   pub ended : count ≡ 0 → IsAtEnd new.unread
 
 -- a front of the bytes is taken
 abbrev pub Takes : Ahead → Ahead → List ℕ → Type 0
-Takes old new bytes = Consumes (left old) (left new) bytes
+Takes old new bytes = Consumes (untaken old) (untaken new) bytes
 
 -- so many bytes of a line, and a line feed behind them, stand first among the bytes held
 pub record HoldsLine (ahead : Ahead) (count : ℕ) : Type 0 where
@@ -37,8 +38,8 @@ pub record HoldsLine (ahead : Ahead) (count : ℕ) : Type 0 where
 -- more bytes are held than a command has, and no line feed
 pub record HoldsNoFeed (ahead : Ahead) : Type 0 where
   pub one_line : LacksLineFeed ahead.held
-  pub long : 256 < length ahead.held
-  pub bounded : length ahead.held ≤ 8192
+  pub long : MAX_LINE_BYTES < length ahead.held
+  pub bounded : length ahead.held ≤ MAX_HELD_BYTES
 
 -- bytes of a line were taken, and not its line feed
 pub record TakesPart (old new : Ahead) : Type 0 where

@@ -1,5 +1,3 @@
-pub mod Ahead
-pub mod Steps
 pub mod Ends
 pub mod Items
 pub mod Displacements
@@ -11,6 +9,9 @@ pub mod Told
 pub mod Runs
 pub mod Streams
 pub mod Laws
+pub mod Standings
+pub mod Ahead
+pub mod Steps
 pub mod Progress
 pub mod Played
 pub mod Worked

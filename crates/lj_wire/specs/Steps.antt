@@ -1,38 +1,46 @@
 -- The steps of reading an item: its line, and the body behind it.
-use Rattle.std.specs.Prelude.{◌≡◌, ℕ, ◌<◌, Bool, true, false, List, [], ◌∷◌, ◌++◌, length}
+use Rattle.std.specs.Prelude.{◌≡◌, ℕ, ◌<◌, Bool, true, false, List, [], ◌∷◌, ◌++◌, length, Option, Some, None, ◌⊎◌}
 use Rattle.std.specs.Io.KnownBytes.{Keeps, IsAtEnd}
+use Rattle.lj_session.specs.declared.body.LoadBody.{LoadBody}
+use Rattle.lj_session.specs.declared.body.LoadBody.TheVariants.{Unread, Lost, Read}
+use Rattle.lj_session.specs.declared.command.Command.TheVariants.{Load}
+use Rattle.lj_wire.specs.declared.item.Item.{Item}
+use Rattle.lj_wire.specs.declared.item.Item.TheVariants.{Command, Bad, Last}
+use Rattle.lj_wire.specs.declared.limits.TheConstants.{MAX_LINE_BYTES, LONG_LINE_BYTES}
 use Rattle.lj_wire.specs.declared.reader.input.Front.{Front}
 use Rattle.lj_wire.specs.declared.reader.input.Front.TheVariants as front
 use Rattle.lj_wire.specs.declared.reader.input.Passed.{Passed}
 use Rattle.lj_wire.specs.declared.reader.input.Passed.TheVariants as passed
-use Rattle.lj_wire.specs.Ahead.{Ahead, left, Takes, HoldsLine, HoldsNoFeed, TakesPart}
-use Rattle.lj_wire.specs.Streams.{LacksLineFeed, IsLine}
+use Rattle.lj_wire.specs.Ahead.{Ahead, untaken, Takes, HoldsLine, HoldsNoFeed, TakesPart}
+use Rattle.lj_wire.specs.Items.{with_body}
+use Rattle.lj_wire.specs.Streams.{LacksLineFeed, IsLine, IsLineItem, IsLongItem, IsOpenBody}
+use Rattle.lj_wire.specs.Standings.{IsHandedOut}
 
 -- what stands first is found; at the end of the input the unfinished line is taken
 abbrev pub Finds : Ahead → Front → Ahead → Type 0
-Finds old (front.Line count) new = Keeps (left old) (left new) × HoldsLine new count
-Finds old front.Long new = Keeps (left old) (left new) × HoldsNoFeed new
-Finds old front.End new = TakesPart old new × IsAtEnd (left new)
+Finds old (front.Line count) new = Keeps (untaken old) (untaken new) × HoldsLine new count
+Finds old front.Long new = Keeps (untaken old) (untaken new) × HoldsNoFeed new
+Finds old front.End new = TakesPart old new × IsAtEnd (untaken new)
 
 -- a line of more than 256 bytes was taken, with its line feed
 pub record TakesLongLine (old new : Ahead) : Type 0 where
   pub line : List ℕ
   pub taken : Takes old new (line ++ 10 ∷ [])
   pub is_line : IsLine line
-  pub long : 256 < length line
+  pub long : MAX_LINE_BYTES < length line
 
 -- as many bytes without a line feed as no line has were taken
 pub record TakesLong (old new : Ahead) : Type 0 where
   pub bytes : List ℕ
   pub taken : Takes old new bytes
   pub one_line : LacksLineFeed bytes
-  pub long : length bytes ≡ 65536
+  pub long : length bytes ≡ LONG_LINE_BYTES
 
 -- a line of more than 256 bytes was passed over, or what is too long for a line, or the unfinished line at the end
 abbrev pub Passes : Ahead → Passed → Ahead → Type 0
 Passes old passed.Line new = TakesLongLine old new
 Passes old passed.Long new = TakesLong old new
-Passes old passed.End new = TakesPart old new × IsAtEnd (left new)
+Passes old passed.End new = TakesPart old new × IsAtEnd (untaken new)
 
 -- fewer bytes than so many were taken
 pub record TakesFewer (old new : Ahead) (count : ℕ) : Type 0 where
@@ -49,9 +57,54 @@ pub record TakesCount (old new : Ahead) (count : ℕ) : Type 0 where
 -- a room was filled, or the input has ended before
 abbrev pub Fills : Ahead → Bool → List ℕ → Ahead → Type 0
 Fills old true room new = Takes old new room
-Fills old false room new = TakesFewer old new (length room) × IsAtEnd (left new)
+Fills old false room new = TakesFewer old new (length room) × IsAtEnd (untaken new)
 
 -- so many bytes were passed over, or the input has ended before
 abbrev pub PassesCount : Ahead → Bool → ℕ → Ahead → Type 0
 PassesCount old true count new = TakesCount old new count
-PassesCount old false count new = TakesFewer old new count × IsAtEnd (left new)
+PassesCount old false count new = TakesFewer old new count × IsAtEnd (untaken new)
+
+-- a body of so many bytes was read, or no memory was found for it and it was passed over, or the input has ended before
+abbrev pub ReadsBody : Ahead → Option LoadBody → ℕ → Ahead → Type 0
+ReadsBody old (Some (Read body)) count new = Takes old new body × (length body ≡ count)
+ReadsBody old (Some Lost) count new = TakesCount old new count
+ReadsBody old (Some Unread) count new = ⊥
+ReadsBody old None count new = TakesFewer old new count × IsAtEnd (untaken new)
+
+-- the body behind a line was taken, and is in the item if that is a LOAD
+pub record TakesRest (old new : Ahead) (item : Item) (count : ℕ) (handed : Item) : Type 0 where
+  pub body : List ℕ
+  pub taken : Takes old new body
+  pub counted : length body ≡ count
+  pub is_handed : IsHandedOut (with_body item (Read body)) handed
+
+-- the item of a line was finished, or the input has ended before
+abbrev pub Finishes : Ahead → Item → ℕ → Option Item → Ahead → Type 0
+Finishes old item count (Some handed) new = TakesRest old new item count handed
+Finishes old item count None new = TakesFewer old new count × IsAtEnd (untaken new)
+
+-- an item was taken: a line with its body, or a line too long
+pub record TakesItem (old new : Ahead) (handed : Item) : Type 0 where
+  pub front : List ℕ
+  pub found : Item
+  pub taken : Takes old new front
+  pub is_item : IsLineItem front found ⊎ IsLongItem front found
+  pub is_handed : IsHandedOut found handed
+
+-- less than an item was taken
+pub record TakesNoItem (old new : Ahead) : Type 0 where
+  pub part : List ℕ
+  pub taken : Takes old new part
+  pub is_part : IsLine part ⊎ IsOpenBody part
+
+-- an item was taken, or the input has ended in less than one
+abbrev pub ReadsItem : Ahead → Option Item → Ahead → Type 0
+ReadsItem old (Some handed) new = TakesItem old new handed
+ReadsItem old None new = TakesNoItem old new × IsAtEnd (untaken new)
+
+-- whether a body can be put into an item
+abbrev pub takes_body : Item → Bool
+takes_body (Command (Load load)) = true
+takes_body (Command _) = false
+takes_body (Bad fault) = false
+takes_body (Last fault) = false

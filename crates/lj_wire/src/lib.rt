@@ -19,4 +19,6 @@ pub use laws::{
 };
 pub use limits::{LONG_LINE_BYTES, MAX_BODY_BYTES, MAX_ITEMS, MAX_LINE_BYTES};
 pub use line::split_line;
+pub use put::put_all;
+pub use reader::{LineReader, Phase};
 pub use reading::{LineReading, parse_command, read_line};

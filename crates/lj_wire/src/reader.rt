@@ -1,5 +1,116 @@
 //! The reader of a stream of lines and bodies.
+ghost use Rattle.std.specs.Prelude.{◌≡◌, IfOk, IfSome, IfNone, OnErr};
+ghost use Rattle.lj_wire.specs.declared.reader.phase.Phase.TheVariants.{Open};
 
 mod body;
 mod buffer;
 mod input;
+mod items;
+mod phase;
+
+use crate::ends::{ReadFault, Source};
+use crate::item::{Fault, Item};
+use crate::limits::MAX_ITEMS;
+use input::Input;
+use items::read_item;
+pub use phase::Phase;
+use std::alloc::Global;
+use std::marker::Model;
+
+/// Reads the items of a stream, whatever pieces its bytes come in. Only the body of a LOAD takes
+/// memory: the bytes that are read ahead stand in a buffer of fixed size, and of a line that is too
+/// long for a command they are only counted.
+#[derive(Drop)]
+pub struct LineReader<S: Source> {
+    alloc: Global,
+    input: Input<S>,
+    items: u64,
+    phase: Phase,
+}
+
+impl<S: Source> Model for LineReader<S> {
+    ghost use Rattle.std.specs.Prelude.{◌≡◌, ◌+◌, ◌≤◌};
+    ghost use Rattle.lj_wire.specs.declared.limits.TheConstants.{MAX_ITEMS};
+    ghost use Rattle.lj_wire.specs.declared.reader.phase.Phase.TheVariants.{Open};
+    ghost use Rattle.lj_wire.specs.Ahead.{untaken};
+    ghost use Rattle.lj_wire.specs.Standings.{Standing};
+
+    ghost Value = { Standing };
+
+    ghost view = { λ reader. record {
+      left = untaken reader.input;
+      errors = reader.input.errors;
+      items = reader.items;
+      phase = reader.phase;
+    } };
+
+    ghost invariant = { λ reader. (reader.items ≤ MAX_ITEMS + 1) × (reader.phase ≡ Open → reader.items ≤ MAX_ITEMS) };
+}
+
+impl<S: Source> LineReader<S> {
+    ghost use Rattle.lj_wire.specs.Standings.{HandsOut, HandsNone, HasFailed};
+
+    /// A reader of `source` that has read nothing.
+    pub fn new(alloc: Global, source: S) -> Self
+        ensures left { result.left ≡ S.remaining source }
+        ensures errors { result.errors ≡ S.errors source }
+        ensures items { result.items ≡ 0 }
+        ensures phase { result.phase ≡ Open }
+    {
+        LineReader {
+            alloc,
+            input: Input::new(source),
+            items: 0,
+            phase: Phase::Open,
+        }
+    }
+
+    /// The next item. `None` where the input has ended in less than an item, or after an item that
+    /// ends the connection; nothing is read after that, nor after a fault.
+    pub fn next(&mut self) -> Result<Option<Item>, ReadFault>
+        ensures item { IfOk result (λ item. IfSome item (HandsOut self.old self.new)) }
+        ensures none { IfOk result (λ item. IfNone item (HandsNone self.old self.new)) }
+        ensures fault { OnErr result (HasFailed self.old self.new) }
+    {
+        match self.phase {
+            Phase::Open => {}
+            Phase::Over => return Ok(None),
+            Phase::Failed => return Err(ReadFault),
+        }
+        if self.items == MAX_ITEMS {
+            self.items += 1;
+            self.phase = Phase::Over;
+            return Ok(Some(Item::Last(Fault::Enough)));
+        }
+        match read_item(self.alloc, &mut self.input) {
+            Ok(Some(item)) => {
+                self.items += 1;
+                if item.ends() {
+                    self.phase = Phase::Over;
+                }
+                Ok(Some(item))
+            }
+            Ok(None) => {
+                self.phase = Phase::Over;
+                Ok(None)
+            }
+            Err(fault) => {
+                self.phase = Phase::Failed;
+                Err(fault)
+            }
+        }
+    }
+
+    /// The source. What was read ahead is given up.
+    pub fn into_source(self) -> S
+        ensures { S.errors result ≡ self.errors }
+    {
+        let LineReader {
+            alloc: _,
+            input,
+            items: _,
+            phase: _,
+        } = self;
+        input.into_source()
+    }
+}

@@ -1,12 +1,41 @@
-//! Bytes that are read by their count.
+//! Bytes that are read by their count, and bodies.
 ghost use Rattle.std.specs.Prelude.{◌≡◌, ℕ, ◌≤◌, ◌<◌, [], length, take, drop, min, IfOk, OnOk, OnErr};
 ghost use Rattle.std.specs.Io.KnownBytes.{Keeps, IsAtEnd};
-ghost use Rattle.lj_wire.specs.Ahead.{left, Takes};
+ghost use Rattle.lj_wire.specs.Ahead.{untaken, Takes};
 ghost use Rattle.lj_wire.specs.Ends.{Rises};
-ghost use Rattle.lj_wire.specs.Steps.{Fills, TakesFewer, PassesCount};
+ghost use Rattle.lj_wire.specs.Steps.{Fills, TakesFewer, PassesCount, ReadsBody};
 
 use super::input::Input;
 use crate::ends::{ReadFault, Source};
+use lj_session::{Body, LoadBody};
+use std::alloc::Global;
+
+/// Reads a body of `count` bytes. Where no memory is found for it it is passed over, and lost. `None`
+/// where the input ends before.
+pub(crate) fn read_body<S: Source>(
+    alloc: Global,
+    input: &mut Input<S>,
+    count: usize,
+) -> Result<Option<LoadBody>, ReadFault>
+    ensures body { IfOk result (λ body. ReadsBody input.old body count input.new) }
+    ensures counted { OnOk result (input.new.errors ≡ input.old.errors) }
+    ensures part { OnErr result (TakesFewer input.old input.new count) }
+    ensures risen { OnErr result (Rises input.old.errors input.new.errors) }
+{
+    let mut bytes = Vec::new(alloc);
+    if bytes.resize(count, 0).is_err() {
+        let lost = if pass(input, count)? {
+            Some(LoadBody::Lost)
+        } else {
+            None
+        };
+        return Ok(lost);
+    }
+    if !fill(input, bytes.as_mut_slice())? {
+        return Ok(None);
+    }
+    Ok(Some(LoadBody::Read(Body::new(bytes))))
+}
 
 /// Fills `room`. Answers false where the input ends before.
 pub(crate) fn fill<S: Source>(input: &mut Input<S>, room: &mut [u8]) -> Result<bool, ReadFault>

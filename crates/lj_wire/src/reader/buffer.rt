@@ -7,24 +7,25 @@ use crate::ends::{ReadFault, Source};
 use std::marker::Model;
 
 /// How many bytes a buffer holds at most.
-pub(crate) const MAX_HELD: usize = 8192;
+pub(crate) const MAX_HELD_BYTES: usize = 8192;
 
 /// The bytes from `start` to `end`.
 #[derive(Drop)]
 pub(crate) struct Buffer {
-    bytes: [u8; MAX_HELD],
+    bytes: [u8; MAX_HELD_BYTES],
     start: usize,
     end: usize,
 }
 
 impl Model for Buffer {
     ghost use Rattle.std.specs.Prelude.{ℕ, ◌≤◌, List, slice_range};
+    ghost use Rattle.lj_wire.specs.declared.reader.buffer.TheConstants.{MAX_HELD_BYTES};
 
     ghost Value = { List ℕ };
 
     ghost view = { λ buffer. slice_range buffer.bytes buffer.start buffer.end };
 
-    ghost invariant = { λ buffer. (buffer.start ≤ buffer.end) × (buffer.end ≤ 8192) };
+    ghost invariant = { λ buffer. (buffer.start ≤ buffer.end) × (buffer.end ≤ MAX_HELD_BYTES) };
 }
 
 impl Buffer {
@@ -32,7 +33,7 @@ impl Buffer {
         ensures { result ≡ [] }
     {
         Buffer {
-            bytes: [0; MAX_HELD],
+            bytes: [0; MAX_HELD_BYTES],
             start: 0,
             end: 0,
         }
@@ -40,7 +41,7 @@ impl Buffer {
 
     pub(crate) fn as_slice(&self) -> &[u8]
         ensures value { result.now ≡ self.now }
-        ensures bounded { length result.now ≤ 8192 }
+        ensures bounded { length result.now ≤ MAX_HELD_BYTES }
     {
         &self.bytes[self.start..self.end]
     }
@@ -64,7 +65,7 @@ impl Buffer {
     /// Reads some bytes behind those that are held, and answers how many: 0 only at the end of the
     /// input.
     pub(crate) fn read_from<S: Source>(&mut self, source: &mut S) -> Result<usize, ReadFault>
-        requires { length self.old < 8192 }
+        requires { length self.old < MAX_HELD_BYTES }
         ensures more { IfOk result (λ n. (more : List ℕ) × (length more ≡ n) × (self.new ≡ self.old ++ more)
             × Consumes (S.remaining source.old) (S.remaining source.new) more) }
         ensures ended { IfOk result (λ n. n ≡ 0 → IsAtEnd (S.remaining source.new)) }
@@ -83,9 +84,9 @@ impl Buffer {
     }
 }
 
-fn move_to_front(bytes: &mut [u8; MAX_HELD], start: usize, end: usize)
+fn move_to_front(bytes: &mut [u8; MAX_HELD_BYTES], start: usize, end: usize)
     requires ordered { start ≤ end }
-    requires within { end ≤ 8192 }
+    requires within { end ≤ MAX_HELD_BYTES }
     ensures { slice_range bytes.new 0 (end - start) ≡ slice_range bytes.old start end }
 {
     bytes.copy_within(start..end, 0);

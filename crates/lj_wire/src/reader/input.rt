@@ -1,20 +1,15 @@
 //! What is read, line by line.
 ghost use Rattle.std.specs.Prelude.{◌≡◌, ℕ, ◌≤◌, ◌<◌, [], length, take, drop, IfOk, OnOk, OnErr};
-ghost use Rattle.lj_wire.specs.Ahead.{left, Grows, Takes, HoldsNoFeed, TakesPart};
+ghost use Rattle.lj_wire.specs.Ahead.{untaken, Grows, Takes, HoldsNoFeed, TakesPart};
 ghost use Rattle.std.specs.Io.KnownBytes.{Keeps, IsAtEnd};
 ghost use Rattle.lj_wire.specs.Ends.{Rises};
 ghost use Rattle.lj_wire.specs.Steps.{Finds, Passes};
 
-use super::buffer::Buffer;
+use super::buffer::{Buffer, MAX_HELD_BYTES};
 use crate::ends::{ReadFault, Source};
+use crate::limits::{LONG_LINE_BYTES, MAX_LINE_BYTES};
 use crate::line::split_line;
 use std::marker::Model;
-
-/// Bytes of a line are looked at where they are held, up to so many; a longer line is passed over.
-const MAX_COMMAND_BYTES: usize = 256;
-
-/// So many bytes without a line feed are no line.
-const MAX_LINE_BYTES: usize = 65_536;
 
 /// A source, and the bytes that were read from it and are not yet taken.
 #[derive(Drop)]
@@ -49,9 +44,9 @@ impl<S: Source> Model for Input<S> {
     ghost Value = { Ahead };
 
     ghost view = { λ input. record {
-        held = input.buffer;
-        unread = S.remaining input.source;
-        errors = S.errors input.source;
+      held = input.buffer;
+      unread = S.remaining input.source;
+      errors = S.errors input.source;
     } };
 }
 
@@ -68,10 +63,18 @@ impl<S: Source> Input<S> {
         }
     }
 
+    pub(crate) fn into_source(self) -> S
+        ensures unread { S.remaining result ≡ self.unread }
+        ensures errors { S.errors result ≡ self.errors }
+    {
+        let Input { buffer: _, source } = self;
+        source
+    }
+
     /// The bytes that are held.
     pub(crate) fn held(&self) -> &[u8]
         ensures value { result.now ≡ self.now.held }
-        ensures bounded { length result.now ≤ 8192 }
+        ensures bounded { length result.now ≤ MAX_HELD_BYTES }
     {
         self.buffer.as_slice()
     }
@@ -94,11 +97,11 @@ impl<S: Source> Input<S> {
     /// Reads some bytes behind those that are held, and answers how many: 0 only at the end of the
     /// input.
     pub(crate) fn read_more(&mut self) -> Result<usize, ReadFault>
-        requires { length self.old.held < 8192 }
+        requires { length self.old.held < MAX_HELD_BYTES }
         ensures grown { IfOk result (Grows self.old self.new) }
         ensures counted { OnOk result (self.new.errors ≡ self.old.errors) }
         ensures held { OnErr result (self.new.held ≡ self.old.held) }
-        ensures kept { OnErr result (Keeps (left self.old) (left self.new)) }
+        ensures kept { OnErr result (Keeps (untaken self.old) (untaken self.new)) }
         ensures risen { OnErr result (Rises self.old.errors self.new.errors) }
     {
         self.buffer.read_from(&mut self.source)
@@ -111,9 +114,9 @@ impl<S: Source> Input<S> {
         ensures held { self.new.held ≡ [] }
         ensures bound { IfOk result (λ n. n ≤ length room.new) }
         ensures taken { IfOk result (λ n. Takes self.old self.new (take n room.new)) }
-        ensures ended { IfOk result (λ n. n ≡ 0 → 0 < length room.new → IsAtEnd (left self.new)) }
+        ensures ended { IfOk result (λ n. n ≡ 0 → 0 < length room.new → IsAtEnd (untaken self.new)) }
         ensures counted { OnOk result (self.new.errors ≡ self.old.errors) }
-        ensures kept { OnErr result (Keeps (left self.old) (left self.new)) }
+        ensures kept { OnErr result (Keeps (untaken self.old) (untaken self.new)) }
         ensures risen { OnErr result (Rises self.old.errors self.new.errors) }
     {
         self.source.read(room)
@@ -131,7 +134,7 @@ impl<S: Source> Input<S> {
             if let Some((line, _)) = split_line(self.held()) {
                 return Ok(Front::Line(line.len()));
             }
-            if self.held().len() > MAX_COMMAND_BYTES {
+            if self.held().len() > MAX_LINE_BYTES {
                 return Ok(Front::Long);
             }
             match self.read_more() {
@@ -159,11 +162,11 @@ impl<S: Source> Input<S> {
     {
         let mut seen = self.held().len();
         self.clear();
-        while seen < MAX_LINE_BYTES {
+        while seen < LONG_LINE_BYTES {
             if self.read_more()? == 0 {
                 return Ok(Passed::End);
             }
-            let wanted = (MAX_LINE_BYTES - seen).min(self.held().len());
+            let wanted = (LONG_LINE_BYTES - seen).min(self.held().len());
             let (front, _) = self.held().split_at(wanted);
             if let Some((line, _)) = split_line(front) {
                 let count = line.len() + 1;

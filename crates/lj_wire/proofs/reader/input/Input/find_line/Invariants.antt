@@ -1,12 +1,12 @@
 use Rattle.std.proofs.Common.{◌≡◌, ◌-◌, length}
 use Rattle.std.specs.Io.KnownBytes.{Keeps}
-use Rattle.lj_wire.specs.Ahead.{left}
+use Rattle.lj_wire.specs.Ahead.{untaken}
 use Rattle.lj_wire.proofs.reader.input.Input.find_line.Given as goal
 
 -- what is read is not yet taken
 abbrev pub invariant-reads : goal.invariant-reads
 invariant-reads g l = record {
-  kept : Keeps (left l.fn.self) (left l.self);
+  kept : Keeps (untaken l.fn.self) (untaken l.self);
   errors : l.self.errors ≡ l.fn.self.errors;
 }
 

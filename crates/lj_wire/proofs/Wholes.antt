@@ -1,0 +1,146 @@
+-- Items read whole, and parts of items.
+use Rattle.std.proofs.Common.{◌≡◌, ℕ, ◌+◌, ◌<◌, ◌≤◌, Bool, true, false, cond, List, [], ◌∷◌, ◌++◌, length, take, drop, Option, Some, None, inl, inr, refl, sym, ap, ◌∙◌, subst, arith, append_assoc}
+use Rattle.std.proofs.lemmas.Bool.{lt-ltb}
+use Rattle.std.proofs.lemmas.List.{append-nil, drop_at, take_at, length-append}
+use Rattle.std.proofs.KnownBytes.{Consumes-nil}
+use Rattle.std.specs.Io.KnownBytes.{Keeps, Consumes}
+use Rattle.lj_session.specs.declared.body.LoadBody.{LoadBody}
+use Rattle.lj_session.specs.declared.body.LoadBody.TheVariants.{Unread, Lost, Read}
+use Rattle.lj_session.specs.declared.command.Command.TheVariants.{Load, Advance, Reverse, Branch, Restore, Forget, Tug, Measure, Show, Dump, List as ListSessions, ListBranches, Unload, Bye}
+use Rattle.lj_wire.specs.declared.limits.TheConstants.{MAX_LINE_BYTES, LONG_LINE_BYTES, MAX_ITEMS}
+use Rattle.lj_wire.specs.declared.reader.buffer.TheConstants.{MAX_HELD_BYTES}
+use Rattle.lj_wire.specs.declared.item.Fault.TheVariants.{Line, Long, Enough}
+use Rattle.lj_wire.specs.declared.item.Item.{Item}
+use Rattle.lj_wire.specs.declared.item.Item.TheVariants.{Command, Bad, Last}
+use Rattle.lj_wire.specs.Ahead.{Ahead, untaken, Takes, HoldsLine, TakesPart}
+use Rattle.lj_wire.specs.Commands.{announced, is_over, over_item, body_len, words_in, item_of_words, item_with, item_of}
+use Rattle.lj_wire.specs.Items.{with_body}
+use Rattle.lj_wire.specs.declared.reader.phase.Phase.TheVariants.{Open, Over}
+use Rattle.lj_wire.specs.Standings.{Standing, IsLost, IsHandedOut, HandsOut}
+use Rattle.lj_wire.specs.Steps.{TakesLongLine, TakesLong, TakesFewer, ReadsBody, TakesRest, Finishes, TakesNoItem, ReadsItem, takes_body}
+use Rattle.lj_wire.specs.Streams.{LacksLineFeed, IsLine, IsOpenBody}
+use Rattle.lj_wire.proofs.Filling.{line_filled}
+use Rattle.lj_wire.proofs.Taking.{Takes-trans, Takes-held, Kept-takes}
+
+-- a LOAD whose body is lost
+lost : (item : Item) (body : List ℕ) (handed : Item) → takes_body item ≡ true → handed ≡ with_body item Lost → IsLost (with_body item (Read body)) handed
+lost (Command (Load load)) body handed can is = record { load = load; body = body; found_is = refl; item_is = is }
+lost (Command (Advance name steps)) body handed can is = cc
+lost (Command (Reverse name)) body handed can is = cc
+lost (Command (Branch name branch)) body handed can is = cc
+lost (Command (Restore name branch)) body handed can is = cc
+lost (Command (Forget name branch)) body handed can is = cc
+lost (Command (Tug name atom x y z)) body handed can is = cc
+lost (Command (Measure name)) body handed can is = cc
+lost (Command (Show name atom)) body handed can is = cc
+lost (Command (Dump name)) body handed can is = cc
+lost (Command ListSessions) body handed can is = cc
+lost (Command (ListBranches name)) body handed can is = cc
+lost (Command (Unload name)) body handed can is = cc
+lost (Command Bye) body handed can is = cc
+lost (Bad fault) body handed can is = cc
+lost (Last fault) body handed can is = cc
+
+-- the body of a LOAD was read, or passed over for want of memory
+pub rest_taken : (old new : Ahead) (item : Item) (count : ℕ) (body : LoadBody) (handed : Item) → takes_body item ≡ true
+    → ReadsBody old (Some body) count new → handed ≡ with_body item body → TakesRest old new item count handed
+rest_taken old new item count (Read body) handed can read is = record { body = body; taken = read.0; counted = read.1; is_handed = inl is }
+rest_taken old new item count Lost handed can passed is =
+    record { body = passed.bytes; taken = passed.taken; counted = passed.counted; is_handed = inr (lost item passed.bytes handed can is) }
+rest_taken old new item count Unread handed can none is = absurd none
+
+-- the line of an item was taken, with its line feed
+pub record LineTaken (old new : Ahead) (line : List ℕ) : Type 0 where
+  pub taken : Takes old new (line ++ 10 ∷ [])
+  pub is_line : IsLine line
+
+pub line_taken : (old mid new : Ahead) (count : ℕ) (line : List ℕ) → Keeps (untaken old) (untaken mid) → HoldsLine mid count
+    → line ≡ take count mid.held → length mid.held ≤ MAX_HELD_BYTES → new.held ≡ drop (count + 1) mid.held → new.unread ≡ mid.unread
+    → LineTaken old new line
+line_taken old mid new count line kept h is bounded held unread =
+    let same : line ≡ h.line = is ∙ ap (take count) h.held ∙ take_at h.line (10 ∷ h.behind) count h.counted in
+    let feed = h.line ++ 10 ∷ [] in
+    let cut : mid.held ≡ feed ++ h.behind = h.held ∙ sym (append_assoc h.line (10 ∷ []) h.behind) in
+    let sizes = length-append h.line (10 ∷ h.behind) in
+    let counted : length feed ≡ count + 1 = length-append h.line (10 ∷ []) ∙ ap (λ n. n + 1) h.counted in
+    let left : new.held ≡ h.behind = held ∙ ap (drop (count + 1)) cut ∙ drop_at feed h.behind (count + 1) counted in
+    let taken = Kept-takes old mid new feed kept (Takes-held mid new feed h.behind cut left unread) in
+    let is_line : IsLine h.line = (h.one_line, omega (arith, ap length h.held, sizes, bounded)) in
+    record {
+      taken = subst (λ (l : List ℕ). Takes old new (l ++ 10 ∷ [])) (sym same) taken;
+      is_line = subst IsLine (sym same) is_line;
+    }
+
+-- less than the body was taken
+pub open_body : (old mid new : Ahead) (line : List ℕ) (count : ℕ) → LineTaken old mid line → count ≡ announced line → TakesFewer mid new count
+    → TakesNoItem old new
+open_body old mid new line count t n f = record {
+  part = line ++ 10 ∷ f.part;
+  taken = subst (Takes old new) (append_assoc line (10 ∷ []) f.part) (Takes-trans old mid new (line ++ 10 ∷ []) f.part t.taken f.taken);
+  is_part = inr (record { line = line; body = f.part; whole = refl; is_line = t.is_line; announces = omega (arith, n, f.fewer) });
+}
+
+-- the rest of the item was taken behind its line
+pub finished : (old mid new : Ahead) (line : List ℕ) (item : Item) (count : ℕ) (handed : Option Item) → LineTaken old mid line
+    → item ≡ item_with line Unread → count ≡ announced line → Finishes mid item count handed new → ReadsItem old handed new
+finished old mid new line item count (Some handed) t is n f = record {
+  front = line ++ 10 ∷ f.body;
+  found = item_of line f.body;
+  taken = subst (Takes old new) (append_assoc line (10 ∷ []) f.body) (Takes-trans old mid new (line ++ 10 ∷ []) f.body t.taken f.taken);
+  is_item = inl (record { line = line; body = f.body; whole = refl; is_line = t.is_line; announces = f.counted ∙ n; means = refl });
+  is_handed = subst (λ found. IsHandedOut found handed) (ap (λ i. with_body i (Read f.body)) is ∙ line_filled line (Read f.body)) f.is_handed;
+}
+finished old mid new line item count None t is n f = (open_body old mid new line count t n f.0, f.1)
+
+-- a line of more than 256 bytes is an item without a body
+pub long_line : (old mid new : Ahead) → Keeps (untaken old) (untaken mid) → TakesLongLine mid new → ReadsItem old (Some (Bad Line)) new
+long_line old mid new kept t =
+    let over : is_over t.line ≡ true = lt-ltb MAX_LINE_BYTES (length t.line) t.long in
+    let less = lt-ltb (length t.line) LONG_LINE_BYTES t.is_line.1 in
+    record {
+      front = t.line ++ 10 ∷ [];
+      found = Bad Line;
+      taken = Kept-takes old mid new (t.line ++ 10 ∷ []) kept t.taken;
+      is_item = inl (record {
+        line = t.line;
+        body = [];
+        whole = refl;
+        is_line = t.is_line;
+        announces = ap (λ b. cond b 0 (body_len (words_in t.line))) (sym over);
+        means = ap (λ b. cond b (Bad Line) (Last Long)) (sym less) ∙ ap (λ b. cond b (over_item t.line) (item_of_words (words_in t.line) (Read []))) (sym over);
+      });
+      is_handed = inl refl;
+    }
+
+-- what is too long for a line ends the connection
+pub too_long : (old mid new : Ahead) → Keeps (untaken old) (untaken mid) → TakesLong mid new → ReadsItem old (Some (Last Long)) new
+too_long old mid new kept t = record {
+  front = t.bytes;
+  found = Last Long;
+  taken = Kept-takes old mid new t.bytes kept t.taken;
+  is_item = inr (record { one_line = t.one_line; long = t.long; means = refl });
+  is_handed = inl refl;
+}
+
+-- less than a line was taken
+pub open_line : (old mid new : Ahead) → Keeps (untaken old) (untaken mid) → TakesPart mid new → TakesNoItem old new
+open_line old mid new kept t = record {
+  part = t.part;
+  taken = Kept-takes old mid new t.part kept t.taken;
+  is_part = inl t.is_line;
+}
+
+-- after a million items the last fault is handed out, for which nothing is taken
+pub enough : (old new : Standing) → old.phase ≡ Open → old.items ≡ MAX_ITEMS → old.left ≡ new.left → new.items ≡ old.items + 1
+    → new.errors ≡ old.errors → new.phase ≡ Over → HandsOut old new (Last Enough)
+enough old new is_open items left counted errors over = record {
+  was_open = is_open;
+  front = [];
+  found = Last Enough;
+  taken = subst (λ (l : Option (List ℕ)). Consumes old.left l []) left (Consumes-nil old.left);
+  is_item = inr (items, refl, refl);
+  is_found = inl refl;
+  items_is = counted;
+  errors_is = errors;
+  phase_is = over;
+}

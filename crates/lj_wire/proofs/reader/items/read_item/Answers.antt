@@ -1,0 +1,46 @@
+use Rattle.std.proofs.Common.{ℕ, ◌+◌, ◌≤◌, length, take, ap, ◌∙◌, arith}
+use Rattle.std.proofs.lemmas.Result.{IfOk-weaker, IfErr-weaker}
+use Rattle.lj_wire.specs.declared.reader.buffer.TheConstants.{MAX_HELD_BYTES}
+use Rattle.lj_wire.specs.declared.reader.input.Front.TheVariants as front
+use Rattle.lj_wire.specs.declared.reader.input.Passed.TheVariants as passed
+use Rattle.lj_wire.specs.Steps.{Finds, Passes}
+use Rattle.lj_wire.proofs.Wholes.{line_taken, finished, open_body, long_line, too_long}
+use Rattle.lj_wire.proofs.reader.items.read_item.Goals as goal
+
+pub returns-in-Line-clause-item : goal.returns-in-Line-clause-item
+returns-in-Line-clause-item g c =
+    let mid = c.find_line.new.self in
+    let found : Finds c.args.input.now (front.Line c.in-Line.count) mid = rw c.in-Line.is at c.in_ok-count.ensures.found in
+    let line = c.split_at.result.0.now in
+    let bounded : length mid.held ≤ MAX_HELD_BYTES = omega (arith, c.held.ensures.bounded, ap length c.held.ensures.value) in
+    let t = line_taken c.args.input.now mid c.take.new.self c.in-Line.count line found.0 found.1
+    (c.split_at.ensures.front ∙ ap (take c.in-Line.count) c.held.ensures.value) bounded (ap (λ a. a.held) c.take.ensures) (ap (λ a. a.unread) c.take.ensures) in
+    IfOk-weaker c.finish.result _ _
+    (λ handed f. finished c.args.input.now c.take.new.self c.finish.new.input line _ _ handed t c.read_line-reading.ensures.item c.read_line-reading.ensures.body f)
+    c.finish.ensures.item
+
+pub returns-in-Line-clause-part : goal.returns-in-Line-clause-part
+returns-in-Line-clause-part g c =
+    let mid = c.find_line.new.self in
+    let found : Finds c.args.input.now (front.Line c.in-Line.count) mid = rw c.in-Line.is at c.in_ok-count.ensures.found in
+    let line = c.split_at.result.0.now in
+    let bounded : length mid.held ≤ MAX_HELD_BYTES = omega (arith, c.held.ensures.bounded, ap length c.held.ensures.value) in
+    let t = line_taken c.args.input.now mid c.take.new.self c.in-Line.count line found.0 found.1
+    (c.split_at.ensures.front ∙ ap (take c.in-Line.count) c.held.ensures.value) bounded (ap (λ a. a.held) c.take.ensures) (ap (λ a. a.unread) c.take.ensures) in
+    IfErr-weaker c.finish.result _ _
+    (λ fault f. open_body c.args.input.now c.take.new.self c.finish.new.input line _ t c.read_line-reading.ensures.body f)
+    c.finish.ensures.part
+
+pub returns-in-Line-2-clause-item : goal.returns-in-Line-2-clause-item
+returns-in-Line-2-clause-item g c =
+    let mid = c.find_line.new.self in
+    let found : Finds c.args.input.now front.Long mid = rw c.in-Long.is at c.in_ok-count.ensures.found in
+    let passes : Passes mid passed.Line c.pass_line.new.self = rw c.in-Line-2.is at c.in_ok-pass_line-in-Long.ensures.passed in
+    long_line c.args.input.now mid c.pass_line.new.self found.0 passes
+
+pub returns-in-Long-2-clause-item : goal.returns-in-Long-2-clause-item
+returns-in-Long-2-clause-item g c =
+    let mid = c.find_line.new.self in
+    let found : Finds c.args.input.now front.Long mid = rw c.in-Long.is at c.in_ok-count.ensures.found in
+    let passes : Passes mid passed.Long c.pass_line.new.self = rw c.in-Long-2.is at c.in_ok-pass_line-in-Long.ensures.passed in
+    too_long c.args.input.now mid c.pass_line.new.self found.0 passes

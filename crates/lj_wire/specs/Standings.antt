@@ -1,0 +1,73 @@
+-- How a reader of lines stands, and what each call for the next item does to that.
+use Rattle.std.specs.Prelude.{◌≡◌, ℕ, ◌+◌, List, [], ◌∷◌, Option, Some, ◌⊎◌, if◌then◌else◌}
+use Rattle.std.specs.Io.KnownBytes.{Consumes, IsAtEnd}
+use Rattle.lj_session.specs.declared.body.LoadBody.TheVariants.{Lost, Read}
+use Rattle.lj_session.specs.declared.command.Load.{Load as LoadParts}
+use Rattle.lj_session.specs.declared.command.Command.TheVariants.{Load}
+use Rattle.lj_wire.specs.declared.item.Item.{Item}
+use Rattle.lj_wire.specs.declared.item.Item.TheVariants.{Command}
+use Rattle.lj_wire.specs.declared.reader.phase.Phase.{Phase}
+use Rattle.lj_wire.specs.declared.reader.phase.Phase.TheVariants.{Open, Over, Failed}
+use Rattle.lj_wire.specs.Ends.{Rises}
+use Rattle.lj_wire.specs.Items.{ends}
+use Rattle.lj_wire.specs.Streams.{IsItem, IsPart}
+
+-- How a reader stands. `left` has the bytes that are in no item yet, where the source tells them: those that were read
+-- ahead, and then those that the source still has. `errors` is the source's count of errors.
+pub record Standing : Type 0 where
+  pub left : Option (List ℕ)
+  pub errors : Option ℕ
+  pub items : ℕ
+  pub phase : Phase
+
+-- a LOAD, and the same with the mark of lost memory in place of its body
+pub record IsLost (found item : Item) : Type 0 where
+  pub load : LoadParts
+  pub body : List ℕ
+  pub found_is : found ≡ Command (Load (record load { body = Read body }))
+  pub item_is : item ≡ Command (Load (record load { body = Lost }))
+
+-- what is handed out for an item of the stream: that item, or where no memory was found for its body its LOAD with the mark
+abbrev pub IsHandedOut : Item → Item → Type 0
+IsHandedOut found item = (item ≡ found) ⊎ IsLost found item
+
+-- the next item of the stream was handed out, and the reader is over where it ends the connection
+pub record HandsOut (old new : Standing) (item : Item) : Type 0 where
+  pub was_open : old.phase ≡ Open
+  pub front : List ℕ
+  pub found : Item
+  pub taken : Consumes old.left new.left front
+  pub is_item : IsItem old.items front found
+  pub is_found : IsHandedOut found item
+  pub items_is : new.items ≡ old.items + 1
+  pub errors_is : new.errors ≡ old.errors
+  pub phase_is : new.phase ≡ (if ends item then Over else Open)
+
+-- the input has ended in less than an item, which was taken
+pub record Ceases (old new : Standing) : Type 0 where
+  pub was_open : old.phase ≡ Open
+  pub part : List ℕ
+  pub taken : Consumes old.left new.left part
+  pub is_part : IsPart old.items part
+  pub at_end : IsAtEnd new.left
+  pub items_is : new.items ≡ old.items
+  pub errors_is : new.errors ≡ old.errors
+  pub phase_is : new.phase ≡ Over
+
+-- a read has failed in less than an item, which was taken
+pub record Fails (old new : Standing) : Type 0 where
+  pub was_open : old.phase ≡ Open
+  pub part : List ℕ
+  pub taken : Consumes old.left new.left part
+  pub is_part : IsPart old.items part
+  pub items_is : new.items ≡ old.items
+  pub errors_rise : Rises old.errors new.errors
+  pub phase_is : new.phase ≡ Failed
+
+-- none comes: the reader was over already and nothing has changed, or the input has ended
+abbrev pub HandsNone : Standing → Standing → Type 0
+HandsNone old new = (old.phase ≡ Over) × (new ≡ old) ⊎ Ceases old new
+
+-- a fault: the reader had failed already and nothing has changed, or a read has failed
+abbrev pub HasFailed : Standing → Standing → Type 0
+HasFailed old new = (old.phase ≡ Failed) × (new ≡ old) ⊎ Fails old new
