@@ -1,47 +1,30 @@
 -- The count that a word says, and the last of some words.
-use Rattle.std.proofs.Common.{◌≡◌, ℕ, ◌≤◌, ◌<◌, Bool, true, false, List, [], ◌∷◌, length, map, Option, Some, None, cond, nat_le, unwrap_or, ap, ◌∙◌, Bor, refl, arith}
+use Rattle.std.proofs.Common.{◌≡◌, ℕ, ◌≤◌, Bool, true, false, List, [], ◌∷◌, length, map, Option, Some, None, cond, nat_le, ◌&&◌, unwrap_or, ap, ◌∙◌, Bor, refl, arith}
 use Rattle.std.specs.List.{last_or}
 use Rattle.std.specs.Option.{option_map}
 use Rattle.std.specs.Iterator.{Drains, YieldsFirstRef}
-use Rattle.std.proofs.lemmas.Bool.{le-leb, leb-true, lt-leb}
+use Rattle.std.proofs.lemmas.Bool.{leb-true}
 use Rattle.lj_fixed.specs.Numbers.{number_of}
 use Rattle.lj_wire.specs.Verbs.{is_load}
 use Rattle.lj_wire.specs.Commands.{◌>>=◌, Words, count_of, last_count, is_over, words_in, body_len, announced}
 
-count_of-at : (word : List ℕ) (number : Option ℕ) → length word ≤ 7 → number_of word ≡ number
-    → count_of word ≡ (number >>= λ count. cond (nat_le count 1048576) (Some count) None)
-unfolding count_of
-count_of-at word number h e = rw (le-leb (length word) 7 h, e) refl
-
-pub count_of-none : (word : List ℕ) → length word ≤ 7 → number_of word ≡ None → count_of word ≡ None
-count_of-none word h e = count_of-at word None h e
-
-pub count_of-over : (word : List ℕ) (count : ℕ) → length word ≤ 7 → number_of word ≡ Some count → 1048576 < count → count_of word ≡ None
-count_of-over word count h e over = count_of-at word (Some count) h e ∙ rw (lt-leb count 1048576 over) refl
-
-pub count_of-within : (word : List ℕ) (count : ℕ) → length word ≤ 7 → number_of word ≡ Some count → count ≤ 1048576 → count_of word ≡ Some count
-count_of-within word count h e within = count_of-at word (Some count) h e ∙ rw (le-leb count 1048576 within) refl
-
 -- no count is above its limit
-limited : (count : ℕ) → unwrap_or (cond (nat_le count 1048576) (Some count) None) 0 ≤ 1048576
-limited count = by_test (nat_le count 1048576) refl
+limited : (short : Bool) (count : ℕ) → unwrap_or (cond (short && nat_le count 1048576) (Some count) None) 0 ≤ 1048576
+limited false count = omega arith
+limited true count = by_test (nat_le count 1048576) refl
   where
     by_test : (test : Bool) → nat_le count 1048576 ≡ test → unwrap_or (cond test (Some count) None) 0 ≤ 1048576
     by_test true e = leb-true count 1048576 e
     by_test false e = omega arith
 
-limited_number : (number : Option ℕ) → unwrap_or (number >>= λ count. cond (nat_le count 1048576) (Some count) None) 0 ≤ 1048576
-limited_number None = omega arith
-limited_number (Some count) = limited count
-
 count_of-most : (word : List ℕ) → unwrap_or (count_of word) 0 ≤ 1048576
 unfolding count_of
-count_of-most word = by_test (nat_le (length word) 7)
+count_of-most word = by_number (number_of word)
   where
-    by_test : (short : Bool)
-        → unwrap_or (cond short (number_of word >>= λ count. cond (nat_le count 1048576) (Some count) None) None) 0 ≤ 1048576
-    by_test true = limited_number (number_of word)
-    by_test false = omega arith
+    by_number : (number : Option ℕ)
+        → unwrap_or (number >>= λ count. cond (nat_le (length word) 7 && nat_le count 1048576) (Some count) None) 0 ≤ 1048576
+    by_number None = omega arith
+    by_number (Some count) = limited (nat_le (length word) 7) count
 
 last_count-most : (words : Words) → unwrap_or (last_count words) 0 ≤ 1048576
 last_count-most words = by_last (last_or None words)

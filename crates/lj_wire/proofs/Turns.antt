@@ -1,5 +1,5 @@
 -- The turns of what runs.
-use Rattle.std.proofs.Common.{◌≡◌, ℕ, ◌+◌, ◌<◌, Bool, false, refl, ap, arith}
+use Rattle.std.proofs.Common.{◌≡◌, ◌+◌, ◌<◌, Bool, false, refl, ap, arith}
 use Rattle.lj_session.specs.declared.command.Command.{Command}
 use Rattle.lj_session.specs.declared.command.Command.TheVariants.{Load, Advance, Reverse, Branch, Restore, Forget, Tug, Measure, Show, Dump, List as ListSessions, ListBranches, Unload, Bye}
 use Rattle.lj_session.specs.Users.{User}

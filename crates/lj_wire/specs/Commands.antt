@@ -4,6 +4,7 @@ use Rattle.std.specs.Prelude.{
   Bool,
   nat_le,
   nat_lt,
+  ◌&&◌,
   List,
   [],
   ◌∷◌,
@@ -146,9 +147,9 @@ load_command body words = option_map (λ load. command.Load (record load { body 
 
 -- the number that a word of at most 7 digits says, where it is at most 1,048,576
 unfoldable pub count_of : List ℕ → Option ℕ
-count_of word = if nat_le (length word) MAX_COUNT_DIGITS then (do
+count_of word = do
   count ← number_of word
-  if nat_le count MAX_BODY_BYTES then Some count else None) else None
+  if nat_le (length word) MAX_COUNT_DIGITS && nat_le count MAX_BODY_BYTES then Some count else None
 
 -- the count of a LOAD line: its last word after LOAD
 abbrev pub last_count : Words → Option ℕ

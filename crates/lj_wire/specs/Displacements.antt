@@ -1,5 +1,6 @@
 -- Displacements as words.
-use Rattle.std.specs.Prelude.{ℕ, ◌^◌, Bool, ◌&&◌, ℤ, pos, neg_ℤ, ◌-ℤ◌, int_le, List, drop, Option, Some, None, if◌then◌else◌}
+use Rattle.std.specs.Prelude.{ℕ, ◌^◌, Bool, ◌&&◌, ℤ, pos, neg_ℤ, ◌-ℤ◌, int_le}
+use Rattle.std.specs.Prelude.{List, drop, Option, Some, None, if◌then◌else◌}
 use Rattle.std.specs.Option.{option_map, option_and_then}
 use Rattle.std.specs.Str.Parse.{starts_with_minus}
 use Rattle.lj_fixed.specs.Numbers.{number_of}

@@ -16,14 +16,12 @@ use lj_session::{Command, Load, LoadBody, Mode, Name};
 const MAX_COUNT_DIGITS: usize = 7;
 
 // The count that a word says: 1 to 7 digits, at most 1,048,576.
+#[tactic(auto, unfolding(crate::specs::Commands::count_of))]
 pub(crate) fn parse_count(word: &[u8]) -> Option<usize>
     ensures { result ≡ count_of word.now }
 {
-    if word.len() > MAX_COUNT_DIGITS {
-        return None;
-    }
     let count = parse_number(word)?;
-    if count > MAX_BODY_BYTES {
+    if word.len() > MAX_COUNT_DIGITS || count > MAX_BODY_BYTES {
         return None;
     }
     Some(count as usize)
