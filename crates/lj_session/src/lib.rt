@@ -20,3 +20,6 @@ pub use owner::{Begin, Owner};
 pub use refusal::Refusal;
 pub use reply::Reply;
 pub use state::UserState;
+
+#[cfg(test)]
+mod tests;
