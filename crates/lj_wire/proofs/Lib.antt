@@ -15,3 +15,4 @@ pub mod Buffers
 pub mod Taking
 pub mod Passing
 pub mod Wholes
+pub mod Handed

@@ -83,7 +83,7 @@ long_long front other behind after item next e i j =
     ((same_front front other behind after (i.long ∙ sym j.long) e).1, i.means ∙ sym j.means)
 
 -- the item at the front of bytes, and what stands behind it, are one
-same_item : (n : ℕ) (front other behind after : List ℕ) (item next : Item) → front ++ behind ≡ other ++ after → IsItem n front item → IsItem n other next
+pub same_item : (n : ℕ) (front other behind after : List ℕ) (item next : Item) → front ++ behind ≡ other ++ after → IsItem n front item → IsItem n other next
     → (behind ≡ after) × (item ≡ next)
 same_item n front other behind after item next e (inl i) (inl j) = of_kinds i.1 j.1
   where
@@ -114,7 +114,7 @@ long_body front behind part item e i o =
     no_feed_beyond o.line o.body front behind (sym o.whole ∙ sym e) i.one_line (omega (arith, i.long, o.is_line.1))
 
 -- what begins with an item is no part of one
-no_part : (n : ℕ) (front behind part : List ℕ) (item : Item) → front ++ behind ≡ part → IsItem n front item → IsPart n part → ⊥
+pub no_part : (n : ℕ) (front behind part : List ℕ) (item : Item) → front ++ behind ≡ part → IsItem n front item → IsPart n part → ⊥
 no_part n front behind part item e (inl i) p = of_kinds i.1 p.1
   where
     of_kinds : IsLineItem front item ⊎ IsLongItem front item → IsLine part ⊎ IsOpenBody part → ⊥

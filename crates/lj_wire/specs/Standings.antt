@@ -1,5 +1,5 @@
 -- How a reader of lines stands, and what each call for the next item does to that.
-use Rattle.std.specs.Prelude.{◌≡◌, ℕ, ◌+◌, List, [], ◌∷◌, Option, Some, ◌⊎◌, if◌then◌else◌}
+use Rattle.std.specs.Prelude.{◌≡◌, ℕ, ◌+◌, Bool, true, List, [], ◌∷◌, ◌++◌, Option, Some, ◌⊎◌, if◌then◌else◌}
 use Rattle.std.specs.Io.KnownBytes.{Consumes, IsAtEnd}
 use Rattle.lj_session.specs.declared.body.LoadBody.TheVariants.{Lost, Read}
 use Rattle.lj_session.specs.declared.command.Load.{Load as LoadParts}
@@ -10,7 +10,9 @@ use Rattle.lj_wire.specs.declared.reader.phase.Phase.{Phase}
 use Rattle.lj_wire.specs.declared.reader.phase.Phase.TheVariants.{Open, Over, Failed}
 use Rattle.lj_wire.specs.Ends.{Rises}
 use Rattle.lj_wire.specs.Items.{ends}
-use Rattle.lj_wire.specs.Streams.{IsItem, IsPart}
+use Rattle.lj_session.specs.Users.{User}
+use Rattle.lj_wire.specs.Streams.{IsItem, IsPart, Splits}
+use Rattle.lj_wire.specs.Told.{answered}
 
 -- How a reader stands. `left` has the bytes that are in no item yet, where the source tells them: those that were read
 -- ahead, and then those that the source still has. `errors` is the source's count of errors.
@@ -71,3 +73,33 @@ HandsNone old new = (old.phase ≡ Over) × (new ≡ old) ⊎ Ceases old new
 -- a fault: the reader had failed already and nothing has changed, or a read has failed
 abbrev pub HasFailed : Standing → Standing → Type 0
 HasFailed old new = (old.phase ≡ Failed) × (new ≡ old) ⊎ Fails old new
+
+-- items that were handed out one after the other
+abbrev pub HandsAll : Standing → List Item → Standing → Type 0
+HandsAll old [] new = new ≡ old
+HandsAll old (item ∷ items) new = (next : Standing) × HandsOut old next item × HandsAll next items new
+
+-- what was handed out for items of the stream, one for one
+abbrev pub AreHandedOut : List Item → List Item → Type 0
+AreHandedOut [] [] = Unit {0}
+AreHandedOut (found ∷ founds) (item ∷ items) = IsHandedOut found item × AreHandedOut founds items
+AreHandedOut [] (item ∷ items) = ⊥
+AreHandedOut (found ∷ founds) [] = ⊥
+
+-- The items that are handed out one after the other are the first items of the bytes that are left, but that LOADs for
+-- whose bodies no memory was found are marked.
+abbrev pub HandedComeFirst : Type 0
+HandedComeFirst = (old new : Standing) (bytes rest : List ℕ) (handed items : List Item)
+    → old.left ≡ Some bytes → HandsAll old handed new → Splits old.items bytes items rest
+    → (founds : List Item) × (others : List Item) × (items ≡ founds ++ others) × AreHandedOut founds handed
+
+-- At the end of the input the items that were handed out are all items of the bytes that were left.
+abbrev pub HandedAreAll : Type 0
+HandedAreAll = (old last new : Standing) (bytes rest : List ℕ) (handed items : List Item)
+    → old.left ≡ Some bytes → HandsAll old handed last → Ceases last new → Splits old.items bytes items rest
+    → AreHandedOut items handed
+
+-- What is answered to a LOAD whose body is lost is what is answered where memory is refused to the LOAD.
+abbrev pub LostIsMarked : Type 0
+LostIsMarked = (user : User) (found item : Item) (mark : Bool) → IsLost found item
+    → answered user item mark ≡ answered user found true

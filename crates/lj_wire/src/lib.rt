@@ -20,5 +20,5 @@ pub use laws::{
 pub use limits::{LONG_LINE_BYTES, MAX_BODY_BYTES, MAX_ITEMS, MAX_LINE_BYTES};
 pub use line::split_line;
 pub use put::put_all;
-pub use reader::{LineReader, Phase};
+pub use reader::{LineReader, Phase, handed_are_all, handed_come_first, lost_is_marked};
 pub use reading::{LineReading, parse_command, read_line};

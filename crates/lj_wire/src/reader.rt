@@ -6,6 +6,7 @@ mod body;
 mod buffer;
 mod input;
 mod items;
+mod laws;
 mod phase;
 
 use crate::ends::{ReadFault, Source};
@@ -13,6 +14,7 @@ use crate::item::{Fault, Item};
 use crate::limits::MAX_ITEMS;
 use input::Input;
 use items::read_item;
+pub use laws::{handed_are_all, handed_come_first, lost_is_marked};
 pub use phase::Phase;
 use std::alloc::Global;
 use std::marker::Model;

@@ -1,0 +1,18 @@
+//! Laws of what a reader hands out: functions that do nothing, whose contracts are the laws.
+ghost use Rattle.lj_wire.specs.Standings.{HandedComeFirst, HandedAreAll, LostIsMarked};
+
+/// The items that a reader hands out are the first items of the stream, but that LOADs for whose
+/// bodies no memory was found are marked.
+pub fn handed_come_first()
+    ensures { HandedComeFirst }
+{}
+
+/// Where the input has ended, the items that a reader has handed out are all items of the stream.
+pub fn handed_are_all()
+    ensures { HandedAreAll }
+{}
+
+/// A LOAD whose body is lost is answered as a LOAD to which memory is refused.
+pub fn lost_is_marked()
+    ensures { LostIsMarked }
+{}
