@@ -1,33 +1,29 @@
 //! Blocks of places of atoms.
 ghost use Rattle.std.specs.Prelude.{◌≡◌, ◌≤◌, ◌↔◌, length, IsTrue};
-ghost use Rattle.std.specs.Cmp.{partial_equiv_from_equiv};
-ghost use Rattle.lj_tile.specs.Blocks.{same_places, same_places-equiv};
+ghost use Rattle.lj_tile.specs.Blocks.{same_places};
 
+use arrayvec::ArrayVec;
 use lj_ring::Place;
 use std::marker::Model;
 
 /// The most atoms of a block.
 pub const BLOCK: usize = 64;
 
-const ORIGIN: Place = Place { x: 0, y: 0, z: 0 };
-
 /// A block of places of atoms that stand next to each other in the file, at most `BLOCK`.
-#[derive(Debug, Drop)]
+#[derive(PartialEq, Eq, Debug, Drop)]
 pub struct Block {
-    cells: [Place; BLOCK],
-    count: usize,
+    places: ArrayVec<Place, BLOCK>,
 }
 
 impl Model for Block {
-    ghost use Rattle.std.specs.Prelude.{◌≤◌, List, take};
+    ghost use Rattle.std.specs.Prelude.{List};
     ghost use Rattle.lj_ring.specs.declared.coordinates.Place.{Place};
-    ghost use Rattle.lj_tile.specs.declared.blocks.TheConstants.{BLOCK};
 
     ghost Value = { List Place };
 
-    ghost view = { λ b. take b.count b.cells };
+    ghost view = { λ b. b.places.items };
 
-    ghost invariant = { λ b. b.count ≤ BLOCK };
+    ghost inverse = { λ places. record { places = record { items = places } } };
 }
 
 impl Block {
@@ -36,11 +32,8 @@ impl Block {
         requires { length places.now ≤ BLOCK }
         ensures { result ≡ places.now }
     {
-        let mut cells = [ORIGIN; BLOCK];
-        cells[..places.len()].copy_from_slice(places);
         Block {
-            cells,
-            count: places.len(),
+            places: ArrayVec::try_from(places).unwrap(),
         }
     }
 
@@ -50,17 +43,14 @@ impl Block {
         ensures value { result.now ≡ self.now }
         ensures most { length result.now ≤ BLOCK }
     {
-        &self.cells[..self.count]
+        self.places.as_slice()
     }
 
     /// An equal block.
     pub fn copy(&self) -> Block
         ensures { result ≡ self.now }
     {
-        Block {
-            cells: self.cells,
-            count: self.count,
-        }
+        Block::new(self.places())
     }
 
     /// Whether these are its places.
@@ -82,18 +72,4 @@ fn are_same(a: &[Place], b: &[Place]) -> bool
     ensures { result ≡ same_places a.now b.now }
 {
     a == b
-}
-
-impl PartialEq for Block {
-    ghost eq = { same_places };
-
-    ghost laws = { partial_equiv_from_equiv same_places-equiv };
-
-    fn eq(&self, other: &Self) -> bool {
-        are_same(self.places(), other.places())
-    }
-}
-
-impl Eq for Block {
-    ghost laws = { same_places-equiv };
 }
