@@ -1,3 +1,4 @@
+//! The list of what is saved.
 ghost use Rattle.std.specs.Prelude.{◌≡◌, ◌↔◌, ◌<◌, ◌++◌, ◌∷◌, [], length, slice_get, Some, IsTrue, IsSome, IfSome, IsOk, OnOk, OnErr, IsErrOf, option_map};
 ghost use Rattle.std.specs.List.{IsDistinct};
 ghost use Rattle.std.specs.Option.{ForSome};
@@ -54,8 +55,10 @@ impl Branches {
             return Err(SaveFault::Exists);
         }
         let copy = sim.snapshot()?;
-        self.saved.insert(name, copy)?;
-        Ok(())
+        match self.saved.insert(name, copy) {
+            Ok(_) => Ok(()),
+            Err(_) => Err(SaveFault::Memory),
+        }
     }
 
     /// Puts a simulation back to what is saved under a name, which stays saved. An open step is closed.

@@ -1,7 +1,8 @@
+//! What saving and restoring can fail by.
 ghost use Rattle.std.specs.Prelude.{◌≡◌};
 ghost use Rattle.lj_branch.specs.declared.faults.SaveFault.TheVariants.{Memory};
 
-use std::alloc::{AllocError, AllocFailed};
+use std::alloc::AllocError;
 use thiserror::Error;
 
 /// Why a simulation was not saved.
@@ -9,7 +10,7 @@ use thiserror::Error;
 pub enum SaveFault {
     #[error("a simulation is saved under this name already")]
     Exists,
-    #[error("no memory for the copy")]
+    #[error("out of memory")]
     Memory,
 }
 
@@ -17,14 +18,6 @@ impl From<AllocError> for SaveFault {
     ghost from_gives = { λ _ fault. fault ≡ Memory };
 
     fn from(_error: AllocError) -> SaveFault {
-        SaveFault::Memory
-    }
-}
-
-impl<T: Drop> From<AllocFailed<T>> for SaveFault {
-    ghost from_gives = { λ _ fault. fault ≡ Memory };
-
-    fn from(_failed: AllocFailed<T>) -> SaveFault {
         SaveFault::Memory
     }
 }

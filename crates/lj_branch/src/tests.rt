@@ -1,3 +1,6 @@
+//! Branches as they are used, and want of memory.
+ghost use Rattle.std.specs.Prelude.{◌≤◌, length};
+
 use crate::{Branches, NoBranch, SaveFault};
 use lj_fixed::Nano;
 use lj_ring::{Place, Scale};
@@ -17,16 +20,23 @@ const RIGHT: Place = Place {
     z: 0,
 };
 
-/// Two atoms at rest, in a box with an edge of 256 and sigma 1.
-fn dimer(rt: &(impl Abort + AllocGlobal)) -> Result<Sim, AllocError> {
+/// Atoms at rest, in a box with an edge of 256 and sigma 1.
+fn at_rest(places: &[Place], rt: &(impl Abort + AllocGlobal)) -> Result<Sim, AllocError>
+    requires some { 1 ≤ length places.now }
+    requires most { length places.now ≤ 4096 }
+{
     let edge = Nano::new(256_000_000_000).expect(rt, "an edge");
     let sigma = Nano::new(1_000_000_000).expect(rt, "a sigma");
     let scale = Scale::new(edge, sigma, 131_072).ok().expect(rt, "a scale");
     let frames = Frames {
-        prev: Frame::new(Vec::from_slice(rt.alloc(), &[LEFT, RIGHT])?),
-        cur: Frame::new(Vec::from_slice(rt.alloc(), &[LEFT, RIGHT])?),
+        prev: Frame::new(Vec::from_slice(rt.alloc(), places)?),
+        cur: Frame::new(Vec::from_slice(rt.alloc(), places)?),
     };
     Sim::new(rt.alloc(), frames, scale)
+}
+
+fn dimer(rt: &(impl Abort + AllocGlobal)) -> Result<Sim, AllocError> {
+    at_rest(&[LEFT, RIGHT], rt)
 }
 
 fn name(word: &str, rt: &impl Abort) -> Name {
@@ -164,23 +174,51 @@ fn the_order_is_that_of_saving(rt: HostRuntime) -> Result<(), Fail> {
     Ok(())
 }
 
-/// Any one growth may be refused (`rt try --test --fail-alloc`); the same call then succeeds.
+/// Saves. Any one growth may be refused (`rt try --test --fail-alloc`): nothing is saved then, and the same call succeeds.
+fn save(branches: &mut Branches, word: &[u8], sim: &Sim, rt: &impl Abort) {
+    let name = Name::parse(word).expect(rt, "a name");
+    let count = branches.len();
+    if let Err(fault) = branches.save(name.copy(), sim) {
+        assert_eq!(rt; fault, SaveFault::Memory);
+        assert_eq!(rt; (branches.len(), branches.count_of(&name)), (count, None));
+        assert_eq!(rt; branches.save(name.copy(), sim), Ok(()));
+    }
+    assert!(rt; count < branches.len());
+    assert_eq!(rt; branches.step_at(count), sim.step());
+    assert_eq!(rt; branches.count_of(&name), Some(sim.count()));
+}
+
+/// A branch at each step from 127 down to -128.
 #[test]
-fn a_refused_save_changes_nothing(rt: HostRuntime) -> Result<(), Fail> {
-    let sim = dimer(&rt).or_else(|_| dimer(&rt))?;
+fn as_many_as_the_largest_quota(rt: HostRuntime) -> Result<(), Fail> {
+    let mut sim = dimer(&rt).or_else(|_| dimer(&rt))?;
     let mut branches = Branches::new(rt.alloc());
-    for (count, word) in ["a", "b", "c", "d", "e"].into_iter().enumerate() {
-        if let Err(fault) = branches.save(name(word, &rt), &sim) {
-            assert_eq!(rt; fault, SaveFault::Memory);
-            assert_eq!(rt; branches.len(), count);
-            assert_eq!(rt; branches.count_of(&name(word, &rt)), None);
-            branches.save(name(word, &rt), &sim)?;
+    for _ in 0..128 {
+        step(&mut sim, &rt);
+    }
+    sim.reverse();
+    for i in 0..=255u8 {
+        save(&mut branches, &[b'a' + i / 16, b'a' + i % 16], &sim, &rt);
+        step(&mut sim, &rt);
+    }
+    assert_eq!(rt; (branches.len(), sim.step()), (256, -129));
+    Ok(())
+}
+
+#[test]
+fn simulations_of_many_counts_are_saved(rt: HostRuntime) -> Result<(), Fail> {
+    let places = [LEFT; 4096];
+    let mut branches = Branches::new(rt.alloc());
+    for count in [1, 63, 64, 65, 129, 256, 4096] {
+        assert!(rt; 1 <= count && count <= 4096);
+        let places = &places[..count];
+        let mut sim = at_rest(places, &rt).or_else(|_| at_rest(places, &rt))?;
+        save(&mut branches, b"k", &sim, &rt);
+        sim.reverse();
+        save(&mut branches, b"m", &sim, &rt);
+        for word in ["k", "m"] {
+            assert_eq!(rt; branches.forget(&name(word, &rt)), Ok(()));
         }
     }
-    are_listed(
-        &branches,
-        &[("a", 0), ("b", 0), ("c", 0), ("d", 0), ("e", 0)],
-        &rt,
-    );
     Ok(())
 }
