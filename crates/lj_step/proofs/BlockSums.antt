@@ -3,6 +3,7 @@ use Rattle.std.proofs.Math.IntN.{+ℤ_assoc, +ℤ_comm, +ℤ_idr}
 use Rattle.std.proofs.lemmas.Bool.{cases_eq, cases_lt}
 use Rattle.std.proofs.lemmas.Bool.Decides.{nat_tests}
 use Rattle.lj_ring.specs.Ring.{sum_below, int_sum_below}
+use Rattle.lj_step.proofs.RingSums.{same_terms}
 
 -- how many of the first n atoms stand in block b
 unfoldable pub length_in : ℕ → ℕ → ℕ
@@ -60,11 +61,7 @@ int_block_sum f b (suc n) =
 
 -- sums of terms that are equal below n
 pub int_sum_same : (n : ℕ) (f g : ℕ → ℤ) → ((k : ℕ) → k < n → f k ≡ g k) → int_sum_below n f ≡ int_sum_below n g
-int_sum_same zero f g h = refl
-int_sum_same (suc n) f g h =
-    let front = int_sum_same n f g (λ k below. h k (omega arith)) in
-    let last = h n (omega arith) in
-    cc (front, last)
+int_sum_same = same_terms ◌+ℤ◌ int_sum_below (λ f g. refl) (λ n f. refl)
 
 -- terms that are all 0
 pub int_sum_none : (n : ℕ) (f : ℕ → ℤ) → ((k : ℕ) → k < n → f k ≡ pos 0) → int_sum_below n f ≡ pos 0

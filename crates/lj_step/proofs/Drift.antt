@@ -1,3 +1,4 @@
+-- The drift: a step keeps it, and a reverse changes its sign.
 use Rattle.std.proofs.Common.{ℕ, zero, suc, ◌+◌, ◌%◌, ◌^◌, ◌<◌, ◌≡◌, List, length, true, false, ◌==◌, inl, inr, refl, sym, ap, ◌∙◌, arith}
 use Rattle.std.proofs.lemmas.Bool.{cases_eq}
 use Rattle.std.proofs.lemmas.Bool.Decides.{nat_tests}
@@ -6,8 +7,8 @@ use Rattle.lj_ring.specs.Ring.{sum_below, ring_sum}
 use Rattle.lj_ring.specs.Scales.{Units}
 use Rattle.lj_tile.specs.declared.pairs.Push.{Push}
 use Rattle.lj_tile.specs.Pushes.{no_push}
-use Rattle.lj_step.specs.Motion.{Simulation, place_at, push_of, force, next_coordinate, moved, stepped, steps, reversed}
-use Rattle.lj_step.specs.Laws.{IsOnRing, IsWhole, IsScale, ring_sub, drift, opposite}
+use Rattle.lj_step.specs.Motion.{Simulation, place_at, push_of, force, next_coordinate, next_place, stepped, steps, reversed}
+use Rattle.lj_step.specs.Laws.{IsOnRing, IsWhole, IsScale, ring_sub, drift_along, drift, opposite}
 use Rattle.lj_step.proofs.RingSums.{ring_sum_same, ring_sum_zero, sum_plus, square_zero}
 use Rattle.lj_step.proofs.Opposites.{AddToNone, pushes_opposite}
 use Rattle.lj_step.proofs.Undone.{next_frame_at, next_frame_length, stepped_whole}
@@ -77,35 +78,29 @@ module _ (u : Units) (sim : Simulation) (scale : IsScale u) (whole : IsWhole sim
   before : (i : ℕ) → i < length sim.cur → IsOnRing (place_at sim.prev i)
   before i h = let same : length sim.prev ≡ length sim.cur = whole.same in let within : i < length sim.prev = omega arith in whole.prev i within
 
-  moves : (i : ℕ) → i < length sim.cur → place_at (stepped u sim).cur i ≡ moved u sim.prev sim.cur i
-  moves i h = next_frame_at u sim.prev sim.cur i h
-
-  x_kept : (drift (stepped u sim)).x ≡ (drift sim).x
-  unfolding drift force pushes
-  x_kept =
-      ap (λ n. ring_sum n (λ i. ring_sub (place_at (stepped u sim).cur i).x (place_at sim.cur i).x)) (next_frame_length u sim.prev sim.cur)
-      ∙ axis_kept (length sim.cur) (λ i. (place_at sim.prev i).x) (λ i. (place_at sim.cur i).x) (λ i. (force u sim.cur i).x) (λ i. (place_at (stepped u sim).cur i).x)
-      (λ i h. (before i h).x) (λ i h. (whole.cur i h).x) (λ i h. ap (λ (p : Place). p.x) (moves i h))
-      (forces_none (λ p. p.x) refl u sim.cur (λ i j p q. (pairs i j p q).x))
-
-  y_kept : (drift (stepped u sim)).y ≡ (drift sim).y
-  unfolding drift force pushes
-  y_kept =
-      ap (λ n. ring_sum n (λ i. ring_sub (place_at (stepped u sim).cur i).y (place_at sim.cur i).y)) (next_frame_length u sim.prev sim.cur)
-      ∙ axis_kept (length sim.cur) (λ i. (place_at sim.prev i).y) (λ i. (place_at sim.cur i).y) (λ i. (force u sim.cur i).y) (λ i. (place_at (stepped u sim).cur i).y)
-      (λ i h. (before i h).y) (λ i h. (whole.cur i h).y) (λ i h. ap (λ (p : Place). p.y) (moves i h))
-      (forces_none (λ p. p.y) refl u sim.cur (λ i j p q. (pairs i j p q).y))
-
-  z_kept : (drift (stepped u sim)).z ≡ (drift sim).z
-  unfolding drift force pushes
-  z_kept =
-      ap (λ n. ring_sum n (λ i. ring_sub (place_at (stepped u sim).cur i).z (place_at sim.cur i).z)) (next_frame_length u sim.prev sim.cur)
-      ∙ axis_kept (length sim.cur) (λ i. (place_at sim.prev i).z) (λ i. (place_at sim.cur i).z) (λ i. (force u sim.cur i).z) (λ i. (place_at (stepped u sim).cur i).z)
-      (λ i h. (before i h).z) (λ i h. (whole.cur i h).z) (λ i h. ap (λ (p : Place). p.z) (moves i h))
-      (forces_none (λ p. p.z) refl u sim.cur (λ i j p q. (pairs i j p q).z))
+  -- the drift along one axis of places, that of the pushes beside it
+  along : (axis : Place → ℕ) (push_axis : Push → ℕ) → push_axis no_push ≡ 0
+      → ((p c : Place) (f : Push) → axis (next_place p c f) ≡ next_coordinate (axis p) (axis c) (push_axis f))
+      → ((p : Place) → IsOnRing p → axis p < 2 ^ 32)
+      → ((i : ℕ) → push_axis (force u sim.cur i) ≡ ring_sum (length sim.cur) (λ j. push_axis (push_of u sim.cur i j)))
+      → ((i j : ℕ) → i < length sim.cur → j < length sim.cur → (push_axis (push_of u sim.cur i j) + push_axis (push_of u sim.cur j i)) % 2 ^ 32 ≡ 0)
+      → drift_along axis (stepped u sim) ≡ drift_along axis sim
+  unfolding pushes
+  along axis push_axis none next below sum opposite =
+      ap (λ n. ring_sum n (λ i. ring_sub (axis (place_at (stepped u sim).cur i)) (axis (place_at sim.cur i)))) (next_frame_length u sim.prev sim.cur)
+      ∙ axis_kept (length sim.cur) (λ i. axis (place_at sim.prev i)) (λ i. axis (place_at sim.cur i)) (λ i. push_axis (force u sim.cur i)) (λ i. axis (place_at (stepped u sim).cur i))
+      (λ i h. below (place_at sim.prev i) (before i h)) (λ i h. below (place_at sim.cur i) (whole.cur i h))
+      (λ i h. ap axis (next_frame_at u sim.prev sim.cur i h) ∙ next (place_at sim.prev i) (place_at sim.cur i) (force u sim.cur i))
+      (ring_sum_same (length sim.cur) (λ i. push_axis (force u sim.cur i)) (λ i. ring_sum (length sim.cur) (λ j. push_axis (push_of u sim.cur i j))) (λ k h. ap (λ n. n % 2 ^ 32) (sum k))
+      ∙ forces_none push_axis none u sim.cur opposite)
 
   step_kept : drift (stepped u sim) ≡ drift sim
-  step_kept = same_push (drift (stepped u sim)) (drift sim) x_kept y_kept z_kept
+  unfolding drift force
+  step_kept =
+      same_push (drift (stepped u sim)) (drift sim)
+      (along (λ p. p.x) (λ p. p.x) refl (λ p c f. refl) (λ p h. h.x) (λ i. refl) (λ i j p q. (pairs i j p q).x))
+      (along (λ p. p.y) (λ p. p.y) refl (λ p c f. refl) (λ p h. h.y) (λ i. refl) (λ i j p q. (pairs i j p q).y))
+      (along (λ p. p.z) (λ p. p.z) refl (λ p c f. refl) (λ p h. h.z) (λ i. refl) (λ i j p q. (pairs i j p q).z))
 
 pub drift_kept : (u : Units) (n : ℕ) (sim : Simulation) → IsScale u → IsWhole sim → drift (steps u n sim) ≡ drift sim
 drift_kept u zero sim scale whole = refl
@@ -130,19 +125,15 @@ module _ (sim : Simulation) (whole : IsWhole sim) where
   prev_on_ring : (i : ℕ) → i < length sim.cur → IsOnRing (place_at sim.prev i)
   prev_on_ring i h = let same : length sim.prev ≡ length sim.cur = whole.same in let within : i < length sim.prev = omega arith in whole.prev i within
 
-  turned_along : (axis : Place → ℕ) → ((i : ℕ) → i < length sim.cur → axis (place_at sim.prev i) < 2 ^ 32) → ((i : ℕ) → i < length sim.cur → axis (place_at sim.cur i) < 2 ^ 32)
-      → ring_sum (length sim.prev) (λ i. ring_sub (axis (place_at sim.prev i)) (axis (place_at sim.cur i)))
-      ≡ ring_sub 0 (ring_sum (length sim.cur) (λ i. ring_sub (axis (place_at sim.cur i)) (axis (place_at sim.prev i))))
-  turned_along axis hp hc =
+  turned_along : (axis : Place → ℕ) → ((p : Place) → IsOnRing p → axis p < 2 ^ 32) → drift_along axis (reversed sim) ≡ ring_sub 0 (drift_along axis sim)
+  turned_along axis below =
       ap (λ n. ring_sum n (λ i. ring_sub (axis (place_at sim.prev i)) (axis (place_at sim.cur i)))) whole.same
-      ∙ axis_turned (length sim.cur) (λ i. axis (place_at sim.prev i)) (λ i. axis (place_at sim.cur i)) hp hc
+      ∙ axis_turned (length sim.cur) (λ i. axis (place_at sim.prev i)) (λ i. axis (place_at sim.cur i))
+      (λ i h. below (place_at sim.prev i) (prev_on_ring i h)) (λ i h. below (place_at sim.cur i) (whole.cur i h))
 
   turned : drift (reversed sim) ≡ opposite (drift sim)
   unfolding drift
-  turned = same_push (drift (reversed sim)) (opposite (drift sim))
-      (turned_along (λ p. p.x) (λ i h. (prev_on_ring i h).x) (λ i h. (whole.cur i h).x))
-      (turned_along (λ p. p.y) (λ i h. (prev_on_ring i h).y) (λ i h. (whole.cur i h).y))
-      (turned_along (λ p. p.z) (λ i h. (prev_on_ring i h).z) (λ i h. (whole.cur i h).z))
+  turned = same_push (drift (reversed sim)) (opposite (drift sim)) (turned_along (λ p. p.x) (λ p h. h.x)) (turned_along (λ p. p.y) (λ p h. h.y)) (turned_along (λ p. p.z) (λ p h. h.z))
 
 pub drift_turned : (sim : Simulation) → IsWhole sim → drift (reversed sim) ≡ opposite (drift sim)
 drift_turned sim whole = turned sim whole

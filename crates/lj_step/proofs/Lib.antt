@@ -17,3 +17,4 @@ pub mod TaskCovers
 pub mod TileValues
 pub mod TilesTaken
 pub mod RoundTrip
+pub mod Sound

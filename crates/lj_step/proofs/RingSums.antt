@@ -1,13 +1,20 @@
+-- Sums on the ring.
 use Rattle.std.proofs.Common.{ℕ, zero, suc, ◌+◌, ◌%◌, ◌^◌, ◌<◌, ◌≡◌, refl, sym, ap, ◌∙◌, arith}
 use Rattle.lj_ring.specs.Ring.{sum_below, ring_sum}
 
--- sums of terms that are equal below n
+-- sums of terms that are equal below n are equal, whatever is added
+pub same_terms : {A : Type 0} (add : A → A → A) (total : ℕ → (ℕ → A) → A) → ((f g : ℕ → A) → total 0 f ≡ total 0 g)
+    → ((n : ℕ) (f : ℕ → A) → total (suc n) f ≡ add (total n f) (f n))
+    → (n : ℕ) (f g : ℕ → A) → ((k : ℕ) → k < n → f k ≡ g k) → total n f ≡ total n g
+same_terms add total none more zero f g h = none f g
+same_terms add total none more (suc n) f g h =
+    more n f
+    ∙ ap (λ s. add s (f n)) (same_terms add total none more n f g (λ k below. h k (omega arith)))
+    ∙ ap (add (total n g)) (h n (omega arith))
+    ∙ sym (more n g)
+
 pub sum_same : (n : ℕ) (f g : ℕ → ℕ) → ((k : ℕ) → k < n → f k ≡ g k) → sum_below n f ≡ sum_below n g
-sum_same zero f g h = refl
-sum_same (suc n) f g h =
-    let front = sum_same n f g (λ k below. h k (omega arith)) in
-    let last = h n (omega arith) in
-    cc (front, last)
+sum_same = same_terms ◌+◌ sum_below (λ f g. refl) (λ n f. refl)
 
 -- the same, of terms that are equal on the ring
 pub ring_sum_same : (n : ℕ) (f g : ℕ → ℕ) → ((k : ℕ) → k < n → f k % 2 ^ 32 ≡ g k % 2 ^ 32) → ring_sum n f ≡ ring_sum n g

@@ -32,15 +32,13 @@ pub record IsScale (u : Units) : Type 0 where
 abbrev pub ring_sub : ℕ → ℕ → ℕ
 ring_sub a b = (a + (2 ^ 32 - b)) % 2 ^ 32
 
--- the drift along each axis: the sum on the ring of cur - prev over all atoms
+-- the drift along one axis: the sum on the ring of cur - prev over all atoms
+abbrev pub drift_along : (Place → ℕ) → Simulation → ℕ
+drift_along axis sim = ring_sum (length sim.cur) (λ i. ring_sub (axis (place_at sim.cur i)) (axis (place_at sim.prev i)))
+
+-- the drift along each axis
 unfoldable pub drift : Simulation → Push
-drift sim =
-    let n = length sim.cur in
-    record {
-      x = ring_sum n (λ i. ring_sub (place_at sim.cur i).x (place_at sim.prev i).x);
-      y = ring_sum n (λ i. ring_sub (place_at sim.cur i).y (place_at sim.prev i).y);
-      z = ring_sum n (λ i. ring_sub (place_at sim.cur i).z (place_at sim.prev i).z);
-    }
+drift sim = record { x = drift_along (λ p. p.x) sim; y = drift_along (λ p. p.y) sim; z = drift_along (λ p. p.z) sim }
 
 -- the same displacement the other way
 abbrev pub opposite : Push → Push

@@ -1,5 +1,7 @@
+//! Vectors by hand, tiles in many orders, strays, and want of memory.
 ghost use Rattle.std.specs.Prelude.{◌≤◌, ◌<◌, length};
 
+use crate::round_trip::{go, there_and_back};
 use crate::{Displacement, Frame, Frames, Sim, Snapshot};
 use lj_fixed::Nano;
 use lj_ring::{Place, Scale, ScaleFault};
@@ -278,28 +280,44 @@ fn atoms_half_the_box_apart_do_not_interact(rt: HostRuntime) -> Result<(), Fail>
     Ok(())
 }
 
-/// Any one growth may be refused (`rt try --test --fail-alloc`); the same call then succeeds, and the step takes no memory.
-#[test]
-fn a_refused_simulation_is_made_anew(rt: HostRuntime) -> Result<(), Fail> {
-    let places = [ORIGIN, along_x(APART)];
-    let mut sim = at_rest(&places, &rt).or_else(|_| at_rest(&places, &rt))?;
-    assert_eq!(rt; (sim.step(), sim.dir(), sim.count()), (0, 1, 2));
-    step(&mut sim, 1, &rt);
-    assert_eq!(rt; place(&sim, 0, &rt), along_x(589));
-    Ok(())
-}
-
-/// 130 atoms, three blocks, on a lattice of 1.5 sigma.
-fn lattice() -> [Place; 130] {
-    let mut places = [ORIGIN; 130];
-    for i in 0..130u32 {
-        places[i as usize] = Place {
+/// So many atoms on a lattice of 1.5 sigma.
+fn lattice(count: u32, rt: &impl AllocGlobal) -> Result<Vec<Place>, AllocError> {
+    let mut places = Vec::with_capacity(rt.alloc(), count as usize)?;
+    for i in 0..count {
+        places.push(Place {
             x: (i % 6) * APART,
             y: (i / 6 % 6) * APART,
-            z: (i / 36) * APART,
-        };
+            z: (i / 36 % 114) * APART,
+        })?;
     }
-    places
+    Ok(places)
+}
+
+/// These atoms at rest.
+fn crystal(count: u32, rt: &(impl Abort + AllocGlobal)) -> Result<Sim, AllocError> {
+    let places = lattice(count, rt)?;
+    assert!(rt; 1 <= places.len() && places.len() <= 4096);
+    at_rest(places.as_slice(), rt)
+}
+
+/// Any one growth may be refused (`rt try --test --fail-alloc`); the same call then succeeds.
+#[test]
+fn simulations_of_many_counts_are_made_and_copied(rt: HostRuntime) -> Result<(), Fail> {
+    for count in [1, 2, 63, 64, 65, 129, 256, 4096] {
+        let mut sim = crystal(count, &rt).or_else(|_| crystal(count, &rt))?;
+        assert_eq!(rt;
+            (sim.step(), sim.dir(), sim.count()),
+            (0, 1, count as usize)
+        );
+        sim.reverse();
+        let copy = sim.snapshot().or_else(|_| sim.snapshot())?;
+        assert_eq!(rt;
+            (copy.step(), copy.count()),
+            (-1, sim.count()),
+            "{count} atoms"
+        );
+    }
+    Ok(())
 }
 
 /// The results of all tasks of the open step, in the order of its cover.
@@ -371,9 +389,9 @@ fn turn_and_compare(sim: &mut Sim, start: &Snapshot, next: &Sim, rt: &impl Abort
 /// Each rotation of the cover forward and backward, the same by other strides, and each thousandth of all orders.
 #[test]
 fn nine_force_tiles_in_many_orders(rt: HostRuntime) -> Result<(), Fail> {
-    let mut next = at_rest(&lattice(), &rt)?;
+    let mut next = crystal(130, &rt)?;
     step(&mut next, 9, &rt);
-    let mut sim = at_rest(&lattice(), &rt)?;
+    let mut sim = crystal(130, &rt)?;
     let start = sim.snapshot()?;
     sim.open_step(Kind::Force);
     assert!(rt; sim.task(9, &label(&rt)).is_none());
@@ -397,7 +415,7 @@ fn nine_force_tiles_in_many_orders(rt: HostRuntime) -> Result<(), Fail> {
 /// The sum comes out the same in all 720 orders.
 #[test]
 fn six_energy_tiles_in_each_order(rt: HostRuntime) -> Result<(), Fail> {
-    let mut sim = at_rest(&lattice(), &rt)?;
+    let mut sim = crystal(130, &rt)?;
     let whole = potential(&mut sim, 6, &rt);
     assert!(rt; whole != 0);
     sim.open_step(Kind::Energy);
@@ -414,34 +432,23 @@ fn six_energy_tiles_in_each_order(rt: HostRuntime) -> Result<(), Fail> {
     Ok(())
 }
 
-/// 200 atoms, four blocks, on a lattice of 1.5 sigma.
-fn larger_lattice() -> [Place; 200] {
-    let mut places = [ORIGIN; 200];
-    for i in 0..200u32 {
-        places[i as usize] = Place {
-            x: (i % 6) * APART,
-            y: (i / 6 % 6) * APART,
-            z: (i / 36) * APART,
-        };
-    }
-    places
-}
-
+/// Four blocks.
 #[test]
-fn a_thousand_steps_of_four_blocks_are_undone(rt: HostRuntime) -> Result<(), Fail> {
-    let places = larger_lattice();
-    let mut sim = at_rest(&places, &rt)?;
-    for _ in 0..1000 {
-        step(&mut sim, 16, &rt);
-    }
-    assert!(rt; 0 < sim.kinetic());
+fn steps_are_undone(rt: HostRuntime) -> Result<(), Fail> {
+    let places = lattice(200, &rt)?;
+    let mut sim = crystal(200, &rt)?;
+    let (label, table) = (label(&rt), Table::new());
+    assert!(rt; sim.step() == 0);
+    go(&mut sim, 10, &label, &table);
+    let kinetic = sim.kinetic();
+    assert!(rt; 0 < kinetic);
+    there_and_back(&mut sim, 20, &label, &table);
+    assert_eq!(rt; (sim.step(), sim.dir(), sim.kinetic()), (10, 1, kinetic));
     sim.reverse();
-    for _ in 0..1000 {
-        step(&mut sim, 16, &rt);
-    }
+    assert!(rt; sim.step() == 9);
+    go(&mut sim, 10, &label, &table);
     sim.reverse();
-    assert_eq!(rt; sim.step(), 0);
-    assert_eq!(rt; sim.kinetic(), 0);
+    assert_eq!(rt; (sim.step(), sim.dir(), sim.kinetic()), (0, 1, 0));
     for (i, start) in places.iter().enumerate() {
         assert_eq!(rt; place(&sim, i, &rt), *start);
     }

@@ -1,0 +1,54 @@
+-- What stays of a simulation in the code where its open step changes.
+use Rattle.std.proofs.Common.{◌≡◌, ◌≤◌, ◌+◌, ◌*◌, ◌^◌, ◌+ℤ◌, unsigned_abs, false, true, length, slice_index_or, slice_set, vec_capacity, Some, refl, sym, ap, ◌∙◌, subst}
+use Rattle.std.proofs.lemmas.List.{length-set}
+use Rattle.lj_tile.specs.declared.names.Label.{Label}
+use Rattle.lj_tile.specs.declared.names.Kind.{Kind}
+use Rattle.lj_tile.specs.declared.names.Kind.TheVariants.{Energy}
+use Rattle.lj_tile.specs.Tasks.{Work, task_energy}
+use Rattle.lj_step.specs.declared.partial.Partial.{Partial}
+use Rattle.lj_step.specs.declared.simulations.Sim.TheInside.{Inside}
+use Rattle.lj_step.specs.Kept.{IsSound, live_of}
+use Rattle.lj_step.specs.Live.{Live}
+use Rattle.lj_step.specs.OpenSteps.{blocks, number_of, task_of, Awaits}
+use Rattle.lj_step.specs.Sums.{HasAdded, HasRoom, IsPartial}
+use Rattle.lj_step.proofs.Steps.{awaited_at, left_some, size_fits, partial_after}
+
+-- with another open step
+pub with_partial : (a : Inside) (p : Partial) → IsSound a → HasRoom (length a.cur.items) p → IsPartial a.scale a.cur.items p p.kind
+    → IsSound (record a { partial = p })
+with_partial a p sound room partial = record {
+  same = sound.same;
+  some = sound.some;
+  most = sound.most;
+  prev_on_ring = sound.prev_on_ring;
+  cur_on_ring = sound.cur_on_ring;
+  step_bound = sound.step_bound;
+  last_bound = sound.last_bound;
+  room = room;
+  partial = partial;
+}
+
+-- with one result more, of a task that is awaited
+module _ (a : Inside) (now : Live) (label : Label) (asked work : Work) (sound : IsSound a) (view : live_of a ≡ now) (same : asked ≡ work)
+    (awaited : Awaits now label asked) where
+  wanted : (kind : Kind) × (a.partial.kind ≡ Some kind) × (slice_index_or a.partial.awaited.items (number_of work) false ≡ true) × (work ≡ task_of (live_of a) label kind (number_of work))
+  wanted = awaited_at (live_of a) now label asked work a.partial.kind a.partial.awaited.items view refl same awaited
+
+  pub sums_fit : (1 ≤ a.partial.left) × (unsigned_abs a.partial.energy + 2 ^ 63 ≤ 2 ^ 75)
+  sums_fit = (
+    left_some (live_of a) label work a.partial sound.most sound.room sound.partial wanted,
+    size_fits (live_of a) label work a.partial sound.most sound.room sound.partial wanted,
+  )
+
+  pub with_result : (q : Partial) → q.kind ≡ a.partial.kind → q.tiles.items ≡ a.partial.tiles.items → vec_capacity q.tiles ≡ vec_capacity a.partial.tiles
+      → q.awaited.items ≡ slice_set a.partial.awaited.items (number_of work) false → q.left + 1 ≡ a.partial.left
+      → HasAdded work a.partial.pushes.items q.pushes.items → (work.name.kind ≡ Energy → q.energy ≡ a.partial.energy +ℤ task_energy work)
+      → unsigned_abs q.energy ≤ unsigned_abs a.partial.energy + 2 ^ 63 → IsSound (record a { partial = q })
+  with_result q kind tiles capacity flags less added energy size =
+      with_partial a q sound
+      (record {
+        pushes = added.count ∙ sound.room.pushes;
+        awaited = ap length flags ∙ simp length-set sound.room.awaited;
+        tiles = subst (λ n. 64 * blocks (length a.cur.items) ≤ n) (sym capacity) sound.room.tiles;
+      })
+      (partial_after (live_of a) label work a.partial sound.most sound.room sound.partial wanted q kind tiles flags less added energy size)
