@@ -1,6 +1,5 @@
 -- What reading a frame gives stands in the relation of frames and faults.
-use Rattle.std.proofs.Common.{◌≡◌, ℕ, zero, suc, ◌+◌, ◌<◌, true, false, List, [], ◌∷◌, ◌++◌, length, Option, Some, None, Result, Ok, Err, refl, sym, ap, ◌∙◌, ◌⊎◌, inl, inr, append_assoc, append-nil, arith, add-zero}
-use Rattle.std.specs.List.{AllByRecursion}
+use Rattle.std.proofs.Common.{◌≡◌, ℕ, zero, suc, ◌+◌, ◌<◌, true, List, [], ◌∷◌, ◌++◌, length, Option, Some, None, Result, Ok, Err, refl, sym, ap, ◌∙◌, ◌⊎◌, inl, inr, append_assoc, append-nil, arith, add-zero}
 use Rattle.std.proofs.lemmas.Bool.{cases_Bool}
 use Rattle.std.proofs.lemmas.List.{length-append}
 use Rattle.lj_xyz.specs.declared.fault.XyzKind.{XyzKind}
@@ -10,7 +9,7 @@ use Rattle.lj_xyz.specs.declared.row.Row.{Row}
 use Rattle.lj_xyz.specs.declared.reader.Position.{Position}
 use Rattle.lj_xyz.specs.Lines.{words_of}
 use Rattle.lj_xyz.specs.Atoms.{◌>>=◌, count_of, row_of}
-use Rattle.lj_xyz.specs.Frames.{IsWordless, Counts, admits, missing, IsHead, AreAtoms, IsFrame, fault_behind, OpeningFault, no_count, bad_count, other_count, no_comment, FirstFault, in_opening, no_atom, bad_atom}
+use Rattle.lj_xyz.specs.Frames.{IsWordless, Counts, admits, IsHead, AreAtoms, IsFrame, fault_behind, OpeningFault, no_count, bad_count, other_count, no_comment, FirstFault, in_opening, no_atom, bad_atom}
 use Rattle.lj_xyz.specs.Reading.{Left, admitted, head_in, behind_comment, next_row, rows_in, frame_in}
 use Rattle.lj_xyz.proofs.ReaderLaws.{head_over, head_at, head_none}
 use Rattle.lj_xyz.proofs.FrameLaws.{left}

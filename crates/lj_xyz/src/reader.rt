@@ -51,14 +51,17 @@ impl Position {
     }
 }
 
+fn is_count(number: u64) -> bool
+    ensures { result ≡ is_count number }
+{
+    1 <= number && number <= MAX_ATOMS as u64
+}
+
 fn count_of(word: &[u8]) -> Option<usize>
     ensures { result ≡ count_of word.now }
 {
     let number = parse_number(word)?;
-    if number == 0 || number > MAX_ATOMS as u64 {
-        return None;
-    }
-    Some(number as usize)
+    is_count(number).then_some(number as usize)
 }
 
 // The atom that a line says.

@@ -1,5 +1,7 @@
 //! Symbols of atoms.
 ghost use Rattle.std.specs.Prelude.{IsTrue, SomeIff, ◌≡◌};
+ghost use Rattle.std.specs.Char.{is_ascii_graphic};
+ghost use Rattle.std.specs.List.{list_all};
 ghost use Rattle.lj_xyz.specs.Symbols.{is_symbol};
 
 use arrayvec::ArrayVec;
@@ -29,7 +31,13 @@ impl Model for Symbol {
 fn is_symbol(word: &[u8]) -> bool
     ensures { result ≡ is_symbol word.now }
 {
-    !word.is_empty() && word.len() <= MAX_SYMBOL_BYTES && word.iter().all(u8::is_ascii_graphic)
+    !word.is_empty() && word.len() <= MAX_SYMBOL_BYTES && all_graphic(word)
+}
+
+fn all_graphic(word: &[u8]) -> bool
+    ensures { result ≡ list_all is_ascii_graphic word.now }
+{
+    word.iter().all(u8::is_ascii_graphic)
 }
 
 impl Symbol {
