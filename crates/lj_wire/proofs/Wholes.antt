@@ -131,9 +131,9 @@ open_line old mid new kept t = record {
 }
 
 -- after a million items the last fault is handed out, for which nothing is taken
-pub enough : (old new : Standing) → old.phase ≡ Open → old.items ≡ MAX_ITEMS → old.left ≡ new.left → new.items ≡ old.items + 1
+pub enough : (old new : Standing) → old.phase ≡ Open → old.items ≡ MAX_ITEMS → old.left ≡ new.left → new.unread ≡ old.unread → new.items ≡ old.items + 1
     → new.errors ≡ old.errors → new.phase ≡ Over → HandsOut old new (Last Enough)
-enough old new is_open items left counted errors over = record {
+enough old new is_open items left unread counted errors over = record {
   was_open = is_open;
   front = [];
   found = Last Enough;
@@ -142,5 +142,6 @@ enough old new is_open items left counted errors over = record {
   is_found = inl refl;
   items_is = counted;
   errors_is = errors;
+  unread_is = λ _. unread;
   phase_is = over;
 }

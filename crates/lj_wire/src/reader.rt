@@ -41,6 +41,7 @@ impl<S: Source> Model for LineReader<S> {
 
     ghost view = { λ reader. record {
       left = untaken reader.input;
+      unread = reader.input.unread;
       errors = reader.input.errors;
       items = reader.items;
       phase = reader.phase;
@@ -55,6 +56,7 @@ impl<S: Source> LineReader<S> {
     /// A reader of `source` that has read nothing.
     pub fn new(alloc: Global, source: S) -> Self
         ensures left { result.left ≡ S.remaining source }
+        ensures unread { result.unread ≡ S.remaining source }
         ensures errors { result.errors ≡ S.errors source }
         ensures items { result.items ≡ 0 }
         ensures phase { result.phase ≡ Open }
@@ -105,7 +107,8 @@ impl<S: Source> LineReader<S> {
 
     /// The source. What was read ahead is given up.
     pub fn into_source(self) -> S
-        ensures { S.errors result ≡ self.errors }
+        ensures remaining { S.remaining result ≡ self.unread }
+        ensures errors { S.errors result ≡ self.errors }
     {
         let LineReader {
             alloc: _,
