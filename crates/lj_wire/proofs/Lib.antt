@@ -1,3 +1,4 @@
+pub mod ReplyTexts
 pub mod ReplyLines
 pub mod Splitting
 pub mod Marks

@@ -6,7 +6,9 @@ use Rattle.lj_wire.specs.declared.item.Item.{Item}
 use Rattle.lj_wire.specs.declared.limits.TheConstants.{MAX_BODY_BYTES}
 use Rattle.lj_wire.specs.Items.{ends}
 use Rattle.lj_wire.specs.Commands.{announced, item_with, item_of}
-use Rattle.lj_wire.specs.Texts.{is_memory}
+use Rattle.std.specs.List.{concat}
+use Rattle.lj_session.specs.declared.reply.Reply.{Reply}
+use Rattle.lj_wire.specs.Texts.{is_memory, text, reply_lines}
 use Rattle.lj_wire.specs.Told.{answered, told}
 use Rattle.lj_wire.specs.Runs.{item_turns, user_turned, item_left}
 use Rattle.lj_wire.specs.Streams.{Splits}
@@ -48,3 +50,7 @@ BodyMissingIsMarked = (user : User) (line body : List ℕ) (mark : Bool) → 0 <
 -- No line is followed by more than 1,048,576 bytes of body.
 abbrev pub BodyIsBounded : Type 0
 BodyIsBounded = (line : List ℕ) → announced line ≤ MAX_BODY_BYTES
+
+-- The text of a reply is its lines, one after another.
+abbrev pub LinesAreTheText : Type 0
+LinesAreTheText = (user : User) (reply : Reply) → text user reply ≡ concat (reply_lines user reply)

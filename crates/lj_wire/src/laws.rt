@@ -1,6 +1,6 @@
 //! Laws of streams and of answers: functions that do nothing, whose contracts are the laws.
 ghost use Rattle.lj_wire.specs.Laws.{OneSplitting, SomeSplitting, MarkIsTold, TurnKeepsTold, TurnLowersTurns};
-ghost use Rattle.lj_wire.specs.Laws.{RunningGoesOn, BodyMissingIsMarked, BodyIsBounded};
+ghost use Rattle.lj_wire.specs.Laws.{RunningGoesOn, BodyMissingIsMarked, BodyIsBounded, LinesAreTheText};
 
 /// A stream has one splitting into items and a rest.
 pub fn one_splitting()
@@ -40,4 +40,9 @@ pub fn body_missing_is_marked()
 /// No line is followed by more than 1,048,576 bytes of body.
 pub fn body_is_bounded()
     ensures { BodyIsBounded }
+{}
+
+/// The text of a reply is its lines, one after another.
+pub fn lines_are_the_text()
+    ensures { LinesAreTheText }
 {}

@@ -1,14 +1,14 @@
 //! The lines of replies.
-ghost use Rattle.std.specs.Prelude.{◌≡◌, ◌<◌, ◌≤◌, ◌+◌, ◌++◌, [], ◌∷◌, ℕ, List, length, map, slice_get, codes, Some, IfSome};
+ghost use Rattle.std.specs.Prelude.{◌≡◌, ◌<◌, ◌≤◌, ◌+◌, ◌++◌, [], ◌∷◌, ℕ, List, length, map, slice_get, codes, true, Some, IfSome};
 ghost use Rattle.std.specs.List.{flat_map};
 ghost use Rattle.std.specs.Fmt.{decimal, signed_decimal};
 ghost use Rattle.std.specs.Option.{ForSome, option_map};
 ghost use Rattle.arrayvec.specs.ArrayVec.{array_vec_len};
 ghost use Rattle.lj_session.specs.Refusals.{refusal_text};
-ghost use Rattle.lj_session.specs.Users.{named};
+ghost use Rattle.lj_session.specs.Users.{User, named};
 ghost use Rattle.lj_session.specs.States.{held_at, names, user_of, as_session};
-ghost use Rattle.lj_wire.specs.Texts.{ok, ended, text, reply_lines, line_of, session_line, branch_line, atom_lines};
-ghost use Rattle.lj_wire.specs.Lines.{blank_and};
+ghost use Rattle.lj_wire.specs.Texts.{ok, ended, text, reply_lines, line_of, session_line, session_lines, branch_line, branch_lines, dump_lines, atom_lines};
+ghost use Rattle.lj_wire.specs.Lines.{blank_and, is_one_line};
 
 use arrayvec::ArrayVec;
 use itoa::{Buffer, Integer};
@@ -302,4 +302,111 @@ fn atom_line(state: &UserState, i: usize, atom: usize) -> Line
         micro_of(y, &edge),
         micro_of(z, &edge),
     ))
+}
+
+/// The line of a reply that has one alone.
+#[tactic(auto, unfolding(crate::specs::Texts::reply_lines, crate::specs::Texts::text))]
+fn only_line(reply: &Reply) -> Line
+    requires { is_one_line reply.now ≡ true }
+    ensures { (user : User) → reply_lines user reply.now ≡ result.items ∷ [] }
+{
+    match reply {
+        Reply::Loaded { name, atoms } => loaded_line(name, *atoms),
+        Reply::Advanced { name, step } => step_line(b"ADVANCE", name, *step),
+        Reply::Reversed { name, step } => step_line(b"REVERSE", name, *step),
+        Reply::Branched { name, branch, step } => names_and_step_line(
+            b"BRANCH", name, branch, *step,
+        ),
+        Reply::Restored { name, branch, step } => names_and_step_line(
+            b"RESTORE", name, branch, *step,
+        ),
+        Reply::Forgotten { name, branch } => names_line(b"FORGET", name, branch),
+        Reply::Tugged { name, atom, step } => tugged_line(name, *atom, *step),
+        Reply::Measured {
+            name,
+            step,
+            atoms,
+            momentum,
+            kinetic,
+            potential,
+        } => { measured_line(name, *step, *atoms, momentum, *kinetic, *potential) }
+        Reply::Shown {
+            name,
+            step,
+            atom,
+            place,
+        } => shown_line(name, *step, *atom, place),
+        Reply::Unloaded { name } => name_line(b"DROP", name),
+        Reply::Bye => end(begin(b"BYE")),
+        Reply::Refused(refusal) => refused_line(*refusal),
+        Reply::Dumped { .. } | Reply::Listed | Reply::ListedBranches { .. } => unreachable!(),
+    }
+}
+
+/// Line k of the reply to LIST.
+fn list_line(state: &UserState, k: usize) -> Option<Line>
+    ensures { option_map (λ line. line.items) result ≡ slice_get (session_lines (user_of state.now)) k }
+{
+    let count = state.len();
+    if k == 0 {
+        return Some(listed_line(count));
+    }
+    if k > count {
+        return None;
+    }
+    Some(session_line(state, k - 1))
+}
+
+/// Line k of the reply to LIST of the i-th session, which has this name.
+fn branches_line(state: &UserState, i: usize, name: &Name, k: usize) -> Option<Line>
+    requires { i < length state.now.sessions }
+    ensures { IfSome (held_at state.now i) (λ held.
+        option_map (λ line. line.items) result ≡ slice_get (branch_lines name.now (Some (as_session held))) k) }
+{
+    let branches = state.branches_at(i);
+    let count = branches.len();
+    if k == 0 {
+        return Some(listed_branches_line(name, count));
+    }
+    if k > count {
+        return None;
+    }
+    Some(branch_line(branches, k - 1))
+}
+
+/// Line k of the reply to DUMP of the i-th session, which has this name.
+fn dump_line(state: &UserState, i: usize, name: &Name, k: usize) -> Option<Line>
+    requires { i < length state.now.sessions }
+    ensures { IfSome (held_at state.now i) (λ held.
+        option_map (λ line. line.items) result ≡ slice_get (dump_lines name.now (Some (as_session held))) k) }
+{
+    let sim = state.sim_at(i);
+    let atoms = sim.count();
+    match k {
+        0 => Some(dumped_line(name, sim.step(), atoms + 2)),
+        1 => Some(frame_line(&lj_xyz::count_line(atoms))),
+        2 => Some(frame_line(&lj_xyz::comment_line(sim.step()))),
+        _ if k - 3 < atoms => Some(atom_line(state, i, k - 3)),
+        _ => None,
+    }
+}
+
+/// Line k of a reply, counted from 0, with the state of the user after the command. None past the last line.
+#[tactic(auto, unfolding(crate::specs::Texts::reply_lines))]
+pub fn reply_line(state: &UserState, reply: &Reply, k: usize) -> Option<Line>
+    ensures { option_map (λ line. line.items) result ≡ slice_get (reply_lines (user_of state.now) reply.now) k }
+{
+    match reply {
+        Reply::Dumped { name } => match state.index_of(name) {
+            Some(i) => dump_line(state, i, name, k),
+            None => None,
+        },
+        Reply::Listed => list_line(state, k),
+        Reply::ListedBranches { name } => match state.index_of(name) {
+            Some(i) => branches_line(state, i, name, k),
+            None => None,
+        },
+        _ if k == 0 => Some(only_line(reply)),
+        _ => None,
+    }
 }

@@ -1,4 +1,4 @@
-use Rattle.std.proofs.Common.{rules, refl}
+use Rattle.std.proofs.Common.{refl}
 use Rattle.lj_session.specs.States.{held_at}
 use Rattle.lj_wire.proofs.ReplyLines.{held_atom_line}
 use Rattle.lj_wire.proofs.replies.atom_line.Goals as goal
