@@ -1,20 +1,7 @@
--- The item that a line is: its words, the command that they say, and the body that follows a LOAD line.
-use Rattle.std.specs.Prelude.{
-  ℕ,
-  Bool,
-  nat_le,
-  nat_lt,
-  ◌&&◌,
-  List,
-  [],
-  ◌∷◌,
-  length,
-  Option,
-  Some,
-  None,
-  if◌then◌else◌,
-  codes,
-}
+-- The item that a line is: its words, the command that they say, and the body that follows a LOAD line. Where words are
+-- listed, `s` and `b` are names, `N` is a number and `D` a displacement.
+use Rattle.std.specs.Prelude.{ℕ, Bool, nat_le, nat_lt, ◌&&◌, List, [], ◌∷◌, length}
+use Rattle.std.specs.Prelude.{Option, Some, None, if◌then◌else◌, codes}
 use Rattle.std.specs.List.{last_or}
 use Rattle.std.specs.Option.{option_map, unwrap_or}
 use Rattle.std.specs.Result.{result_ok}
@@ -126,16 +113,16 @@ mode_of word =
     if bytes_eq word (codes "rest") then Some Rest
     else (if bytes_eq word (codes "pair") then Some Pair else None)
 
--- the LOAD that words say: `s edge sigma h mode bytes`, of which edge, sigma and h may be any words
+-- the LOAD that words say: `s edge sigma step_factor mode count`, of which edge, sigma and step factor may be any words
 abbrev pub load_of : Words → Option Load
-load_of (s ∷ edge ∷ sigma ∷ h ∷ mode ∷ bytes ∷ []) = do
+load_of (s ∷ edge ∷ sigma ∷ step_factor ∷ mode ∷ count ∷ []) = do
   name ← name_of s
   mode ← mode_of mode
   Some (record {
     name = name;
     edge = result_ok (nano_of edge);
     sigma = result_ok (nano_of sigma);
-    step_factor = number_of h;
+    step_factor = number_of step_factor;
     mode = mode;
     body = Unread;
   })

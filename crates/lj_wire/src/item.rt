@@ -9,7 +9,7 @@ use lj_session::{Command, Load, LoadBody, Refusal};
 /// What is wrong with an item that is no command.
 #[derive(Clone, Copy, Debug, PartialEq, Eq)]
 pub enum Fault {
-    /// A line of more than 256 bytes.
+    /// A line of more than 256 and at most 65,535 bytes.
     Line,
     /// A line without a word, a wrong number of words, or a word not of its shape.
     Syntax,
