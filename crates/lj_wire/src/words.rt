@@ -7,7 +7,7 @@ use std::marker::Model;
 
 /// The words of a line that are not yet taken. A word is a longest run of bytes that are neither
 /// space nor tab.
-#[derive(Debug, Drop)]
+#[derive(Drop)]
 pub(crate) struct Words<'a> {
     rest: &'a [u8],
 }
