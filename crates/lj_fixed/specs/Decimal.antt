@@ -26,7 +26,8 @@ is_exponent_letter c = c == 101 || c == 69 || c == 100 || c == 68
 
 -- one to three digits
 abbrev pub is_short_number : List ℕ → Bool
-is_short_number digits = nat_lt 0 (length digits) && nat_le (length digits) MAX_EXPONENT_DIGITS && all_ascii_digits digits
+is_short_number digits =
+    nat_lt 0 (length digits) && nat_le (length digits) MAX_EXPONENT_DIGITS && all_ascii_digits digits
 
 -- an optional sign and one to three digits
 abbrev pub is_exponent : List ℕ → Bool
@@ -89,7 +90,8 @@ with_sign negative n = if negative then neg_ℤ (pos n) else pos n
 -- the nano of a decimal, if there is one
 abbrev pub nano_or_fault : Option Decimal → Result ℤ NumberFault
 nano_or_fault None = Err BadNumber
-nano_or_fault (Some d) = if nat_le (nano_size d) MAX_NANO then Ok (with_sign d.negative (nano_size d)) else Err OutOfRange
+nano_or_fault (Some d) =
+    if nat_le (nano_size d) MAX_NANO then Ok (with_sign d.negative (nano_size d)) else Err OutOfRange
 
 -- the nano that a word writes: `BadNumber` outside the grammar, and `OutOfRange` beyond the limit
 unfoldable pub nano_of : List ℕ → Result ℤ NumberFault

@@ -1,6 +1,5 @@
 -- The usual quota, worked out.
 use Rattle.std.specs.Prelude.{◌≡◌, refl}
-use Rattle.lj_quota.specs.declared.Quota.{Quota}
 use Rattle.lj_quota.specs.declared.TheConstants.Quota.{USUAL}
 
 usual_is : USUAL ≡ record { sessions = 8; atoms = 16384; branches = 16 }

@@ -6,7 +6,8 @@ use Rattle.lj_ring.specs.Scales.{Units, scale_of, interacts, entry}
 least_edge : scale_of (pos (10 ^ 6)) (pos (10 ^ 5)) 1 ≡ Ok (record { edge = 10 ^ 6; sigma = 429496729; strength = 1 })
 least_edge = refl
 
-greatest_edge : scale_of (pos (10 ^ 15)) (pos (10 ^ 14)) (2 ^ 24) ≡ Ok (record { edge = 10 ^ 15; sigma = 429496729; strength = 2 ^ 24 })
+greatest_edge : scale_of (pos (10 ^ 15)) (pos (10 ^ 14)) (2 ^ 24)
+    ≡ Ok (record { edge = 10 ^ 15; sigma = 429496729; strength = 2 ^ 24 })
 greatest_edge = refl
 
 edge_too_short : scale_of (pos 999999) (negsuc 0) 0 ≡ Err Edge

@@ -159,7 +159,8 @@ impl Scale {
         self.strength
     }
 
-    /// The least squared distance out of reach, in square ring units: from it on no pair interacts, and each does below it.
+    /// The least squared distance out of reach, in square ring units: from it on no pair interacts, and each does below
+    /// it.
     #[inline]
     pub fn reach(&self) -> u64
         ensures value { (s : ℕ) → interacts self.now s ≡ nat_lt s result }

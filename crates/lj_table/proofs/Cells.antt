@@ -1,6 +1,6 @@
 -- The cells of a table, one by one.
 use Rattle.std.proofs.Common.{ℕ, ◌+◌, ◌*◌, ◌^◌, ◌<◌, ◌≡◌, ◌≢◌, ℤ, pos, ◌-ℤ◌, ◌*ℤ◌, int_div, List, length, slice_index_or, slice_set, refl, below_more, arith, get_or-set_same, get_or-set_other}
-use Rattle.lj_table.specs.Entries.{push_entry, energy_entry, centre}
+use Rattle.lj_table.specs.Entries.{push_entry, energy_entry}
 use Rattle.lj_table.proofs.Sizes.{cube_is, sixth_is, seventh_is}
 
 -- what holds of each of the first k cells, and of the value written to the k-th, holds of one more

@@ -1,5 +1,5 @@
 -- How large the powers of a bin's centre and its entries are.
-use Rattle.std.proofs.Common.{ℕ, ◌+◌, ◌-◌, ◌*◌, ◌/◌, ◌^◌, ◌<◌, ◌≤◌, ◌≡◌, ap, ◌∙◌, refl, arith}
+use Rattle.std.proofs.Common.{ℕ, ◌*◌, ◌^◌, ◌<◌, ◌≤◌, ◌≡◌, ap, ◌∙◌, refl, arith}
 use Rattle.std.proofs.Math.Nat.{pow-suc, pow-zero, one-mul}
 use Rattle.std.proofs.lemmas.Nat.{mul-le, pow-add}
 

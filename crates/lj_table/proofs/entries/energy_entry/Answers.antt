@@ -1,4 +1,4 @@
-use Rattle.std.proofs.Common.{◌∙◌, FitsSigned, w64, arith, rules}
+use Rattle.std.proofs.Common.{◌∙◌, FitsSigned, w64, rules}
 use Rattle.std.proofs.lemmas.Int.{to_z-of_z}
 use Rattle.lj_table.proofs.Cells.{energy_entry_is}
 use Rattle.lj_table.proofs.Sizes.{energy_above, energy_under}

@@ -1,4 +1,4 @@
-use Rattle.std.proofs.Common.{◌∙◌, FitsSigned, w64, arith, rules}
+use Rattle.std.proofs.Common.{◌∙◌, FitsSigned, w64, rules}
 use Rattle.std.proofs.lemmas.Int.{to_z-of_z}
 use Rattle.lj_table.proofs.Cells.{push_entry_is}
 use Rattle.lj_table.proofs.Sizes.{push_above, push_under, seventh_most}
