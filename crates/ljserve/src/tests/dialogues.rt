@@ -4,7 +4,7 @@ ghost use Rattle.std.specs.Prelude.{◌≡◌, ◌<◌, length, None, IfSome};
 use crate::item::split_item;
 use crate::reply::write_reply;
 use crate::running::answer_alone;
-use arrayvec::ArrayVec;
+use arrayvec::{ArrayString, ArrayVec};
 use lj_quota::Quota;
 use lj_session::{Command, Owner, Refusal, Reply, UserState};
 use lj_table::Table;
@@ -16,6 +16,9 @@ use std::process::Abort;
 
 /// What was written in a test.
 pub type Output = ArrayVec<u8, 1024>;
+
+/// A text that a test makes without memory of its own.
+pub type Text = ArrayString<1024>;
 
 /// An owner without sessions, which may have so many sessions, atoms and saved simulations.
 pub fn owner(rt: &impl AllocGlobal, sessions: u64, atoms: u64, branches: u64) -> Owner

@@ -1,7 +1,7 @@
 //! Results of tasks: in reverse order, doubled, and of a session that is gone.
-ghost use Rattle.std.specs.Prelude.{◌≡◌, None, IfOk};
+ghost use Rattle.std.specs.Prelude.{◌≡◌, ◌≤◌, None, IfOk};
 
-use super::dialogues::{command, expect_dialogue, owner};
+use super::dialogues::{Text, command, expect_dialogue, owner};
 use lj_session::{Begin, Owner};
 use lj_table::Table;
 use lj_tile::{Done, compute};
@@ -11,18 +11,28 @@ use std::process::Abort;
 use std::test::Fail;
 
 /// A LOAD of session c: so many atoms in a row along x, 1.5 apart, which stand so many tenths from the origin.
-pub fn chain(rt: &impl AllocGlobal, atoms: usize, tenths: u8) -> Result<String, Fail> {
-    let mut body = String::new(rt.alloc());
-    writeln!(body, "{atoms}\nchain")?;
+fn chain_once(rt: &impl AllocGlobal, atoms: usize, tenths: u8) -> Result<String, AllocError>
+    requires { atoms ≤ 4096 }
+{
+    let mut body = String::with_capacity(rt.alloc(), 16 * (atoms + 1))?;
+    writeln!(body, "{atoms}\nchain").map_err(|_| AllocError)?;
     for i in 0..atoms {
         let place = 15 * (i % 100) + usize::from(tenths);
-        writeln!(body, "X {}.{} 0 0", place / 10, place % 10)?;
+        writeln!(body, "X {}.{} 0 0", place / 10, place % 10).map_err(|_| AllocError)?;
     }
-    Ok(format!(in rt.alloc(); "LOAD c 256 1 131072 rest {}\n{body}", body.len())?)
+    format!(in rt.alloc(); "LOAD c 256 1 131072 rest {}\n{body}", body.len())
+}
+
+/// The same, once more where memory is refused.
+pub fn chain(rt: &impl AllocGlobal, atoms: usize, tenths: u8) -> Result<String, AllocError>
+    requires { atoms ≤ 4096 }
+{
+    chain_once(rt, atoms, tenths).or_else(|_| chain_once(rt, atoms, tenths))
 }
 
 /// An owner of session c, a chain of so many atoms.
 fn chain_owner(rt: &(impl Abort + AllocGlobal), atoms: usize, tenths: u8) -> Result<Owner, Fail>
+    requires { atoms ≤ 4096 }
     ensures { IfOk result (λ owner. owner.rest ≡ None) }
 {
     let mut owner = owner(rt, 1, 130, 0);
@@ -36,12 +46,14 @@ fn load_chain(
     atoms: usize,
     tenths: u8,
 ) -> Result<(), Fail>
-    requires { owner.old.rest ≡ None }
+    requires idle { owner.old.rest ≡ None }
+    requires few { atoms ≤ 4096 }
     ensures { owner.new.rest ≡ None }
 {
     let input = chain(rt, atoms, tenths)?;
-    let reply = format!(in rt.alloc(); "OK LOAD c 0 {atoms}\n")?;
-    expect_dialogue(rt, owner, input.as_str(), reply.as_str());
+    let mut reply = Text::new();
+    writeln!(reply, "OK LOAD c 0 {atoms}")?;
+    expect_dialogue(rt, owner, input.as_str(), &reply);
     Ok(())
 }
 
@@ -55,7 +67,8 @@ fn begin_advance(owner: &mut Owner, rt: &(impl Abort + AllocGlobal), line: &str)
 /// Posts all tasks of the step, and computes them.
 fn post_all(owner: &mut Owner, rt: &impl AllocGlobal) -> Result<Vec<Done>, AllocError> {
     let table = Table::new();
-    let mut results = Vec::new(rt.alloc());
+    let room = Vec::with_capacity(rt.alloc(), 9);
+    let mut results = room.or_else(|_| Vec::with_capacity(rt.alloc(), 9))?;
     for _ in 0..4096 {
         let Some(task) = owner.next_task() else {
             return Ok(results);

@@ -1,10 +1,11 @@
 //! Worked runs of a user: motion and measures, saved simulations, and quotas that are filled to their edge.
 ghost use Rattle.std.specs.Prelude.{◌≡◌, None};
 
-use super::dialogues::{expect_dialogue, owner};
+use super::dialogues::{Text, expect_dialogue, owner};
 use super::results::chain;
 use lj_session::Owner;
 use std::alloc::AllocGlobal;
+use std::fmt::Write;
 use std::process::Abort;
 use std::test::Fail;
 
@@ -92,14 +93,11 @@ fn load_one(
     requires { owner.old.rest ≡ None }
     ensures { owner.new.rest ≡ None }
 {
-    let input = format!(in rt.alloc(); "LOAD s{number} 256 1 1 rest 12\n1\nc\nX 0 0 0\n")?;
-    let loaded = format!(in rt.alloc(); "OK LOAD s{number} 0 1\n")?;
-    expect_dialogue(
-        rt,
-        owner,
-        input.as_str(),
-        refusal.unwrap_or(loaded.as_str()),
-    );
+    let mut input = Text::new();
+    write!(input, "LOAD s{number} 256 1 1 rest 12\n1\nc\nX 0 0 0\n")?;
+    let mut loaded = Text::new();
+    writeln!(loaded, "OK LOAD s{number} 0 1")?;
+    expect_dialogue(rt, owner, &input, refusal.unwrap_or(&loaded));
     Ok(())
 }
 
@@ -118,9 +116,11 @@ fn a_quota_is_filled_to_its_edge(rt: HostRuntime) -> Result<(), Fail> {
     load_one(&rt, &mut owner, 64, None)?;
     assert_eq!(rt; owner.state().len(), 64);
     for number in 0..256 {
-        let input = format!(in rt.alloc(); "BRANCH c k{number}\n")?;
-        let reply = format!(in rt.alloc(); "OK BRANCH c k{number} 0\n")?;
-        expect_dialogue(&rt, &mut owner, input.as_str(), reply.as_str());
+        let mut input = Text::new();
+        writeln!(input, "BRANCH c k{number}")?;
+        let mut reply = Text::new();
+        writeln!(reply, "OK BRANCH c k{number} 0")?;
+        expect_dialogue(&rt, &mut owner, &input, &reply);
     }
     expect_dialogue(
         &rt,
