@@ -11,7 +11,7 @@ use Rattle.lj_wire.specs.Told.{told, texts, last_user, first_mark, other_marks}
 use Rattle.lj_wire.specs.Streams.{IsItem, IsPart, Splits, AreMarks, Dialogue}
 use Rattle.lj_wire.specs.Progress.{Takes, Progress}
 
-Takes-more : (n : ℕ) (bytes : List ℕ) (items : List Item) (left front behind : List ℕ) (item : Item)
+pub Takes-more : (n : ℕ) (bytes : List ℕ) (items : List Item) (left front behind : List ℕ) (item : Item)
     → Takes n bytes items left → left ≡ front ++ behind → IsItem (n + length items) front item → ends item ≡ false
     → Takes n bytes (items ++ item ∷ []) behind
 Takes-more n bytes [] left front behind item t e i goes =
@@ -20,7 +20,7 @@ Takes-more n bytes (first ∷ items) left front behind item t e i goes =
     let s : n + suc (length items) ≡ n + 1 + length items = omega arith in
     (t.0, t.1, t.2, t.3, t.4, Takes-more (n + 1) t.1 items left front behind item t.5 e (subst (λ m. IsItem m front item) s i) goes)
 
-Splits-part : (n : ℕ) (bytes : List ℕ) (items : List Item) (left : List ℕ) → Takes n bytes items left → IsPart (n + length items) left
+pub Splits-part : (n : ℕ) (bytes : List ℕ) (items : List Item) (left : List ℕ) → Takes n bytes items left → IsPart (n + length items) left
     → Splits n bytes items left
 Splits-part n bytes [] left t p = (t, subst (λ m. IsPart m left) (let s : n + 0 ≡ n = omega arith in s) p)
 Splits-part n bytes (first ∷ items) left t p =
@@ -28,7 +28,7 @@ Splits-part n bytes (first ∷ items) left t p =
     let next = Splits-part (n + 1) t.1 items left t.5 (subst (λ m. IsPart m left) s p) in
     (t.0, t.1, t.2, t.3, (λ h. let differ : true ≡ false = sym h ∙ t.4 in cc), (λ h. next))
 
-Splits-end : (n : ℕ) (bytes : List ℕ) (items : List Item) (left front behind : List ℕ) (item : Item)
+pub Splits-end : (n : ℕ) (bytes : List ℕ) (items : List Item) (left front behind : List ℕ) (item : Item)
     → Takes n bytes items left → left ≡ front ++ behind → IsItem (n + length items) front item → ends item ≡ true
     → Splits n bytes (items ++ item ∷ []) behind
 Splits-end n bytes [] left front behind item t e i end = (
@@ -45,13 +45,13 @@ Splits-end n bytes (first ∷ items) left front behind item t e i end =
     (t.0, t.1, t.2, t.3, (λ h. let differ : true ≡ false = sym h ∙ t.4 in cc), (λ h. next))
 
 -- marks of texts are as many as the texts
-marks-length : (marks : List Bool) (told : List (List ℕ)) → AreMarks marks told → length marks ≡ length told
+pub marks-length : (marks : List Bool) (told : List (List ℕ)) → AreMarks marks told → length marks ≡ length told
 marks-length [] [] h = refl
 marks-length [] (text ∷ told) h = absurd h
 marks-length (mark ∷ marks) [] h = absurd h
 marks-length (mark ∷ marks) (text ∷ told) h = ap suc (marks-length marks told h.1)
 
-texts-length : (user : User) (items : List Item) (marks : List Bool) → length (texts user items marks) ≡ length items
+pub texts-length : (user : User) (items : List Item) (marks : List Bool) → length (texts user items marks) ≡ length items
 texts-length user [] marks = refl
 texts-length user (item ∷ items) marks = ap suc (texts-length (told user item (first_mark marks)).1 items (other_marks marks))
 
@@ -78,12 +78,12 @@ last_user-more user (first ∷ items) [] item mark h = absurd (omega (arith, h))
 last_user-more user (first ∷ items) (next ∷ marks) item mark h = last_user-more (told user first next).1 items marks item mark (omega (arith, h))
 
 -- what one item more adds to the marks, the texts and the user
-record Added (user : User) (items : List Item) (marks : List Bool) (item : Item) (mark : Bool) : Type 0 where
-  are_marks : AreMarks (marks ++ mark ∷ []) (texts user (items ++ item ∷ []) (marks ++ mark ∷ []))
-  written_is : concat (texts user items marks) ++ (told (last_user user items marks) item mark).0 ≡ concat (texts user (items ++ item ∷ []) (marks ++ mark ∷ []))
-  next_is : (told (last_user user items marks) item mark).1 ≡ last_user user (items ++ item ∷ []) (marks ++ mark ∷ [])
+pub record Added (user : User) (items : List Item) (marks : List Bool) (item : Item) (mark : Bool) : Type 0 where
+  pub are_marks : AreMarks (marks ++ mark ∷ []) (texts user (items ++ item ∷ []) (marks ++ mark ∷ []))
+  pub written_is : concat (texts user items marks) ++ (told (last_user user items marks) item mark).0 ≡ concat (texts user (items ++ item ∷ []) (marks ++ mark ∷ []))
+  pub next_is : (told (last_user user items marks) item mark).1 ≡ last_user user (items ++ item ∷ []) (marks ++ mark ∷ [])
 
-added : (user : User) (items : List Item) (marks : List Bool) (item : Item) (mark : Bool) → AreMarks marks (texts user items marks)
+pub added : (user : User) (items : List Item) (marks : List Bool) (item : Item) (mark : Bool) → AreMarks marks (texts user items marks)
     → (mark ≡ true → is_memory (told (last_user user items marks) item mark).0 ≡ true) → Added user items marks item mark
 added user items marks item mark are only =
     let text = (told (last_user user items marks) item mark).0 in
