@@ -1,8 +1,7 @@
 -- What is held, and the user that it is: a session looked up, put and taken out in both.
-use Rattle.std.proofs.Common.{◌≡◌, ℕ, true, false, List, Option, Some, None, refl, sym, ap, ◌∙◌}
+use Rattle.std.proofs.Common.{◌≡◌, ℕ, List, Option, Some, None, refl, sym, ap, ◌∙◌}
 use Rattle.std.proofs.Common.{Bor}
 use Rattle.std.specs.Prelude.{is_some}
-use Rattle.std.proofs.lemmas.Bool.{true≢false, false≢true}
 use Rattle.std.specs.Option.{option_map, option_copied}
 use Rattle.lj_branch.specs.Named.{named, put, taken_out}
 use Rattle.lj_session.specs.Users.{Session, with_session}
@@ -39,14 +38,6 @@ user_of-changed owned name change same = by (held_in owned name) refl
 pub present : (owned : Owned) (name : List ℕ) (o : Option (Bor Held)) → option_copied o ≡ held_in owned name → is_some (named name (user_of owned).sessions) ≡ is_some o
 present owned name None h = ap is_some (named-absent owned name (sym h))
 present owned name (Some held) h = ap is_some (named-held owned name held.now (sym h))
-
-pub absent-at : (owned : Owned) (name : List ℕ) (o : Option (Bor Held)) → option_copied o ≡ held_in owned name → is_some o ≡ false → held_in owned name ≡ None
-absent-at owned name None h none = sym h
-absent-at owned name (Some held) h none = absurd (true≢false none)
-
-pub held-at : (owned : Owned) (name : List ℕ) (o : Option (Bor Held)) → option_copied o ≡ held_in owned name → is_some o ≡ true → (held : Held) × (held_in owned name ≡ Some held)
-held-at owned name None h some = absurd (false≢true some)
-held-at owned name (Some held) h some = (held.now, sym h)
 
 -- a session taken out of the map
 pub taken-of : (a : Inside) (old : Owned) → owned_of a ≡ old → (name : List ℕ) (entries : List (List ℕ × Held)) → entries ≡ taken_out name a.sessions.entries

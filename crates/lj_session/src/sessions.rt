@@ -1,8 +1,9 @@
 //! The sessions of a user, and what each command does to them.
-ghost use Rattle.std.specs.Prelude.{◌≡◌, ◌<◌, length, slice_get, position, Some, Err, OnErr};
+ghost use Rattle.std.specs.Prelude.{◌≡◌, ◌<◌, length, slice_get, position, Some, Err, OnErr, is_some};
 ghost use Rattle.std.specs.List.{IsDistinct};
 ghost use Rattle.std.specs.Option.{option_copied};
 ghost use Rattle.std.specs.Str.{bytes_eq};
+ghost use Rattle.lj_branch.specs.Named.{named};
 ghost use Rattle.lj_session.specs.Turns.{turns};
 ghost use Rattle.lj_session.specs.States.{Performs, empty, user_of, used_by, names, held_in, held_at};
 
@@ -103,6 +104,13 @@ impl Sessions {
         ensures { option_copied result ≡ held_in self.now name.now }
     {
         self.sessions.get(name)
+    }
+
+    /// Whether a session has the name.
+    fn has(&self, name: &Name) -> bool
+        ensures { result ≡ is_some (named name.now (user_of self.now).sessions) }
+    {
+        self.find(name).is_some()
     }
 
     /// Performs a command that takes no turn.

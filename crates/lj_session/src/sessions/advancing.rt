@@ -42,7 +42,7 @@ impl Sessions {
     fn measure_turns(&self, name: &Name) -> u64
         ensures { result ≡ definition.turns (user_of self.now) (commands.Measure name.now) }
     {
-        if self.find(name).is_none() {
+        if !self.has(name) {
             return 0;
         }
         1

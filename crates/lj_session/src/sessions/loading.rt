@@ -64,7 +64,7 @@ impl Sessions {
     fn admit(&self, load: &Load) -> Result<Scale, Refusal>
         ensures { result ≡ admitted (user_of self.now) load.now }
     {
-        if self.find(&load.name).is_some() {
+        if self.has(&load.name) {
             return Err(Refusal::Exists);
         }
         may_session(&self.quota, &self.used)?;

@@ -32,7 +32,7 @@ impl Sessions {
     pub fn dump(&self, name: Name) -> Result<Reply, Refusal>
         ensures { Reads self.now (commands.Dump name) result }
     {
-        if self.find(&name).is_none() {
+        if !self.has(&name) {
             return Err(Refusal::NoSession);
         }
         Ok(Reply::Dumped { name })
@@ -42,7 +42,7 @@ impl Sessions {
     pub fn list_branches(&self, name: Name) -> Result<Reply, Refusal>
         ensures { Reads self.now (commands.ListBranches name) result }
     {
-        if self.find(&name).is_none() {
+        if !self.has(&name) {
             return Err(Refusal::NoSession);
         }
         Ok(Reply::ListedBranches { name })

@@ -3,18 +3,17 @@ use Rattle.lj_quota.specs.declared.Over.{Over}
 use Rattle.lj_quota.specs.declared.Over.TheVariants.{Sessions}
 use Rattle.lj_session.specs.Loads.{scale_refusal}
 use Rattle.lj_session.specs.Faults.{quota_refusal}
-use Rattle.lj_session.proofs.Holding.{present}
 use Rattle.lj_session.proofs.Loading as loading
 use Rattle.lj_session.proofs.Results.{refused}
 use Rattle.lj_session.proofs.Limits.{over-limit, same_over, sessions-over, sessions-room}
 use Rattle.lj_session.specs.States.{user_of}
 use Rattle.lj_session.proofs.sessions.Sessions.admit.Goals as goal
 
-pub returns-then-is_some : goal.returns-then-is_some
-returns-then-is_some c =
+pub returns-then-has : goal.returns-then-has
+returns-then-has c =
     let old = c.args.self.now in
     sym (loading.admitted-exists (user_of old) c.args.load.now
-    (present old c.args.load.now.name c.find.result c.find.ensures ∙ (sym c.is_some.ensures ∙ c.if-is_some.true)))
+    (sym c.has.ensures ∙ c.if-has.true))
 
 pub returns-in_err-may_session : goal.returns-in_err-may_session
 returns-in_err-may_session c =
@@ -24,7 +23,7 @@ returns-in_err-may_session c =
     refused c.from_residual.result (quota_refusal c.in_err-may_session.field-0.0) c.from_residual.ensures.1
     ∙ (ap (λ (o : Over). Err (quota_refusal o)) which
     ∙ sym (loading.admitted-over (user_of old) c.args.load.now
-    (present old c.args.load.now.name c.find.result c.find.ensures ∙ (sym c.is_some.ensures ∙ c.if-is_some.false))
+    (sym c.has.ensures ∙ c.if-has.false)
     (sessions-over c.self.inside old c.self.view_is c.self.invariant over)))
 
 pub returns-in_err-scale_of : goal.returns-in_err-scale_of
@@ -32,7 +31,7 @@ returns-in_err-scale_of c =
     let old = c.args.self.now in
     refused c.from_residual-in_err-scale_of.result (scale_refusal c.in_err-scale_of.field-0.0) c.from_residual-in_err-scale_of.ensures.1
     ∙ sym (loading.admitted-fault (user_of old) c.args.load.now
-    (present old c.args.load.now.name c.find.result c.find.ensures ∙ (sym c.is_some.ensures ∙ c.if-is_some.false))
+    (sym c.has.ensures ∙ c.if-has.false)
     (sessions-room c.self.inside old c.self.view_is c.self.invariant (c.in_ok-may_session.ensures.may.0 refl))
     c.in_err-scale_of.field-0.0 (sym c.in_err-scale_of.ensures))
 
@@ -40,6 +39,6 @@ pub returns : goal.returns
 returns c =
     let old = c.args.self.now in
     sym (loading.admitted-scale (user_of old) c.args.load.now
-    (present old c.args.load.now.name c.find.result c.find.ensures ∙ (sym c.is_some.ensures ∙ c.if-is_some.false))
+    (sym c.has.ensures ∙ c.if-has.false)
     (sessions-room c.self.inside old c.self.view_is c.self.invariant (c.in_ok-may_session.ensures.may.0 refl))
     c.in_ok-scale_of.field-0 (sym c.in_ok-scale_of.ensures))
