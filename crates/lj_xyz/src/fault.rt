@@ -1,11 +1,10 @@
 //! What is wrong with a body, and where.
 ghost use Rattle.std.specs.Prelude.{◌≡◌};
 ghost use Rattle.lj_fixed.specs.declared.numbers.NumberFault.{NumberFault};
-ghost use Rattle.lj_xyz.specs.declared.fault.XyzError.TheVariants.{Memory, Fault};
+ghost use Rattle.lj_xyz.specs.declared.fault.XyzError.TheVariants.{Fault};
 ghost use Rattle.lj_xyz.specs.Kinds.{kind_of};
 
 use lj_fixed::NumberFault;
-use std::alloc::{AllocError, AllocFailed};
 use std::fmt;
 use thiserror::Error;
 
@@ -100,21 +99,5 @@ impl From<XyzFault> for XyzError {
 
     fn from(fault: XyzFault) -> XyzError {
         XyzError::Fault(fault)
-    }
-}
-
-impl From<AllocError> for XyzError {
-    ghost from_gives = { λ _ error. error ≡ Memory };
-
-    fn from(_error: AllocError) -> XyzError {
-        XyzError::Memory
-    }
-}
-
-impl<T: Drop> From<AllocFailed<T>> for XyzError {
-    ghost from_gives = { λ _ error. error ≡ Memory };
-
-    fn from(_error: AllocFailed<T>) -> XyzError {
-        XyzError::Memory
     }
 }
