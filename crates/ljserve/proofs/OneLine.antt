@@ -1,9 +1,9 @@
 -- What the commands that are served are answered is one line.
-use Rattle.std.proofs.Common.{◌≡◌, Bool, true, Result, Ok, Err, refl, sym, ap, ◌∙◌}
+use Rattle.std.proofs.Common.{◌≡◌, Bool, true, Result, Ok, Err, refl, ap, ◌∙◌}
 use Rattle.lj_xyz.specs.Atoms.{◌>>=◌}
 use Rattle.lj_session.specs.declared.command.Command.{Command}
-use Rattle.lj_session.specs.declared.command.Command.TheVariants.{Load, Advance, Reverse, Branch, Restore, Forget, Tug, Measure, Show, Dump, List as ListSessions, ListBranches, Unload, Bye}
-use Rattle.lj_session.specs.declared.command.Mode.TheVariants.{Rest, Pair}
+use Rattle.lj_session.specs.declared.command.Command.TheVariants.{Load, Advance, Show}
+use Rattle.lj_session.specs.declared.command.Mode.TheVariants.{Rest}
 use Rattle.lj_session.specs.declared.refusal.Refusal.{Refusal}
 use Rattle.lj_session.specs.declared.reply.Reply.{Reply}
 use Rattle.lj_session.specs.Users.{User}
@@ -24,22 +24,11 @@ thin-line : (user : User) (command : Command) (mark : Bool) → is_thin command 
 unfolding performed
 thin-line user (Load name edge sigma step_factor Rest body) mark h =
     bound user (admitted user name edge sigma step_factor) _ (λ units. bound user (body_held body mark) _ (λ bytes. bound user (session_read user units Rest bytes) _ (λ session. refl)))
-thin-line user (Load name edge sigma step_factor Pair body) mark h = cc
 thin-line user (Advance name n) mark h =
     bound user (session_of user name) _ (λ session. bound user (unless (can_advance session n) StepRange) _ (λ near. refl))
-thin-line user (Reverse a) mark h = cc
-thin-line user (Branch a b) mark h = cc
-thin-line user (Restore a b) mark h = cc
-thin-line user (Forget a b) mark h = cc
-thin-line user (Tug a b c d e) mark h = cc
-thin-line user (Measure a) mark h = cc
 thin-line user (Show name atom) mark h =
     bound user (session_of user name) _ (λ session. bound user (has_atom session atom) _ (λ there. refl))
-thin-line user (Dump a) mark h = cc
-thin-line user ListSessions mark h = cc
-thin-line user (ListBranches a) mark h = cc
-thin-line user (Unload a) mark h = cc
-thin-line user Bye mark h = cc
+thin-line user _ mark h = cc
 
 pub answered-line : (user next : User) (command : Command) (reply : Reply) → is_thin command ≡ true → IsAnswered user command reply next → is_one_line reply ≡ true
 answered-line user next command reply thin answered = ap (λ a. is_one_line a.0) answered.answers ∙ thin-line user command answered.mark thin

@@ -4,7 +4,7 @@ use Rattle.std.specs.Prelude.{IfSome, OnOk}
 use Rattle.std.specs.Io.KnownBytes.{Appends, Keeps}
 use Rattle.std.proofs.KnownBytes.{Appends-nil, Appends-trans, Appends-kept}
 use Rattle.std.proofs.lemmas.List.{length-append}
-use Rattle.lj_session.specs.declared.command.Command.TheVariants.{Load, Advance, Reverse, Branch, Restore, Forget, Tug, Measure, Show, Dump, List as ListSessions, ListBranches, Unload, Bye}
+use Rattle.lj_session.specs.declared.command.Command.TheVariants.{Bye}
 use Rattle.lj_session.specs.declared.reply.Reply.{Reply}
 use Rattle.lj_session.specs.declared.reply.Reply.TheVariants as replies
 use Rattle.lj_session.specs.Users.{User}
@@ -27,20 +27,8 @@ use Rattle.ljserve.proofs.Unheld.{either-served, either-answers}
 
 -- what is served does not end the connection
 served-goes_on : (item : Item) → is_served item ≡ true → ends item ≡ false
-served-goes_on (Command (Load a b c d e f)) h = refl
-served-goes_on (Command (Advance a b)) h = refl
-served-goes_on (Command (Reverse a)) h = refl
-served-goes_on (Command (Branch a b)) h = refl
-served-goes_on (Command (Restore a b)) h = refl
-served-goes_on (Command (Forget a b)) h = refl
-served-goes_on (Command (Tug a b c d e)) h = refl
-served-goes_on (Command (Measure a)) h = refl
-served-goes_on (Command (Show a b)) h = refl
-served-goes_on (Command (Dump a)) h = refl
-served-goes_on (Command ListSessions) h = refl
-served-goes_on (Command (ListBranches a)) h = refl
-served-goes_on (Command (Unload a)) h = refl
 served-goes_on (Command Bye) h = cc
+served-goes_on (Command _) h = refl
 served-goes_on (Bad fault) h = refl
 served-goes_on (Last fault) h = cc
 
@@ -53,19 +41,9 @@ told-line : (user : User) (reply : Reply) → is_one_line reply ≡ true → tex
 unfolding text
 told-line user (replies.Loaded a b) h = refl
 told-line user (replies.Advanced a b) h = refl
-told-line user (replies.Reversed a b) h = cc
-told-line user (replies.Branched a b c) h = cc
-told-line user (replies.Restored a b c) h = cc
-told-line user (replies.Forgotten a b) h = cc
-told-line user (replies.Tugged a b c) h = cc
-told-line user (replies.Measured a b c d e f) h = cc
 told-line user (replies.Shown a b c d) h = refl
-told-line user (replies.Dumped a) h = cc
-told-line user replies.Listed h = cc
-told-line user (replies.ListedBranches a) h = cc
-told-line user (replies.Unloaded a) h = cc
-told-line user replies.Bye h = cc
 told-line user (replies.Refused a) h = refl
+told-line user _ h = cc
 
 -- the line and the body that a stream begins with are those of its first item
 record First (n : ℕ) (left line body behind : List ℕ) (items : List Item) (rest : List ℕ) : Type 0 where

@@ -1,5 +1,5 @@
 -- A running command's tasks taken one after the other: the next task is that of the first tile that is awaited, and its result is awaited.
-use Rattle.std.proofs.Common.{◌≡◌, ℕ, ◌+◌, ◌-◌, ◌<◌, ◌≤◌, Bool, true, false, List, length, Option, Some, None, ◌⊎◌, inl, inr, refl, sym, ap, ◌∙◌, subst, cond, slice_get, slice_index_or, arith}
+use Rattle.std.proofs.Common.{◌≡◌, ℕ, ◌+◌, ◌-◌, ◌<◌, ◌≤◌, Bool, true, false, List, length, Option, Some, None, inl, inr, refl, sym, ap, ◌∙◌, subst, cond, slice_index_or, arith}
 use Rattle.std.specs.Prelude.{IsSomeAnd, IfSome}
 use Rattle.std.specs.List.{find, range_with_len}
 use Rattle.std.specs.Option.{option_map, option_map_or, option_and_then}
@@ -10,13 +10,13 @@ use Rattle.lj_tile.specs.declared.names.Kind.{Kind}
 use Rattle.lj_tile.specs.declared.names.Kind.TheVariants.{Force, Energy}
 use Rattle.lj_tile.specs.Tasks.{Work}
 use Rattle.lj_step.specs.Live.{Live, OpenStep}
-use Rattle.lj_step.specs.OpenSteps.{cover, awaits, awaits_in, awaits_at, tiles_in, tiles_of, task_at, number_of, with_tile, Awaits, is_whole, opened}
+use Rattle.lj_step.specs.OpenSteps.{cover, awaits_in, awaits_at, tiles_in, tiles_of, task_at, number_of, Awaits, opened}
 use Rattle.lj_session.specs.declared.command.Command.{Command}
-use Rattle.lj_session.specs.States.{Held, Owned, user_of, held_in, changed, with_step, next_tile, next_of, next_task, passed_to, with_posted, with_tile_in, AwaitsOf, whole_of, turned_on}
+use Rattle.lj_session.specs.States.{Held, Owned, user_of, held_in, with_step, next_tile, next_of, next_task, passed_to, with_posted, with_tile_in, AwaitsOf, whole_of, turned_on}
 use Rattle.lj_session.specs.Owners.{Owning, user_in, step_of, step_in, label_in, begun, task_in, changed_in, opened_for, with_task_posted, with_task_in, IsWanted, is_ready, turns_left, turned_from, with_state}
 use Rattle.ljserve.specs.Taking.{AwaitsFrom, IsTaking, SameRun}
 use Rattle.lj_session.proofs.Tiles.{find-step, find-end}
-use Rattle.lj_session.specs.declared.command.Command.TheVariants.{Load, Advance, Reverse, Branch, Restore, Forget, Tug, Measure, Show, Dump, List as ListSessions, ListBranches, Unload, Bye}
+use Rattle.lj_session.specs.declared.command.Command.TheVariants.{Advance, Measure}
 use Rattle.lj_session.specs.Turns.{turns, rest_of}
 use Rattle.ljserve.specs.Taking.{HasBegun, KeepsAnswer}
 use Rattle.lj_session.specs.Answers.{answer}
@@ -182,28 +182,17 @@ record Steps (owner : Owning) (command : Command) : Type 0 where
 
 steps_of : (owner : Owning) (command : Command) → 0 < turns (user_in owner) command → Steps owner command
 unfolding turns
-steps_of owner (Load a b c d e f) some = absurd (omega (arith, some))
 steps_of owner (Advance name n) some = by (held_in owner.state name) refl
   where
     by : (o : Option Held) → held_in owner.state name ≡ o → Steps owner (Advance name n)
     by None e = absurd (let none = rw (named-absent owner.state name e) at some in omega (arith, none))
     by (Some held) e = record { name = name; kind = Force; step = refl; held = held; there = e }
-steps_of owner (Reverse a) some = absurd (omega (arith, some))
-steps_of owner (Branch a b) some = absurd (omega (arith, some))
-steps_of owner (Restore a b) some = absurd (omega (arith, some))
-steps_of owner (Forget a b) some = absurd (omega (arith, some))
-steps_of owner (Tug a b c d e) some = absurd (omega (arith, some))
 steps_of owner (Measure name) some = by (held_in owner.state name) refl
   where
     by : (o : Option Held) → held_in owner.state name ≡ o → Steps owner (Measure name)
     by None e = absurd (let none = rw (named-absent owner.state name e) at some in omega (arith, none))
     by (Some held) e = record { name = name; kind = Energy; step = refl; held = held; there = e }
-steps_of owner (Show a b) some = absurd (omega (arith, some))
-steps_of owner (Dump a) some = absurd (omega (arith, some))
-steps_of owner ListSessions some = absurd (omega (arith, some))
-steps_of owner (ListBranches a) some = absurd (omega (arith, some))
-steps_of owner (Unload a) some = absurd (omega (arith, some))
-steps_of owner Bye some = absurd (omega (arith, some))
+steps_of owner _ some = absurd (omega (arith, some))
 
 -- a command that takes turns and whose step was just opened
 pub has_begun : (command : Command) (owner : Owning) → 0 < turns (user_in owner) command → HasBegun (begun command owner)

@@ -19,6 +19,7 @@ abbrev pub reply_text : Reply → List ℕ
 reply_text (Loaded name atoms) = ok (codes "LOAD" ∷ name ∷ codes "0" ∷ decimal atoms ∷ [])
 reply_text (Advanced name step) = ok (codes "ADVANCE" ∷ name ∷ signed_decimal step ∷ [])
 reply_text (Shown name step atom place) =
-    ok (codes "SHOW" ∷ name ∷ signed_decimal step ∷ decimal atom ∷ decimal place.x ∷ decimal place.y ∷ decimal place.z ∷ [])
+    ok (codes "SHOW" ∷ name ∷ signed_decimal step ∷ decimal atom
+    ∷ decimal place.x ∷ decimal place.y ∷ decimal place.z ∷ [])
 reply_text (Refused refusal) = ended (refusal_text refusal)
 reply_text _ = []

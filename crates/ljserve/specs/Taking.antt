@@ -11,7 +11,8 @@ use Rattle.lj_session.specs.Answers.{answer}
 pub record AwaitsFrom (kind : Kind) (count i : ℕ) (part : Option OpenStep) : Type 0 where
   pub flags : List Bool
   pub is_open : part ≡ Some (record { kind = kind; awaited = flags })
-  pub waiting : (k : ℕ) → i ≤ k → k < length (cover kind count) → slice_index_or flags (slice_index_or (cover kind count) k 0) false ≡ true
+  pub waiting : (k : ℕ) → i ≤ k → k < length (cover kind count)
+      → slice_index_or flags (slice_index_or (cover kind count) k 0) false ≡ true
   pub left : count_by (λ awaited. awaited) flags ≡ length (cover kind count) - i
 
 -- A command runs, and of its step the tiles that were posted are in, and the others are awaited.
@@ -37,4 +38,5 @@ pub record HasBegun (owner : Owning) : Type 0 where
 -- an answer of what is left now is one of the command that ran before
 abbrev pub KeepsAnswer : Owning → Owning → Type 0
 KeepsAnswer old new =
-    IfSome old.rest (λ command. IfSome new.rest (λ rest. (mark : Bool) → answer (user_in new) rest mark ≡ answer (user_in old) command mark))
+    IfSome old.rest (λ command. IfSome new.rest (λ rest.
+    (mark : Bool) → answer (user_in new) rest mark ≡ answer (user_in old) command mark))

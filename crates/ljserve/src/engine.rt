@@ -17,7 +17,7 @@ use std::io::{Read, Write};
 use thiserror::Error;
 
 /// The most bytes of an input.
-const MOST_INPUT_BYTES: u64 = 4_194_304;
+const MAX_INPUT_BYTES: u64 = 4_194_304;
 
 /// What the one user may have.
 const QUOTA: Quota = Quota {
@@ -42,7 +42,10 @@ pub enum ThinFault {
 }
 
 /// Reads the commands of `reader` to its end, and writes the replies to `writer`. Where all items are LOAD of atoms at
-/// rest, ADVANCE and SHOW, what is written is the dialogue of the bytes read, from a user without sessions. After a fault the replies to the first items may have been written.
+/// rest, ADVANCE and SHOW, what is written is the dialogue of the bytes read, from a user without sessions.
+///
+/// # Errors
+/// `Read` and `Memory` come before anything is written. At `Write` the replies to the first items may have been written.
 pub fn run_thin<R: Read, W: Write>(
     alloc: Global,
     reader: &mut R,
@@ -66,11 +69,11 @@ pub fn run_thin<R: Read, W: Write>(
 fn read_input<R: Read>(alloc: Global, reader: &mut R) -> Result<Vec<u8>, ThinFault>
     ensures { IfOk result (λ input. IfSome (R.remaining reader.old) (λ bytes. input.items ≡ bytes)) }
 {
-    let room = MOST_INPUT_BYTES as usize + 2;
+    let room = MAX_INPUT_BYTES as usize + 2;
     let mut input = Vec::with_capacity(alloc, room).map_err(|_| ThinFault::Memory)?;
-    let mut front = reader.take(MOST_INPUT_BYTES + 1);
+    let mut front = reader.take(MAX_INPUT_BYTES + 1);
     front.read_to_end(&mut input).map_err(|_| ThinFault::Read)?;
-    if input.len() as u64 > MOST_INPUT_BYTES {
+    if input.len() as u64 > MAX_INPUT_BYTES {
         return Err(ThinFault::Read);
     }
     Ok(input)

@@ -61,8 +61,8 @@ pub fn expect_dialogue(
     assert_eq!(rt; output.as_slice(), replies.as_bytes(), "after {input:?}");
 }
 
-/// The reply to the first item of `stream`, and what follows the item. Where memory is refused, the user has what it had
-/// before, and the item is answered once more.
+/// The reply to the first item of `stream`, and what follows the item. Where memory is refused, the user has what it
+/// had before, and the item is answered once more.
 fn answer_first<'a>(
     rt: &(impl Abort + AllocGlobal),
     owner: &mut Owner,

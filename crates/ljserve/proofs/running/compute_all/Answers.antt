@@ -1,6 +1,6 @@
 use Rattle.std.proofs.Common.{◌≡◌, ◌<◌, Some, sym, ap, ◌∙◌, subst}
 use Rattle.std.specs.Result.{OnOk}
-use Rattle.lj_session.specs.Owners.{IsWanted, with_task_in, with_task_posted}
+use Rattle.lj_session.specs.Owners.{IsWanted, with_task_in}
 use Rattle.ljserve.specs.Taking.{IsTaking}
 use Rattle.ljserve.proofs.Taking.{at_end, wanted, taken, tiles_left, left_fewer}
 use Rattle.ljserve.proofs.running.compute_all.Goals as goal
