@@ -1,3 +1,4 @@
+-- The places of the blocks of a frame.
 use Rattle.std.proofs.Common.{ℕ, ◌+◌, ◌-◌, ◌*◌, ◌/◌, ◌<◌, ◌≤◌, ◌≡◌, List, length, min, arith}
 use Rattle.std.proofs.lemmas.List.Edits.{length-between, get_or-between}
 use Rattle.lj_ring.specs.declared.coordinates.Place.{Place}

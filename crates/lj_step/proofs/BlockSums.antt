@@ -1,3 +1,4 @@
+-- Sums over the atoms of one block among those of all.
 use Rattle.std.proofs.Common.{ℕ, zero, suc, ◌+◌, ◌-◌, ◌*◌, ◌/◌, ◌<◌, ◌≤◌, ◌≡◌, ◌≢◌, ◌==◌, ℤ, pos, ◌+ℤ◌, Bool, true, false, nat_lt, min, if◌then◌else◌, inl, inr, refl, sym, ap, ◌∙◌, add-zero, arith}
 use Rattle.std.proofs.Math.IntN.{+ℤ_assoc, +ℤ_comm, +ℤ_idr}
 use Rattle.std.proofs.lemmas.Bool.{cases_eq, cases_lt}

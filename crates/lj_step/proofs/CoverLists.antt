@@ -1,3 +1,4 @@
+-- Filtered ranges of numbers, made number by number.
 use Rattle.std.proofs.Common.{ℕ, zero, suc, ◌+◌, ◌≤◌, ◌≡◌, Bool, true, false, cond, List, [], ◌∷◌, ◌++◌, sym, ap, ◌∙◌, append-nil, length, length-append, add-one, add-zero, arith}
 use Rattle.std.specs.List.{range_with_len, filter}
 use Rattle.std.proofs.lemmas.List.Elements.{filter-append}

@@ -1,3 +1,4 @@
+-- The sums of a cover are those of all pairs.
 use Rattle.std.proofs.Common.{ℕ, zero, suc, ◌+◌, ◌*◌, ◌%◌, ◌^◌, ◌<◌, ◌≡◌, ◌==◌, ℤ, pos, ◌+ℤ◌, Bool, true, false, cond, if◌then◌else◌, List, [], ◌∷◌, length, map, sum_by, inl, inr, refl, sym, ap, ◌∙◌, zero-add, arith}
 use Rattle.std.specs.List.{range_with_len}
 use Rattle.std.proofs.Math.IntN.{+ℤ_idl, +ℤ_idr}

@@ -1,3 +1,4 @@
+-- The flags of an open step, tile by tile and pair by pair.
 use Rattle.std.proofs.Common.{ℕ, ◌*◌, ◌/◌, ◌<◌, ◌≤◌, ◌≡◌, ◌≢◌, ◌&&◌, Bool, true, false, nat_lt, List, length, map, slice_index_or, slice_set, count_by, cond, inl, inr, refl, sym, ap, ◌∙◌, get_or-set_same, get_or-set_other, arith}
 use Rattle.std.specs.List.{range_with_len}
 use Rattle.std.proofs.lemmas.Bool.{cases_lt, cases_Bool, true≢false}

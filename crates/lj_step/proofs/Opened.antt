@@ -1,3 +1,4 @@
+-- The sums of a step as it is opened, and as a result comes in.
 use Rattle.std.proofs.Common.{ℕ, ◌+◌, ◌-◌, ◌*◌, ◌/◌, ◌^◌, ◌<◌, ◌≤◌, ◌≡◌, ◌≢◌, ◌⊎◌, pos, ◌+ℤ◌, unsigned_abs, Bool, true, false, cond, List, [], ◌∷◌, length, map, replicate, slice_index_or, slice_set, count_by, Option, Some, inl, inr, refl, sym, ap, ◌∙◌, subst, get_or-set_same, get_or-set_other, arith}
 use Rattle.std.specs.List.{range_with_len}
 use Rattle.std.proofs.lemmas.List.{get_or-replicate}
@@ -11,7 +12,7 @@ use Rattle.lj_tile.specs.declared.names.Kind.TheVariants.{Force, Energy}
 use Rattle.lj_tile.specs.Pushes.{no_push, plus}
 use Rattle.lj_tile.specs.Tasks.{Work, task_force, task_energy}
 use Rattle.lj_step.specs.declared.partial.Partial.{Partial}
-use Rattle.lj_step.specs.OpenSteps.{blocks, block, tile_number, number_of, is_tile, cover}
+use Rattle.lj_step.specs.OpenSteps.{blocks, block, tile_number, tile_number_of, is_tile, cover}
 use Rattle.lj_step.specs.Sums.{HasRoom, HasAdded, IsOpen, IsPartial, force_so_far, energy_so_far}
 use Rattle.lj_step.proofs.BlockSums.{length_in}
 use Rattle.lj_step.proofs.BlockPlaces.{block_length, place_in, length_in_most}
@@ -64,34 +65,34 @@ opened_is u frame p kind few tiles awaited left pushes energy = record {
 module _ (u : Units) (frame : List Place) (p q : Partial) (kind : Kind) (work : Work) (few : length frame ≤ 4096)
     (open_before : IsOpen u frame p kind) (room : HasRoom (length frame) p)
     (units : work.units ≡ u) (a : work.a ≡ block frame work.name.bi) (b : work.b ≡ block frame work.name.bj) (kind_is : work.name.kind ≡ kind)
-    (second : work.name.bj < 64) (within : number_of work < length p.awaited.items) (awaited : slice_index_or p.awaited.items (number_of work) false ≡ true) where
+    (second : work.name.bj < 64) (within : tile_number_of work < length p.awaited.items) (awaited : slice_index_or p.awaited.items (tile_number_of work) false ≡ true) where
   pub one_left : 1 ≤ p.left
   one_left =
-      let one : cond (slice_index_or p.awaited.items (number_of work) false) 1 0 ≤ count_by (λ awaited. awaited) p.awaited.items =
-      get_or-le-sum_by (λ (awaited : Bool). cond awaited 1 0) p.awaited.items (number_of work) false within in
+      let one : cond (slice_index_or p.awaited.items (tile_number_of work) false) 1 0 ≤ count_by (λ awaited. awaited) p.awaited.items =
+      get_or-le-sum_by (λ (awaited : Bool). cond awaited 1 0) p.awaited.items (tile_number_of work) false within in
       omega (arith, open_before.left, rw awaited at one)
 
   pub size_before : unsigned_abs p.energy + 2 ^ 63 ≤ 2 ^ 75
   size_before = omega (arith, open_before.size, one_left)
 
-  left_after : (m : ℕ) → m + 1 ≡ p.left → m ≡ count_by (λ awaited. awaited) (slice_set p.awaited.items (number_of work) false)
+  left_after : (m : ℕ) → m + 1 ≡ p.left → m ≡ count_by (λ awaited. awaited) (slice_set p.awaited.items (tile_number_of work) false)
   left_after m less =
-      let set : count_by (λ awaited. awaited) (slice_set p.awaited.items (number_of work) false) + cond (slice_index_or p.awaited.items (number_of work) false) 1 0
-      ≡ count_by (λ awaited. awaited) p.awaited.items + 0 = sum_by-set (λ (awaited : Bool). cond awaited 1 0) p.awaited.items (number_of work) false false within in
+      let set : count_by (λ awaited. awaited) (slice_set p.awaited.items (tile_number_of work) false) + cond (slice_index_or p.awaited.items (tile_number_of work) false) 1 0
+      ≡ count_by (λ awaited. awaited) p.awaited.items + 0 = sum_by-set (λ (awaited : Bool). cond awaited 1 0) p.awaited.items (tile_number_of work) false false within in
       omega (arith, less, open_before.left, rw awaited at set)
 
-  within_after : (k : ℕ) → slice_index_or (slice_set p.awaited.items (number_of work) false) k false ≡ true → is_tile kind (length frame) k ≡ true
+  within_after : (k : ℕ) → slice_index_or (slice_set p.awaited.items (tile_number_of work) false) k false ≡ true → is_tile kind (length frame) k ≡ true
   within_after k set =
-      elim (cases_eq k (number_of work)) [
-        | inl same ↦ absurd (true≢false (sym set ∙ ap (λ n. slice_index_or (slice_set p.awaited.items (number_of work) false) n false) same ∙ get_or-set_same p.awaited.items (number_of work) false false within))
-        | inr other ↦ open_before.within k (sym (get_or-set_other p.awaited.items (number_of work) k false false other) ∙ set)
+      elim (cases_eq k (tile_number_of work)) [
+        | inl same ↦ absurd (true≢false (sym set ∙ ap (λ n. slice_index_or (slice_set p.awaited.items (tile_number_of work) false) n false) same ∙ get_or-set_same p.awaited.items (tile_number_of work) false false within))
+        | inr other ↦ open_before.within k (sym (get_or-set_other p.awaited.items (tile_number_of work) k false false other) ∙ set)
       ]
 
   first_length : length work.a ≡ length_in work.name.bi (length frame)
   first_length = ap length a ∙ block_length frame work.name.bi
 
   pushes_in : work.name.kind ≡ Force → HasAdded work p.pushes.items q.pushes.items → (i : ℕ) → i < length frame → i / 64 ≡ work.name.bi
-      → slice_index_or q.pushes.items i no_push ≡ force_so_far u frame (slice_set p.awaited.items (number_of work) false) i
+      → slice_index_or q.pushes.items i no_push ≡ force_so_far u frame (slice_set p.awaited.items (tile_number_of work) false) i
   pushes_in force added i h first =
       let place : (i - 64 * work.name.bi < length_in work.name.bi (length frame)) × (64 * work.name.bi + (i - 64 * work.name.bi) ≡ i) = rw first at (place_in (length frame) i h) in
       let below : i - 64 * work.name.bi < length work.a = rw first_length place.0 in
@@ -113,13 +114,13 @@ module _ (u : Units) (frame : List Place) (p q : Partial) (kind : Kind) (work : 
       ]
 
   pushes_out : work.name.kind ≡ Force → HasAdded work p.pushes.items q.pushes.items → (i : ℕ) → i < length frame → i / 64 ≢ work.name.bi
-      → slice_index_or q.pushes.items i no_push ≡ force_so_far u frame (slice_set p.awaited.items (number_of work) false) i
+      → slice_index_or q.pushes.items i no_push ≡ force_so_far u frame (slice_set p.awaited.items (tile_number_of work) false) i
   pushes_out force added i h other =
       added.others i (apart i other)
       ∙ open_before.pushes (sym kind_is ∙ force) i h
       ∙ sym (force_same u frame p.awaited.items work.name.bi work.name.bj few second within awaited i other)
 
-  pub accepted_is : q.tiles.items ≡ p.tiles.items → q.awaited.items ≡ slice_set p.awaited.items (number_of work) false → q.left + 1 ≡ p.left
+  pub accepted_is : q.tiles.items ≡ p.tiles.items → q.awaited.items ≡ slice_set p.awaited.items (tile_number_of work) false → q.left + 1 ≡ p.left
       → HasAdded work p.pushes.items q.pushes.items → (work.name.kind ≡ Energy → q.energy ≡ p.energy +ℤ task_energy work)
       → unsigned_abs q.energy ≤ unsigned_abs p.energy + 2 ^ 63 → IsOpen u frame q kind
   accepted_is tiles flags less added energy size = record {

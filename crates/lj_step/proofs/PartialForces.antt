@@ -1,3 +1,4 @@
+-- The pushes of the tiles that are in.
 use Rattle.std.proofs.Common.{ℕ, ◌+◌, ◌*◌, ◌/◌, ◌%◌, ◌^◌, ◌<◌, ◌≤◌, ◌≡◌, ◌≢◌, ◌==◌, Bool, true, false, not, List, length, slice_index_or, slice_set, count_by, if◌then◌else◌, inl, inr, refl, sym, ap, ◌∙◌, zero-add, add-zero, arith}
 use Rattle.std.proofs.lemmas.Bool.{cases_eq, cases_Bool, eqb-true, eqb-false}
 use Rattle.std.proofs.lemmas.Bool.Decides.{nat_tests}

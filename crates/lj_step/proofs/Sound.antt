@@ -9,7 +9,7 @@ use Rattle.lj_step.specs.declared.partial.Partial.{Partial}
 use Rattle.lj_step.specs.declared.simulations.Sim.TheInside.{Inside}
 use Rattle.lj_step.specs.Kept.{IsSound, live_of}
 use Rattle.lj_step.specs.Live.{Live}
-use Rattle.lj_step.specs.OpenSteps.{blocks, number_of, task_of, Awaits}
+use Rattle.lj_step.specs.OpenSteps.{blocks, tile_number_of, task_of, IsAwaited}
 use Rattle.lj_step.specs.Sums.{HasAdded, HasRoom, IsPartial}
 use Rattle.lj_step.proofs.Steps.{awaited_at, left_some, size_fits, partial_after}
 
@@ -30,8 +30,8 @@ with_partial a p sound room partial = record {
 
 -- with one result more, of a task that is awaited
 module _ (a : Inside) (now : Live) (label : Label) (asked work : Work) (sound : IsSound a) (view : live_of a ≡ now) (same : asked ≡ work)
-    (awaited : Awaits now label asked) where
-  wanted : (kind : Kind) × (a.partial.kind ≡ Some kind) × (slice_index_or a.partial.awaited.items (number_of work) false ≡ true) × (work ≡ task_of (live_of a) label kind (number_of work))
+    (awaited : IsAwaited now label asked) where
+  wanted : (kind : Kind) × (a.partial.kind ≡ Some kind) × (slice_index_or a.partial.awaited.items (tile_number_of work) false ≡ true) × (work ≡ task_of (live_of a) label kind (tile_number_of work))
   wanted = awaited_at (live_of a) now label asked work a.partial.kind a.partial.awaited.items view refl same awaited
 
   pub sums_fit : (1 ≤ a.partial.left) × (unsigned_abs a.partial.energy + 2 ^ 63 ≤ 2 ^ 75)
@@ -41,7 +41,7 @@ module _ (a : Inside) (now : Live) (label : Label) (asked work : Work) (sound : 
   )
 
   pub with_result : (q : Partial) → q.kind ≡ a.partial.kind → q.tiles.items ≡ a.partial.tiles.items → vec_capacity q.tiles ≡ vec_capacity a.partial.tiles
-      → q.awaited.items ≡ slice_set a.partial.awaited.items (number_of work) false → q.left + 1 ≡ a.partial.left
+      → q.awaited.items ≡ slice_set a.partial.awaited.items (tile_number_of work) false → q.left + 1 ≡ a.partial.left
       → HasAdded work a.partial.pushes.items q.pushes.items → (work.name.kind ≡ Energy → q.energy ≡ a.partial.energy +ℤ task_energy work)
       → unsigned_abs q.energy ≤ unsigned_abs a.partial.energy + 2 ^ 63 → IsSound (record a { partial = q })
   with_result q kind tiles capacity flags less added energy size =

@@ -1,3 +1,4 @@
+-- Step numbers as the code computes them.
 use Rattle.std.proofs.Common.{◌≤◌, ◌^◌, ◌≡◌, ℤ, ◌+ℤ◌, unsigned_abs, FitsSigned, w64, to_z, of_z, refl, arith}
 use Rattle.std.proofs.lemmas.Int.{to_z-of_z, fits_signed_from_abs}
 

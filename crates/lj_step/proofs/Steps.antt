@@ -1,3 +1,4 @@
+-- The open step in the code, and what is told of it.
 use Rattle.std.proofs.Common.{ℕ, ◌+◌, ◌*◌, ◌/◌, ◌%◌, ◌^◌, ◌<◌, ◌≤◌, ◌≡◌, ℤ, pos, ◌+ℤ◌, unsigned_abs, to_z, of_z, Bool, true, false, List, length, map, replicate, slice_index_or, slice_set, slice_get, count_by, Option, Some, None, inl, inr, refl, sym, ap, ◌∙◌, subst, arith}
 use Rattle.std.specs.List.{range_with_len}
 use Rattle.std.specs.Int.{w128}
@@ -19,7 +20,7 @@ use Rattle.lj_tile.specs.Tasks.{Work, task_energy}
 use Rattle.lj_step.specs.declared.partial.Partial.{Partial}
 use Rattle.lj_step.specs.Motion.{Simulation, place_at, next_place, force, moved, next_frame, stepped, potential}
 use Rattle.lj_step.specs.Live.{Live, OpenStep}
-use Rattle.lj_step.specs.OpenSteps.{blocks, block, number_of, is_tile, cover, task_of, task_in, task_at, awaits, awaits_in, awaits_at, AwaitsIn, Awaits, kind_of, is_whole, closed}
+use Rattle.lj_step.specs.OpenSteps.{blocks, block, tile_number_of, is_tile, cover, task_of, task_in, task_at, awaits_number, awaits_tile_in, awaits_tile, IsAwaitedIn, IsAwaited, kind_of, is_whole, closed}
 use Rattle.lj_step.specs.Sums.{HasRoom, HasAdded, IsOpen, IsPartial}
 use Rattle.lj_step.specs.Kept.{open_step_of}
 use Rattle.lj_step.proofs.PartialForces.{force_whole}
@@ -63,17 +64,17 @@ potential_is u frame p h whole =
     to_z-of_z w128 p.energy (fits_signed_from_abs w128 p.energy (omega arith)) ∙ opened.energy refl ∙ energy_whole u frame p.awaited.items whole.1
 
 -- the step that awaits a task, its flag, and the task
-pub awaited_in : (live : Live) (label : Label) (work : Work) (o : Option Kind) (flags : List Bool) → AwaitsIn live label work (open_step_of o flags)
-    → (kind : Kind) × (o ≡ Some kind) × (slice_index_or flags (number_of work) false ≡ true) × (work ≡ task_of live label kind (number_of work))
+pub awaited_in : (live : Live) (label : Label) (work : Work) (o : Option Kind) (flags : List Bool) → IsAwaitedIn live label work (open_step_of o flags)
+    → (kind : Kind) × (o ≡ Some kind) × (slice_index_or flags (tile_number_of work) false ≡ true) × (work ≡ task_of live label kind (tile_number_of work))
 awaited_in live label work None flags h = absurd h
 awaited_in live label work (Some kind) flags h = (kind, refl, h.0, h.1)
 
-pub awaited_at : (live now : Live) (label : Label) (asked work : Work) (o : Option Kind) (flags : List Bool) → live ≡ now → live.part ≡ open_step_of o flags → asked ≡ work → Awaits now label asked
-    → (kind : Kind) × (o ≡ Some kind) × (slice_index_or flags (number_of work) false ≡ true) × (work ≡ task_of live label kind (number_of work))
+pub awaited_at : (live now : Live) (label : Label) (asked work : Work) (o : Option Kind) (flags : List Bool) → live ≡ now → live.part ≡ open_step_of o flags → asked ≡ work → IsAwaited now label asked
+    → (kind : Kind) × (o ≡ Some kind) × (slice_index_or flags (tile_number_of work) false ≡ true) × (work ≡ task_of live label kind (tile_number_of work))
 awaited_at live now label asked work o flags view part same h =
-    let at_live : Awaits live label asked = subst (λ v. Awaits v label asked) (sym view) h in
-    let at_work : Awaits live label work = subst (λ w. Awaits live label w) same at_live in
-    awaited_in live label work o flags (subst (λ q. AwaitsIn live label work q) part at_work)
+    let at_live : IsAwaited live label asked = subst (λ v. IsAwaited v label asked) (sym view) h in
+    let at_work : IsAwaited live label work = subst (λ w. IsAwaited live label w) same at_live in
+    awaited_in live label work o flags (subst (λ q. IsAwaitedIn live label work q) part at_work)
 
 -- a flag that is set lies within the flags
 pub set_within : (flags : List Bool) (k : ℕ) → slice_index_or flags k false ≡ true → k < length flags
@@ -86,14 +87,14 @@ set_within flags k set =
 -- the step that takes in an awaited task
 module _ (live : Live) (label : Label) (work : Work) (p : Partial) (few : length live.sim.cur ≤ 4096)
     (room : HasRoom (length live.sim.cur) p) (before : IsPartial live.units live.sim.cur p p.kind)
-    (wanted : (kind : Kind) × (p.kind ≡ Some kind) × (slice_index_or p.awaited.items (number_of work) false ≡ true) × (work ≡ task_of live label kind (number_of work))) where
-  within : number_of work < length p.awaited.items
-  within = set_within p.awaited.items (number_of work) wanted.2
+    (wanted : (kind : Kind) × (p.kind ≡ Some kind) × (slice_index_or p.awaited.items (tile_number_of work) false ≡ true) × (work ≡ task_of live label kind (tile_number_of work))) where
+  within : tile_number_of work < length p.awaited.items
+  within = set_within p.awaited.items (tile_number_of work) wanted.2
 
-  first_is : work.name.bi ≡ number_of work / 64
+  first_is : work.name.bi ≡ tile_number_of work / 64
   first_is = ap (λ (w : Work). w.name.bi) wanted.3
 
-  second_is : work.name.bj ≡ number_of work % 64
+  second_is : work.name.bj ≡ tile_number_of work % 64
   second_is = ap (λ (w : Work). w.name.bj) wanted.3
 
   second_below : work.name.bj < 64
@@ -114,7 +115,7 @@ module _ (live : Live) (label : Label) (work : Work) (p : Partial) (few : length
   pub size_fits : unsigned_abs p.energy + 2 ^ 63 ≤ 2 ^ 75
   size_fits = size_before live.units live.sim.cur p p wanted.0 work few opened room (ap (λ (w : Work). w.units) wanted.3) first_block_is second_block_is (ap (λ (w : Work). w.name.kind) wanted.3) second_below within wanted.2
 
-  pub partial_after : (q : Partial) → q.kind ≡ p.kind → q.tiles.items ≡ p.tiles.items → q.awaited.items ≡ slice_set p.awaited.items (number_of work) false → q.left + 1 ≡ p.left
+  pub partial_after : (q : Partial) → q.kind ≡ p.kind → q.tiles.items ≡ p.tiles.items → q.awaited.items ≡ slice_set p.awaited.items (tile_number_of work) false → q.left + 1 ≡ p.left
       → HasAdded work p.pushes.items q.pushes.items → (work.name.kind ≡ Energy → q.energy ≡ p.energy +ℤ task_energy work)
       → unsigned_abs q.energy ≤ unsigned_abs p.energy + 2 ^ 63 → IsPartial live.units live.sim.cur q q.kind
   partial_after q kind tiles flags less added energy size =
@@ -172,13 +173,13 @@ task_found live label p i number part found =
     sym (ap (task_in live label i) part ∙ ap (option_map (task_of live label p.kind)) found)
 
 pub awaits_found : (live : Live) (p : OpenStep) (i number : ℕ) → live.part ≡ Some p → slice_get (cover p.kind (length live.sim.cur)) i ≡ Some number
-    → slice_index_or p.awaited number false ≡ awaits_at live i
+    → slice_index_or p.awaited number false ≡ awaits_tile live i
 awaits_found live p i number part found =
-    sym (ap (awaits_in (length live.sim.cur) i) part ∙ ap (λ o. option_map_or (awaits p) o false) found)
+    sym (ap (awaits_tile_in (length live.sim.cur) i) part ∙ ap (λ o. option_map_or (awaits_number p) o false) found)
 
-pub awaits_past : (live : Live) (p : OpenStep) (i : ℕ) → live.part ≡ Some p → slice_get (cover p.kind (length live.sim.cur)) i ≡ None → false ≡ awaits_at live i
+pub awaits_past : (live : Live) (p : OpenStep) (i : ℕ) → live.part ≡ Some p → slice_get (cover p.kind (length live.sim.cur)) i ≡ None → false ≡ awaits_tile live i
 awaits_past live p i part past =
-    sym (ap (awaits_in (length live.sim.cur) i) part ∙ ap (λ o. option_map_or (awaits p) o false) past)
+    sym (ap (awaits_tile_in (length live.sim.cur) i) part ∙ ap (λ o. option_map_or (awaits_number p) o false) past)
 
 pub step_part : (live : Live) (now : Live) (o : Option Kind) (flags : List Bool) (kind : Kind) → live ≡ now → live.part ≡ open_step_of o flags → o ≡ Some kind
     → now.part ≡ Some (record { kind = kind; awaited = flags })

@@ -10,7 +10,7 @@ use Rattle.lj_tile.specs.declared.names.Label.{Label}
 use Rattle.lj_tile.specs.declared.names.Kind.{Kind}
 use Rattle.lj_tile.specs.Tasks.{Work}
 use Rattle.lj_step.specs.Live.{Live, OpenStep}
-use Rattle.lj_step.specs.OpenSteps.{blocks, is_tile, cover, opened, number_of, task_of, task_in, task_at, AwaitsIn, Awaits, with_tile, kind_of, is_whole}
+use Rattle.lj_step.specs.OpenSteps.{blocks, is_tile, cover, opened, tile_number_of, task_of, task_in, task_at, IsAwaitedIn, IsAwaited, with_tile, kind_of, is_whole}
 use Rattle.lj_step.proofs.Flags.{opened_flag}
 use Rattle.lj_step.specs.InOrder.{AwaitsFrom}
 use Rattle.lj_step.proofs.Steps.{cover_tile, cover_within, set_within}
@@ -55,7 +55,7 @@ all_taken kind count i part h past =
     let none : count_by (λ awaited. awaited) h.flags ≡ 0 = omega (arith, h.left, past) in
     ap is_whole h.is_open ∙ ap (λ n. nat_le n 0) none
 
-number_is : (live : Live) (label : Label) (kind : Kind) (k : ℕ) → number_of (task_of live label kind k) ≡ k
+number_is : (live : Live) (label : Label) (kind : Kind) (k : ℕ) → tile_number_of (task_of live label kind k) ≡ k
 number_is live label kind k = omega arith
 
 -- the i-th task of the step is that of the i-th number of the cover
@@ -90,36 +90,36 @@ module _ (live : Live) (label : Label) (kind : Kind) (i : ℕ) (o : Option Work)
   place : (number : ℕ) × (i < length (cover kind (length live.sim.cur))) × (slice_index_or (cover kind (length live.sim.cur)) i 0 ≡ number) × (work ≡ task_of live label kind number)
   place = task_at_place live label kind i o work h e some
 
-  number_same : number_of work ≡ slice_index_or (cover kind (length live.sim.cur)) i 0
-  number_same = ap number_of place.3 ∙ number_is live label kind place.0 ∙ sym place.2
+  number_same : tile_number_of work ≡ slice_index_or (cover kind (length live.sim.cur)) i 0
+  number_same = ap tile_number_of place.3 ∙ number_is live label kind place.0 ∙ sym place.2
 
-  flag_set : slice_index_or h.flags (number_of work) false ≡ true
+  flag_set : slice_index_or h.flags (tile_number_of work) false ≡ true
   flag_set = ap (λ k. slice_index_or h.flags k false) number_same ∙ h.waiting i (omega arith) place.1
 
-  work_is : work ≡ task_of live label kind (number_of work)
+  work_is : work ≡ task_of live label kind (tile_number_of work)
   work_is = place.3 ∙ ap (task_of live label kind) (sym place.2 ∙ sym number_same)
 
-  pub is_awaited : Awaits live label work
-  is_awaited = subst (AwaitsIn live label work) (sym h.is_open) (flag_set, work_is)
+  pub is_awaited : IsAwaited live label work
+  is_awaited = subst (IsAwaitedIn live label work) (sym h.is_open) (flag_set, work_is)
 
   waiting_after : (k : ℕ) → i + 1 ≤ k → k < length (cover kind (length live.sim.cur))
-      → slice_index_or (slice_set h.flags (number_of work) false) (slice_index_or (cover kind (length live.sim.cur)) k 0) false ≡ true
+      → slice_index_or (slice_set h.flags (tile_number_of work) false) (slice_index_or (cover kind (length live.sim.cur)) k 0) false ≡ true
   waiting_after k from within =
       let rises : slice_index_or (cover kind (length live.sim.cur)) i 0 < slice_index_or (cover kind (length live.sim.cur)) k 0 =
       cover_rises kind (length live.sim.cur) i k 0 (omega arith) within in
-      let other : slice_index_or (cover kind (length live.sim.cur)) k 0 ≢ number_of work = omega (arith, number_same, rises) in
-      get_or-set_other h.flags (number_of work) (slice_index_or (cover kind (length live.sim.cur)) k 0) false false other ∙ h.waiting k (omega arith) within
+      let other : slice_index_or (cover kind (length live.sim.cur)) k 0 ≢ tile_number_of work = omega (arith, number_same, rises) in
+      get_or-set_other h.flags (tile_number_of work) (slice_index_or (cover kind (length live.sim.cur)) k 0) false false other ∙ h.waiting k (omega arith) within
 
-  left_after : count_by (λ awaited. awaited) (slice_set h.flags (number_of work) false) ≡ length (cover kind (length live.sim.cur)) - (i + 1)
+  left_after : count_by (λ awaited. awaited) (slice_set h.flags (tile_number_of work) false) ≡ length (cover kind (length live.sim.cur)) - (i + 1)
   left_after =
-      let set : count_by (λ awaited. awaited) (slice_set h.flags (number_of work) false) + cond (slice_index_or h.flags (number_of work) false) 1 0
-      ≡ count_by (λ awaited. awaited) h.flags + 0 = sum_by-set (λ (awaited : Bool). cond awaited 1 0) h.flags (number_of work) false false (set_within h.flags (number_of work) flag_set) in
+      let set : count_by (λ awaited. awaited) (slice_set h.flags (tile_number_of work) false) + cond (slice_index_or h.flags (tile_number_of work) false) 1 0
+      ≡ count_by (λ awaited. awaited) h.flags + 0 = sum_by-set (λ (awaited : Bool). cond awaited 1 0) h.flags (tile_number_of work) false false (set_within h.flags (tile_number_of work) flag_set) in
       omega (arith, h.left, rw flag_set at set)
 
-  pub awaits_next : AwaitsFrom kind (length live.sim.cur) (i + 1) (with_tile (number_of work) live.part)
+  pub awaits_next : AwaitsFrom kind (length live.sim.cur) (i + 1) (with_tile (tile_number_of work) live.part)
   awaits_next = record {
-    flags = slice_set h.flags (number_of work) false;
-    is_open = ap (with_tile (number_of work)) h.is_open;
+    flags = slice_set h.flags (tile_number_of work) false;
+    is_open = ap (with_tile (tile_number_of work)) h.is_open;
     waiting = waiting_after;
     left = left_after;
   }

@@ -1,6 +1,8 @@
 -- What a simulation in the code stands for, and what is true of it.
-use Rattle.std.specs.Prelude.{◌^◌, ◌≤◌, ◌≡◌, Bool, ℤ, pos, negsuc, ◌-ℤ◌, unsigned_abs, List, length, Option, Some, None}
+use Rattle.std.specs.Prelude.{◌≤◌, ◌≡◌, Bool, ℤ, pos, negsuc, ◌-ℤ◌, unsigned_abs, List, length, Option, Some, None}
 use Rattle.lj_tile.specs.declared.names.Kind.{Kind}
+use Rattle.lj_step.specs.declared.frames.TheConstants.{MAX_ATOMS}
+use Rattle.lj_step.specs.declared.simulations.TheConstants.{MAX_STEP}
 use Rattle.lj_step.specs.declared.simulations.Direction.{Direction}
 use Rattle.lj_step.specs.declared.simulations.Direction.TheVariants.{Forward, Backward}
 use Rattle.lj_step.specs.declared.simulations.Sim.TheInside.{Inside}
@@ -25,15 +27,15 @@ live_of a = record {
   part = open_step_of a.partial.kind a.partial.awaited.items;
 }
 
--- both frames have one count of atoms and lie on the ring, this and the last step number are at most 10^12 in size, and the sums of the open
--- step are those of the tiles that are in
+-- both frames have one count of atoms and lie on the ring, this and the last step number are at most MAX_STEP in size,
+-- and the sums of the open step are those of the tiles that are in
 pub record IsSound (a : Inside) : Type 0 where
   pub same : length a.prev.items ≡ length a.cur.items
   pub some : 1 ≤ length a.cur.items
-  pub most : length a.cur.items ≤ 4096
+  pub most : length a.cur.items ≤ MAX_ATOMS
   pub prev_on_ring : AreOnRing a.prev.items
   pub cur_on_ring : AreOnRing a.cur.items
-  pub step_bound : unsigned_abs a.step ≤ 10 ^ 12
-  pub last_bound : unsigned_abs (a.step -ℤ sign_of a.dir) ≤ 10 ^ 12
+  pub step_bound : unsigned_abs a.step ≤ MAX_STEP
+  pub last_bound : unsigned_abs (a.step -ℤ sign_of a.dir) ≤ MAX_STEP
   pub room : HasRoom (length a.cur.items) a.partial
   pub partial : IsPartial a.scale a.cur.items a.partial a.partial.kind

@@ -34,7 +34,8 @@ ring_sub a b = (a + (2 ^ 32 - b)) % 2 ^ 32
 
 -- the drift along one axis: the sum on the ring of cur - prev over all atoms
 abbrev pub drift_along : (Place → ℕ) → Simulation → ℕ
-drift_along axis sim = ring_sum (length sim.cur) (λ i. ring_sub (axis (place_at sim.cur i)) (axis (place_at sim.prev i)))
+drift_along axis sim =
+    ring_sum (length sim.cur) (λ i. ring_sub (axis (place_at sim.cur i)) (axis (place_at sim.prev i)))
 
 -- the drift along each axis
 unfoldable pub drift : Simulation → Push
@@ -56,7 +57,9 @@ tiles_force u frame tiles i = record {
 abbrev pub stepped_by : Units → List Tile → Simulation → Simulation
 stepped_by u tiles sim = record {
   prev = sim.cur;
-  cur = map (λ i. next_place (place_at sim.prev i) (place_at sim.cur i) (tiles_force u sim.cur tiles i)) (range_with_len 0 (length sim.cur));
+  cur =
+      map (λ i. next_place (place_at sim.prev i) (place_at sim.cur i) (tiles_force u sim.cur tiles i))
+      (range_with_len 0 (length sim.cur));
   step = sim.step +ℤ sim.dir;
   dir = sim.dir;
 }

@@ -53,7 +53,8 @@ next_frame u prev cur = map (moved u prev cur) (range_with_len 0 (length cur))
 
 -- one step
 abbrev pub stepped : Units → Simulation → Simulation
-stepped u sim = record { prev = sim.cur; cur = next_frame u sim.prev sim.cur; step = sim.step +ℤ sim.dir; dir = sim.dir }
+stepped u sim =
+    record { prev = sim.cur; cur = next_frame u sim.prev sim.cur; step = sim.step +ℤ sim.dir; dir = sim.dir }
 
 -- n steps
 abbrev pub steps : Units → ℕ → Simulation → Simulation
@@ -74,7 +75,8 @@ pub record Displacement : Type 0 where
 abbrev pub tugged : ℕ → Displacement → Simulation → Simulation
 tugged i d sim =
     let p = place_at sim.prev i in
-    let back : Place = record { x = in_ring (pos p.x -ℤ d.x); y = in_ring (pos p.y -ℤ d.y); z = in_ring (pos p.z -ℤ d.z) } in
+    let back : Place =
+    record { x = in_ring (pos p.x -ℤ d.x); y = in_ring (pos p.y -ℤ d.y); z = in_ring (pos p.z -ℤ d.z) } in
     record sim { prev = slice_set sim.prev i back }
 
 -- the momentum: the sums over all atoms of the images of cur - prev

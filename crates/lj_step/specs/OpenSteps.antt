@@ -69,13 +69,14 @@ task_of live label kind k = record {
 }
 
 -- the tile whose task this is by its blocks
-abbrev pub number_of : Work → ℕ
-number_of work = tile_number work.name.bi work.name.bj
+abbrev pub tile_number_of : Work → ℕ
+tile_number_of work = tile_number work.name.bi work.name.bj
 
 -- the i-th task of the open step, if there is one
 abbrev pub task_in : Live → Label → ℕ → Option OpenStep → Option Work
 task_in live label i None = None
-task_in live label i (Some p) = option_map (task_of live label p.kind) (slice_get (cover p.kind (length live.sim.cur)) i)
+task_in live label i (Some p) =
+    option_map (task_of live label p.kind) (slice_get (cover p.kind (length live.sim.cur)) i)
 
 abbrev pub task_at : Live → Label → ℕ → Option Work
 task_at live label i = task_in live label i live.part
@@ -85,24 +86,25 @@ abbrev pub opened : Kind → ℕ → OpenStep
 opened kind count = record { kind = kind; awaited = map (is_tile kind count) (range_with_len 0 (64 * blocks count)) }
 
 -- the open step awaits the tile of this number
-abbrev pub awaits : OpenStep → ℕ → Bool
-awaits p k = slice_index_or p.awaited k false
+abbrev pub awaits_number : OpenStep → ℕ → Bool
+awaits_number p k = slice_index_or p.awaited k false
 
 -- the open step awaits the i-th tile of its cover
-abbrev pub awaits_in : ℕ → ℕ → Option OpenStep → Bool
-awaits_in count i None = false
-awaits_in count i (Some p) = option_map_or (awaits p) (slice_get (cover p.kind count) i) false
+abbrev pub awaits_tile_in : ℕ → ℕ → Option OpenStep → Bool
+awaits_tile_in count i None = false
+awaits_tile_in count i (Some p) = option_map_or (awaits_number p) (slice_get (cover p.kind count) i) false
 
-abbrev pub awaits_at : Live → ℕ → Bool
-awaits_at live i = awaits_in (length live.sim.cur) i live.part
+abbrev pub awaits_tile : Live → ℕ → Bool
+awaits_tile live i = awaits_tile_in (length live.sim.cur) i live.part
 
 -- the task is that of a tile that the open step awaits: none is where no step is open
-abbrev pub AwaitsIn : Live → Label → Work → Option OpenStep → Type 0
-AwaitsIn live label work None = ⊥
-AwaitsIn live label work (Some p) = (awaits p (number_of work) ≡ true) × (work ≡ task_of live label p.kind (number_of work))
+abbrev pub IsAwaitedIn : Live → Label → Work → Option OpenStep → Type 0
+IsAwaitedIn live label work None = ⊥
+IsAwaitedIn live label work (Some p) =
+    (awaits_number p (tile_number_of work) ≡ true) × (work ≡ task_of live label p.kind (tile_number_of work))
 
-abbrev pub Awaits : Live → Label → Work → Type 0
-Awaits live label work = AwaitsIn live label work live.part
+abbrev pub IsAwaited : Live → Label → Work → Type 0
+IsAwaited live label work = IsAwaitedIn live label work live.part
 
 -- the open step with one tile more that is in
 abbrev pub with_tile : ℕ → Option OpenStep → Option OpenStep

@@ -1,5 +1,6 @@
 -- What a snapshot of a simulation stands for, and what is true of it.
-use Rattle.std.specs.Prelude.{◌^◌, ◌≤◌, ◌≡◌, ◌-ℤ◌, unsigned_abs, length}
+use Rattle.std.specs.Prelude.{◌≤◌, ◌≡◌, ◌-ℤ◌, unsigned_abs, length}
+use Rattle.lj_step.specs.declared.simulations.TheConstants.{MAX_STEP}
 use Rattle.lj_step.specs.Motion.{Simulation}
 use Rattle.lj_step.specs.Laws.{AreOnRing}
 use Rattle.lj_step.specs.Kept.{sign_of}
@@ -8,10 +9,11 @@ use Rattle.lj_step.specs.declared.snapshots.Snapshot.TheInside.{Inside}
 abbrev pub simulation_of : Inside → Simulation
 simulation_of a = record { prev = a.prev.items; cur = a.cur.items; step = a.step; dir = sign_of a.dir }
 
--- both frames have one count of atoms and lie on the ring, and this and the last step number are at most 10^12 in size
+-- both frames have one count of atoms and lie on the ring, and this and the last step number are at most MAX_STEP in
+-- size
 pub record IsSaved (a : Inside) : Type 0 where
   pub same : length a.prev.items ≡ length a.cur.items
   pub prev_on_ring : AreOnRing a.prev.items
   pub cur_on_ring : AreOnRing a.cur.items
-  pub step_bound : unsigned_abs a.step ≤ 10 ^ 12
-  pub last_bound : unsigned_abs (a.step -ℤ sign_of a.dir) ≤ 10 ^ 12
+  pub step_bound : unsigned_abs a.step ≤ MAX_STEP
+  pub last_bound : unsigned_abs (a.step -ℤ sign_of a.dir) ≤ MAX_STEP

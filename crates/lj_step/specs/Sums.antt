@@ -30,11 +30,13 @@ force_so_far u frame awaited i = record {
 
 -- what the pair i < j adds to the potential so far
 abbrev pub energy_so_far_of : Units → List Place → List Bool → ℕ → ℕ → ℤ
-energy_so_far_of u frame awaited i j = if pair_awaited awaited i j then pos 0 else energy u (place_at frame i) (place_at frame j)
+energy_so_far_of u frame awaited i j =
+    if pair_awaited awaited i j then pos 0 else energy u (place_at frame i) (place_at frame j)
 
 -- the sum of the energies of the tiles that are in
 unfoldable pub energy_so_far : Units → List Place → List Bool → ℤ
-energy_so_far u frame awaited = int_sum_below (length frame) (λ j. int_sum_below j (λ i. energy_so_far_of u frame awaited i j))
+energy_so_far u frame awaited =
+    int_sum_below (length frame) (λ j. int_sum_below j (λ i. energy_so_far_of u frame awaited i j))
 
 -- the room that a partial step needs for so many atoms
 pub record HasRoom (count : ℕ) (p : Partial) : Type 0 where
@@ -47,7 +49,8 @@ pub record IsOpen (u : Units) (frame : List Place) (p : Partial) (kind : Kind) :
   pub tiles : p.tiles.items ≡ cover kind (length frame)
   pub within : (k : ℕ) → slice_index_or p.awaited.items k false ≡ true → is_tile kind (length frame) k ≡ true
   pub left : p.left ≡ count_by (λ awaited. awaited) p.awaited.items
-  pub pushes : kind ≡ Force → (i : ℕ) → i < length frame → slice_index_or p.pushes.items i no_push ≡ force_so_far u frame p.awaited.items i
+  pub pushes : kind ≡ Force → (i : ℕ) → i < length frame
+      → slice_index_or p.pushes.items i no_push ≡ force_so_far u frame p.awaited.items i
   pub energy : kind ≡ Energy → p.energy ≡ energy_so_far u frame p.awaited.items
   pub size : unsigned_abs p.energy + p.left * 2 ^ 63 ≤ 2 ^ 75
 
@@ -59,6 +62,7 @@ IsPartial u frame p (Some kind) = IsOpen u frame p kind
 pub record HasAdded (work : Work) (old new : List Push) : Type 0 where
   pub count : length new ≡ length old
   pub block : work.name.kind ≡ Force → (t : ℕ) → t < length work.a
-      → slice_index_or new (tile_number work.name.bi t) no_push ≡ plus (slice_index_or old (tile_number work.name.bi t) no_push) (task_force work t)
+      → slice_index_or new (tile_number work.name.bi t) no_push
+      ≡ plus (slice_index_or old (tile_number work.name.bi t) no_push) (task_force work t)
   pub others : (i : ℕ) → (i < tile_number work.name.bi 0) ⊎ (tile_number work.name.bi (length work.a) ≤ i)
       → slice_index_or new i no_push ≡ slice_index_or old i no_push

@@ -10,8 +10,8 @@ use Rattle.lj_tile.specs.Tasks.{Work, atom, task_force, task_energy}
 use Rattle.lj_step.specs.Live.{Live, OpenStep}
 use Rattle.lj_step.specs.OpenSteps.{cover_tiles, tiles_of}
 
--- a task has the value of a force tile on a frame: at each place of its first block the sum that its result keeps is the
--- tile's push on that atom, and the tile pushes no other atom
+-- a task has the value of a force tile on a frame: at each place of its first block the sum that its result keeps is
+-- the tile's push on that atom, and the tile pushes no other atom
 pub record HasForces (u : Units) (frame : List Place) (tile : Tile) (work : Work) : Type 0 where
   pub kind : work.name.kind ≡ Force
   pub block : (t : ℕ) → t < length work.a → task_force work t ≡ tile_force u frame tile (atom work.name.bi t)
@@ -40,7 +40,8 @@ tile_at tiles i = slice_index_or tiles i (λ i j. false)
 -- a task has the value of the i-th tile of the open step
 abbrev pub HasValueIn : Live → ℕ → Work → Option OpenStep → Type 0
 HasValueIn live i work None = ⊥
-HasValueIn live i work (Some p) = HasValue p.kind live.units live.sim.cur (tile_at (cover_tiles p.kind (length live.sim.cur)) i) work
+HasValueIn live i work (Some p) =
+    HasValue p.kind live.units live.sim.cur (tile_at (cover_tiles p.kind (length live.sim.cur)) i) work
 
 abbrev pub HasTileValue : Live → ℕ → Work → Type 0
 HasTileValue live i work = HasValueIn live i work live.part

@@ -1,3 +1,4 @@
+//! Frames: the places of all atoms at one moment.
 ghost use Rattle.std.specs.Prelude.{◌≡◌, length};
 ghost use Rattle.lj_step.specs.Laws.{AreOnRing, IsOnRing};
 ghost use Rattle.lj_step.specs.Motion as motion;
@@ -5,6 +6,9 @@ ghost use Rattle.lj_step.specs.Motion as motion;
 use lj_ring::Place;
 use lj_tile::Push;
 use std::marker::Model;
+
+/// The most atoms of a simulation.
+pub const MAX_ATOMS: usize = 4096;
 
 /// The places of all atoms at one moment, in the order of the file.
 #[derive(Drop)]

@@ -6,6 +6,7 @@ ghost use Rattle.lj_tile.specs.declared.names.Kind.TheVariants.{Force, Energy};
 ghost use Rattle.lj_tile.specs.Tiles.{Tile, IsForceCover, IsEnergyCover};
 ghost use Rattle.lj_step.specs.Motion.{Simulation, steps, stepped, reversed, potential};
 ghost use Rattle.lj_tile.specs.declared.names.Label.{Label};
+ghost use Rattle.lj_step.specs.declared.frames.TheConstants.{MAX_ATOMS};
 ghost use Rattle.lj_step.specs.Live.{Live};
 ghost use Rattle.lj_step.specs.OpenSteps.{cover_tiles, task_of, tile_of};
 ghost use Rattle.lj_step.specs.TileTasks.{HasEnergy, HasForces};
@@ -25,8 +26,8 @@ pub fn drift_is_conserved()
     ensures reverse { (sim : Simulation) → IsWhole sim → drift (reversed sim) ≡ opposite (drift sim) }
 {}
 
-/// A step by the sums of any cover of its frame, the tiles in any order, is the step over all pairs; and the energies of
-/// any cover add up to the potential.
+/// A step by the sums of any cover of its frame, the tiles in any order, is the step over all pairs; and the energies
+/// of any cover add up to the potential.
 pub fn covers_are_all_pairs()
     ensures step { (u : Units) (sim : Simulation) (tiles : List Tile) → IsForceCover u sim.cur tiles
         → stepped_by u tiles sim ≡ stepped u sim }
@@ -34,15 +35,16 @@ pub fn covers_are_all_pairs()
         → tiles_energy u frame tiles ≡ potential u frame }
 {}
 
-/// The tiles of a step of up to 4,096 atoms are a cover, of each kind.
+/// The tiles of a step of up to `MAX_ATOMS` atoms are a cover, of each kind.
 pub fn tasks_are_a_cover()
-    ensures force { (u : Units) (frame : List Place) → length frame ≤ 4096
+    ensures force { (u : Units) (frame : List Place) → length frame ≤ MAX_ATOMS
         → IsForceCover u frame (cover_tiles Force (length frame)) }
-    ensures energy { (u : Units) (frame : List Place) → length frame ≤ 4096
+    ensures energy { (u : Units) (frame : List Place) → length frame ≤ MAX_ATOMS
         → IsEnergyCover u frame (cover_tiles Energy (length frame)) }
 {}
 
-/// The task of a tile has the value of that tile: what its result keeps is what the tile adds to each atom, or its energy.
+/// The task of a tile has the value of that tile: what its result keeps is what the tile adds to each atom, or its
+/// energy.
 pub fn tasks_are_the_tiles()
     ensures force { (live : Live) (label : Label) (k : ℕ)
         → HasForces live.units live.sim.cur (tile_of Force k) (task_of live label Force k) }

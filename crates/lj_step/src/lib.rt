@@ -9,8 +9,8 @@ pub mod round_trip;
 mod simulations;
 mod snapshots;
 
-pub use frames::{Frame, Frames};
-pub use simulations::{Displacement, Sim, Stray};
+pub use frames::{Frame, Frames, MAX_ATOMS};
+pub use simulations::{Displacement, MAX_STEP, Sim, Stray};
 pub use snapshots::Snapshot;
 
 #[cfg(test)]

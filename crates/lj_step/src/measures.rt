@@ -1,5 +1,7 @@
+//! What is measured of two frames: momentum and kinetic number.
 ghost use Rattle.std.specs.Prelude.{◌≡◌, ◌≤◌, ◌<◌, ◌+◌, ◌*◌, ◌^◌, ◌+ℤ◌, unsigned_abs, length};
 ghost use Rattle.lj_ring.specs.Ring.{image, distance, sum_below, int_sum_below};
+ghost use Rattle.lj_step.specs.declared.frames.TheConstants.{MAX_ATOMS};
 ghost use Rattle.lj_step.specs.Motion.{place_at};
 
 use lj_ring::{Place, dist2, image};
@@ -15,7 +17,7 @@ pub(crate) struct Momentum {
 /// The sums of the images of `cur - prev` over all atoms.
 pub(crate) fn momentum_of(prev: &[Place], cur: &[Place]) -> Momentum
     requires same { length prev.now ≡ length cur.now }
-    requires most { length cur.now ≤ 4096 }
+    requires most { length cur.now ≤ MAX_ATOMS }
     ensures x { result.x ≡ int_sum_below (length cur.now) (λ i. image (place_at cur.now i).x (place_at prev.now i).x) }
     ensures y { result.y ≡ int_sum_below (length cur.now) (λ i. image (place_at cur.now i).y (place_at prev.now i).y) }
     ensures z { result.z ≡ int_sum_below (length cur.now) (λ i. image (place_at cur.now i).z (place_at prev.now i).z) }
@@ -44,7 +46,7 @@ fn plus_image(sum: i64, to: u32, from: u32) -> i64
 /// The sum of the squares of those images over all atoms and axes.
 pub(crate) fn kinetic_of(prev: &[Place], cur: &[Place]) -> u128
     requires same { length prev.now ≡ length cur.now }
-    requires most { length cur.now ≤ 4096 }
+    requires most { length cur.now ≤ MAX_ATOMS }
     ensures { result ≡ sum_below (length cur.now) (λ i. distance (place_at cur.now i) (place_at prev.now i)) }
 {
     let mut sum = 0;

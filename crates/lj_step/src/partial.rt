@@ -1,9 +1,11 @@
+//! The sums of a step that is open, of the tiles that are in.
 ghost use Rattle.std.specs.Prelude.{◌≡◌, ◌≤◌, ◌<◌, ◌+◌, ◌-◌, ◌*◌, ◌^◌, ℕ, pos, ◌+ℤ◌, unsigned_abs, length, map, count_by, slice_index_or, slice_set, vec_capacity, IfOk, Some, None, false, true};
 ghost use Rattle.std.specs.List.{range_with_len};
 ghost use Rattle.std.proofs.Common.{replicate};
 ghost use Rattle.lj_tile.specs.declared.names.Kind.TheVariants.{Force, Energy};
 ghost use Rattle.lj_tile.specs.Pushes.{no_push};
 ghost use Rattle.lj_tile.specs.Tasks.{task_energy};
+ghost use Rattle.lj_step.specs.declared.frames.TheConstants.{MAX_ATOMS};
 ghost use Rattle.lj_step.specs.OpenSteps as steps;
 ghost use Rattle.lj_step.specs.Sums.{HasRoom, HasAdded};
 
@@ -29,7 +31,7 @@ pub(crate) struct Partial {
 
 /// How many blocks so many atoms have.
 pub(crate) fn blocks(count: usize) -> usize
-    requires { count ≤ 4096 }
+    requires { count ≤ MAX_ATOMS }
     ensures value { result ≡ steps.blocks count }
     ensures most { result ≤ 64 }
 {
@@ -38,7 +40,7 @@ pub(crate) fn blocks(count: usize) -> usize
 
 /// Whether a step of so many atoms has a tile of this number.
 fn is_tile(kind: Kind, count: usize, number: usize) -> bool
-    requires { count ≤ 4096 }
+    requires { count ≤ MAX_ATOMS }
     ensures { result ≡ steps.is_tile kind count number }
 {
     number % BLOCK < blocks(count) && in_order(kind, number)
@@ -56,7 +58,7 @@ fn in_order(kind: Kind, number: usize) -> bool
 impl Partial {
     /// Room for steps of so many atoms, with no step open.
     pub fn new(alloc: Global, count: usize) -> Result<Partial, AllocError>
-        requires { count ≤ 4096 }
+        requires { count ≤ MAX_ATOMS }
         ensures room { IfOk result (λ p. HasRoom count p) }
         ensures closed { IfOk result (λ p. p.kind ≡ None) }
     {
@@ -74,11 +76,12 @@ impl Partial {
     /// Opens a step that awaits all its tiles.
     pub fn open(&mut self, kind: Kind, count: usize)
         requires room { HasRoom count self.old }
-        requires most { count ≤ 4096 }
+        requires most { count ≤ MAX_ATOMS }
         ensures room { HasRoom count self.new }
         ensures kind { self.new.kind ≡ Some kind }
         ensures tiles { self.new.tiles.items ≡ steps.cover kind count }
-        ensures awaited { self.new.awaited.items ≡ map (steps.is_tile kind count) (range_with_len 0 (64 * steps.blocks count)) }
+        ensures awaited { self.new.awaited.items
+            ≡ map (steps.is_tile kind count) (range_with_len 0 (64 * steps.blocks count)) }
         ensures left { self.new.left ≡ length (steps.cover kind count) }
         ensures pushes { self.new.pushes.items ≡ replicate count no_push }
         ensures energy { self.new.energy ≡ pos 0 }
@@ -94,14 +97,15 @@ impl Partial {
     /// Adds the sums of a tile that is awaited, and awaits it no more.
     pub fn add(&mut self, done: &Done, places: usize)
         requires places { places ≡ length done.now.a }
-        requires awaited { steps.number_of done.now < length self.old.awaited.items }
+        requires awaited { steps.tile_number_of done.now < length self.old.awaited.items }
         requires left { 1 ≤ self.old.left }
         requires count { steps.tile_number done.now.name.bi 0 + length done.now.a ≤ length self.old.pushes.items }
         requires size { unsigned_abs self.old.energy + 2 ^ 63 ≤ 2 ^ 75 }
         ensures kind { self.new.kind ≡ self.old.kind }
         ensures tiles { self.new.tiles.items ≡ self.old.tiles.items }
         ensures capacity { vec_capacity self.new.tiles ≡ vec_capacity self.old.tiles }
-        ensures awaited { self.new.awaited.items ≡ slice_set self.old.awaited.items (steps.number_of done.now) false }
+        ensures awaited { self.new.awaited.items
+            ≡ slice_set self.old.awaited.items (steps.tile_number_of done.now) false }
         ensures left { self.new.left + 1 ≡ self.old.left }
         ensures pushes { HasAdded done.now self.old.pushes.items self.new.pushes.items }
         ensures energy { done.now.name.kind ≡ Energy → self.new.energy ≡ self.old.energy +ℤ task_energy done.now }
@@ -122,7 +126,7 @@ impl Partial {
 /// Lists the cover of a step in the room made for it.
 fn list_tiles(tiles: &mut Vec<u16>, kind: Kind, count: usize)
     requires room { 64 * steps.blocks count ≤ vec_capacity tiles.old }
-    requires most { count ≤ 4096 }
+    requires most { count ≤ MAX_ATOMS }
     ensures tiles { tiles.new.items ≡ steps.cover kind count }
     ensures room { vec_capacity tiles.new ≡ vec_capacity tiles.old }
 {
@@ -134,10 +138,10 @@ fn list_tiles(tiles: &mut Vec<u16>, kind: Kind, count: usize)
     }
 }
 
-/// Awaits each tile of the cover, and no other number.
+/// IsAwaited each tile of the cover, and no other number.
 fn await_tiles(awaited: &mut Vec<bool>, kind: Kind, count: usize)
     requires room { length awaited.old.items ≡ 64 * steps.blocks count }
-    requires most { count ≤ 4096 }
+    requires most { count ≤ MAX_ATOMS }
     ensures { awaited.new.items ≡ map (steps.is_tile kind count) (range_with_len 0 (64 * steps.blocks count)) }
 {
     for number in 0..BLOCK * blocks(count) {

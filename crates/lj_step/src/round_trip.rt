@@ -1,5 +1,6 @@
 //! A way there and back: so many steps, as many back, and the simulation is as it was.
 ghost use Rattle.std.specs.Prelude.{◌≡◌, ◌≤◌, ◌<◌, ◌+◌, ◌*◌, ◌^◌, ◌+ℤ◌, unsigned_abs};
+ghost use Rattle.lj_step.specs.declared.simulations.TheConstants.{MAX_STEP};
 ghost use Rattle.lj_step.specs.Motion as motion;
 ghost use Rattle.lj_step.specs.Laws.{drift};
 ghost use Rattle.lj_step.specs.OpenSteps.{closed};
@@ -8,10 +9,10 @@ use crate::Sim;
 use lj_table::Table;
 use lj_tile::{Kind, Label, compute};
 
-/// Goes so many steps on, reverses, goes as many back and reverses again. Nothing has changed then, but that a step that
-/// was open is closed.
+/// Goes so many steps on, reverses, goes as many back and reverses again. Nothing has changed then, but that a step
+/// that was open is closed.
 pub fn there_and_back(sim: &mut Sim, steps: u32, label: &Label, table: &Table)
-    requires { unsigned_abs sim.old.sim.step + 2 * steps < 10 ^ 12 }
+    requires { unsigned_abs sim.old.sim.step + 2 * steps < MAX_STEP }
     ensures { sim.new ≡ closed sim.old sim.old.sim }
 {
     let _whole = sim.count();
@@ -23,7 +24,7 @@ pub fn there_and_back(sim: &mut Sim, steps: u32, label: &Label, table: &Table)
 
 /// Goes so many steps on, each task computed here.
 pub fn go(sim: &mut Sim, steps: u32, label: &Label, table: &Table)
-    requires { unsigned_abs sim.old.sim.step + steps ≤ 10 ^ 12 }
+    requires { unsigned_abs sim.old.sim.step + steps ≤ MAX_STEP }
     ensures units { sim.new.units ≡ sim.old.units }
     ensures motion { sim.new.sim ≡ motion.steps sim.old.units steps sim.old.sim }
     ensures drift { drift sim.new.sim ≡ drift sim.old.sim }
@@ -38,7 +39,7 @@ pub fn go(sim: &mut Sim, steps: u32, label: &Label, table: &Table)
 
 /// Goes a step on, its tasks computed one after the other.
 fn step(sim: &mut Sim, label: &Label, table: &Table)
-    requires { unsigned_abs (sim.old.sim.step +ℤ sim.old.sim.dir) ≤ 10 ^ 12 }
+    requires { unsigned_abs (sim.old.sim.step +ℤ sim.old.sim.dir) ≤ MAX_STEP }
     ensures { sim.new ≡ closed sim.old (motion.stepped sim.old.units sim.old.sim) }
 {
     sim.open_step(Kind::Force);

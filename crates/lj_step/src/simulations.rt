@@ -1,7 +1,10 @@
+//! Simulations: the two frames, the step that is open, and what is measured.
 ghost use Rattle.std.specs.Prelude.{◌≡◌, ◌≤◌, ◌<◌, ◌+◌, ◌^◌, ◌↔◌, pos, ◌+ℤ◌, ◌-ℤ◌, length, unsigned_abs, IfOk, IfErr, IfSome, IsOk, IsTrue, OnOk, OnErr, Some, None, true, ℕ, ◌*◌, slice_index_or, [], ◌∷◌};
 ghost use Rattle.lj_tile.specs.declared.names.Kind.TheVariants.{Force, Energy};
 ghost use Rattle.lj_ring.specs.Ring.{in_ring};
 ghost use Rattle.lj_tile.specs.Pushes.{no_push};
+ghost use Rattle.lj_step.specs.declared.frames.TheConstants.{MAX_ATOMS};
+ghost use Rattle.lj_step.specs.declared.simulations.TheConstants.{MAX_STEP};
 ghost use Rattle.lj_step.specs.Motion as motion;
 ghost use Rattle.lj_step.specs.OpenSteps as steps;
 ghost use Rattle.lj_step.specs.Laws.{IsScale, IsWhole};
@@ -16,6 +19,9 @@ use lj_tile::{BLOCK, Block, Done, Kind, Label, Push, Task, TaskName};
 use std::alloc::{AllocError, Global};
 use std::marker::Model;
 use std::mem;
+
+/// The greatest size of a step number.
+pub const MAX_STEP: u64 = 1_000_000_000_000;
 
 /// The way that step numbers go.
 #[derive(Clone, Copy, PartialEq, Eq, Debug)]
@@ -92,8 +98,9 @@ impl Sim {
     pub fn new(alloc: Global, frames: Frames, scale: Scale) -> Result<Sim, AllocError>
         requires same { length frames.prev ≡ length frames.cur }
         requires some { 1 ≤ length frames.cur }
-        requires most { length frames.cur ≤ 4096 }
-        ensures { IfOk result (λ s. s ≡ record { units = scale; sim = motion.opening frames.prev frames.cur; part = None }) }
+        requires most { length frames.cur ≤ MAX_ATOMS }
+        ensures { IfOk result
+            (λ s. s ≡ record { units = scale; sim = motion.opening frames.prev frames.cur; part = None }) }
     {
         let partial = Partial::new(alloc, frames.cur.count())?;
         Ok(Sim {
@@ -117,10 +124,12 @@ impl Sim {
         self.partial.kind = None;
     }
 
-    /// Gives atom `i` a displacement `d` more for each step, by moving its place one step before. An open step is closed.
+    /// Gives atom `i` a displacement `d` more for each step, by moving its place one step before. An open step is
+    /// closed.
     pub fn tug(&mut self, i: usize, d: Displacement)
         requires { i < length self.old.sim.cur }
-        ensures { self.new ≡ steps.closed self.old (motion.tugged i (record { x = d.x; y = d.y; z = d.z }) self.old.sim) }
+        ensures { self.new ≡ steps.closed self.old
+            (motion.tugged i (record { x = d.x; y = d.y; z = d.z }) self.old.sim) }
     {
         self.prev[i] = moved_back(self.prev[i], d);
         self.partial.kind = None;
@@ -204,7 +213,7 @@ impl Sim {
 
     /// Whether the open step still awaits the i-th tile of its cover.
     pub fn awaits(&self, i: usize) -> bool
-        ensures { result ≡ steps.awaits_at self.now i }
+        ensures { result ≡ steps.awaits_tile self.now i }
     {
         let Some(_) = self.partial.kind else {
             return false;
@@ -215,12 +224,13 @@ impl Sim {
         self.partial.awaited[usize::from(*number)]
     }
 
-    /// Takes in the result of a tile that the open step awaits. It is refused exactly where no step is open, its task is
-    /// none of the open step's, or that tile is already in; it is then handed back, and nothing has changed.
+    /// Takes in the result of a tile that the open step awaits. It is refused exactly where no step is open, its task
+    /// is none of the open step's, or that tile is already in; it is then handed back, and nothing has changed.
     pub fn accept(&mut self, label: &Label, done: Done) -> Result<(), Stray>
-        ensures accepted { IsOk result ↔ steps.Awaits self.old label.now done }
+        ensures accepted { IsOk result ↔ steps.IsAwaited self.old label.now done }
         ensures kind { steps.kind_of self.new.part ≡ steps.kind_of self.old.part }
-        ensures taken { OnOk result (self.new ≡ record self.old { part = steps.with_tile (steps.number_of done) self.old.part }) }
+        ensures taken { OnOk result
+            (self.new ≡ record self.old { part = steps.with_tile (steps.tile_number_of done) self.old.part }) }
         ensures stray { IfErr result (λ s. s.done ≡ done) }
         ensures unchanged { OnErr result (self.new ≡ self.old) }
     {
@@ -243,7 +253,7 @@ impl Sim {
     pub fn turn(&mut self)
         requires kind { steps.kind_of self.old.part ≡ Some Force }
         requires whole { steps.is_whole self.old.part ≡ true }
-        requires step { unsigned_abs (self.old.sim.step +ℤ self.old.sim.dir) ≤ 10 ^ 12 }
+        requires step { unsigned_abs (self.old.sim.step +ℤ self.old.sim.dir) ≤ MAX_STEP }
         ensures { self.new ≡ steps.closed self.old (motion.stepped self.old.units self.old.sim) }
     {
         advance(
@@ -267,7 +277,7 @@ impl Sim {
 
     /// Whether this is the task of a tile that the open step awaits.
     fn is_awaited(&self, label: &Label, task: &Task) -> bool
-        ensures { IsTrue result ↔ steps.Awaits self.now label.now task.now }
+        ensures { IsTrue result ↔ steps.IsAwaited self.now label.now task.now }
     {
         let Some(kind) = self.partial.kind else {
             return false;
@@ -353,10 +363,10 @@ impl Sim {
         self.scale
     }
 
-    /// The step number, of size at most 10^12.
+    /// The step number, at most `MAX_STEP` in size.
     pub fn step(&self) -> i64
         ensures value { result ≡ self.now.sim.step }
-        ensures most { unsigned_abs result ≤ 10 ^ 12 }
+        ensures most { unsigned_abs result ≤ MAX_STEP }
     {
         self.step
     }
@@ -369,11 +379,11 @@ impl Sim {
         self.dir.sign()
     }
 
-    /// How many atoms there are, 1 to 4,096.
+    /// How many atoms there are, 1 to `MAX_ATOMS`.
     pub fn count(&self) -> usize
         ensures value { result ≡ length self.now.sim.cur }
         ensures some { 1 ≤ result }
-        ensures most { result ≤ 4096 }
+        ensures most { result ≤ MAX_ATOMS }
         ensures whole { IsWhole self.now.sim }
     {
         self.cur.as_slice().len()
@@ -386,7 +396,8 @@ fn advance(prev: &mut Vec<Place>, cur: &[Place], pushes: &[Push])
     requires pushes { length pushes.now ≡ length cur.now }
     ensures count { length prev.new.items ≡ length cur.now }
     ensures places { (i : ℕ) → i < length cur.now
-        → motion.place_at prev.new.items i ≡ motion.next_place (motion.place_at prev.old.items i) (motion.place_at cur.now i) (slice_index_or pushes.now i no_push) }
+        → motion.place_at prev.new.items i ≡ motion.next_place (motion.place_at prev.old.items i)
+        (motion.place_at cur.now i) (slice_index_or pushes.now i no_push) }
 {
     for i in 0..cur.len() {
         prev[i] = next_place(prev[i], cur[i], pushes[i]);

@@ -1,3 +1,4 @@
+//! Snapshots: copies of a simulation.
 ghost use Rattle.std.specs.Prelude.{◌≡◌, length};
 
 use crate::simulations::Direction;
