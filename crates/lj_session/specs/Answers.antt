@@ -1,5 +1,5 @@
 -- What a command answers: a reply, and the user after it. A refusal leaves the user as it was.
-use Rattle.std.specs.Prelude.{◌≡◌, ℕ, ◌^◌, Bool, ◌&&◌, not, nat_le, nat_lt, is_some, pos, ◌+ℤ◌, ◌*ℤ◌, unsigned_abs, List, [], ◌∷◌, Option, Some, None, Result, Ok, Err}
+use Rattle.std.specs.Prelude.{◌≡◌, ℕ, Bool, ◌&&◌, not, nat_le, nat_lt, is_some, pos, ◌+ℤ◌, ◌*ℤ◌, unsigned_abs, List, [], ◌∷◌, Option, Some, None, Result, Ok, Err}
 use Rattle.lj_step.specs.Motion.{Simulation, place_at, steps, reversed, tugged, momentum, kinetic, potential}
 use Rattle.lj_xyz.specs.Atoms.{◌>>=◌}
 use Rattle.lj_session.specs.declared.command.Command.{Command}
@@ -8,6 +8,7 @@ use Rattle.lj_session.specs.declared.refusal.Refusal.{Refusal}
 use Rattle.lj_session.specs.declared.refusal.Refusal.TheVariants.{NoSession, NoBranch, BranchExists, NoAtom, QuotaBranches, StepRange, Memory}
 use Rattle.lj_session.specs.declared.reply.Reply.{Reply}
 use Rattle.lj_session.specs.declared.reply.Reply.TheVariants as reply
+use Rattle.lj_session.specs.declared.session.TheConstants.{MAX_STEPS, MAX_STEP_NUMBER}
 use Rattle.lj_branch.specs.Named.{named, put, taken_out}
 use Rattle.lj_session.specs.Users.{Session, User, with_session, atoms_of, branches_used}
 use Rattle.lj_session.specs.Loads.{unless, admitted, body_held, session_read}
@@ -36,7 +37,7 @@ with_sim name session sim user = with_session name (record session { sim = sim }
 -- a session may go on by at most a million steps, and to step numbers of size at most 10^12
 abbrev pub can_advance : Session → ℕ → Bool
 can_advance session n =
-    nat_le n 1000000 && nat_le (unsigned_abs (session.sim.step +ℤ session.sim.dir *ℤ pos n)) (10 ^ 12)
+    nat_le n MAX_STEPS && nat_le (unsigned_abs (session.sim.step +ℤ session.sim.dir *ℤ pos n)) MAX_STEP_NUMBER
 
 -- the session that a command is of; LIST and BYE are of none
 abbrev pub session_named : Command → Option (List ℕ)

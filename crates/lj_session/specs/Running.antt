@@ -1,5 +1,5 @@
 -- A command that runs: what is left of it, and what is true of the state while it does.
-use Rattle.std.specs.Prelude.{◌≡◌, ◌<◌, ◌≤◌, ◌^◌, ℕ, true, unsigned_abs, List, Some}
+use Rattle.std.specs.Prelude.{◌≡◌, ◌<◌, ◌≤◌, ℕ, true, unsigned_abs, List, Some}
 use Rattle.lj_tile.specs.declared.names.Kind.{Kind}
 use Rattle.lj_tile.specs.declared.names.Kind.TheVariants.{Force, Energy}
 use Rattle.lj_step.specs.OpenSteps.{kind_of}
@@ -10,6 +10,7 @@ use Rattle.lj_session.specs.declared.running.Running.{Running}
 use Rattle.lj_session.specs.declared.running.Running.TheVariants.{Advance, Measure}
 use Rattle.lj_session.specs.declared.running.Turned.{Turned}
 use Rattle.lj_session.specs.declared.running.Turned.TheVariants as turned
+use Rattle.lj_session.specs.declared.session.TheConstants.{MAX_STEP_NUMBER}
 use Rattle.lj_session.specs.Answers.{can_advance}
 use Rattle.lj_session.specs.States.{Held, Owned, as_session, held_in}
 
@@ -31,7 +32,7 @@ sums_of (Measure name) = Energy
 -- the session may go on by n steps, at least one
 pub record CanGo (held : Held) (n : ℕ) : Type 0 where
   pub some : 0 < n
-  pub here : unsigned_abs held.live.sim.step ≤ 10 ^ 12
+  pub here : unsigned_abs held.live.sim.step ≤ MAX_STEP_NUMBER
   pub there : can_advance (as_session held) n ≡ true
 
 -- what is true of the session of a command that runs

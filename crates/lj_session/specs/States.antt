@@ -1,5 +1,5 @@
 -- What the code holds of a user, open steps and all, and the user of the definition that it stands for.
-use Rattle.std.specs.Prelude.{◌≡◌, ◌≢◌, OnOk, IsSomeAnd, ℕ, ◌+◌, ◌-◌, ◌≤◌, ◌^◌, unsigned_abs, Bool, true, false, List, [], ◌∷◌, length, map, slice_get, Option, Some, None, Result, Ok, Err}
+use Rattle.std.specs.Prelude.{◌≡◌, ◌≢◌, OnOk, IsSomeAnd, ℕ, ◌+◌, ◌-◌, ◌≤◌, unsigned_abs, Bool, true, false, List, [], ◌∷◌, length, map, slice_get, Option, Some, None, Result, Ok, Err}
 use Rattle.std.specs.Option.{ForSome, option_map, option_and_then}
 use Rattle.std.specs.List.{find, range_with_len}
 use Rattle.lj_tile.specs.declared.names.Label.{Label}
@@ -16,6 +16,7 @@ use Rattle.lj_session.specs.declared.command.Command.TheVariants.{Advance}
 use Rattle.lj_session.specs.declared.refusal.Refusal.{Refusal}
 use Rattle.lj_session.specs.declared.refusal.Refusal.TheVariants.{Memory}
 use Rattle.lj_session.specs.declared.reply.Reply.{Reply}
+use Rattle.lj_session.specs.declared.session.TheConstants.{MAX_STEP_NUMBER}
 use Rattle.lj_branch.specs.Named.{named, put}
 use Rattle.lj_session.specs.Users.{Session, User, fresh, sessions_used, atoms_used, branches_used}
 use Rattle.lj_session.specs.Answers.{session_named, performed, answer, can_advance}
@@ -149,7 +150,7 @@ pub record CanTurn (held : Held) : Type 0 where
 
 -- the step number of the session that an ADVANCE is of is in range
 abbrev pub IsHere : Owned → Command → Type 0
-IsHere owned (Advance name n) = ForSome (held_in owned name) (λ held. unsigned_abs held.live.sim.step ≤ 10 ^ 12)
+IsHere owned (Advance name n) = ForSome (held_in owned name) (λ held. unsigned_abs held.live.sim.step ≤ MAX_STEP_NUMBER)
 IsHere owned _ = Unit {0}
 
 -- what a command comes to: a reply with the user after it, or a refusal

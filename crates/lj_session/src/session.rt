@@ -83,7 +83,7 @@ impl Session {
     /// Whether it may go on by so many steps.
     pub fn can_advance(&self, steps: u64) -> bool
         ensures value { result ≡ can_advance (as_session self.now) steps }
-        ensures here { IsTrue result → unsigned_abs self.now.live.sim.step ≤ 10 ^ 12 }
+        ensures here { IsTrue result → unsigned_abs self.now.live.sim.step ≤ MAX_STEP_NUMBER }
     {
         if steps > MAX_STEPS {
             return false;
