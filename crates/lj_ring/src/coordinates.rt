@@ -7,7 +7,7 @@ use crate::units::Edge;
 use lj_fixed::Nano;
 
 /// The place of an atom: a coordinate on each axis, in ring units, of which the box edge has 2^32.
-#[derive(Clone, Copy, PartialEq, Eq, Debug)]
+#[derive(Clone, Copy, PartialEq, Eq, Default, Debug)]
 pub struct Place {
     pub x: u32,
     pub y: u32,
