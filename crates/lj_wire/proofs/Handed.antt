@@ -1,17 +1,14 @@
 -- Items that are handed out one after the other are those of the stream.
-use Rattle.std.proofs.Common.{◌≡◌, ℕ, ◌+◌, Bool, true, false, cond, List, [], ◌∷◌, ◌++◌, Option, Some, None, inl, inr, refl, sym, ap, ◌∙◌, subst}
+use Rattle.std.proofs.Common.{◌≡◌, ℕ, Bool, true, false, cond, List, [], ◌∷◌, ◌++◌, Option, Some, None, inl, inr, refl, sym, ap, ◌∙◌, subst}
 use Rattle.std.proofs.lemmas.List.{append-nil}
 use Rattle.std.specs.Io.KnownBytes.{Consumes, IsAtEnd}
-use Rattle.lj_session.specs.declared.body.LoadBody.TheVariants.{Lost, Read}
-use Rattle.lj_session.specs.declared.command.Command.TheVariants.{Load}
 use Rattle.lj_session.specs.Answers.{performed}
 use Rattle.lj_session.specs.Users.{User}
 use Rattle.lj_wire.specs.declared.item.Item.{Item}
-use Rattle.lj_wire.specs.declared.item.Item.TheVariants.{Command}
-use Rattle.lj_wire.specs.declared.reader.phase.Phase.TheVariants.{Open, Over, Failed}
+use Rattle.lj_wire.specs.declared.reader.phase.Phase.TheVariants.{Open, Over}
 use Rattle.lj_wire.specs.Items.{ends}
-use Rattle.lj_wire.specs.Standings.{Standing, IsLost, IsHandedOut, HandsOut, HandsAll, AreHandedOut, Ceases}
-use Rattle.lj_wire.specs.Streams.{IsItem, IsPart, Splits}
+use Rattle.lj_wire.specs.Standings.{Standing, IsLost, IsHandedOut, HandsAll, AreHandedOut, Ceases}
+use Rattle.lj_wire.specs.Streams.{IsPart, Splits}
 use Rattle.lj_wire.specs.Told.{answered}
 use Rattle.lj_wire.proofs.Splitting.{same_item, no_part}
 

@@ -1,5 +1,5 @@
 -- A long line that is passed over: its bytes so far are taken, and only counted.
-use Rattle.std.proofs.Common.{◌≡◌, ℕ, ◌+◌, ◌-◌, ◌<◌, ◌≤◌, min, List, [], ◌∷◌, ◌++◌, length, take, drop, refl, sym, ap, ◌∙◌, subst, arith, append_assoc}
+use Rattle.std.proofs.Common.{◌≡◌, ℕ, ◌+◌, ◌-◌, ◌<◌, ◌≤◌, min, List, [], ◌∷◌, ◌++◌, length, take, drop, sym, ap, ◌∙◌, subst, arith, append_assoc}
 use Rattle.std.proofs.lemmas.List.{take-append-drop, drop_at, drop_all, length-append, length-take-le}
 use Rattle.lj_wire.specs.declared.limits.TheConstants.{MAX_LINE_BYTES, LONG_LINE_BYTES}
 use Rattle.lj_wire.specs.Ahead.{Ahead, Takes, Grows}
@@ -26,8 +26,10 @@ taken_more old mid grown new bytes front behind count t g e is same =
 -- the line feed comes
 pub passing_feed : (old mid grown new : Ahead) (seen count wanted : ℕ) (line behind : List ℕ) → Passing old mid seen → Grows mid grown count
     → wanted ≤ LONG_LINE_BYTES - seen → wanted ≤ length grown.held → take wanted grown.held ≡ line ++ 10 ∷ behind → LacksLineFeed line
-    → new.held ≡ drop (length line + 1) grown.held → new.unread ≡ grown.unread → TakesLongLine old new
-passing_feed old mid grown new seen count wanted line behind p g low within e one is same =
+    → new ≡ record grown { held = drop (length line + 1) grown.held } → TakesLongLine old new
+passing_feed old mid grown new seen count wanted line behind p g low within e one taken =
+    let is = ap (λ a. a.held) taken in
+    let same = ap (λ a. a.unread) taken in
     let rest = behind ++ drop wanted grown.held in
     let cut : grown.held ≡ (line ++ 10 ∷ []) ++ rest =
     sym (take-append-drop wanted grown.held) ∙ ap (λ (l : List ℕ). l ++ drop wanted grown.held) e
@@ -46,8 +48,11 @@ passing_feed old mid grown new seen count wanted line behind p g low within e on
 -- no line feed is among them
 pub passing_more : (old mid grown new : Ahead) (seen count wanted : ℕ) → Passing old mid seen → Grows mid grown count → grown.errors ≡ mid.errors
     → seen < LONG_LINE_BYTES → wanted ≡ min (LONG_LINE_BYTES - seen) (length grown.held) → LacksLineFeed (take wanted grown.held)
-    → new.held ≡ drop wanted grown.held → new.unread ≡ grown.unread → new.errors ≡ grown.errors → Passing old new (seen + wanted)
-passing_more old mid grown new seen count wanted p g errors more is one held unread same =
+    → new ≡ record grown { held = drop wanted grown.held } → Passing old new (seen + wanted)
+passing_more old mid grown new seen count wanted p g errors more is one taken =
+    let held = ap (λ a. a.held) taken in
+    let unread = ap (λ a. a.unread) taken in
+    let same = ap (λ a. a.errors) taken in
     let within : wanted ≤ length grown.held = omega arith in
     let front = take wanted grown.held in
     record {
@@ -70,8 +75,11 @@ pub record Counting (old new : Ahead) (count left : ℕ) : Type 0 where
   pub errors : new.errors ≡ old.errors
 
 pub counting_start : (old new : Ahead) (count some : ℕ) → some ≡ min (length old.held) count
-    → new.held ≡ drop some old.held → new.unread ≡ old.unread → new.errors ≡ old.errors → Counting old new count (count - some)
-counting_start old new count some is held unread errors =
+    → new ≡ record old { held = drop some old.held } → Counting old new count (count - some)
+counting_start old new count some is taken =
+    let held = ap (λ a. a.held) taken in
+    let unread = ap (λ a. a.unread) taken in
+    let errors = ap (λ a. a.errors) taken in
     let within : some ≤ length old.held = omega arith in
     record {
       bytes = take some old.held;
@@ -82,9 +90,11 @@ counting_start old new count some is held unread errors =
     }
 
 pub counting_more : (old mid grown new : Ahead) (count left read some : ℕ) → Counting old mid count left → Grows mid grown read → grown.errors ≡ mid.errors
-    → some ≡ min (length grown.held) left → new.held ≡ drop some grown.held → new.unread ≡ grown.unread → new.errors ≡ grown.errors
-    → Counting old new count (left - some)
-counting_more old mid grown new count left read some p g errors is held unread same =
+    → some ≡ min (length grown.held) left → new ≡ record grown { held = drop some grown.held } → Counting old new count (left - some)
+counting_more old mid grown new count left read some p g errors is taken =
+    let held = ap (λ a. a.held) taken in
+    let unread = ap (λ a. a.unread) taken in
+    let same = ap (λ a. a.errors) taken in
     let within : some ≤ length grown.held = omega arith in
     let front = take some grown.held in
     record {

@@ -1,7 +1,7 @@
 -- Items read whole, and parts of items.
-use Rattle.std.proofs.Common.{◌≡◌, ℕ, ◌+◌, ◌<◌, ◌≤◌, Bool, true, false, cond, List, [], ◌∷◌, ◌++◌, length, take, drop, Option, Some, None, inl, inr, refl, sym, ap, ◌∙◌, subst, arith, append_assoc}
+use Rattle.std.proofs.Common.{◌≡◌, ℕ, ◌+◌, ◌≤◌, true, cond, List, [], ◌∷◌, ◌++◌, length, take, drop, Option, Some, None, inl, inr, refl, sym, ap, ◌∙◌, subst, arith, append_assoc}
 use Rattle.std.proofs.lemmas.Bool.{lt-ltb}
-use Rattle.std.proofs.lemmas.List.{append-nil, drop_at, take_at, length-append}
+use Rattle.std.proofs.lemmas.List.{drop_at, take_at, length-append}
 use Rattle.std.proofs.KnownBytes.{Consumes-nil}
 use Rattle.std.specs.Io.KnownBytes.{Keeps, Consumes}
 use Rattle.lj_session.specs.declared.body.LoadBody.{LoadBody}
@@ -18,7 +18,7 @@ use Rattle.lj_wire.specs.Items.{with_body}
 use Rattle.lj_wire.specs.declared.reader.phase.Phase.TheVariants.{Open, Over}
 use Rattle.lj_wire.specs.Standings.{Standing, IsLost, IsHandedOut, HandsOut}
 use Rattle.lj_wire.specs.Steps.{TakesLongLine, TakesLong, TakesFewer, ReadsBody, TakesRest, Finishes, TakesNoItem, ReadsItem, takes_body}
-use Rattle.lj_wire.specs.Streams.{LacksLineFeed, IsLine, IsOpenBody}
+use Rattle.lj_wire.specs.Streams.{IsLine}
 use Rattle.lj_wire.proofs.Filling.{line_filled}
 use Rattle.lj_wire.proofs.Taking.{Takes-trans, Takes-held, Kept-takes}
 
@@ -55,9 +55,11 @@ pub record LineTaken (old new : Ahead) (line : List ℕ) : Type 0 where
   pub is_line : IsLine line
 
 pub line_taken : (old mid new : Ahead) (count : ℕ) (line : List ℕ) → Keeps (untaken old) (untaken mid) → HoldsLine mid count
-    → line ≡ take count mid.held → length mid.held ≤ MAX_HELD_BYTES → new.held ≡ drop (count + 1) mid.held → new.unread ≡ mid.unread
+    → line ≡ take count mid.held → length mid.held ≤ MAX_HELD_BYTES → new ≡ record mid { held = drop (count + 1) mid.held }
     → LineTaken old new line
-line_taken old mid new count line kept h is bounded held unread =
+line_taken old mid new count line kept h is bounded after =
+    let held = ap (λ a. a.held) after in
+    let unread = ap (λ a. a.unread) after in
     let same : line ≡ h.line = is ∙ ap (take count) h.held ∙ take_at h.line (10 ∷ h.behind) count h.counted in
     let feed = h.line ++ 10 ∷ [] in
     let cut : mid.held ≡ feed ++ h.behind = h.held ∙ sym (append_assoc h.line (10 ∷ []) h.behind) in

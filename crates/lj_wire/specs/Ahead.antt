@@ -1,5 +1,5 @@
 -- What lies ahead of a reader: the bytes that are held, and then those that its source has left.
-use Rattle.std.specs.Prelude.{◌≡◌, ℕ, ◌+◌, ◌<◌, ◌≤◌, List, [], ◌∷◌, ◌++◌, length, Option}
+use Rattle.std.specs.Prelude.{◌≡◌, ℕ, ◌<◌, ◌≤◌, List, ◌∷◌, ◌++◌, length, Option}
 use Rattle.std.specs.Io.KnownBytes.{prepend_known, Consumes, Keeps, IsAtEnd}
 use Rattle.lj_wire.specs.declared.limits.TheConstants.{MAX_LINE_BYTES}
 use Rattle.lj_wire.specs.declared.reader.buffer.TheConstants.{MAX_HELD_BYTES}

@@ -24,12 +24,7 @@ pub(crate) fn read_body<S: Source>(
 {
     let mut bytes = Vec::new(alloc);
     if bytes.resize(count, 0).is_err() {
-        let lost = if pass(input, count)? {
-            Some(LoadBody::Lost)
-        } else {
-            None
-        };
-        return Ok(lost);
+        return Ok(pass(input, count)?.then_some(LoadBody::Lost));
     }
     if !fill(input, bytes.as_mut_slice())? {
         return Ok(None);

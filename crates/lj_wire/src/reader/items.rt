@@ -51,12 +51,7 @@ fn finish<S: Source>(
     ensures risen { OnErr result (Rises input.old.errors input.new.errors) }
 {
     if !takes_body(&item) {
-        let item = if pass(input, count)? {
-            Some(item)
-        } else {
-            None
-        };
-        return Ok(item);
+        return Ok(pass(input, count)?.then_some(item));
     }
     match read_body(alloc, input, count)? {
         Some(body) => Ok(Some(item.with_body(body))),

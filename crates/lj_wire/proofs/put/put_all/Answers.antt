@@ -1,5 +1,4 @@
-use Rattle.std.proofs.Common.{length, drop, arith, ◌∙◌}
-use Rattle.std.proofs.lemmas.List.{length-drop}
+use Rattle.std.proofs.Common.{arith, ◌∙◌}
 use Rattle.lj_wire.proofs.Known.{Appends-front}
 use Rattle.lj_wire.proofs.put.put_all.Goals as goal
 

@@ -1,5 +1,4 @@
-use Rattle.std.proofs.Common.{ℕ, ◌≤◌, ◌-◌, length, sym, ◌∙◌, arith, subst, rules}
-use Rattle.std.proofs.lemmas.List.{length-append, length-take-le}
+use Rattle.std.proofs.Common.{◌-◌, length, sym, ◌∙◌, subst, rules}
 use Rattle.lj_wire.specs.Ahead.{Takes}
 use Rattle.lj_wire.proofs.Buffers.{filled_more}
 use Rattle.lj_wire.proofs.Taking.{Takes-trans}

@@ -1,4 +1,3 @@
-use Rattle.std.proofs.Common.{◌-◌}
 use Rattle.lj_wire.proofs.Passing.{Counting}
 use Rattle.lj_wire.proofs.reader.body.pass.Given as goal
 

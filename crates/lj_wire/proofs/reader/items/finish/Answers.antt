@@ -1,6 +1,6 @@
 use Rattle.lj_wire.proofs.Wholes.{rest_taken}
 use Rattle.lj_wire.proofs.reader.items.finish.Goals as goal
-use Rattle.std.proofs.Common.{◌≡◌, true, rules, arith, Some, subst}
+use Rattle.std.proofs.Common.{◌≡◌, true, rules, Some}
 use Rattle.lj_wire.specs.Steps.{takes_body, ReadsBody}
 
 pub returns-in-Some-clause-item : goal.returns-in-Some-clause-item

@@ -1,4 +1,4 @@
-use Rattle.std.proofs.Common.{ℕ, ◌+◌, ◌≤◌, length, take, ap, ◌∙◌, arith}
+use Rattle.std.proofs.Common.{◌≤◌, length, take, ap, ◌∙◌, arith}
 use Rattle.std.proofs.lemmas.Result.{IfOk-weaker, IfErr-weaker}
 use Rattle.lj_wire.specs.declared.reader.buffer.TheConstants.{MAX_HELD_BYTES}
 use Rattle.lj_wire.specs.declared.reader.input.Front.TheVariants as front
@@ -14,7 +14,7 @@ returns-in-Line-clause-item g c =
     let line = c.split_at.result.0.now in
     let bounded : length mid.held ≤ MAX_HELD_BYTES = omega (arith, c.held.ensures.bounded, ap length c.held.ensures.value) in
     let t = line_taken c.args.input.now mid c.take.new.self c.in-Line.count line found.0 found.1
-    (c.split_at.ensures.front ∙ ap (take c.in-Line.count) c.held.ensures.value) bounded (ap (λ a. a.held) c.take.ensures) (ap (λ a. a.unread) c.take.ensures) in
+    (c.split_at.ensures.front ∙ ap (take c.in-Line.count) c.held.ensures.value) bounded c.take.ensures in
     IfOk-weaker c.finish.result _ _
     (λ handed f. finished c.args.input.now c.take.new.self c.finish.new.input line _ _ handed t c.read_line-reading.ensures.item c.read_line-reading.ensures.body f)
     c.finish.ensures.item
@@ -26,7 +26,7 @@ returns-in-Line-clause-part g c =
     let line = c.split_at.result.0.now in
     let bounded : length mid.held ≤ MAX_HELD_BYTES = omega (arith, c.held.ensures.bounded, ap length c.held.ensures.value) in
     let t = line_taken c.args.input.now mid c.take.new.self c.in-Line.count line found.0 found.1
-    (c.split_at.ensures.front ∙ ap (take c.in-Line.count) c.held.ensures.value) bounded (ap (λ a. a.held) c.take.ensures) (ap (λ a. a.unread) c.take.ensures) in
+    (c.split_at.ensures.front ∙ ap (take c.in-Line.count) c.held.ensures.value) bounded c.take.ensures in
     IfErr-weaker c.finish.result _ _
     (λ fault f. open_body c.args.input.now c.take.new.self c.finish.new.input line _ t c.read_line-reading.ensures.body f)
     c.finish.ensures.part
