@@ -1,7 +1,5 @@
 //! Streams of commands, and the texts of their replies.
 
-ghost use Rattle.std.specs.Prelude.{◌≤◌, ◌<◌, ◌^◌};
-
 use super::dialogues::{Output, Text};
 use crate::engine::{ThinFault, run_thin};
 use std::alloc::{AllocError, AllocGlobal};
@@ -290,24 +288,26 @@ fn cuts_words_at_blanks_and_drops_one_return(rt: HostRuntime) {
     );
 }
 
-/// A line of so many bytes, with room for one more.
-fn line_of(rt: &impl AllocGlobal, len: usize) -> Result<Vec<u8>, AllocError>
-    requires some { 1 ≤ len }
-    requires few { len < 2 ^ 32 }
-{
-    let mut line = Vec::with_capacity(rt.alloc(), len + 1)?;
-    line.resize(len - 1, b'x')?;
-    line.push(b'\n')?;
-    Ok(line)
+/// Four LOADs of too few words, each with a body, which are as long as an input may be; with room for one byte more.
+fn largest_input(rt: &impl AllocGlobal) -> Result<Vec<u8>, AllocError> {
+    let mut input = Vec::with_capacity(rt.alloc(), MAX_INPUT_BYTES + 1)?;
+    for number in 0..4 {
+        input.extend_from_slice(b"LOAD 1048563\n".as_slice())?;
+        input.resize((number + 1) * 1_048_576, b'x')?;
+    }
+    Ok(input)
 }
 
 #[test]
 fn reads_the_largest_input(rt: HostRuntime) -> Result<(), Fail> {
-    let input = line_of(&rt, MAX_INPUT_BYTES);
-    let mut input = input.or_else(|_| line_of(&rt, MAX_INPUT_BYTES))?;
+    let mut input = largest_input(&rt).or_else(|_| largest_input(&rt))?;
+    assert_eq!(rt; input.len(), MAX_INPUT_BYTES);
     let mut output = Output::new();
     assert!(rt; run_stream(&rt, input.as_slice(), &mut output).is_ok());
-    assert_eq!(rt; output.as_slice(), b"ERR 06 COMMAND\n".as_slice());
+    assert_eq!(rt;
+        output.as_slice(),
+        b"ERR 06 COMMAND\nERR 06 COMMAND\nERR 06 COMMAND\nERR 06 COMMAND\n".as_slice()
+    );
 
     input.push(b'\n')?;
     output.clear();
