@@ -1,5 +1,5 @@
 -- The first tile that is awaited, looked for from a place of the cover on.
-use Rattle.std.proofs.Common.{◌≡◌, ℕ, suc, ◌+◌, ◌-◌, ◌<◌, ◌≤◌, Bool, false, cond, Option, Some, None, refl, sym, ap, ◌∙◌, arith}
+use Rattle.std.proofs.Common.{◌≡◌, ℕ, suc, ◌+◌, ◌-◌, ◌<◌, ◌≤◌, Bool, true, false, cond, Option, Some, None, refl, sym, ap, ◌∙◌, arith}
 use Rattle.std.specs.List.{find, range_with_len}
 use Rattle.lj_session.specs.States.{Held, as_session, next_tile, passed_to, with_posted}
 
@@ -15,6 +15,11 @@ pub find-on : (test : ℕ → Bool) (i n : ℕ) (o : Option ℕ) → i < n → t
     → find test (range_with_len (i + 1) (n - (i + 1))) ≡ o
 find-on test i n o below fails found =
     sym (find-step test i n below ∙ ap (λ b. cond b (Some i) (find test (range_with_len (i + 1) (n - (i + 1))))) fails) ∙ found
+
+-- one that is awaited is found
+pub find-here : (test : ℕ → Bool) (i n : ℕ) (o : Option ℕ) → i < n → test i ≡ true → find test (range_with_len i (n - i)) ≡ o → Some i ≡ o
+find-here test i n o below passes found =
+    sym (find-step test i n below ∙ ap (λ b. cond b (Some i) (find test (range_with_len (i + 1) (n - (i + 1))))) passes) ∙ found
 
 -- noting a tile as posted leaves the simulation and the session
 pub posted-live : (held : Held) → (with_posted held).live ≡ held.live

@@ -5,7 +5,7 @@ use Rattle.lj_tile.specs.declared.names.Label.{Label}
 use Rattle.lj_tile.specs.declared.names.Kind.{Kind}
 use Rattle.lj_tile.specs.declared.names.Kind.TheVariants.{Force, Energy}
 use Rattle.lj_tile.specs.Tasks.{Work}
-use Rattle.lj_step.specs.OpenSteps.{number_of}
+use Rattle.lj_step.specs.OpenSteps.{tile_number_of}
 use Rattle.lj_session.specs.declared.command.Command.{Command}
 use Rattle.lj_session.specs.declared.command.Command.TheVariants.{Advance, Measure}
 use Rattle.lj_session.specs.declared.refusal.Refusal.TheVariants.{Memory}
@@ -75,7 +75,7 @@ IsAwaitedIn owner work = IsSomeAnd (label_in owner) (λ label. IsAwaited owner.s
 
 -- that tile is in
 abbrev pub with_task_in : Work → Owning → Owning
-with_task_in work owner = with_state (changed_in (step_in owner) (with_tile_in (number_of work)) owner.state) owner
+with_task_in work owner = with_state (changed_in (step_in owner) (with_tile_in (tile_number_of work)) owner.state) owner
 
 -- whether a command runs and all tiles of its step are in
 abbrev pub is_ready : Owning → Bool

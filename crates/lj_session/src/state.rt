@@ -4,7 +4,7 @@ ghost use Rattle.std.specs.List.{IsDistinct};
 ghost use Rattle.std.specs.Option.{ForSome};
 ghost use Rattle.std.specs.Str.{bytes_eq};
 ghost use Rattle.lj_tile.specs.declared.names.Kind.TheVariants.{Energy};
-ghost use Rattle.lj_step.specs.OpenSteps.{number_of};
+ghost use Rattle.lj_step.specs.OpenSteps.{tile_number_of};
 ghost use Rattle.lj_session.specs.declared.command.Command.TheVariants.{Advance, Measure};
 ghost use Rattle.lj_session.specs.Turns.{turns, turned};
 ghost use Rattle.lj_session.specs.States as states;
@@ -167,7 +167,7 @@ impl UserState {
     /// Takes in the result of a tile that a session's open step awaits. Another is handed back, and nothing changes.
     pub(crate) fn accept(&mut self, label: &Label, done: Done) -> Result<(), Stray>
         ensures accepted { IsOk result ↔ IsAwaited self.old label.now done }
-        ensures taken { OnOk result (self.new ≡ changed label.now.session (with_tile_in (number_of done)) self.old) }
+        ensures taken { OnOk result (self.new ≡ changed label.now.session (with_tile_in (tile_number_of done)) self.old) }
         ensures user { user_of self.new ≡ user_of self.old }
         ensures stray { IfErr result (λ s. s.done ≡ done) }
         ensures unchanged { OnErr result (self.new ≡ self.old) }

@@ -1,7 +1,7 @@
 //! The open step of a session.
 ghost use Rattle.std.specs.Prelude.{◌≡◌, ◌↔◌, ℕ, IsOk, IsSome, IfErr, OnOk, OnErr};
 ghost use Rattle.std.specs.Option.{ForSome};
-ghost use Rattle.lj_step.specs.OpenSteps.{number_of};
+ghost use Rattle.lj_step.specs.OpenSteps.{tile_number_of};
 ghost use Rattle.lj_session.specs.declared.command.Command.TheVariants.{Advance};
 ghost use Rattle.lj_session.specs.Turns.{turned};
 ghost use Rattle.lj_session.specs.States.{CanTurn, IsAwaited, user_of, held_in, changed, with_step, with_posted, with_tile_in, turned_on, is_whole_in};
@@ -44,7 +44,7 @@ impl Sessions {
     /// Takes in the result of a tile that a session's open step awaits. Another is handed back, and nothing changes.
     pub fn accept(&mut self, label: &Label, done: Done) -> Result<(), Stray>
         ensures accepted { IsOk result ↔ IsAwaited self.old label.now done }
-        ensures taken { OnOk result (self.new ≡ changed label.now.session (with_tile_in (number_of done)) self.old) }
+        ensures taken { OnOk result (self.new ≡ changed label.now.session (with_tile_in (tile_number_of done)) self.old) }
         ensures user { user_of self.new ≡ user_of self.old }
         ensures stray { IfErr result (λ s. s.done ≡ done) }
         ensures unchanged { OnErr result (self.new ≡ self.old) }

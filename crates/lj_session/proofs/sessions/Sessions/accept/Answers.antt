@@ -1,5 +1,5 @@
 use Rattle.std.proofs.Common.{ℕ, length, refl, ap}
-use Rattle.lj_step.specs.OpenSteps.{number_of}
+use Rattle.lj_step.specs.OpenSteps.{tile_number_of}
 use Rattle.lj_session.specs.States.{Held, as_session, with_tile_in}
 use Rattle.lj_session.proofs.Results.{on_ok-then, on_err-then, same-either}
 use Rattle.lj_session.proofs.Writing.{writes, changed_by, unchanged, user_kept, totals_kept}
@@ -8,18 +8,18 @@ use Rattle.lj_session.proofs.sessions.Sessions.accept.Goals as goal
 pub invariant_of-self-2 : goal.invariant_of-self-2
 invariant_of-self-2 c =
     let kept = same-either {C = ℕ × ℕ} c.accept.result (λ (h : Held). (length h.live.sim.cur, length h.saved)) c.accept.new.self c.in-Some.session.now
-    (with_tile_in (number_of c.args.done) c.in-Some.session.now) c.accept.ensures.taken c.accept.ensures.unchanged refl in
+    (with_tile_in (tile_number_of c.args.done) c.in-Some.session.now) c.accept.ensures.taken c.accept.ensures.unchanged refl in
     totals_kept (writes c.self.inside c.args.self.now c.self.view_is c.self.invariant c.args.label.now.session _ c.in-Some.ensures.value _ c.accept.new.self (c.get_mut.follows.holds c.accept.new.self).0)
     (ap (λ p. p.0) kept) (ap (λ p. p.1) kept)
 
 pub returns-clause-taken : goal.returns-clause-taken
 returns-clause-taken c = on_ok-then c.accept.result
-    (changed_by (writes c.self.inside c.args.self.now c.self.view_is c.self.invariant c.args.label.now.session _ c.in-Some.ensures.value _ c.accept.new.self (c.get_mut.follows.holds c.accept.new.self).0) (with_tile_in (number_of c.args.done)))
+    (changed_by (writes c.self.inside c.args.self.now c.self.view_is c.self.invariant c.args.label.now.session _ c.in-Some.ensures.value _ c.accept.new.self (c.get_mut.follows.holds c.accept.new.self).0) (with_tile_in (tile_number_of c.args.done)))
     c.accept.ensures.taken
 
 pub returns-clause-user : goal.returns-clause-user
 returns-clause-user c = user_kept (writes c.self.inside c.args.self.now c.self.view_is c.self.invariant c.args.label.now.session _ c.in-Some.ensures.value _ c.accept.new.self (c.get_mut.follows.holds c.accept.new.self).0)
-    (same-either c.accept.result as_session c.accept.new.self c.in-Some.session.now (with_tile_in (number_of c.args.done) c.in-Some.session.now)
+    (same-either c.accept.result as_session c.accept.new.self c.in-Some.session.now (with_tile_in (tile_number_of c.args.done) c.in-Some.session.now)
     c.accept.ensures.taken c.accept.ensures.unchanged refl)
 
 pub returns-clause-unchanged : goal.returns-clause-unchanged
