@@ -174,7 +174,8 @@ fn the_order_is_that_of_saving(rt: HostRuntime) -> Result<(), Fail> {
     Ok(())
 }
 
-/// Saves. Any one growth may be refused (`rt try --test --fail-alloc`): nothing is saved then, and the same call succeeds.
+/// Saves. Any one growth may be refused (`rt try --test --fail-alloc`): nothing is saved then, and the same call
+/// succeeds.
 fn save(branches: &mut Branches, word: &[u8], sim: &Sim, rt: &impl Abort) {
     let name = Name::parse(word).expect(rt, "a name");
     let count = branches.len();

@@ -9,7 +9,7 @@ use Rattle.lj_step.specs.declared.partial.Partial.{Partial}
 use Rattle.lj_step.specs.declared.simulations.Sim.TheInside.{Inside}
 use Rattle.lj_step.specs.Kept.{IsSound, live_of}
 use Rattle.lj_step.specs.Live.{Live}
-use Rattle.lj_step.specs.OpenSteps.{blocks, tile_number_of, task_of, IsAwaited}
+use Rattle.lj_step.specs.OpenSteps.{blocks, tile_number_of, task_of, IsAwaitedTask}
 use Rattle.lj_step.specs.Sums.{HasAdded, HasRoom, IsPartial}
 use Rattle.lj_step.proofs.Steps.{awaited_at, left_some, size_fits, partial_after}
 
@@ -30,7 +30,7 @@ with_partial a p sound room partial = record {
 
 -- with one result more, of a task that is awaited
 module _ (a : Inside) (now : Live) (label : Label) (asked work : Work) (sound : IsSound a) (view : live_of a ≡ now) (same : asked ≡ work)
-    (awaited : IsAwaited now label asked) where
+    (awaited : IsAwaitedTask now label asked) where
   wanted : (kind : Kind) × (a.partial.kind ≡ Some kind) × (slice_index_or a.partial.awaited.items (tile_number_of work) false ≡ true) × (work ≡ task_of (live_of a) label kind (tile_number_of work))
   wanted = awaited_at (live_of a) now label asked work a.partial.kind a.partial.awaited.items view refl same awaited
 

@@ -20,7 +20,7 @@ use Rattle.lj_tile.specs.Tasks.{Work, task_energy}
 use Rattle.lj_step.specs.declared.partial.Partial.{Partial}
 use Rattle.lj_step.specs.Motion.{Simulation, place_at, next_place, force, moved, next_frame, stepped, potential}
 use Rattle.lj_step.specs.Live.{Live, OpenStep}
-use Rattle.lj_step.specs.OpenSteps.{blocks, block, tile_number_of, is_tile, cover, task_of, task_in, task_at, awaits_number, awaits_tile_in, awaits_tile, IsAwaitedIn, IsAwaited, kind_of, is_whole, closed}
+use Rattle.lj_step.specs.OpenSteps.{blocks, block, tile_number_of, is_tile, cover, task_of, task_in, task_at, awaits_number, awaits_tile_in, awaits_tile, IsAwaitedTaskIn, IsAwaitedTask, kind_of, is_whole, closed}
 use Rattle.lj_step.specs.Sums.{HasRoom, HasAdded, IsOpen, IsPartial}
 use Rattle.lj_step.specs.Kept.{open_step_of}
 use Rattle.lj_step.proofs.PartialForces.{force_whole}
@@ -64,17 +64,17 @@ potential_is u frame p h whole =
     to_z-of_z w128 p.energy (fits_signed_from_abs w128 p.energy (omega arith)) ∙ opened.energy refl ∙ energy_whole u frame p.awaited.items whole.1
 
 -- the step that awaits a task, its flag, and the task
-pub awaited_in : (live : Live) (label : Label) (work : Work) (o : Option Kind) (flags : List Bool) → IsAwaitedIn live label work (open_step_of o flags)
+pub awaited_in : (live : Live) (label : Label) (work : Work) (o : Option Kind) (flags : List Bool) → IsAwaitedTaskIn live label work (open_step_of o flags)
     → (kind : Kind) × (o ≡ Some kind) × (slice_index_or flags (tile_number_of work) false ≡ true) × (work ≡ task_of live label kind (tile_number_of work))
 awaited_in live label work None flags h = absurd h
 awaited_in live label work (Some kind) flags h = (kind, refl, h.0, h.1)
 
-pub awaited_at : (live now : Live) (label : Label) (asked work : Work) (o : Option Kind) (flags : List Bool) → live ≡ now → live.part ≡ open_step_of o flags → asked ≡ work → IsAwaited now label asked
+pub awaited_at : (live now : Live) (label : Label) (asked work : Work) (o : Option Kind) (flags : List Bool) → live ≡ now → live.part ≡ open_step_of o flags → asked ≡ work → IsAwaitedTask now label asked
     → (kind : Kind) × (o ≡ Some kind) × (slice_index_or flags (tile_number_of work) false ≡ true) × (work ≡ task_of live label kind (tile_number_of work))
 awaited_at live now label asked work o flags view part same h =
-    let at_live : IsAwaited live label asked = subst (λ v. IsAwaited v label asked) (sym view) h in
-    let at_work : IsAwaited live label work = subst (λ w. IsAwaited live label w) same at_live in
-    awaited_in live label work o flags (subst (λ q. IsAwaitedIn live label work q) part at_work)
+    let at_live : IsAwaitedTask live label asked = subst (λ v. IsAwaitedTask v label asked) (sym view) h in
+    let at_work : IsAwaitedTask live label work = subst (λ w. IsAwaitedTask live label w) same at_live in
+    awaited_in live label work o flags (subst (λ q. IsAwaitedTaskIn live label work q) part at_work)
 
 -- a flag that is set lies within the flags
 pub set_within : (flags : List Bool) (k : ℕ) → slice_index_or flags k false ≡ true → k < length flags

@@ -10,7 +10,7 @@ use Rattle.lj_tile.specs.declared.names.Label.{Label}
 use Rattle.lj_tile.specs.declared.names.Kind.{Kind}
 use Rattle.lj_tile.specs.Tasks.{Work}
 use Rattle.lj_step.specs.Live.{Live, OpenStep}
-use Rattle.lj_step.specs.OpenSteps.{blocks, is_tile, cover, opened, tile_number_of, task_of, task_in, task_at, IsAwaitedIn, IsAwaited, with_tile, kind_of, is_whole}
+use Rattle.lj_step.specs.OpenSteps.{blocks, is_tile, cover, opened, tile_number_of, task_of, task_in, task_at, IsAwaitedTaskIn, IsAwaitedTask, with_tile, kind_of, is_whole}
 use Rattle.lj_step.proofs.Flags.{opened_flag}
 use Rattle.lj_step.specs.InOrder.{AwaitsFrom}
 use Rattle.lj_step.proofs.Steps.{cover_tile, cover_within, set_within}
@@ -99,8 +99,8 @@ module _ (live : Live) (label : Label) (kind : Kind) (i : ℕ) (o : Option Work)
   work_is : work ≡ task_of live label kind (tile_number_of work)
   work_is = place.3 ∙ ap (task_of live label kind) (sym place.2 ∙ sym number_same)
 
-  pub is_awaited : IsAwaited live label work
-  is_awaited = subst (IsAwaitedIn live label work) (sym h.is_open) (flag_set, work_is)
+  pub is_awaited : IsAwaitedTask live label work
+  is_awaited = subst (IsAwaitedTaskIn live label work) (sym h.is_open) (flag_set, work_is)
 
   waiting_after : (k : ℕ) → i + 1 ≤ k → k < length (cover kind (length live.sim.cur))
       → slice_index_or (slice_set h.flags (tile_number_of work) false) (slice_index_or (cover kind (length live.sim.cur)) k 0) false ≡ true

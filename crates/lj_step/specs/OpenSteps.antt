@@ -98,13 +98,13 @@ abbrev pub awaits_tile : Live → ℕ → Bool
 awaits_tile live i = awaits_tile_in (length live.sim.cur) i live.part
 
 -- the task is that of a tile that the open step awaits: none is where no step is open
-abbrev pub IsAwaitedIn : Live → Label → Work → Option OpenStep → Type 0
-IsAwaitedIn live label work None = ⊥
-IsAwaitedIn live label work (Some p) =
+abbrev pub IsAwaitedTaskIn : Live → Label → Work → Option OpenStep → Type 0
+IsAwaitedTaskIn live label work None = ⊥
+IsAwaitedTaskIn live label work (Some p) =
     (awaits_number p (tile_number_of work) ≡ true) × (work ≡ task_of live label p.kind (tile_number_of work))
 
-abbrev pub IsAwaited : Live → Label → Work → Type 0
-IsAwaited live label work = IsAwaitedIn live label work live.part
+abbrev pub IsAwaitedTask : Live → Label → Work → Type 0
+IsAwaitedTask live label work = IsAwaitedTaskIn live label work live.part
 
 -- the open step with one tile more that is in
 abbrev pub with_tile : ℕ → Option OpenStep → Option OpenStep

@@ -138,7 +138,7 @@ fn list_tiles(tiles: &mut Vec<u16>, kind: Kind, count: usize)
     }
 }
 
-/// IsAwaited each tile of the cover, and no other number.
+/// Awaits each tile of the cover, and no other number.
 fn await_tiles(awaited: &mut Vec<bool>, kind: Kind, count: usize)
     requires room { length awaited.old.items ≡ 64 * steps.blocks count }
     requires most { count ≤ MAX_ATOMS }

@@ -227,7 +227,7 @@ impl Sim {
     /// Takes in the result of a tile that the open step awaits. It is refused exactly where no step is open, its task
     /// is none of the open step's, or that tile is already in; it is then handed back, and nothing has changed.
     pub fn accept(&mut self, label: &Label, done: Done) -> Result<(), Stray>
-        ensures accepted { IsOk result ↔ steps.IsAwaited self.old label.now done }
+        ensures accepted { IsOk result ↔ steps.IsAwaitedTask self.old label.now done }
         ensures kind { steps.kind_of self.new.part ≡ steps.kind_of self.old.part }
         ensures taken { OnOk result
             (self.new ≡ record self.old { part = steps.with_tile (steps.tile_number_of done) self.old.part }) }
@@ -277,7 +277,7 @@ impl Sim {
 
     /// Whether this is the task of a tile that the open step awaits.
     fn is_awaited(&self, label: &Label, task: &Task) -> bool
-        ensures { IsTrue result ↔ steps.IsAwaited self.now label.now task.now }
+        ensures { IsTrue result ↔ steps.IsAwaitedTask self.now label.now task.now }
     {
         let Some(kind) = self.partial.kind else {
             return false;
