@@ -108,6 +108,6 @@ int main(void) {
         } else if (sscanf(line, "SHOW %63s %lld", name, &k) == 2)
             printf("OK SHOW %s %lld %lld %u %u %u\n", name, (long long)step, k, cur[k].x, cur[k].y, cur[k].z);
     }
-    fprintf(stderr, "plain: %d atoms, %lld steps, %.3f ms a step\n", n, (long long)step, step ? 1e3 * spent / step : 0);
+    fprintf(stderr, "plain: %d atoms, %lld steps, %.3f ms per step\n", n, (long long)step, step ? 1e3 * spent / step : 0);
     return 0;
 }

@@ -67,7 +67,7 @@ usual = record { sessions = 8; atoms = 16384; branches = 16 }
 abbrev pub newcomer : User
 newcomer = fresh usual
 
--- A stream of items that are served, behind which less than an item may stand.
+-- A stream of items that are served, after which less than an item may stand.
 pub record IsThinStream (input : List ℕ) : Type 0 where
   pub items : List Item
   pub rest : List ℕ
