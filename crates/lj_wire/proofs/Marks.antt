@@ -19,7 +19,8 @@ use Rattle.lj_session.specs.declared.refusal.Refusal.{Refusal}
 use Rattle.lj_session.specs.declared.refusal.Refusal.TheVariants.{BranchExists, QuotaAtoms, QuotaBranches, Xyz, Memory}
 use Rattle.lj_session.specs.declared.reply.Reply.{Reply}
 use Rattle.lj_session.specs.declared.reply.Reply.TheVariants as reply
-use Rattle.lj_session.specs.Users.{Session, User, named, put, with_session, atoms_of, atoms_used, branches_used}
+use Rattle.lj_session.specs.Users.{Session, User, with_session, atoms_of, atoms_used, branches_used}
+use Rattle.lj_branch.specs.Named.{named, put}
 use Rattle.lj_session.specs.Loads.{unless, admitted, body_held, session_of_frames, frames_or_refusal, reading_mode, within_quota, session_read}
 use Rattle.lj_session.specs.Answers.{session_of, performed, settled}
 use Rattle.lj_wire.specs.declared.item.Item.{Item}

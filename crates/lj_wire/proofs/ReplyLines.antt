@@ -15,7 +15,7 @@ use Rattle.std.proofs.lemmas.Option.{slice_get-map, slice_get_past}
 use Rattle.lj_ring.specs.declared.coordinates.Place.{Place}
 use Rattle.lj_step.specs.Motion.{Simulation}
 use Rattle.lj_step.specs.Live.{Live}
-use Rattle.lj_session.specs.Users.{named}
+use Rattle.lj_branch.specs.Named.{named}
 use Rattle.lj_session.specs.States.{Held, Owned, held_at, names, user_of, as_session, as_entry}
 use Rattle.lj_session.specs.Users.{Session}
 use Rattle.lj_wire.specs.Lines.{blank_and}

@@ -11,7 +11,8 @@ use Rattle.lj_session.specs.declared.refusal.Refusal.TheVariants.{Memory}
 use Rattle.lj_session.specs.declared.reply.Reply.{Reply}
 use Rattle.lj_session.specs.declared.reply.Reply.TheVariants.{Loaded, Advanced, Reversed, Branched, Restored, Forgotten, Tugged, Measured, Shown, Dumped, Listed, ListedBranches, Unloaded, Bye, Refused}
 use Rattle.lj_session.specs.Refusals.{refusal_text}
-use Rattle.lj_session.specs.Users.{Session, User, named, atoms_of}
+use Rattle.lj_branch.specs.Named.{named}
+use Rattle.lj_session.specs.Users.{Session, User, atoms_of}
 
 -- a line of a text
 abbrev pub ended : List ℕ → List ℕ
