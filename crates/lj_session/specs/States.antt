@@ -8,7 +8,7 @@ use Rattle.lj_tile.specs.declared.names.Kind.TheVariants.{Force}
 use Rattle.lj_tile.specs.Tasks.{Work}
 use Rattle.lj_step.specs.Motion.{Simulation, stepped}
 use Rattle.lj_step.specs.Live.{Live}
-use Rattle.lj_step.specs.OpenSteps.{opened, closed, task_at, awaits_tile, tiles_of, with_tile, kind_of, is_whole, IsAwaited as IsAwaitedByStep}
+use Rattle.lj_step.specs.OpenSteps.{opened, closed, task_at, awaits_tile, tiles_of, with_tile, kind_of, is_whole, IsAwaitedTask}
 use Rattle.lj_quota.specs.declared.Quota.{Quota}
 use Rattle.lj_quota.specs.declared.Used.{Used}
 use Rattle.lj_session.specs.declared.command.Command.{Command}
@@ -112,7 +112,7 @@ with_posted held = passed_to (next_tile held) held
 
 -- the task is that of a tile that the open step of its session awaits
 abbrev pub IsAwaited : Owned → Label → Work → Type 0
-IsAwaited owned label work = IsSomeAnd (held_in owned label.session) (λ held. IsAwaitedByStep held.live label work)
+IsAwaited owned label work = IsSomeAnd (held_in owned label.session) (λ held. IsAwaitedTask held.live label work)
 
 -- one tile more is in
 abbrev pub with_tile_in : ℕ → Held → Held

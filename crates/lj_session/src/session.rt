@@ -187,7 +187,7 @@ impl Session {
 
     /// Takes in the result of a tile that the open step awaits. Another is handed back, and nothing has changed.
     pub fn accept(&mut self, label: &Label, done: Done) -> Result<(), Stray>
-        ensures accepted { IsOk result ↔ steps.IsAwaited self.old.live label.now done }
+        ensures accepted { IsOk result ↔ steps.IsAwaitedTask self.old.live label.now done }
         ensures taken { OnOk result (self.new ≡ states.with_tile_in (steps.tile_number_of done) self.old) }
         ensures stray { IfErr result (λ s. s.done ≡ done) }
         ensures unchanged { OnErr result (self.new ≡ self.old) }
