@@ -19,7 +19,7 @@ use Rattle.lj_session.proofs.Holding.{user_of-changed, named-held, named-absent}
 use Rattle.lj_session.proofs.Owning.{held_in-changed}
 use Rattle.lj_pool.specs.Seen.{Seen}
 use Rattle.lj_pool.specs.Gathering.{SameRun, awaited_in, awaited_by, awaited_of}
-use Rattle.lj_pool.specs.Counting.{frame_tiles, step_tiles, turn_tiles, turns_tiles, command_tiles, Rises}
+use Rattle.lj_pool.specs.Counting.{frame_tiles, step_tiles, turn_tiles, turns_tiles, command_tiles, CountsRise}
 use Rattle.lj_pool.specs.Running.{HasBegun, KeepsAnswer, tiles_now, tiles_left}
 use Rattle.lj_pool.proofs.Gathering.{opened_once}
 
@@ -110,7 +110,7 @@ module _ (command : Command) (owner : Owning) (some : 0 < turns (user_in owner) 
   tiles_left_begun = ap (λ user. command_tiles user command) (begun_user command owner)
 
 -- counts that rise, and rise on
-pub rises-more : {a b c : Seen} (n m k : ℕ) → Rises n a b → Rises m b c → k ≤ n + m → Rises k a c
+pub rises-more : {a b c : Seen} (n m k : ℕ) → CountsRise n a b → CountsRise m b c → k ≤ n + m → CountsRise k a c
 rises-more n m k first second within = record {
   good = omega (arith, first.good, second.good);
   strays = omega (arith, first.strays, second.strays);
@@ -120,7 +120,7 @@ rises-more n m k first second within = record {
       omega (arith, before, after, within);
 }
 
-pub rises-none : (a b : Seen) → b.good ≡ a.good → b.strays ≡ a.strays → Rises 0 a b
+pub rises-none : (a b : Seen) → b.good ≡ a.good → b.strays ≡ a.strays → CountsRise 0 a b
 rises-none a b good strays = record { good = omega arith; strays = omega arith; together = λ _ _. omega arith }
 
 -- the same run has the same tiles to come

@@ -4,3 +4,6 @@ pub mod Inline
 pub mod Gathering
 pub mod Counting
 pub mod Running
+pub mod Endings
+pub mod Serving
+pub mod Served

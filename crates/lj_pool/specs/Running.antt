@@ -7,12 +7,12 @@ use Rattle.lj_pool.specs.declared.running.Halt.{Halt}
 use Rattle.lj_pool.specs.declared.running.Halt.TheVariants.{PoolClosed, TooManyStrays}
 use Rattle.lj_pool.specs.Seen.{Seen}
 use Rattle.lj_pool.specs.Gathering.{Gathers, awaited_in}
-use Rattle.lj_pool.specs.Counting.{turn_tiles, command_tiles, RisesStrays}
+use Rattle.lj_pool.specs.Counting.{turn_tiles, command_tiles, StraysRise}
 
 -- why a command was stopped: the pool is closed, or 4,096 results in a row were of no tile that was awaited
 abbrev pub IsHalted : Halt → Seen → Seen → Type 0
 IsHalted PoolClosed old new = new.closed ≡ true
-IsHalted TooManyStrays old new = RisesStrays 4096 old new
+IsHalted TooManyStrays old new = StraysRise 4096 old new
 
 -- how many tiles the step of the command that runs has
 abbrev pub tiles_now : Owning → ℕ

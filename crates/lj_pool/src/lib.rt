@@ -3,7 +3,12 @@
 
 mod inline;
 mod pool;
+mod replies;
 mod running;
+mod served;
+mod serving;
 
 pub use inline::InlinePool;
 pub use pool::{MAX_OWED, Pool, Refused};
+pub use served::Served;
+pub use serving::serve_lines;

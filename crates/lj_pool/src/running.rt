@@ -1,9 +1,10 @@
 //! Commands run to their end over a pool, which computes their tasks.
-ghost use Rattle.std.specs.Prelude.{◌≡◌, ◌+◌, ◌<◌, ◌≤◌, length, Bool, true, false, [], None, IfOk, IfErr, OnOk};
+ghost use Rattle.std.specs.Prelude.{◌≡◌, ◌+◌, ◌<◌, ◌≤◌, length, Bool, true, false, [], None, IfOk, IfErr, OnErr, OnOk};
+ghost use Rattle.lj_session.specs.Turns.{turns};
 ghost use Rattle.lj_session.specs.Owners.{IsAnswered, IsReplied, user_in, is_ready};
 ghost use Rattle.lj_pool.specs.Seen.{StaysClosed};
 ghost use Rattle.lj_pool.specs.Gathering.{Gathers, SameRun, awaited_in, unposted_in};
-ghost use Rattle.lj_pool.specs.Counting.{Rises, RisesStrays, command_tiles};
+ghost use Rattle.lj_pool.specs.Counting.{CountsRise, StraysRise, command_tiles};
 ghost use Rattle.lj_pool.specs.Running.{IsHalted, HasBegun, tiles_left};
 
 use crate::pool::{MAX_OWED, Pool, Refused};
@@ -30,8 +31,10 @@ pub(crate) fn answer_over<P: Pool>(
     requires none_owed { (P.seen pool.old).owed ≡ [] }
     ensures answered { IfOk result (λ reply. IsAnswered (user_in owner.old) command reply (user_in owner.new)) }
     ensures idle { OnOk result (owner.new.rest ≡ None) }
+    ensures quota { OnOk result (owner.new.state.quota ≡ owner.old.state.quota) }
     ensures none_owed { OnOk result ((P.seen pool.new).owed ≡ []) }
-    ensures counted { OnOk result (Rises (command_tiles (user_in owner.old) command) (P.seen pool.old) (P.seen pool.new)) }
+    ensures counted { OnOk result (CountsRise (command_tiles (user_in owner.old) command) (P.seen pool.old) (P.seen pool.new)) }
+    ensures runs { OnErr result (0 < turns (user_in owner.old) command) }
     ensures halted { IfErr result (λ halt. IsHalted halt (P.seen pool.old) (P.seen pool.new)) }
 {
     match owner.begin(command) {
@@ -46,8 +49,9 @@ fn run<P: Pool>(owner: &mut Owner, user: u8, pool: &mut P) -> Result<Reply, Halt
     requires none_owed { (P.seen pool.old).owed ≡ [] }
     ensures replied { IfOk result (λ reply. IsReplied owner.old reply (user_in owner.new)) }
     ensures idle { OnOk result (owner.new.rest ≡ None) }
+    ensures quota { OnOk result (owner.new.state.quota ≡ owner.old.state.quota) }
     ensures none_owed { OnOk result ((P.seen pool.new).owed ≡ []) }
-    ensures counted { OnOk result (Rises (tiles_left owner.old) (P.seen pool.old) (P.seen pool.new)) }
+    ensures counted { OnOk result (CountsRise (tiles_left owner.old) (P.seen pool.old) (P.seen pool.new)) }
     ensures halted { IfErr result (λ halt. IsHalted halt (P.seen pool.old) (P.seen pool.new)) }
 {
     loop {
@@ -64,7 +68,7 @@ fn gather<P: Pool>(owner: &mut Owner, user: u8, pool: &mut P) -> Result<(), Halt
     ensures ready { OnOk result (is_ready owner.new ≡ true) }
     ensures same { SameRun owner.old owner.new }
     ensures none_owed { OnOk result ((P.seen pool.new).owed ≡ []) }
-    ensures counted { OnOk result (Rises (awaited_in owner.old) (P.seen pool.old) (P.seen pool.new)) }
+    ensures counted { OnOk result (CountsRise (awaited_in owner.old) (P.seen pool.old) (P.seen pool.new)) }
     ensures halted { IfErr result (λ halt. IsHalted halt (P.seen pool.old) (P.seen pool.new)) }
 {
     let mut strays = 0;
@@ -123,8 +127,8 @@ fn fetch_next<P: Pool>(owner: &mut Owner, user: u8, pool: &mut P) -> Result<bool
     ensures unposted { OnOk result (unposted_in owner.new ≡ unposted_in owner.old) }
     ensures fewer { IfOk result (λ taken. taken ≡ true → awaited_in owner.new + 1 ≡ awaited_in owner.old) }
     ensures kept { IfOk result (λ taken. taken ≡ false → awaited_in owner.new ≡ awaited_in owner.old) }
-    ensures counted { OnOk result (Rises 1 (P.seen pool.old) (P.seen pool.new)) }
-    ensures stray { IfOk result (λ taken. taken ≡ false → RisesStrays 1 (P.seen pool.old) (P.seen pool.new)) }
+    ensures counted { OnOk result (CountsRise 1 (P.seen pool.old) (P.seen pool.new)) }
+    ensures stray { IfOk result (λ taken. taken ≡ false → StraysRise 1 (P.seen pool.old) (P.seen pool.new)) }
     ensures halted { IfErr result (λ halt. IsHalted halt (P.seen pool.old) (P.seen pool.new)) }
 {
     let Some(done) = pool.fetch(user) else {

@@ -1,14 +1,14 @@
 use Rattle.std.proofs.Common.{◌+◌, ◌-◌, ◌*◌, ◌<◌}
 use Rattle.lj_pool.specs.Gathering.{Gathers, SameRun, awaited_in, unposted_in}
-use Rattle.lj_pool.specs.Counting.{Rises, RisesStrays}
+use Rattle.lj_pool.specs.Counting.{CountsRise, StraysRise}
 use Rattle.lj_pool.proofs.running.gather.Given as goal
 
 abbrev pub invariant-loop-owner : goal.invariant-loop-owner
 invariant-loop-owner g l = record {
   gathers : Gathers l.owner (g.P.Pool.seen l.pool).owed;
   same : SameRun l.initial.owner l.owner;
-  counted : Rises (awaited_in l.initial.owner - awaited_in l.owner) (g.P.Pool.seen l.initial.pool) (g.P.Pool.seen l.pool);
-  in_a_row : RisesStrays l.strays (g.P.Pool.seen l.initial.pool) (g.P.Pool.seen l.pool);
+  counted : CountsRise (awaited_in l.initial.owner - awaited_in l.owner) (g.P.Pool.seen l.initial.pool) (g.P.Pool.seen l.pool);
+  in_a_row : StraysRise l.strays (g.P.Pool.seen l.initial.pool) (g.P.Pool.seen l.pool);
   few : l.strays < 4096;
 }
 

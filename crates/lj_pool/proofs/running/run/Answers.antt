@@ -1,8 +1,9 @@
-use Rattle.std.proofs.Common.{◌≡◌, ◌-◌, true, false, refl, sym, ◌∙◌, arith}
+use Rattle.std.proofs.Common.{◌≡◌, ◌-◌, true, false, refl, sym, ◌∙◌, arith, rules}
 use Rattle.lj_pool.specs.Gathering.{awaited_in}
 use Rattle.lj_pool.specs.Running.{tiles_left, tiles_now}
-use Rattle.lj_session.specs.Owners.{turns_left}
+use Rattle.lj_session.specs.Owners.{user_in, turns_left, IsReplied}
 use Rattle.lj_pool.proofs.Beginning.{goes_on, rises-more, same_turns, last_tiles}
+use Rattle.lj_pool.proofs.Quotas.{replied_keeps}
 use Rattle.lj_pool.proofs.running.run.Goals as goal
 
 pub returns-in-Some-clause-counted : goal.returns-in-Some-clause-counted
@@ -29,3 +30,9 @@ loop-owner-preserved g c =
           rises-more (tiles_left c.args.owner.now - tiles_left owner) (awaited_in owner) (tiles_left c.args.owner.now - tiles_left c.turn.new.self)
           c.loop-owner.invariant.counted c.in_ok-gather.ensures.counted (omega (arith, on.tiles, awaited));
     }
+
+pub returns-in-Some-clause-quota : goal.returns-in-Some-clause-quota
+returns-in-Some-clause-quota g c =
+    let first = c.requires.begun.gathers in
+    let replied : IsReplied c.args.owner.now c.in-Some.reply (user_in c.turn.new.self) = search rules in
+    replied_keeps c.args.owner.now (first.name, first.kind) c.in-Some.reply (user_in c.turn.new.self) first.step replied

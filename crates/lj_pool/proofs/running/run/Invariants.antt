@@ -1,6 +1,6 @@
 use Rattle.std.proofs.Common.{◌≡◌, ◌-◌, []}
 use Rattle.lj_session.specs.Owners.{turns_left}
-use Rattle.lj_pool.specs.Counting.{Rises}
+use Rattle.lj_pool.specs.Counting.{CountsRise}
 use Rattle.lj_pool.specs.Running.{HasBegun, KeepsAnswer, tiles_left}
 use Rattle.lj_pool.proofs.running.run.Given as goal
 
@@ -9,7 +9,7 @@ invariant-loop-owner g l = record {
   begun : HasBegun l.owner;
   none_owed : (g.P.Pool.seen l.pool).owed ≡ [];
   keeps : KeepsAnswer l.initial.owner l.owner;
-  counted : Rises (tiles_left l.initial.owner - tiles_left l.owner) (g.P.Pool.seen l.initial.pool) (g.P.Pool.seen l.pool);
+  counted : CountsRise (tiles_left l.initial.owner - tiles_left l.owner) (g.P.Pool.seen l.initial.pool) (g.P.Pool.seen l.pool);
 }
 
 abbrev pub decreases-loop-owner : goal.decreases-loop-owner

@@ -1,0 +1,354 @@
+-- From item to item of a stream that is served, and to each of its ends.
+use Rattle.std.proofs.Common.{◌≡◌, ℕ, ◌+◌, ◌<◌, ◌≤◌, Bool, true, false, List, [], ◌∷◌, ◌++◌, length, take, cond, Option, Some, None, inl, inr, refl, sym, ap, ◌∙◌, subst, arith}
+use Rattle.std.specs.List.{concat}
+use Rattle.std.specs.Io.KnownBytes.{Consumes, Appends}
+use Rattle.std.proofs.KnownBytes.{Consumes-nil, Consumes-trans, Appends-nil, Appends-trans}
+use Rattle.std.proofs.lemmas.List.{append_assoc, append-nil, length-append}
+use Rattle.lj_session.specs.declared.command.Command.TheVariants.{Bye as ByeCommand}
+use Rattle.lj_session.specs.declared.reply.Reply.{Reply}
+use Rattle.lj_session.specs.Turns.{turns}
+use Rattle.lj_session.specs.Users.{User}
+use Rattle.lj_wire.specs.declared.item.Item.{Item}
+use Rattle.lj_wire.specs.declared.item.Item.TheVariants.{Command, Bad, Last}
+use Rattle.lj_wire.specs.declared.reader.phase.Phase.TheVariants.{Open, Over, Failed}
+use Rattle.lj_wire.specs.Items.{ends}
+use Rattle.lj_wire.specs.Texts.{text, is_memory}
+use Rattle.lj_wire.specs.Told.{answered, told, texts, last_user}
+use Rattle.lj_wire.specs.Runs.{item_turns}
+use Rattle.lj_wire.specs.Streams.{IsItem, IsPart}
+use Rattle.lj_wire.specs.Progress.{Takes}
+use Rattle.lj_wire.specs.Standings.{Standing, IsLost, IsHandedOut, HandsOut, Ceases, Fails, HandsNone, HasFailed}
+use Rattle.lj_wire.proofs.Marks.{marked}
+use Rattle.lj_wire.proofs.Handed.{lost_answered, ends_alike}
+use Rattle.lj_wire.proofs.Progressing.{Takes-more, Splits-part, Splits-end, Added, added, marks-length, texts-length}
+use Rattle.lj_pool.specs.declared.served.Served.{Served}
+use Rattle.lj_pool.specs.declared.served.Served.TheVariants as served
+use Rattle.lj_pool.specs.declared.running.Halt.{Halt}
+use Rattle.lj_pool.specs.declared.running.Halt.TheVariants as halts
+use Rattle.lj_pool.specs.Seen.{Seen}
+use Rattle.lj_pool.specs.Counting.{turns_tiles, item_tiles, tiles, CountsRise}
+use Rattle.lj_pool.specs.Endings.{served_of, ending_of}
+use Rattle.lj_pool.specs.Served.{NoneEnds, EndsByBye, EndsByFault, IsAnswered, Reaches, StopsShort, Serves}
+use Rattle.lj_pool.specs.Serving.{AnswersItem, Serving}
+use Rattle.lj_pool.proofs.Beginning.{rises-more, rises-none}
+
+-- bytes that begin with items do so too where more bytes come behind
+Takes-on : (n : ℕ) (bytes : List ℕ) (items : List Item) (left more : List ℕ) → Takes n bytes items left → Takes n (bytes ++ more) items (left ++ more)
+Takes-on n bytes [] left more t = ap (λ b. b ++ more) t
+Takes-on n bytes (item ∷ items) left more t =
+    (t.0, t.1 ++ more, ap (λ b. b ++ more) t.2 ∙ append_assoc t.0 t.1 more, t.3, t.4, Takes-on (n + 1) t.1 items left more t.5)
+
+-- no item that was taken ends the connection
+Takes-none_ends : (n : ℕ) (bytes : List ℕ) (items : List Item) (left : List ℕ) → Takes n bytes items left → NoneEnds items
+Takes-none_ends n bytes [] left t = refl
+Takes-none_ends n bytes (item ∷ items) left t = rw t.4 (Takes-none_ends (n + 1) t.1 items left t.5)
+
+-- the tiles of one item more
+tiles-more : (user : User) (items : List Item) (marks : List Bool) (item : Item) (mark : Bool) → length marks ≡ length items
+    → tiles user (items ++ item ∷ []) (marks ++ mark ∷ []) ≡ tiles user items marks + item_tiles (last_user user items marks) item
+tiles-more user [] [] item mark h = omega arith
+tiles-more user [] (next ∷ marks) item mark h = absurd (omega (arith, h))
+tiles-more user (first ∷ items) [] item mark h = absurd (omega (arith, h))
+tiles-more user (first ∷ items) (next ∷ marks) item mark h =
+    let rest = tiles-more (told user first next).1 items marks item mark (omega (arith, h)) in
+    omega (arith, rest)
+
+-- what is handed out for an item takes the same turns and tiles
+lost_turns : (user : User) (found item : Item) → IsLost found item → (item_turns user item ≡ 0) × (item_turns user found ≡ 0)
+unfolding turns
+lost_turns user found item l = (ap (item_turns user) l.item_is, ap (item_turns user) l.found_is)
+
+turns_alike : (user : User) (found item : Item) → IsHandedOut found item → item_turns user item ≡ item_turns user found
+turns_alike user found item (inl same) = ap (item_turns user) same
+turns_alike user found item (inr l) = let none = lost_turns user found item l in none.0 ∙ sym none.1
+
+lost_tiles : (user : User) (found item : Item) → IsLost found item → (item_tiles user item ≡ 0) × (item_tiles user found ≡ 0)
+unfolding turns turns_tiles
+lost_tiles user found item l = (ap (item_tiles user) l.item_is, ap (item_tiles user) l.found_is)
+
+tiles_alike : (user : User) (found item : Item) → IsHandedOut found item → item_tiles user item ≡ item_tiles user found
+tiles_alike user found item (inl same) = ap (item_tiles user) same
+tiles_alike user found item (inr l) = let none = lost_tiles user found item l in none.0 ∙ sym none.1
+
+endings_alike : (found item : Item) → IsHandedOut found item → ending_of item ≡ ending_of found
+endings_alike found item (inl same) = ap ending_of same
+endings_alike found item (inr l) = ap ending_of l.item_is ∙ sym (ap ending_of l.found_is)
+
+-- how serving ends with an item
+goes_on : (item : Item) → ending_of item ≡ None → ends item ≡ false
+goes_on (Command ByeCommand) e = absurd (cc)
+goes_on (Command command) e = refl
+goes_on (Bad fault) e = refl
+goes_on (Last fault) e = absurd (cc)
+
+-- what an item is told, under the mark that it tells
+record Told (between next : User) (found : Item) (words : List ℕ) : Type 0 where
+  mark : Bool
+  tells : told between found mark ≡ (words, next)
+  only : mark ≡ true → is_memory (told between found mark).0 ≡ true
+
+told_of : (between next : User) (found item : Item) (reply : Reply) → IsHandedOut found item → AnswersItem between item reply next → Told between next found (text next reply)
+told_of between next found item reply handed answers = by_found handed
+  where
+    with_mark : (mark : Bool) → answered between found mark ≡ (reply, next) → Told between next found (text next reply)
+    with_mark mark is =
+        let first : told between found mark ≡ (text next reply, next) = ap (λ a. (text a.1 a.0, a.1)) is in
+        let same : told between found (is_memory (told between found mark).0) ≡ told between found mark = sym (marked between found mark) in
+        record {
+          mark = is_memory (told between found mark).0;
+          tells = same ∙ first;
+          only = λ marks. ap (λ t. is_memory t.0) same ∙ marks;
+        }
+
+    by_found : IsHandedOut found item → Told between next found (text next reply)
+    by_found (inl same) = with_mark answers.0 (ap (λ i. answered between i answers.0) (sym same) ∙ answers.1)
+    by_found (inr l) = with_mark true (sym (lost_answered between found item answers.0 l) ∙ answers.1)
+
+-- serving begins with nothing read
+pub serving-start : (user : User) (first : Standing) (was : Option (List ℕ)) (old : Seen) → first.items ≡ 0 → first.phase ≡ Open
+    → Serving user first first was was old old user
+serving-start user first was old none is_open = record {
+  read = [];
+  written = [];
+  items = [];
+  marks = [];
+  taken = Consumes-nil first.left;
+  appends = Appends-nil was;
+  takes = refl;
+  items_are = sym none;
+  are_marks = tt;
+  written_is = refl;
+  next_is = refl;
+  counted = rises-none old old refl refl;
+  phase = is_open;
+  errors = refl;
+}
+
+module _ (user : User) (first now : Standing) (was is : Option (List ℕ)) (old new : Seen) (next : User) (s : Serving user first now was is old new next) where
+  number_is : now.items ≡ 0 + length s.items
+  number_is = omega (arith, s.items_are)
+
+  serving-part : (part : List ℕ) → IsPart now.items part → IsAnswered NoneEnds user (s.read ++ part) s.written old new next
+  serving-part part p = record {
+    dialogue = record {
+      items = s.items;
+      rest = part;
+      marks = s.marks;
+      splits = Splits-part 0 (s.read ++ part) s.items part (Takes-on 0 s.read s.items [] part s.takes) (subst (λ n. IsPart n part) number_is p);
+      are_marks = s.are_marks;
+      written_is = s.written_is;
+      next_is = s.next_is;
+    };
+    ending = Takes-none_ends 0 s.read s.items [] s.takes;
+    counted = s.counted;
+  }
+
+  -- the input has ended
+  pub serving-ceases : (last : Standing) → Ceases now last → Serves served.End user first.left last.left was is old new (Some next)
+  serving-ceases last c = record {
+    read = s.read ++ c.part;
+    written = s.written;
+    taken = Consumes-trans first.left now.left last.left s.read c.part s.taken c.taken;
+    appends = s.appends;
+    is_served = serving-part c.part c.is_part;
+  }
+
+  -- a read has failed
+  pub serving-fails : (last : Standing) → Fails now last → Serves served.ReadFault user first.left last.left was is old new (Some next)
+  serving-fails last f = record {
+    read = s.read ++ f.part;
+    written = s.written;
+    taken = Consumes-trans first.left now.left last.left s.read f.part s.taken f.taken;
+    appends = s.appends;
+    is_served = serving-part f.part f.is_part;
+  }
+
+  -- an item comes
+  module _ (after : Standing) (item : Item) (h : HandsOut now after item) where
+    taken_more : Consumes first.left after.left (s.read ++ h.front)
+    taken_more = Consumes-trans first.left now.left after.left s.read h.front s.taken h.taken
+
+    takes_more : Takes 0 (s.read ++ h.front) s.items h.front
+    takes_more = Takes-on 0 s.read s.items [] h.front s.takes
+
+    is_next : IsItem (0 + length s.items) h.front h.found
+    is_next = subst (λ n. IsItem n h.front h.found) number_is h.is_item
+
+    reaches : Reaches user (s.read ++ h.front) s.written next h.found
+    reaches = record {
+      count = now.items;
+      left = h.front;
+      progress = record {
+        items = s.items;
+        marks = s.marks;
+        takes = takes_more;
+        counted = s.items_are;
+        are_marks = s.are_marks;
+        written_is = s.written_is;
+        next_is = s.next_is;
+      };
+      front = h.front;
+      behind = [];
+      goes_on = sym (append-nil h.front);
+      is_item = h.is_item;
+    }
+
+    -- it runs, and is given up
+    stops : 0 < item_turns next item → StopsShort user (s.read ++ h.front) s.written
+    stops runs = record {
+      between = next;
+      item = h.found;
+      reaches = reaches;
+      runs = subst (λ n. 0 < n) (turns_alike next h.found item h.is_found) runs;
+    }
+
+    pub serving-halts : (halt : Halt) (newer : Seen) → 0 < item_turns next item → Serves (served_of halt) user first.left after.left was is old newer None
+    serving-halts halts.PoolClosed newer runs = record {
+      read = s.read ++ h.front;
+      written = s.written;
+      taken = taken_more;
+      appends = s.appends;
+      is_served = stops runs;
+    }
+    serving-halts halts.TooManyStrays newer runs = record {
+      read = s.read ++ h.front;
+      written = s.written;
+      taken = taken_more;
+      appends = s.appends;
+      is_served = stops runs;
+    }
+
+    -- it is answered
+    module _ (reply : Reply) (last : User) (answers : AnswersItem next item reply last) where
+      abbrev t : Told next last h.found (text last reply)
+      t = told_of next last h.found item reply h.is_found answers
+
+      -- and the text is not written to its end
+      pub serving-breaks : (n : ℕ) (now_is : Option (List ℕ)) (newer : Seen) → n ≤ length (text last reply) → Appends is now_is (take n (text last reply))
+          → Serves served.WriteFault user first.left after.left was now_is old newer (Some last)
+      serving-breaks n now_is newer within appends = record {
+        read = s.read ++ h.front;
+        written = s.written ++ take n (text last reply);
+        taken = taken_more;
+        appends = Appends-trans was is now_is s.written (take n (text last reply)) s.appends appends;
+        is_served = record {
+          before = s.written;
+          between = next;
+          item = h.found;
+          reaches = reaches;
+          mark = t.mark;
+          only_memory = t.only;
+          bytes = n;
+          within = subst (λ told. n ≤ length told.0) (sym t.tells) within;
+          written_is = ap (λ told. s.written ++ take n told.0) (sym t.tells);
+          next_is = ap (λ told. told.1) (sym t.tells);
+        };
+      }
+
+      -- and the text is written
+      module _ (now_is : Option (List ℕ)) (appends : Appends is now_is (text last reply)) (newer : Seen) (risen : CountsRise (item_tiles next item) new newer) where
+        abbrev items_more : List Item
+        items_more = s.items ++ h.found ∷ []
+
+        abbrev marks_more : List Bool
+        marks_more = s.marks ++ t.mark ∷ []
+
+        marks_many : length s.marks ≡ length s.items
+        marks_many = marks-length s.marks (texts user s.items s.marks) s.are_marks ∙ texts-length user s.items s.marks
+
+        more : Added user s.items s.marks h.found t.mark
+        more = added user s.items s.marks h.found t.mark s.are_marks (subst (λ u. t.mark ≡ true → is_memory (told u h.found t.mark).0 ≡ true) s.next_is t.only)
+
+        tells_last : told (last_user user s.items s.marks) h.found t.mark ≡ (text last reply, last)
+        tells_last = ap (λ u. told u h.found t.mark) (sym s.next_is) ∙ t.tells
+
+        written_more : s.written ++ text last reply ≡ concat (texts user items_more marks_more)
+        written_more =
+            ap (λ w. w ++ text last reply) s.written_is
+            ∙ ap (λ told. concat (texts user s.items s.marks) ++ told.0) (sym tells_last)
+            ∙ more.written_is
+
+        next_more : last ≡ last_user user items_more marks_more
+        next_more = ap (λ told. told.1) (sym tells_last) ∙ more.next_is
+
+        counted_more : CountsRise (tiles user items_more marks_more) old newer
+        counted_more =
+            let sum = tiles-more user s.items s.marks h.found t.mark marks_many in
+            let same = tiles_alike next h.found item h.is_found in
+            let from : item_tiles next h.found ≡ item_tiles (last_user user s.items s.marks) h.found = ap (λ u. item_tiles u h.found) s.next_is in
+            rises-more (tiles user s.items s.marks) (item_tiles next item) (tiles user items_more marks_more) s.counted risen (omega (arith, sum, same, from))
+
+        appends_more : Appends was now_is (s.written ++ text last reply)
+        appends_more = Appends-trans was is now_is s.written (text last reply) s.appends appends
+
+        pub serving-more : ending_of item ≡ None → Serving user first after was now_is old newer last
+        serving-more none =
+            let goes : ends item ≡ false = goes_on item none in
+            record {
+              read = s.read ++ h.front;
+              written = s.written ++ text last reply;
+              items = items_more;
+              marks = marks_more;
+              taken = taken_more;
+              appends = appends_more;
+              takes = Takes-more 0 (s.read ++ h.front) s.items h.front h.front [] h.found takes_more (sym (append-nil h.front)) is_next (sym (ends_alike h.found item h.is_found) ∙ goes);
+              items_are = length-append s.items (h.found ∷ []) ∙ ap (λ n. n + 1) s.items_are ∙ sym h.items_is;
+              are_marks = more.are_marks;
+              written_is = written_more;
+              next_is = next_more;
+              counted = counted_more;
+              phase = h.phase_is ∙ ap (λ end. cond end Over Open) goes;
+              errors = h.errors_is ∙ s.errors;
+            }
+
+        ended : (Ending : List Item → Type 0) → Ending items_more → ends item ≡ true → IsAnswered Ending user (s.read ++ h.front) (s.written ++ text last reply) old newer last
+        ended Ending ending over = record {
+          dialogue = record {
+            items = items_more;
+            rest = [];
+            marks = marks_more;
+            splits = Splits-end 0 (s.read ++ h.front) s.items h.front h.front [] h.found takes_more (sym (append-nil h.front)) is_next (sym (ends_alike h.found item h.is_found) ∙ over);
+            are_marks = more.are_marks;
+            written_is = written_more;
+            next_is = next_more;
+          };
+          ending = ending;
+          counted = counted_more;
+        }
+
+        -- and the connection ends with it
+        serving-ends_by : (found : Item) (kind : Served) → h.found ≡ found → ending_of found ≡ Some kind
+            → Serves kind user first.left after.left was now_is old newer (Some last)
+        serving-ends_by (Command ByeCommand) served.Bye is e = record {
+          read = s.read ++ h.front;
+          written = s.written ++ text last reply;
+          taken = taken_more;
+          appends = appends_more;
+          is_served = ended EndsByBye (s.items, ap (λ i. s.items ++ i ∷ []) is) (ends_alike h.found item h.is_found ∙ ap ends is);
+        }
+        serving-ends_by (Last fault) served.Ended is e = record {
+          read = s.read ++ h.front;
+          written = s.written ++ text last reply;
+          taken = taken_more;
+          appends = appends_more;
+          is_served = ended EndsByFault (s.items, fault, ap (λ i. s.items ++ i ∷ []) is) (ends_alike h.found item h.is_found ∙ ap ends is);
+        }
+        serving-ends_by found kind is e = absurd (cc)
+
+        pub serving-ends : (kind : Served) → ending_of item ≡ Some kind → Serves kind user first.left after.left was now_is old newer (Some last)
+        serving-ends kind e = serving-ends_by h.found kind refl (sym (endings_alike h.found item h.is_found) ∙ e)
+
+-- what is served is told of equal users
+pub serves_same : (kind : Served) (user other : User) (left rest was is : Option (List ℕ)) (old new : Seen) (next last : User) → user ≡ other → next ≡ last
+    → Serves kind user left rest was is old new (Some next) → Serves kind other left rest was is old new (Some last)
+serves_same kind user other left rest was is old new next last same same_last s =
+    subst (λ u. Serves kind u left rest was is old new (Some last)) same (subst (λ u. Serves kind user left rest was is old new (Some u)) same_last s)
+
+-- a reader that goes on hands out none only where the input has ended, and fails only where a read does
+pub ceases_open : (old new : Standing) → old.phase ≡ Open → HandsNone old new → Ceases old new
+ceases_open old new is_open (inl over) = absurd (let differ : Open ≡ Over = sym is_open ∙ over.0 in cc)
+ceases_open old new is_open (inr ceases) = ceases
+
+pub fails_open : (old new : Standing) → old.phase ≡ Open → HasFailed old new → Fails old new
+fails_open old new is_open (inl failed) = absurd (let differ : Open ≡ Failed = sym is_open ∙ failed.0 in cc)
+fails_open old new is_open (inr fails) = fails

@@ -1,0 +1,19 @@
+use Rattle.std.proofs.Common.{◌≡◌, ◌+◌, ◌-◌, [], None}
+use Rattle.lj_session.specs.Owners.{user_in}
+use Rattle.lj_wire.specs.declared.limits.TheConstants.{MAX_ITEMS}
+use Rattle.lj_pool.specs.Serving.{Serving}
+use Rattle.lj_pool.proofs.serving.serve_lines.Given as goal
+
+abbrev pub invariant-items : goal.invariant-items
+invariant-items g l = record {
+  serving :
+      Serving (user_in l.initial.owner) l.initial.lines l.lines (g.W.Sink.contents l.initial.writer) (g.W.Sink.contents l.writer)
+      (g.P.Pool.seen l.initial.pool) (g.P.Pool.seen l.pool) (user_in l.owner);
+  idle : l.owner.rest ≡ None;
+  none_owed : (g.P.Pool.seen l.pool).owed ≡ [];
+  faults : g.W.Sink.faults l.writer ≡ g.W.Sink.faults l.initial.writer;
+  quota : l.owner.state.quota ≡ l.initial.owner.state.quota;
+}
+
+abbrev pub decreases-items : goal.decreases-items
+decreases-items g l = MAX_ITEMS + 1 - l.lines.items

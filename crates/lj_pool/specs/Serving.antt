@@ -1,0 +1,35 @@
+-- A stream that is being served, between two items.
+use Rattle.std.specs.Prelude.{◌≡◌, ℕ, Bool, List, [], length, Option}
+use Rattle.std.specs.List.{concat}
+use Rattle.std.specs.Io.KnownBytes.{Consumes, Appends}
+use Rattle.lj_session.specs.declared.reply.Reply.{Reply}
+use Rattle.lj_session.specs.Users.{User}
+use Rattle.lj_wire.specs.declared.item.Item.{Item}
+use Rattle.lj_wire.specs.declared.reader.phase.Phase.TheVariants.{Open}
+use Rattle.lj_wire.specs.Standings.{Standing}
+use Rattle.lj_wire.specs.Streams.{AreMarks}
+use Rattle.lj_wire.specs.Progress.{Takes}
+use Rattle.lj_wire.specs.Told.{answered, texts, last_user}
+use Rattle.lj_pool.specs.Seen.{Seen}
+use Rattle.lj_pool.specs.Counting.{tiles, CountsRise}
+
+-- an item is answered by a reply, which leaves the next user, under some mark
+abbrev pub AnswersItem : User → Item → Reply → User → Type 0
+AnswersItem user item reply next = (mark : Bool) × (answered user item mark ≡ (reply, next))
+
+-- The items that were handed out are answered, and what was read are their bytes.
+pub record Serving (user : User) (first now : Standing) (was is : Option (List ℕ)) (old new : Seen) (next : User) : Type 0 where
+  pub read : List ℕ
+  pub written : List ℕ
+  pub items : List Item
+  pub marks : List Bool
+  pub taken : Consumes first.left now.left read
+  pub appends : Appends was is written
+  pub takes : Takes 0 read items []
+  pub items_are : length items ≡ now.items
+  pub are_marks : AreMarks marks (texts user items marks)
+  pub written_is : written ≡ concat (texts user items marks)
+  pub next_is : next ≡ last_user user items marks
+  pub counted : CountsRise (tiles user items marks) old new
+  pub phase : now.phase ≡ Open
+  pub errors : now.errors ≡ first.errors

@@ -1,0 +1,53 @@
+//! Replies, written line by line.
+ghost use Rattle.std.specs.Prelude.{◌≡◌, ◌≤◌, ◌+◌, ℕ, OnErr, OnOk, length, take};
+ghost use Rattle.std.specs.Io.KnownBytes.{Appends};
+ghost use Rattle.lj_session.specs.States.{user_of};
+ghost use Rattle.lj_wire.specs.Ends.{Rises};
+ghost use Rattle.lj_wire.specs.Texts.{text, reply_lines};
+
+use lj_session::{Reply, UserState};
+use lj_wire::{Sink, WriteFault, put_all, reply_line};
+
+/// Writes the lines of a reply, which tells of the state after its command. After a fault the first bytes of them may
+/// have been written.
+pub(crate) fn put_reply<W: Sink>(
+    writer: &mut W,
+    state: &UserState,
+    reply: &Reply,
+) -> Result<(), WriteFault>
+    ensures written { OnOk result (Appends (W.contents writer.old) (W.contents writer.new) (text (user_of state.now) reply.now)) }
+    ensures counted { OnOk result (W.faults writer.new ≡ W.faults writer.old) }
+    ensures begun { OnErr result ((n : ℕ) × (n ≤ length (text (user_of state.now) reply.now))
+        × Appends (W.contents writer.old) (W.contents writer.new) (take n (text (user_of state.now) reply.now))) }
+    ensures risen { OnErr result (Rises (W.faults writer.old) (W.faults writer.new)) }
+{
+    let last = last_line(state, reply);
+    let mut k = 0;
+    while let Some(line) = reply_line(state, reply, k) {
+        put_all(writer, line.as_slice())?;
+        if k == last {
+            break;
+        }
+        k += 1;
+    }
+    Ok(())
+}
+
+/// No line of a reply comes after this one.
+#[tactic(auto, using(lj_wire::proofs::ReplyLines::index_within))]
+fn last_line(state: &UserState, reply: &Reply) -> usize
+    ensures { length (reply_lines (user_of state.now) reply.now) ≤ result + 1 }
+{
+    match reply {
+        Reply::Dumped { name } => match state.index_of(name) {
+            Some(i) => state.sim_at(i).count() + 2,
+            None => 0,
+        },
+        Reply::Listed => state.len(),
+        Reply::ListedBranches { name } => match state.index_of(name) {
+            Some(i) => state.branches_at(i).len(),
+            None => 0,
+        },
+        _ => 0,
+    }
+}

@@ -1,0 +1,85 @@
+//! A stream of commands served over a pool.
+ghost use Rattle.std.specs.Prelude.{◌≡◌, ◌<◌, [], None, IfOk, IfErr, IfSome, OnErr, OnOk, OnSome, true};
+ghost use Rattle.std.specs.Option.{option_map};
+ghost use Rattle.std.specs.Io.KnownBytes.{IsAtEnd};
+ghost use Rattle.lj_session.specs.States.{user_of};
+ghost use Rattle.lj_session.specs.Owners.{user_in};
+ghost use Rattle.lj_wire.specs.declared.reader.phase.Phase.TheVariants.{Open};
+ghost use Rattle.lj_wire.specs.Ends.{Rises};
+ghost use Rattle.lj_wire.specs.Runs.{item_turns};
+ghost use Rattle.lj_pool.specs.declared.served.Served.TheVariants as served;
+ghost use Rattle.lj_pool.specs.Counting.{CountsRise, StraysRise, item_tiles};
+ghost use Rattle.lj_pool.specs.Running.{IsHalted};
+ghost use Rattle.lj_pool.specs.Serving.{AnswersItem};
+ghost use Rattle.lj_pool.specs.Served.{Serves};
+
+use crate::pool::Pool;
+use crate::replies::put_reply;
+use crate::running::{Halt, answer_over};
+use crate::served::{Served, ending_of};
+use lj_session::{Owner, Refusal, Reply, UserState};
+use lj_wire::{Item, LineReader, ReadFault, Sink, Source, WriteFault};
+
+/// Answers the items of a reader that has handed out none, over a pool that owes nothing, from a user's state on. The
+/// state is handed back but where a command was running.
+pub fn serve_lines<R: Source, W: Sink, P: Pool>(
+    state: UserState,
+    user: u8,
+    lines: &mut LineReader<R>,
+    writer: &mut W,
+    pool: &mut P,
+) -> (Option<UserState>, Served)
+    requires fresh { lines.old.items ≡ 0 }
+    requires at_work { lines.old.phase ≡ Open }
+    requires none_owed { (P.seen pool.old).owed ≡ [] }
+    ensures told { Serves result.1 (user_of state) lines.old.left lines.new.left (W.contents writer.old) (W.contents writer.new)
+        (P.seen pool.old) (P.seen pool.new) (option_map user_of result.0) }
+    ensures end { result.1 ≡ served.End → IsAtEnd lines.new.left }
+    ensures read_fault { result.1 ≡ served.ReadFault → Rises lines.old.errors lines.new.errors }
+    ensures write_fault { result.1 ≡ served.WriteFault → Rises (W.faults writer.old) (W.faults writer.new) }
+    ensures closed { result.1 ≡ served.PoolClosed → (P.seen pool.new).closed ≡ true }
+    ensures strays { result.1 ≡ served.TooManyStrays → StraysRise 4096 (P.seen pool.old) (P.seen pool.new) }
+    ensures none_owed { OnSome result.0 ((P.seen pool.new).owed ≡ []) }
+    ensures quota { IfSome result.0 (λ owned. owned.quota ≡ state.quota) }
+{
+    let mut owner = Owner::new(state, user);
+    'items: loop {
+        let item = match lines.next() {
+            Ok(Some(item)) => item,
+            Ok(None) => return (Some(owner.into_state()), Served::End),
+            Err(ReadFault) => return (Some(owner.into_state()), Served::ReadFault),
+        };
+        let ending = ending_of(&item);
+        let reply = match answer(&mut owner, user, pool, item) {
+            Ok(reply) => reply,
+            Err(halt) => {
+                owner.abandon();
+                return (None, Served::from(halt));
+            }
+        };
+        if let Err(WriteFault) = put_reply(writer, owner.state(), &reply) {
+            return (Some(owner.into_state()), Served::WriteFault);
+        }
+        if let Some(served) = ending {
+            return (Some(owner.into_state()), served);
+        }
+    }
+}
+
+/// Answers an item.
+fn answer<P: Pool>(owner: &mut Owner, user: u8, pool: &mut P, item: Item) -> Result<Reply, Halt>
+    requires idle { owner.old.rest ≡ None }
+    requires none_owed { (P.seen pool.old).owed ≡ [] }
+    ensures answered { IfOk result (λ reply. AnswersItem (user_in owner.old) item reply (user_in owner.new)) }
+    ensures idle { OnOk result (owner.new.rest ≡ None) }
+    ensures quota { OnOk result (owner.new.state.quota ≡ owner.old.state.quota) }
+    ensures none_owed { OnOk result ((P.seen pool.new).owed ≡ []) }
+    ensures counted { OnOk result (CountsRise (item_tiles (user_in owner.old) item) (P.seen pool.old) (P.seen pool.new)) }
+    ensures runs { OnErr result (0 < item_turns (user_in owner.old) item) }
+    ensures halted { IfErr result (λ halt. IsHalted halt (P.seen pool.old) (P.seen pool.new)) }
+{
+    match item {
+        Item::Command(command) => answer_over(owner, user, pool, command),
+        Item::Bad(fault) | Item::Last(fault) => Ok(Reply::Refused(Refusal::from(fault))),
+    }
+}
