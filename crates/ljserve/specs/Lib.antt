@@ -1,4 +1,1 @@
-pub mod Thin
-pub mod Replies
-pub mod Streams
-pub mod Taking
+pub mod Statuses

@@ -1,53 +1,60 @@
-//! Runs simulations of Lennard-Jones atoms by commands on standard input, and writes its replies to standard output.
+//! Serves simulations of Lennard-Jones atoms by commands on standard input, and replies on standard output.
 #![tactic(auto)]
 
-mod engine;
-mod item;
-mod reply;
-mod running;
+mod arguments;
+mod ends;
+mod fault;
+mod run;
 #[cfg(test)]
 mod tests;
 
-use engine::{ThinFault, run_thin};
-use std::io::BufWriter;
+use arguments::{no_text, parse_arguments};
+use clap::Error;
+use clap::error::ErrorKind;
+use fault::RunFault;
+use run::run;
+use std::alloc::AllocError;
 use std::process::ExitCode;
 use std::{env, io};
 
-const USAGE: &str = "usage: ljserve < COMMANDS";
-
 fn main(rt: HostRuntime) -> ExitCode {
-    let words = match env::args(&rt) {
-        Ok(words) => words.count(),
-        Err(e) if e.kind() == io::ErrorKind::OutOfMemory => {
-            return failure(&rt, &ThinFault::Memory);
-        }
-        Err(_) => return usage(&rt),
+    let words: Vec<String> = match words_of(&rt) {
+        Ok(words) => words,
+        Err(error) => return usage(&rt, &error),
     };
-    if words > 1 {
-        return usage(&rt);
+    match parse_arguments(rt.alloc(), words.as_slice()) {
+        Ok(quota) => ended(&rt, run(rt.alloc(), quota, rt.reader(), io::writer(&rt))),
+        Err(error) => usage(&rt, &error),
     }
-    match run(&rt) {
+}
+
+/// The words of the command line.
+fn words_of(rt: &HostRuntime) -> Result<Vec<String>, Error> {
+    match env::args(rt) {
+        Ok(words) => Ok(words.collect(rt.alloc())?),
+        Err(error) if error.kind() == io::ErrorKind::OutOfMemory => Err(Error::from(AllocError)),
+        Err(_) => Err(no_text(rt.alloc())?),
+    }
+}
+
+/// Prints what the words of the command line are answered.
+fn usage(rt: &(impl Print + Eprint), error: &Error) -> ExitCode {
+    if error.kind() == ErrorKind::OutOfMemory {
+        return ended(rt, Err(RunFault::Memory));
+    }
+    match error.print(rt) {
+        Ok(()) => ExitCode::from(if error.use_stderr() { 2 } else { 0 }),
+        Err(_) => ended(rt, Err(RunFault::Write)),
+    }
+}
+
+/// Prints the fault of a run, if it has one.
+fn ended(rt: &impl Eprint, outcome: Result<(), RunFault>) -> ExitCode {
+    match outcome {
         Ok(()) => ExitCode::SUCCESS,
-        Err(fault) => failure(&rt, &fault),
-    }
-}
-
-/// Runs the commands of standard input.
-fn run(rt: &(impl Input + Print + AllocGlobal)) -> Result<(), ThinFault> {
-    let output = BufWriter::new(rt.alloc(), io::writer(rt));
-    let mut output = output.map_err(|_| ThinFault::Memory)?;
-    run_thin(rt.alloc(), &mut rt.reader(), &mut output)
-}
-
-fn usage(rt: &impl Eprint) -> ExitCode {
-    let _ = eprintln!(rt; "{USAGE}");
-    ExitCode::from(2)
-}
-
-fn failure(rt: &impl Eprint, fault: &ThinFault) -> ExitCode {
-    let _ = eprintln!(rt; "ljserve: {fault}");
-    match fault {
-        ThinFault::Read | ThinFault::Write => ExitCode::from(1),
-        ThinFault::Memory => ExitCode::from(3),
+        Err(fault) => {
+            let _ = eprintln!(rt; "ljserve: {fault}");
+            ExitCode::from(fault.status())
+        }
     }
 }

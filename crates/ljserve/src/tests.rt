@@ -1,8 +1,13 @@
-//! Tests of the program and of what it stands on: worked runs, texts, orders of refusals, and what fails in turn.
+//! Tests of the engine and of what it stands on: worked dialogues, orders of refusals, limits, and what fails in turn.
 
 mod dialogues;
-mod faults;
+mod failures;
+mod limits;
 mod lines;
+mod loads;
+mod memory;
+mod pools;
+mod refusals;
 mod results;
+mod serving;
 mod streams;
-mod users;

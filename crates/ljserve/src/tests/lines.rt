@@ -1,9 +1,7 @@
 //! Lines of commands: what is wrong with one, and how many bytes of body follow it.
 
-use super::dialogues::{expect_dialogue, owner};
-use lj_wire::{Fault, Item, announced, parse_command, split_line};
+use lj_wire::{Fault, Item, parse_command, read_line, split_line};
 use std::process::Abort;
-use std::test::Fail;
 
 /// A line is to have this fault, after which the connection goes on.
 fn expect_fault(rt: &impl Abort, line: &[u8], fault: Fault) {
@@ -71,7 +69,7 @@ fn loads_without_a_count(rt: HostRuntime) {
     for line in WITHOUT_COUNT {
         let item = parse_command(line.as_bytes());
         assert!(rt; matches!(&item, Item::Last(Fault::Body)), "{line:?}");
-        assert_eq!(rt; announced(line.as_bytes()), 0, "{line:?}");
+        assert_eq!(rt; read_line(line.as_bytes()).body, 0, "{line:?}");
     }
 }
 
@@ -89,7 +87,7 @@ const BODIES: [(&str, usize); 8] = [
 #[test]
 fn bodies_after_lines(rt: HostRuntime) {
     for (line, count) in BODIES {
-        assert_eq!(rt; announced(line.as_bytes()), count, "{line:?}");
+        assert_eq!(rt; read_line(line.as_bytes()).body, count, "{line:?}");
     }
 }
 
@@ -98,9 +96,9 @@ fn lines_of_256_bytes_and_more(rt: HostRuntime) {
     let mut line = [b' '; 257];
     line[..6].copy_from_slice(b"LOAD 5");
     expect_fault(&rt, &line[..256], Fault::Syntax);
-    assert_eq!(rt; announced(&line[..256]), 5);
+    assert_eq!(rt; read_line(&line[..256]).body, 5);
     expect_fault(&rt, &line, Fault::Line);
-    assert_eq!(rt; announced(&line), 0);
+    assert_eq!(rt; read_line(&line).body, 0);
 
     // A carriage return counts.
     line[256] = b'\r';
@@ -117,19 +115,4 @@ fn first_lines(rt: HostRuntime) {
         }
         None => panic!(rt; "a line is there"),
     }
-}
-
-#[test]
-fn numbers_at_their_limits(rt: HostRuntime) {
-    let mut owner = owner(&rt, 8, 16384, 16);
-    let input = "LOAD ABCDEFGHIJKLMNOP 256 1 1 rest 0000012\n1\nc\nX 0 0 0\n\
-        TUG ABCDEFGHIJKLMNOP 0 -2147483648 2147483647 -0\n\
-        TUG ABCDEFGHIJKLMNOP 000 2147483647 -2147483647 -0000000000000000000\n\
-        SHOW ABCDEFGHIJKLMNOP 0000000000000000001\nADVANCE ABCDEFGHIJKLMNOP 9999999999999999999\n\
-        ADVANCE ABCDEFGHIJKLMNOP 1\nSHOW ABCDEFGHIJKLMNOP 0\n";
-    let replies = "OK LOAD ABCDEFGHIJKLMNOP 0 1\n\
-        OK TUG ABCDEFGHIJKLMNOP 0 0\nOK TUG ABCDEFGHIJKLMNOP 0 0\n\
-        ERR 14 NO_ATOM\nERR 23 STEP_RANGE\n\
-        OK ADVANCE ABCDEFGHIJKLMNOP 1\nOK SHOW ABCDEFGHIJKLMNOP 1 0 4294967295 0 0\n";
-    expect_dialogue(&rt, &mut owner, input, replies);
 }

@@ -1,10 +1,11 @@
 //! Results of tasks: in reverse order, doubled, and of a session that is gone.
 ghost use Rattle.std.specs.Prelude.{◌≡◌, ◌≤◌, None, IfOk};
 
-use super::dialogues::{Text, command, expect_dialogue, owner};
-use lj_session::{Begin, Owner};
+use lj_quota::Quota;
+use lj_session::{Begin, Command, Owner, Refusal, Reply, UserState};
 use lj_table::Table;
 use lj_tile::{Done, compute};
+use lj_wire::{Item, LineReader, Reading};
 use std::alloc::{AllocError, AllocGlobal};
 use std::fmt::Write;
 use std::process::Abort;
@@ -24,10 +25,55 @@ fn chain_once(rt: &impl AllocGlobal, atoms: usize, tenths: u8) -> Result<String,
 }
 
 /// The same, once more where memory is refused.
-pub fn chain(rt: &impl AllocGlobal, atoms: usize, tenths: u8) -> Result<String, AllocError>
+fn chain(rt: &impl AllocGlobal, atoms: usize, tenths: u8) -> Result<String, AllocError>
     requires { atoms ≤ 4096 }
 {
     chain_once(rt, atoms, tenths).or_else(|_| chain_once(rt, atoms, tenths))
+}
+
+/// The command that a stream begins with.
+fn command(rt: &(impl Abort + AllocGlobal), stream: &str) -> Command {
+    let mut lines = LineReader::new(rt.alloc(), Reading::new(stream.as_bytes()));
+    match lines.next() {
+        Ok(Some(Item::Command(command))) => command,
+        _ => panic!(rt; "no command begins {stream:?}"),
+    }
+}
+
+/// Answers a command, whose tasks are computed one after the other.
+fn answer(owner: &mut Owner, rt: &(impl Abort + AllocGlobal), stream: &str) -> Reply
+    requires { owner.old.rest ≡ None }
+    ensures { owner.new.rest ≡ None }
+{
+    match owner.begin(command(rt, stream)) {
+        Begin::Answered(reply) => reply,
+        Begin::Running => run_alone(owner, rt),
+    }
+}
+
+fn run_alone(owner: &mut Owner, rt: &impl Abort) -> Reply
+    ensures { owner.new.rest ≡ None }
+{
+    for _ in 0..9 {
+        take_all(owner);
+        assert!(rt; owner.ready());
+        if let Some(reply) = owner.turn() {
+            return reply;
+        }
+    }
+    panic!(rt; "the command goes on")
+}
+
+/// Computes the tasks of the step, and takes their results in.
+fn take_all(owner: &mut Owner) {
+    let table = Table::new();
+    for _ in 0..4096 {
+        let Some(task) = owner.next_task() else {
+            return;
+        };
+        owner.posted();
+        let _ = owner.accept(compute(task, &table));
+    }
 }
 
 /// An owner of session c, a chain of so many atoms.
@@ -35,11 +81,17 @@ fn chain_owner(rt: &(impl Abort + AllocGlobal), atoms: usize, tenths: u8) -> Res
     requires { atoms ≤ 4096 }
     ensures { IfOk result (λ owner. owner.rest ≡ None) }
 {
-    let mut owner = owner(rt, 1, 130, 0);
+    let quota = Quota {
+        sessions: 1,
+        atoms: 130,
+        branches: 0,
+    };
+    let mut owner = Owner::new(UserState::new(rt.alloc(), quota), 3);
     load_chain(&mut owner, rt, atoms, tenths)?;
     Ok(owner)
 }
 
+/// Loads a chain, once more where memory is refused.
 fn load_chain(
     owner: &mut Owner,
     rt: &(impl Abort + AllocGlobal),
@@ -51,10 +103,32 @@ fn load_chain(
     ensures { owner.new.rest ≡ None }
 {
     let input = chain(rt, atoms, tenths)?;
-    let mut reply = Text::new();
-    writeln!(reply, "OK LOAD c 0 {atoms}")?;
-    expect_dialogue(rt, owner, input.as_str(), &reply);
+    let mut reply = answer(owner, rt, input.as_str());
+    if reply == Reply::Refused(Refusal::Memory) {
+        reply = answer(owner, rt, input.as_str());
+    }
+    let loaded = matches!(&reply, Reply::Loaded { atoms: count, .. } if *count == atoms);
+    assert!(rt; loaded);
     Ok(())
+}
+
+/// ADVANCE by one step is to lead to this step.
+fn step_alone(owner: &mut Owner, rt: &(impl Abort + AllocGlobal), step: i64)
+    requires { owner.old.rest ≡ None }
+    ensures { owner.new.rest ≡ None }
+{
+    let reply = answer(owner, rt, "ADVANCE c 1\n");
+    let advanced = matches!(&reply, Reply::Advanced { step: found, .. } if *found == step);
+    assert!(rt; advanced);
+}
+
+fn drop_chain(owner: &mut Owner, rt: &(impl Abort + AllocGlobal))
+    requires { owner.old.rest ≡ None }
+    ensures { owner.new.rest ≡ None }
+{
+    let reply = answer(owner, rt, "DROP c\n");
+    let gone = matches!(&reply, Reply::Unloaded { .. });
+    assert!(rt; gone);
 }
 
 fn begin_advance(owner: &mut Owner, rt: &(impl Abort + AllocGlobal), line: &str)
@@ -123,13 +197,13 @@ fn results_in_reverse_order_and_doubled(rt: HostRuntime) -> Result<(), Fail> {
     let mut in_order = chain_owner(&rt, 130, 0)?;
     let mut in_reverse = chain_owner(&rt, 130, 0)?;
     begin_advance(&mut in_reverse, &rt, "ADVANCE c 2\n");
-    for reply in ["OK ADVANCE c 1\n", "OK ADVANCE c 2\n"] {
-        expect_dialogue(&rt, &mut in_order, "ADVANCE c 1\n", reply);
+    for step in [1, 2] {
+        step_alone(&mut in_order, &rt, step);
         let results = post_all(&mut in_reverse, &rt)?;
         take_in_reverse(&mut in_reverse, results, &rt);
         assert!(rt; in_reverse.ready());
         let last = in_reverse.turn().is_some();
-        assert_eq!(rt; last, reply == "OK ADVANCE c 2\n");
+        assert_eq!(rt; last, step == 2);
         stand_alike(&in_order, &in_reverse, &rt);
     }
     Ok(())
@@ -152,7 +226,7 @@ fn stale_results_of_other_blocks_are_handed_back(rt: HostRuntime) -> Result<(), 
     for done in &stale {
         hands_back(&mut owner, done, &rt);
     }
-    expect_dialogue(&rt, &mut owner, "DROP c\n", "OK DROP c\n");
+    drop_chain(&mut owner, &rt);
     load_chain(&mut owner, &rt, 65, 1)?;
     begin_advance(&mut owner, &rt, "ADVANCE c 1\n");
     for done in &stale {
@@ -166,7 +240,7 @@ fn stale_results_of_other_blocks_are_handed_back(rt: HostRuntime) -> Result<(), 
 fn stale_results_of_equal_blocks_are_right(rt: HostRuntime) -> Result<(), Fail> {
     let stale = stale_results(&rt)?;
     let mut owner = chain_owner(&rt, 65, 0)?;
-    expect_dialogue(&rt, &mut owner, "DROP c\n", "OK DROP c\n");
+    drop_chain(&mut owner, &rt);
     load_chain(&mut owner, &rt, 65, 0)?;
     begin_advance(&mut owner, &rt, "ADVANCE c 1\n");
     for done in &stale {
@@ -177,7 +251,7 @@ fn stale_results_of_equal_blocks_are_right(rt: HostRuntime) -> Result<(), Fail> 
     let last = owner.turn().is_some();
     assert!(rt; last);
     let mut alone = chain_owner(&rt, 65, 0)?;
-    expect_dialogue(&rt, &mut alone, "ADVANCE c 1\n", "OK ADVANCE c 1\n");
+    step_alone(&mut alone, &rt, 1);
     stand_alike(&alone, &owner, &rt);
     Ok(())
 }

@@ -1,5 +1,0 @@
-pub mod OneLine
-pub mod TilesTaken
-pub mod Taking
-pub mod Unheld
-pub mod Serving

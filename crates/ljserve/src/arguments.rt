@@ -1,0 +1,77 @@
+//! The words of the command line.
+
+use clap::error::ErrorKind;
+use clap::{Arg, ArgMatches, Command, Error, value_parser};
+use lj_quota::Quota;
+use std::alloc::{AllocError, Global};
+
+/// The most sessions that a user may be given.
+const MAX_SESSIONS: i64 = 64;
+
+/// The most atoms that a user may be given.
+const MAX_ATOMS: i64 = 65_536;
+
+/// The most saved simulations that a user may be given.
+const MAX_BRANCHES: i64 = 256;
+
+/// The quota that the words of the command line give the one user. The first word is the program's name.
+///
+/// # Errors
+/// A usage fault, a request for help or for the version, or out of memory.
+pub fn parse_arguments<'a>(alloc: Global, words: &'a [String]) -> Result<Quota, Error> {
+    let matches = program(alloc)?.try_get_matches_from(words)?;
+    Ok(match matches.subcommand_matches("run") {
+        Some(matches) => quota(matches),
+        None => Quota::USUAL,
+    })
+}
+
+/// The fault of words that are no text.
+pub fn no_text(alloc: Global) -> Result<Error, AllocError> {
+    program(alloc)?.error(
+        ErrorKind::InvalidValue,
+        "invalid UTF-8 was detected in one or more arguments",
+    )
+}
+
+fn program<'a>(alloc: Global) -> Result<Command<'a>, AllocError> {
+    Command::new(alloc, "ljserve")
+        .version("0.1.0")
+        .about(
+            "Runs simulations of Lennard-Jones atoms that go back exactly. With no word: the same as run",
+        )
+        .disable_help_subcommand(true)
+        .subcommand(run_command(alloc)?)
+}
+
+fn run_command<'a>(alloc: Global) -> Result<Command<'a>, AllocError> {
+    Command::new(alloc, "run")
+        .about("Answers the commands of standard input on standard output, as those of one user")
+        .arg(limit(alloc, "sessions", "8", MAX_SESSIONS).help(
+            "How many sessions the user may have, 0 to 64",
+        ))?
+        .arg(limit(alloc, "atoms", "16384", MAX_ATOMS).help(
+            "How many atoms in all sessions together, 0 to 65536",
+        ))?
+        .arg(limit(alloc, "branches", "16", MAX_BRANCHES).help(
+            "How many saved simulations in all sessions together, 0 to 256",
+        ))
+}
+
+/// An option whose value is a whole number from 0 to `most`.
+fn limit<'a>(alloc: Global, name: &'a str, usual: &'a str, most: i64) -> Arg<'a> {
+    Arg::new(alloc, name)
+        .long(name)
+        .value_name("N")
+        .value_parser(value_parser!(u64).range(0..=most))
+        .default_value(usual)
+}
+
+fn quota(matches: &ArgMatches<'_>) -> Quota {
+    let usual = Quota::USUAL;
+    Quota {
+        sessions: matches.get_one("sessions").unwrap_or(usual.sessions),
+        atoms: matches.get_one("atoms").unwrap_or(usual.atoms),
+        branches: matches.get_one("branches").unwrap_or(usual.branches),
+    }
+}

@@ -1,0 +1,135 @@
+//! The ends of a conversation: what was replied is sent before more input is waited for.
+ghost use Rattle.std.specs.Prelude.{◌≡◌, ◌<◌, ◌≤◌, [], None, length, IfOk};
+
+use crate::fault::RunFault;
+use lj_wire::{ReadFault, Sink, Source, WriteFault, Writing, put_all};
+use std::alloc::Global;
+use std::cell::{Cell, RefCell};
+use std::io::{Read, Write};
+
+/// How many bytes of replies are held back at most.
+const MAX_HELD_BYTES: usize = 65_536;
+
+/// Replies that are held back, and where they go.
+#[derive(Drop)]
+struct Held<W> {
+    writer: W,
+    bytes: Vec<u8>,
+}
+
+impl<W: Write> Held<W> {
+    /// Holds back some of `bytes`, and answers how many: 0 only where there are none.
+    fn hold(&mut self, bytes: &[u8]) -> Result<usize, WriteFault>
+        ensures bound { IfOk result (λ n. n ≤ length bytes.now) }
+        ensures some { IfOk result (λ n. 0 < length bytes.now → 0 < n) }
+    {
+        if self.bytes.len() >= MAX_HELD_BYTES {
+            self.send()?;
+        }
+        let room = MAX_HELD_BYTES - self.bytes.len();
+        let (front, _) = bytes.split_at(bytes.len().min(room));
+        match self.bytes.extend_from_slice(front) {
+            Ok(()) => Ok(front.len()),
+            Err(_) => Err(WriteFault),
+        }
+    }
+
+    /// Writes what is held back, and flushes the writer. Nothing is held back then, nor after a fault.
+    fn send(&mut self) -> Result<(), WriteFault>
+        ensures { self.new.bytes.items ≡ [] }
+    {
+        if self.bytes.is_empty() {
+            return Ok(());
+        }
+        let sent = put_all(&mut Writing::new(&mut self.writer), self.bytes.as_slice());
+        self.bytes.clear();
+        sent?;
+        match self.writer.flush() {
+            Ok(()) => Ok(()),
+            Err(_) => Err(WriteFault),
+        }
+    }
+}
+
+/// Where replies go. They are held back until they are flushed, or until there are many.
+#[derive(Drop)]
+pub struct Replies<W: Write + Drop> {
+    held: RefCell<Held<W>>,
+    failed: Cell<bool>,
+}
+
+impl<W: Write + Drop> Replies<W> {
+    /// Writes nothing.
+    ///
+    /// # Errors
+    /// `Memory` where there is none for the replies that are held back.
+    pub fn new(alloc: Global, writer: W) -> Result<Self, RunFault> {
+        match Vec::with_capacity(alloc, MAX_HELD_BYTES) {
+            Ok(bytes) => Ok(Replies {
+                held: RefCell::new(Held { writer, bytes }),
+                failed: Cell::new(false),
+            }),
+            Err(_) => Err(RunFault::Memory),
+        }
+    }
+
+    /// Sends all replies that are held back.
+    pub fn flush(&self) -> Result<(), WriteFault> {
+        let sent = match self.held.try_borrow_mut() {
+            Ok(mut held) => held.send(),
+            Err(_) => Err(WriteFault),
+        };
+        if sent.is_err() {
+            self.failed.set(true);
+        }
+        sent
+    }
+
+    /// Whether a flush has failed.
+    pub fn has_failed(&self) -> bool {
+        self.failed.get()
+    }
+}
+
+impl<W: Write + Drop> Sink for &Replies<W> {
+    ghost contents = { λ _. None };
+
+    ghost faults = { λ _. None };
+
+    fn write(&mut self, bytes: &[u8]) -> Result<usize, WriteFault> {
+        match self.held.try_borrow_mut() {
+            Ok(mut held) => held.hold(bytes),
+            Err(_) => Err(WriteFault),
+        }
+    }
+}
+
+/// Where commands come from. The replies are flushed before each read.
+#[derive(Drop)]
+pub struct Commands<'a, R, W: Write + Drop> {
+    reader: R,
+    replies: &'a Replies<W>,
+}
+
+impl<'a, R: Read, W: Write + Drop> Commands<'a, R, W> {
+    /// Reads nothing.
+    pub fn new(reader: R, replies: &'a Replies<W>) -> Self {
+        Commands { reader, replies }
+    }
+}
+
+impl<R: Read, W: Write + Drop> Source for Commands<'_, R, W> {
+    ghost remaining = { λ commands. R.remaining commands.reader };
+
+    ghost errors = { λ _. None };
+
+    fn read(&mut self, buf: &mut [u8]) -> Result<usize, ReadFault> {
+        if self.replies.flush().is_err() {
+            return Err(ReadFault);
+        }
+        match self.reader.read(buf) {
+            Ok(count) => Ok(count),
+            Err(_) => Err(ReadFault),
+        }
+    }
+}
