@@ -1,4 +1,4 @@
--- The bytes of a buffer, after some are taken and after some are read behind them.
+-- The bytes of a buffer, after some are taken and after some are read after them.
 use Rattle.std.proofs.Common.{◌≡◌, ℕ, ◌+◌, ◌-◌, ◌≤◌, List, ◌++◌, length, take, drop, slice_range, refl, sym, ap, ◌∙◌, arith}
 use Rattle.std.proofs.lemmas.List.{take_at, drop_at, take-append-le, drop-append-le, drop-take, drop-drop, length-take-le, length-drop}
 use borrow.Rule.Slice.PartMut.{put_mid, post_of}
@@ -25,7 +25,7 @@ taken xs start end count inside =
     sym (ap (λ j. drop count (take j (drop start xs))) parts ∙ drop-take count _ (drop start xs)
     ∙ ap (take (end - (start + count))) (drop-drop count start xs))
 
--- the first bytes of a room, after some are read behind them
+-- the first bytes of a room, after some are read after them
 pub filled_more : (xs ys : List ℕ) (at k n : ℕ) → at ≤ length xs → n ≤ length ys → take (at + n) (put_mid at k xs ys) ≡ take at xs ++ take n ys
 filled_more xs ys at k n within fits =
     let front = length-take-le at xs within in

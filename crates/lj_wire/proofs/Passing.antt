@@ -17,7 +17,7 @@ pub record Passing (old new : Ahead) (seen : ℕ) : Type 0 where
   pub held : seen < LONG_LINE_BYTES → new.held ≡ []
   pub errors : new.errors ≡ old.errors
 
--- a front of what is held is taken behind what was taken before
+-- a front of what is held is taken after what was taken before
 pub taken_more : (old mid grown new : Ahead) (bytes front behind : List ℕ) (count : ℕ) → Takes old mid bytes → Grows mid grown count
     → grown.held ≡ front ++ behind → new.held ≡ behind → new.unread ≡ grown.unread → Takes old new (bytes ++ front)
 taken_more old mid grown new bytes front behind count t g e is same =

@@ -82,7 +82,7 @@ open_body old mid new line count t n f = record {
   is_part = inr (record { line = line; body = f.part; whole = refl; is_line = t.is_line; announces = omega (arith, n, f.fewer) });
 }
 
--- the rest of the item was taken behind its line
+-- the rest of the item was taken after its line
 pub finished : (old mid new : Ahead) (line : List ℕ) (item : Item) (count : ℕ) (handed : Option Item) → LineTaken old mid line
     → item ≡ item_with line Unread → count ≡ announced line → Finishes mid item count handed new → ReadsItem old handed new
 finished old mid new line item count (Some handed) t is n f = record {

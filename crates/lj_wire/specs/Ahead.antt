@@ -27,7 +27,7 @@ pub record Grows (old new : Ahead) (count : ℕ) : Type 0 where
 abbrev pub Takes : Ahead → Ahead → List ℕ → Type 0
 Takes old new bytes = Consumes (untaken old) (untaken new) bytes
 
--- so many bytes of a line, and a line feed behind them, stand first among the bytes held
+-- so many bytes of a line, and a line feed after them, stand first among the bytes held
 pub record HoldsLine (ahead : Ahead) (count : ℕ) : Type 0 where
   pub line : List ℕ
   pub behind : List ℕ

@@ -1,4 +1,4 @@
--- The steps of reading an item: its line, and the body behind it.
+-- The steps of reading an item: its line, and the body after it.
 use Rattle.std.specs.Prelude.{◌≡◌, ℕ, ◌<◌, Bool, true, false, List, [], ◌∷◌, ◌++◌, length, Option, Some, None, ◌⊎◌}
 use Rattle.std.specs.Io.KnownBytes.{Keeps, IsAtEnd}
 use Rattle.lj_session.specs.declared.body.LoadBody.{LoadBody}
@@ -71,7 +71,7 @@ ReadsBody old (Some Lost) count new = TakesCount old new count
 ReadsBody old (Some Unread) count new = ⊥
 ReadsBody old None count new = TakesFewer old new count × IsAtEnd (untaken new)
 
--- the body behind a line was taken, and is in the item if that is a LOAD
+-- the body after a line was taken, and is in the item if that is a LOAD
 pub record TakesRest (old new : Ahead) (item : Item) (count : ℕ) (handed : Item) : Type 0 where
   pub body : List ℕ
   pub taken : Takes old new body

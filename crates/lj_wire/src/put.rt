@@ -5,6 +5,7 @@ ghost use Rattle.lj_wire.specs.Ends.{Rises};
 
 use crate::ends::{Sink, WriteFault};
 
+#[tactic(auto, using(crate::proofs::Known::appends_front))]
 /// Writes all of `bytes`. After a fault the first of them may have been written.
 pub fn put_all<W: Sink>(sink: &mut W, bytes: &[u8]) -> Result<(), WriteFault>
     ensures written { OnOk result (Appends (W.contents sink.old) (W.contents sink.new) bytes.now) }

@@ -62,7 +62,7 @@ impl Buffer {
         self.end = 0;
     }
 
-    /// Reads some bytes behind those that are held, and answers how many: 0 only at the end of the
+    /// Reads some bytes after those that are held, and answers how many: 0 only at the end of the
     /// input.
     pub(crate) fn read_from<S: Source>(&mut self, source: &mut S) -> Result<usize, ReadFault>
         requires { length self.old < MAX_HELD_BYTES }

@@ -94,7 +94,7 @@ impl<S: Source> Input<S> {
         self.buffer.clear();
     }
 
-    /// Reads some bytes behind those that are held, and answers how many: 0 only at the end of the
+    /// Reads some bytes after those that are held, and answers how many: 0 only at the end of the
     /// input.
     pub(crate) fn read_more(&mut self) -> Result<usize, ReadFault>
         requires { length self.old.held < MAX_HELD_BYTES }

@@ -37,7 +37,7 @@ pub(crate) fn read_item<S: Source>(
     }
 }
 
-// Reads the body of `count` bytes behind a line, and puts it into the item of the line if that is a
+// Reads the body of `count` bytes after a line, and puts it into the item of the line if that is a
 // LOAD.
 fn finish<S: Source>(
     alloc: Global,
