@@ -3,16 +3,17 @@ use Rattle.std.specs.Prelude.{◌≡◌, ◌<◌, ℕ, Bool, true, [], IfSome}
 use Rattle.std.specs.Option.{option_map_or}
 use Rattle.lj_session.specs.Answers.{answer}
 use Rattle.lj_session.specs.Owners.{Owning, user_in, turns_left}
+use Rattle.lj_pool.specs.declared.pool.TheConstants.{MAX_STRAYS}
 use Rattle.lj_pool.specs.declared.running.Halt.{Halt}
 use Rattle.lj_pool.specs.declared.running.Halt.TheVariants.{PoolClosed, TooManyStrays}
 use Rattle.lj_pool.specs.Seen.{Seen}
 use Rattle.lj_pool.specs.Gathering.{Gathers, awaited_in}
 use Rattle.lj_pool.specs.Counting.{turn_tiles, command_tiles, StraysRise}
 
--- why a command was stopped: the pool is closed, or 4,096 results in a row were of no tile that was awaited
+-- why a command was stopped: the pool is closed, or too many results in a row were of no tile that was awaited
 abbrev pub IsHalted : Halt → Seen → Seen → Type 0
 IsHalted PoolClosed old new = new.closed ≡ true
-IsHalted TooManyStrays old new = StraysRise 4096 old new
+IsHalted TooManyStrays old new = StraysRise MAX_STRAYS old new
 
 -- how many tiles the step of the command that runs has
 abbrev pub tiles_now : Owning → ℕ

@@ -9,6 +9,6 @@ mod served;
 mod serving;
 
 pub use inline::InlinePool;
-pub use pool::{MAX_OWED, Pool, Refused};
+pub use pool::{MAX_OWED, MAX_STRAYS, Pool, Refused};
 pub use served::Served;
-pub use serving::serve_lines;
+pub use serving::{serve, serve_lines};

@@ -8,6 +8,9 @@ use lj_tile::{Done, Task};
 /// How many tasks may be owed to an end at once.
 pub const MAX_OWED: usize = 64;
 
+/// So many results in a row that are of no tile that is awaited end the command that runs.
+pub const MAX_STRAYS: u64 = 4096;
+
 /// Why a task was not posted. It is handed back.
 #[derive(Debug, Drop)]
 pub enum Refused {

@@ -7,11 +7,8 @@ ghost use Rattle.lj_pool.specs.Gathering.{Gathers, SameRun, awaited_in, unposted
 ghost use Rattle.lj_pool.specs.Counting.{CountsRise, StraysRise, command_tiles};
 ghost use Rattle.lj_pool.specs.Running.{IsHalted, HasBegun, tiles_left};
 
-use crate::pool::{MAX_OWED, Pool, Refused};
+use crate::pool::{MAX_OWED, MAX_STRAYS, Pool, Refused};
 use lj_session::{Begin, Command, Owner, Reply};
-
-/// How many results in a row may be of no tile that is awaited, before the command is given up.
-const MAX_STRAYS: u64 = 4096;
 
 /// Why a command was given up.
 #[derive(Clone, Copy, PartialEq, Eq, Debug)]

@@ -1,5 +1,5 @@
 //! A stream of commands served over a pool.
-ghost use Rattle.std.specs.Prelude.{◌≡◌, ◌<◌, [], None, IfOk, IfErr, IfSome, OnErr, OnOk, OnSome, true};
+ghost use Rattle.std.specs.Prelude.{◌≡◌, ◌<◌, ℕ, List, Option, [], None, IfOk, IfErr, IfSome, OnErr, OnOk, OnSome, true};
 ghost use Rattle.std.specs.Option.{option_map};
 ghost use Rattle.std.specs.Io.KnownBytes.{IsAtEnd};
 ghost use Rattle.lj_session.specs.States.{user_of};
@@ -13,12 +13,38 @@ ghost use Rattle.lj_pool.specs.Running.{IsHalted};
 ghost use Rattle.lj_pool.specs.Serving.{AnswersItem};
 ghost use Rattle.lj_pool.specs.Served.{Serves};
 
-use crate::pool::Pool;
+use crate::pool::{MAX_STRAYS, Pool};
 use crate::replies::put_reply;
 use crate::running::{Halt, answer_over};
 use crate::served::{Served, ending_of};
 use lj_session::{Owner, Refusal, Reply, UserState};
 use lj_wire::{Item, LineReader, ReadFault, Sink, Source, WriteFault};
+use std::alloc::Global;
+
+/// Serves a stream of commands from a user's state on, over a pool that owes nothing. What is written is the dialogue of
+/// what is read. The state is handed back but where a command was running, and the reader in any case.
+pub fn serve<R: Source, W: Sink, P: Pool>(
+    alloc: Global,
+    state: UserState,
+    user: u8,
+    reader: R,
+    writer: &mut W,
+    pool: &mut P,
+) -> (Option<UserState>, Served, R)
+    requires none_owed { (P.seen pool.old).owed ≡ [] }
+    ensures told { (rest : Option (List ℕ)) × Serves result.1 (user_of state) (R.remaining reader) rest (W.contents writer.old)
+        (W.contents writer.new) (P.seen pool.old) (P.seen pool.new) (option_map user_of result.0) × (result.1 ≡ served.End → IsAtEnd rest) }
+    ensures read_fault { result.1 ≡ served.ReadFault → Rises (R.errors reader) (R.errors result.2) }
+    ensures write_fault { result.1 ≡ served.WriteFault → Rises (W.faults writer.old) (W.faults writer.new) }
+    ensures closed { result.1 ≡ served.PoolClosed → (P.seen pool.new).closed ≡ true }
+    ensures strays { result.1 ≡ served.TooManyStrays → StraysRise MAX_STRAYS (P.seen pool.old) (P.seen pool.new) }
+    ensures none_owed { OnSome result.0 ((P.seen pool.new).owed ≡ []) }
+    ensures quota { IfSome result.0 (λ owned. owned.quota ≡ state.quota) }
+{
+    let mut lines = LineReader::new(alloc, reader);
+    let (state, served) = serve_lines(state, user, &mut lines, writer, pool);
+    (state, served, lines.into_source())
+}
 
 /// Answers the items of a reader that has handed out none, over a pool that owes nothing, from a user's state on. The
 /// state is handed back but where a command was running.
@@ -38,7 +64,7 @@ pub fn serve_lines<R: Source, W: Sink, P: Pool>(
     ensures read_fault { result.1 ≡ served.ReadFault → Rises lines.old.errors lines.new.errors }
     ensures write_fault { result.1 ≡ served.WriteFault → Rises (W.faults writer.old) (W.faults writer.new) }
     ensures closed { result.1 ≡ served.PoolClosed → (P.seen pool.new).closed ≡ true }
-    ensures strays { result.1 ≡ served.TooManyStrays → StraysRise 4096 (P.seen pool.old) (P.seen pool.new) }
+    ensures strays { result.1 ≡ served.TooManyStrays → StraysRise MAX_STRAYS (P.seen pool.old) (P.seen pool.new) }
     ensures none_owed { OnSome result.0 ((P.seen pool.new).owed ≡ []) }
     ensures quota { IfSome result.0 (λ owned. owned.quota ≡ state.quota) }
 {

@@ -1,6 +1,7 @@
 use Rattle.std.proofs.Common.{◌+◌, ◌-◌, ◌*◌, ◌<◌}
 use Rattle.lj_pool.specs.Gathering.{Gathers, SameRun, awaited_in, unposted_in}
 use Rattle.lj_pool.specs.Counting.{CountsRise, StraysRise}
+use Rattle.lj_pool.specs.declared.pool.TheConstants.{MAX_STRAYS}
 use Rattle.lj_pool.proofs.running.gather.Given as goal
 
 abbrev pub invariant-loop-owner : goal.invariant-loop-owner
@@ -9,8 +10,8 @@ invariant-loop-owner g l = record {
   same : SameRun l.initial.owner l.owner;
   counted : CountsRise (awaited_in l.initial.owner - awaited_in l.owner) (g.P.Pool.seen l.initial.pool) (g.P.Pool.seen l.pool);
   in_a_row : StraysRise l.strays (g.P.Pool.seen l.initial.pool) (g.P.Pool.seen l.pool);
-  few : l.strays < 4096;
+  few : l.strays < MAX_STRAYS;
 }
 
 abbrev pub decreases-loop-owner : goal.decreases-loop-owner
-decreases-loop-owner g l = 5000 * awaited_in l.owner + unposted_in l.owner + (4096 - l.strays)
+decreases-loop-owner g l = 5000 * awaited_in l.owner + unposted_in l.owner + (MAX_STRAYS - l.strays)
