@@ -178,10 +178,6 @@ AreMarks-unset user (item ∷ items) = ((λ e. cc), AreMarks-unset (told user it
 abbrev pub quota : ℕ → ℕ → ℕ → Quota
 quota sessions atoms branches = record { sessions = sessions; atoms = atoms; branches = branches }
 
--- the quota of a program that is given none
-abbrev pub usual : Quota
-usual = quota 8 16384 16
-
 -- what a new user with this quota is written for bytes, where memory is there
 abbrev pub IsWritten : Quota → List ℕ → List ℕ → Type 0
 IsWritten quota bytes written = (next : User) × Dialogue (fresh quota) bytes written next

@@ -1,9 +1,10 @@
 -- Worked streams, from the bytes read to the bytes written, by computation.
 use Rattle.std.specs.Prelude.{◌++◌, codes, refl}
-use Rattle.lj_wire.specs.Played.{IsWritten, computed, nothing, played, quota, short, unread, usual}
+use Rattle.lj_wire.specs.Played.{IsWritten, computed, nothing, played, quota, short, unread}
+use Rattle.lj_quota.specs.declared.TheConstants.Quota.{USUAL}
 
 -- two atoms: their steps, measures and frame; turned back, the frames come again, and past the opening too
-pub there_and_back : IsWritten usual
+pub there_and_back : IsWritten USUAL
     (codes "LOAD a 256 1 131072 rest 28\n2\ndimer\nAr 0 0 0\nAr 1.5 0 0\nADVANCE a 1\nSHOW a 0\nSHOW a 1\n"
     ++ (codes "ADVANCE a 1\nSHOW a 0\nSHOW a 1\nMEASURE a\nDUMP a\nREVERSE a\nSHOW a 0\nADVANCE a 1\nSHOW a 0\n"
     ++ codes "ADVANCE a 1\nSHOW a 0\nREVERSE a\nSHOW a 1\n"))
@@ -13,16 +14,16 @@ pub there_and_back : IsWritten usual
     ++ (codes "OK SHOW a 1 0 589 0 0\nOK ADVANCE a 0\nOK SHOW a 0 0 0 0 0\nOK ADVANCE a -1\nOK SHOW a -1 0 0 0 0\n"
     ++ codes "OK REVERSE a 0\nOK SHOW a 0 1 25165824 0 0\n"))))
 unfolding computed
-there_and_back = played usual 17 nothing _ _ refl refl refl
+there_and_back = played USUAL 17 nothing _ _ refl refl refl
 
 -- two frames give an atom its motion: its places one step before the opening and at it
-pub two_frames : IsWritten usual
+pub two_frames : IsWritten USUAL
     (codes "LOAD b 256 1 1 pair 44\n1\np\nH -0.0000003 0 0\n1\nc\nH -0.000000001 0 0\nSHOW b 0\nADVANCE b 1\n"
     ++ codes "SHOW b 0\nMEASURE b\n")
     (codes "OK LOAD b 0 1\nOK SHOW b 0 0 4294967295 0 0\nOK ADVANCE b 1\nOK SHOW b 1 0 4 0 0\n"
     ++ codes "OK MEASURE b 1 1 5 0 0 25 0\n")
 unfolding computed
-two_frames = played usual 5 nothing _ _ refl refl refl
+two_frames = played USUAL 5 nothing _ _ refl refl refl
 
 -- a saved simulation is a copy, which a tug does not change, and stays when it is restored; the quota allows one
 pub one_branch : IsWritten (quota 8 16384 1)
@@ -37,33 +38,33 @@ unfolding computed
 one_branch = played (quota 8 16384 1) 15 nothing _ _ refl refl refl
 
 -- carriage returns, a column that is not used and a last line without line feed; and bodies that are cut short
-pub short_bodies : IsWritten usual
+pub short_bodies : IsWritten USUAL
     (codes "LOAD g 256 1 1 rest 35\n2\r\nc\r\nNa 0 0 0 1.0\r\nCl 1.5 0 0 -1.0LOAD k 256 1 1 rest 13\n2\nc\n"
     ++ codes "Na 0 0 0\nLOAD k 256 1 1 rest 4\n0\nc\nLOAD k 256 1 1 rest 0\n")
     (codes "OK LOAD g 0 2\nERR 31 XYZ_SHORT line 4\nERR 30 XYZ_COUNT line 1\nERR 30 XYZ_COUNT line 1\n")
 unfolding computed
-short_bodies = played usual 4 nothing _ _ refl refl refl
+short_bodies = played USUAL 4 nothing _ _ refl refl refl
 
 -- a LOAD line with a count has its body read, whatever else is wrong with it
-pub wrong_load : IsWritten usual
+pub wrong_load : IsWritten USUAL
     (codes "LOAD 5\n12345LOAD a 256 1 1 move 3\nLI\nLOAD a! 256 1 1 rest 3\nLI\nLOAD a 256 1 1 rest 3 3\nLI\n"
     ++ codes "LOAD a 0.0009 x 0 rest 3\nLI\nLIST\n")
     (codes "ERR 03 SYNTAX\nERR 03 SYNTAX\nERR 03 SYNTAX\nERR 03 SYNTAX\nERR 36 EDGE\nOK LIST 0\n")
 unfolding computed
-wrong_load = played usual 6 nothing _ _ refl refl refl
+wrong_load = played USUAL 6 nothing _ _ refl refl refl
 
 -- a body that is cut short is no item
-pub cut_body : IsWritten usual
+pub cut_body : IsWritten USUAL
     (codes "LIST\nLOAD a 256 1 1 rest 28\n2\ndimer\n")
     (codes "OK LIST 0\n")
 unfolding computed
-cut_body = played usual 1 (short (codes "LOAD a 256 1 1 rest 28") (codes "2\ndimer\n")) _ _ refl refl refl
+cut_body = played USUAL 1 (short (codes "LOAD a 256 1 1 rest 28") (codes "2\ndimer\n")) _ _ refl refl refl
 
 -- refusals, and BYE, after which nothing is read
-pub refusals : IsWritten usual
+pub refusals : IsWritten USUAL
     (codes "LOAD a 256 1 131072 rest 28\n2\ndimer\nAr 0 0 0\nAr 1.5 0 0\nSHOW a 2\nSHOW z 0\nadvance a 1\n"
     ++ codes "ADVANCE a\nADVANCE a 1000001\nRESTORE a q\n\nBYE\nLIST\n")
     (codes "OK LOAD a 0 2\nERR 14 NO_ATOM\nERR 10 NO_SESSION\nERR 06 COMMAND\nERR 03 SYNTAX\nERR 23 STEP_RANGE\n"
     ++ codes "ERR 12 NO_BRANCH\nERR 03 SYNTAX\nOK BYE\n")
 unfolding computed
-refusals = played usual 9 (unread (codes "LIST\n")) _ _ refl refl refl
+refusals = played USUAL 9 (unread (codes "LIST\n")) _ _ refl refl refl

@@ -10,7 +10,8 @@ use Rattle.lj_wire.specs.Commands.{announced, item_of}
 use Rattle.lj_wire.specs.Displacements.{displacement_of}
 use Rattle.lj_wire.specs.Told.{told}
 use Rattle.lj_wire.specs.Streams.{IsItem}
-use Rattle.lj_wire.specs.Played.{computed, usual}
+use Rattle.lj_quota.specs.declared.TheConstants.Quota.{USUAL}
+use Rattle.lj_wire.specs.Played.{computed}
 
 -- a line of 257 bytes is no command
 pub long_line : item_of (replicate 257 120) [] ≡ Bad Line
@@ -44,13 +45,13 @@ unfolding computed
 great_displacement = refl
 
 -- where memory is refused to a LOAD its body is not looked at
-pub load_without_memory : (told (fresh usual) (item_of (codes "LOAD a 256 1 1 rest 2") (codes "9\n")) true).0
+pub load_without_memory : (told (fresh USUAL) (item_of (codes "LOAD a 256 1 1 rest 2") (codes "9\n")) true).0
     ≡ codes "ERR 90 MEMORY\n"
 unfolding computed
 load_without_memory = refl
 
 -- but what its line is refused for comes first
-pub sigma_without_memory : (told (fresh usual) (item_of (codes "LOAD a 256 99 1 rest 2") (codes "9\n")) true).0
+pub sigma_without_memory : (told (fresh USUAL) (item_of (codes "LOAD a 256 99 1 rest 2") (codes "9\n")) true).0
     ≡ codes "ERR 37 SIGMA\n"
 unfolding computed
 sigma_without_memory = refl
