@@ -12,3 +12,4 @@ pub mod Owners
 pub mod Running
 pub mod Begins
 pub mod KeptOwners
+pub mod Worked

@@ -1,6 +1,7 @@
 //! The frames that a LOAD opens a session with.
 ghost use Rattle.std.specs.Prelude.{◌≡◌, ◌≤◌, length, map, Some, None, IfOk, IsTrue};
 ghost use Rattle.lj_xyz.specs.Atoms.{is_count};
+ghost use Rattle.lj_xyz.specs.declared.reader.TheConstants.{MAX_ATOMS};
 ghost use Rattle.lj_xyz.specs.Lines.{lines_of};
 ghost use Rattle.lj_xyz.specs.Reading.{reading, Gives};
 ghost use Rattle.lj_session.specs.Loads.{reading_mode, places_in};
@@ -45,10 +46,10 @@ impl Opening {
         }
     }
 
-    /// How many atoms there are, 1 to 4,096.
+    /// How many atoms there are, 1 to `MAX_ATOMS`.
     pub fn count(&self) -> usize
         ensures value { result ≡ length self.now.first }
-        ensures most { result ≤ 4096 }
+        ensures most { result ≤ MAX_ATOMS }
     {
         self.first.len()
     }

@@ -167,7 +167,8 @@ impl UserState {
     /// Takes in the result of a tile that a session's open step awaits. Another is handed back, and nothing changes.
     pub(crate) fn accept(&mut self, label: &Label, done: Done) -> Result<(), Stray>
         ensures accepted { IsOk result ↔ IsAwaited self.old label.now done }
-        ensures taken { OnOk result (self.new ≡ changed label.now.session (with_tile_in (tile_number_of done)) self.old) }
+        ensures taken { OnOk result
+            (self.new ≡ changed label.now.session (with_tile_in (tile_number_of done)) self.old) }
         ensures user { user_of self.new ≡ user_of self.old }
         ensures stray { IfErr result (λ s. s.done ≡ done) }
         ensures unchanged { OnErr result (self.new ≡ self.old) }

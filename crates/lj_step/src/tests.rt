@@ -175,8 +175,8 @@ fn strays_come_back_and_change_nothing(rt: HostRuntime) -> Result<(), Fail> {
     Ok(())
 }
 
-/// A tug closes the open step, so that its results are strays. The present places are as they were: a step opened then has
-/// equal tasks, and takes the result.
+/// A tug closes the open step, so that its results are strays. The present places are as they were: a step opened then
+/// has equal tasks, and takes the result.
 #[test]
 fn a_tug_makes_results_stale_until_a_step_is_opened(rt: HostRuntime) -> Result<(), Fail> {
     let mut sim = at_rest(&[ORIGIN, along_x(APART)], &rt)?;
@@ -347,8 +347,8 @@ fn awaited(sim: &Sim, n: u64, tiles: usize, rt: &impl Abort) -> usize {
     panic!(rt; "no such tile is awaited");
 }
 
-/// Takes in all results of the open step. The order is a number: its digits, to the base of how many tiles are still awaited,
-/// tell which of these is next. The numbers below the factorial of their count are all orders.
+/// Takes in all results of the open step. The order is a number: its digits, to the base of how many tiles are still
+/// awaited, tell which of these is next. The numbers below the factorial of their count are all orders.
 fn accept_in_order(sim: &mut Sim, results: &[Done], order: u64, rt: &impl Abort) {
     let mut rest = order;
     for taken in 0..results.len() {
@@ -362,7 +362,8 @@ fn accept_in_order(sim: &mut Sim, results: &[Done], order: u64, rt: &impl Abort)
     }
 }
 
-/// Takes in the nine results of the open step from the `first` on, each time that many on, round from the last to the first.
+/// Takes in the nine results of the open step from the `first` on, each time that many on, round from the last to the
+/// first.
 fn accept_by_strides(sim: &mut Sim, results: &[Done], first: usize, stride: usize, rt: &impl Abort)
     requires first { first < 9 }
     requires stride { stride < 9 }
