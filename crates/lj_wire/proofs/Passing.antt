@@ -1,10 +1,11 @@
 -- A long line that is passed over: its bytes so far are taken, and only counted.
-use Rattle.std.proofs.Common.{◌≡◌, ℕ, ◌+◌, ◌-◌, ◌<◌, ◌≤◌, min, List, [], ◌∷◌, ◌++◌, length, take, drop, sym, ap, ◌∙◌, subst, arith, append_assoc}
+use Rattle.std.proofs.Common.{◌≡◌, ℕ, ◌+◌, ◌-◌, ◌<◌, ◌≤◌, min, List, [], ◌∷◌, ◌++◌, ◌⊎◌, inl, inr, length, take, drop, sym, ap, ◌∙◌, subst, arith, append_assoc}
 use Rattle.std.proofs.lemmas.List.{take-append-drop, drop_at, drop_all, length-append, length-take-le}
 use Rattle.lj_wire.specs.declared.limits.TheConstants.{MAX_LINE_BYTES, LONG_LINE_BYTES}
 use Rattle.lj_wire.specs.Ahead.{Ahead, Takes, Grows}
 use Rattle.lj_wire.specs.Steps.{TakesLongLine}
 use Rattle.lj_wire.specs.Streams.{LacksLineFeed}
+use Rattle.lj_wire.proofs.Splitting.{no_feed_beyond}
 use Rattle.lj_wire.proofs.Taking.{Takes-trans, Takes-kept, Takes-held, lacks_both}
 
 pub record Passing (old new : Ahead) (seen : ℕ) : Type 0 where
@@ -13,6 +14,7 @@ pub record Passing (old new : Ahead) (seen : ℕ) : Type 0 where
   pub one_line : LacksLineFeed bytes
   pub counted : length bytes ≡ seen
   pub long : MAX_LINE_BYTES < seen
+  pub begun : length old.held ≤ seen
   pub bounded : seen ≤ LONG_LINE_BYTES
   pub held : seen < LONG_LINE_BYTES → new.held ≡ []
   pub errors : new.errors ≡ old.errors
@@ -43,6 +45,7 @@ passing_feed old mid grown new seen count wanted line behind p g low within e on
       taken = subst (Takes old new) (sym (append_assoc p.bytes line (10 ∷ []))) (taken_more old mid grown new p.bytes (line ++ 10 ∷ []) rest count p.taken g cut left same);
       is_line = (lacks_both p.bytes line p.one_line one, omega (arith, length-append p.bytes line, p.counted, ap length e, sizes, shorter));
       long = omega (arith, length-append p.bytes line, p.counted, p.long);
+      beyond = omega (arith, length-append p.bytes line, p.counted, p.begun);
     }
 
 -- no line feed is among them
@@ -61,6 +64,7 @@ passing_more old mid grown new seen count wanted p g errors more is one taken =
       one_line = lacks_both p.bytes front p.one_line one;
       counted = length-append p.bytes front ∙ omega (arith, p.counted, length-take-le wanted grown.held within);
       long = omega (arith, p.long);
+      begun = omega (arith, p.begun);
       bounded = omega arith;
       held = λ less. held ∙ drop_all wanted grown.held (omega (arith, is, less));
       errors = same ∙ errors ∙ p.errors;
@@ -73,6 +77,7 @@ pub record Counting (old new : Ahead) (count left : ℕ) : Type 0 where
   pub counted : length bytes + left ≡ count
   pub held : 0 < left → new.held ≡ []
   pub errors : new.errors ≡ old.errors
+  pub reads_for : count ≤ length old.held → (left ≡ 0) × (new.unread ≡ old.unread)
 
 pub counting_start : (old new : Ahead) (count some : ℕ) → some ≡ min (length old.held) count
     → new ≡ record old { held = drop some old.held } → Counting old new count (count - some)
@@ -87,11 +92,12 @@ counting_start old new count some is taken =
       counted = omega (arith, is, length-take-le some old.held within);
       held = λ more. held ∙ drop_all some old.held (omega (arith, is, more));
       errors = errors;
+      reads_for = λ enough. (omega (arith, is, enough), unread);
     }
 
 pub counting_more : (old mid grown new : Ahead) (count left read some : ℕ) → Counting old mid count left → Grows mid grown read → grown.errors ≡ mid.errors
-    → some ≡ min (length grown.held) left → new ≡ record grown { held = drop some grown.held } → Counting old new count (left - some)
-counting_more old mid grown new count left read some p g errors is taken =
+    → some ≡ min (length grown.held) left → new ≡ record grown { held = drop some grown.held } → 0 < left → Counting old new count (left - some)
+counting_more old mid grown new count left read some p g errors is taken more_left =
     let held = ap (λ a. a.held) taken in
     let unread = ap (λ a. a.unread) taken in
     let same = ap (λ a. a.errors) taken in
@@ -103,4 +109,26 @@ counting_more old mid grown new count left read some p g errors is taken =
       counted = omega (arith, is, p.counted, length-append p.bytes front, length-take-le some grown.held within);
       held = λ more. held ∙ drop_all some grown.held (omega (arith, is, more));
       errors = same ∙ errors ∙ p.errors;
+      reads_for = λ enough. absurd (omega (arith, more_left, (p.reads_for enough).0));
     }
+
+-- a line is looked for: nothing was read yet, or what was held has no line feed
+abbrev pub Searched : Ahead → Ahead → Type 0
+Searched old new = (new ≡ old) ⊎ LacksLineFeed old.held × (more : List ℕ) × (new.held ≡ old.held ++ more)
+
+-- more is read, since what is held has no line feed
+pub searched_more : (old mid new : Ahead) (count : ℕ) → Searched old mid → LacksLineFeed mid.held → Grows mid new count → Searched old new
+searched_more old mid new count (inl same) lacks g =
+    inr (subst LacksLineFeed (ap (λ a. a.held) same) lacks, g.more, g.held ∙ ap (λ (h : List ℕ). h ++ g.more) (ap (λ a. a.held) same))
+searched_more old mid new count (inr s) lacks g =
+    inr (s.0, s.1 ++ g.more, g.held ∙ ap (λ (h : List ℕ). h ++ g.more) s.2 ∙ append_assoc old.held s.1 g.more)
+
+-- a line that was held stands where it stood
+pub searched_line : (old new : Ahead) (line behind : List ℕ) → Searched old new → new.held ≡ line ++ 10 ∷ behind
+    → length line < length old.held → new ≡ old
+searched_line old new line behind (inl same) e less = same
+searched_line old new line behind (inr s) e less = absurd (no_feed_beyond line behind old.held s.1 (sym e ∙ s.2) s.0 less)
+
+pub searched_long : (old new : Ahead) → Searched old new → length old.held ≤ length new.held
+searched_long old new (inl same) = omega (arith, ap (λ a. length a.held) same)
+searched_long old new (inr s) = omega (arith, ap length s.2, length-append old.held s.1)

@@ -44,7 +44,7 @@ same_line (a ∷ line) (b ∷ other) behind after h k e =
     (ap (λ x. x ∷ line) first ∙ ap (λ x. b ∷ x) next.0, next.1)
 
 -- bytes that lack a line feed do not go past the first one
-no_feed_beyond : (line behind long after : List ℕ) → line ++ 10 ∷ behind ≡ long ++ after → LacksLineFeed long → length line < length long → ⊥
+pub no_feed_beyond : (line behind long after : List ℕ) → line ++ 10 ∷ behind ≡ long ++ after → LacksLineFeed long → length line < length long → ⊥
 no_feed_beyond line behind [] after e h l = omega (arith, l)
 no_feed_beyond [] behind (b ∷ long) after e h l =
     no_feed long (subst (λ x. LacksLineFeed (x ∷ long)) (sym (heads 10 b behind (long ++ after) e)) h)

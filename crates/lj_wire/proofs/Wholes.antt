@@ -1,7 +1,7 @@
 -- Items read whole, and parts of items.
-use Rattle.std.proofs.Common.{◌≡◌, ℕ, ◌+◌, ◌≤◌, true, cond, List, [], ◌∷◌, ◌++◌, length, take, drop, Option, Some, None, inl, inr, refl, sym, ap, ◌∙◌, subst, arith, append_assoc}
+use Rattle.std.proofs.Common.{◌<◌, ◌≡◌, ℕ, ◌+◌, ◌≤◌, true, cond, List, [], ◌∷◌, ◌++◌, length, take, drop, Option, Some, None, inl, inr, refl, sym, ap, ◌∙◌, subst, arith, append_assoc}
 use Rattle.std.proofs.lemmas.Bool.{lt-ltb}
-use Rattle.std.proofs.lemmas.List.{drop_at, take_at, length-append}
+use Rattle.std.proofs.lemmas.List.{drop_at, take_at, length-append, length-drop}
 use Rattle.std.proofs.KnownBytes.{Consumes-nil}
 use Rattle.std.specs.Io.KnownBytes.{Keeps, Consumes}
 use Rattle.lj_session.specs.declared.body.LoadBody.{LoadBody}
@@ -12,7 +12,7 @@ use Rattle.lj_wire.specs.declared.reader.buffer.TheConstants.{MAX_HELD_BYTES}
 use Rattle.lj_wire.specs.declared.item.Fault.TheVariants.{Line, Long, Enough}
 use Rattle.lj_wire.specs.declared.item.Item.{Item}
 use Rattle.lj_wire.specs.declared.item.Item.TheVariants.{Command, Bad, Last}
-use Rattle.lj_wire.specs.Ahead.{Ahead, untaken, Takes, HoldsLine, TakesPart}
+use Rattle.lj_wire.specs.Ahead.{Ahead, untaken, Takes, HoldsLine, TakesPart, ReadsFor}
 use Rattle.lj_wire.specs.Commands.{announced, is_over, over_item, body_len, words_in, item_of_words, item_with, item_of}
 use Rattle.lj_wire.specs.Items.{with_body}
 use Rattle.lj_wire.specs.declared.reader.phase.Phase.TheVariants.{Open, Over}
@@ -82,21 +82,35 @@ open_body old mid new line count t n f = record {
   is_part = inr (record { line = line; body = f.part; whole = refl; is_line = t.is_line; announces = omega (arith, n, f.fewer) });
 }
 
+-- nothing is read for a line and so many bytes after it where they are held
+abbrev pub Onward : Ahead → Ahead → Ahead → List ℕ → ℕ → Type 0
+Onward old mid new line count = length line + 1 + count ≤ length old.held → new.unread ≡ old.unread
+
+pub goes_onward : (old found mid new : Ahead) (line : List ℕ) (at count : ℕ) → length line ≡ at → (at < length old.held → found ≡ old)
+    → mid ≡ record found { held = drop (at + 1) found.held } → ReadsFor mid new count → Onward old mid new line count
+goes_onward old found mid new line at count is searched taken reads held =
+    let same = searched (omega (arith, is, held)) in
+    let left = ap (λ a. length a.held) taken ∙ length-drop (at + 1) found.held in
+    let enough : count ≤ length mid.held = omega (arith, left, ap (λ a. length a.held) same, is, held) in
+    reads enough ∙ ap (λ a. a.unread) taken ∙ ap (λ a. a.unread) same
+
 -- the rest of the item was taken after its line
 pub finished : (old mid new : Ahead) (line : List ℕ) (item : Item) (count : ℕ) (handed : Option Item) → LineTaken old mid line
+    → Onward old mid new line count
     → item ≡ item_with line Unread → count ≡ announced line → Finishes mid item count handed new → ReadsItem old handed new
-finished old mid new line item count (Some handed) t is n f = record {
+finished old mid new line item count (Some handed) t on is n f = record {
   front = line ++ 10 ∷ f.body;
   found = item_of line f.body;
   taken = subst (Takes old new) (append_assoc line (10 ∷ []) f.body) (Takes-trans old mid new (line ++ 10 ∷ []) f.body t.taken f.taken);
   is_item = inl (record { line = line; body = f.body; whole = refl; is_line = t.is_line; announces = f.counted ∙ n; means = refl });
   is_handed = subst (λ found. IsHandedOut found handed) (ap (λ i. with_body i (Read f.body)) is ∙ line_filled line (Read f.body)) f.is_handed;
+  reads_for = λ held. on (omega (arith, held, length-append line (10 ∷ f.body), f.counted));
 }
-finished old mid new line item count None t is n f = (open_body old mid new line count t n f.0, f.1)
+finished old mid new line item count None t on is n f = (open_body old mid new line count t n f.0, f.1)
 
 -- a line of more than 256 bytes is an item without a body
-pub long_line : (old mid new : Ahead) → Keeps (untaken old) (untaken mid) → TakesLongLine mid new → ReadsItem old (Some (Bad Line)) new
-long_line old mid new kept t =
+pub long_line : (old mid new : Ahead) → Keeps (untaken old) (untaken mid) → length old.held ≤ length mid.held → TakesLongLine mid new → ReadsItem old (Some (Bad Line)) new
+long_line old mid new kept more t =
     let over : is_over t.line ≡ true = lt-ltb MAX_LINE_BYTES (length t.line) t.long in
     let less = lt-ltb (length t.line) LONG_LINE_BYTES t.is_line.1 in
     record {
@@ -112,16 +126,18 @@ long_line old mid new kept t =
         means = ap (λ b. cond b (Bad Line) (Last Long)) (sym less) ∙ ap (λ b. cond b (over_item t.line) (item_of_words (words_in t.line) (Read []))) (sym over);
       });
       is_handed = inl refl;
+      reads_for = λ held. absurd (omega (arith, held, more, t.beyond, length-append t.line (10 ∷ [])));
     }
 
 -- what is too long for a line ends the connection
-pub too_long : (old mid new : Ahead) → Keeps (untaken old) (untaken mid) → TakesLong mid new → ReadsItem old (Some (Last Long)) new
-too_long old mid new kept t = record {
+pub too_long : (old mid new : Ahead) → Keeps (untaken old) (untaken mid) → length old.held ≤ length mid.held → length mid.held ≤ MAX_HELD_BYTES → TakesLong mid new → ReadsItem old (Some (Last Long)) new
+too_long old mid new kept more bounded t = record {
   front = t.bytes;
   found = Last Long;
   taken = Kept-takes old mid new t.bytes kept t.taken;
   is_item = inr (record { one_line = t.one_line; long = t.long; means = refl });
   is_handed = inl refl;
+  reads_for = λ held. absurd (omega (arith, held, more, bounded, t.long));
 }
 
 -- less than a line was taken

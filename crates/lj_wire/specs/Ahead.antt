@@ -23,6 +23,10 @@ pub record Grows (old new : Ahead) (count : ℕ) : Type 0 where
   pub kept : Keeps (untaken old) (untaken new)
   pub ended : count ≡ 0 → IsAtEnd new.unread
 
+-- nothing is read for so many bytes where they are held already
+abbrev pub ReadsFor : Ahead → Ahead → ℕ → Type 0
+ReadsFor old new count = count ≤ length old.held → new.unread ≡ old.unread
+
 -- a front of the bytes is taken
 abbrev pub Takes : Ahead → Ahead → List ℕ → Type 0
 Takes old new bytes = Consumes (untaken old) (untaken new) bytes

@@ -1,12 +1,11 @@
 -- How a reader of lines stands, and what each call for the next item does to that.
-use Rattle.std.specs.Prelude.{◌≡◌, ℕ, ◌+◌, Bool, true, List, [], ◌∷◌, ◌++◌, Option, Some, ◌⊎◌, if◌then◌else◌}
+use Rattle.std.specs.Prelude.{◌≡◌, ℕ, ◌+◌, ◌≤◌, Bool, true, List, [], ◌∷◌, ◌++◌, length, Option, Some, ◌⊎◌, if◌then◌else◌}
 use Rattle.std.specs.Io.KnownBytes.{Consumes, IsAtEnd}
 use Rattle.lj_session.specs.declared.body.LoadBody.TheVariants.{Lost, Read}
 use Rattle.lj_session.specs.declared.command.Load.{Load as LoadParts}
 use Rattle.lj_session.specs.declared.command.Command.TheVariants.{Load}
 use Rattle.lj_wire.specs.declared.item.Item.{Item}
 use Rattle.lj_wire.specs.declared.item.Item.TheVariants.{Command}
-use Rattle.lj_wire.specs.declared.limits.TheConstants.{MAX_ITEMS}
 use Rattle.lj_wire.specs.declared.reader.phase.Phase.{Phase}
 use Rattle.lj_wire.specs.declared.reader.phase.Phase.TheVariants.{Open, Over, Failed}
 use Rattle.lj_wire.specs.Ends.{Rises}
@@ -15,10 +14,11 @@ use Rattle.lj_session.specs.Users.{User}
 use Rattle.lj_wire.specs.Streams.{IsItem, IsPart, Splits}
 use Rattle.lj_wire.specs.Told.{answered}
 
--- How a reader stands. `left` has the bytes that are in no item yet, where the source tells them: those that were read
--- ahead, and then those that the source still has, which are `unread`. `errors` is the source's count of errors.
+-- How a reader stands. `left` has the bytes that are in no item yet, where the source tells them: `held`, which were
+-- read ahead, and then `unread`, which the source still has. `errors` is the source's count of errors.
 pub record Standing : Type 0 where
   pub left : Option (List ℕ)
+  pub held : List ℕ
   pub unread : Option (List ℕ)
   pub errors : Option ℕ
   pub items : ℕ
@@ -35,8 +35,8 @@ pub record IsLost (found item : Item) : Type 0 where
 abbrev pub IsHandedOut : Item → Item → Type 0
 IsHandedOut found item = (item ≡ found) ⊎ IsLost found item
 
--- The next item of the stream was handed out, and the reader is over where it ends the connection. For the last fault
--- after a million items nothing is read.
+-- The next item of the stream was handed out, and the reader is over where it ends the connection. Nothing is read for
+-- an item that is held already, nor for the last fault after a million items, which has no bytes.
 pub record HandsOut (old new : Standing) (item : Item) : Type 0 where
   pub was_open : old.phase ≡ Open
   pub front : List ℕ
@@ -46,7 +46,7 @@ pub record HandsOut (old new : Standing) (item : Item) : Type 0 where
   pub is_found : IsHandedOut found item
   pub items_is : new.items ≡ old.items + 1
   pub errors_is : new.errors ≡ old.errors
-  pub unread_is : old.items ≡ MAX_ITEMS → new.unread ≡ old.unread
+  pub unread_is : length front ≤ length old.held → new.unread ≡ old.unread
   pub phase_is : new.phase ≡ (if ends item then Over else Open)
 
 -- the input has ended in less than an item, which was taken

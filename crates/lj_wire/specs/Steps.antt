@@ -1,5 +1,5 @@
 -- The steps of reading an item: its line, and the body after it.
-use Rattle.std.specs.Prelude.{◌≡◌, ℕ, ◌<◌, Bool, true, false, List, [], ◌∷◌, ◌++◌, length, Option, Some, None, ◌⊎◌}
+use Rattle.std.specs.Prelude.{◌≡◌, ℕ, ◌<◌, ◌≤◌, Bool, true, false, List, [], ◌∷◌, ◌++◌, length, Option, Some, None, ◌⊎◌}
 use Rattle.std.specs.Io.KnownBytes.{Keeps, IsAtEnd}
 use Rattle.lj_session.specs.declared.body.LoadBody.{LoadBody}
 use Rattle.lj_session.specs.declared.body.LoadBody.TheVariants.{Unread, Lost, Read}
@@ -11,7 +11,7 @@ use Rattle.lj_wire.specs.declared.reader.input.Front.{Front}
 use Rattle.lj_wire.specs.declared.reader.input.Front.TheVariants as front
 use Rattle.lj_wire.specs.declared.reader.input.Passed.{Passed}
 use Rattle.lj_wire.specs.declared.reader.input.Passed.TheVariants as passed
-use Rattle.lj_wire.specs.Ahead.{Ahead, untaken, Takes, HoldsLine, HoldsNoFeed, TakesPart}
+use Rattle.lj_wire.specs.Ahead.{Ahead, untaken, Takes, HoldsLine, HoldsNoFeed, TakesPart, ReadsFor}
 use Rattle.lj_wire.specs.Items.{with_body}
 use Rattle.lj_wire.specs.Streams.{LacksLineFeed, IsLine, IsLineItem, IsLongItem, IsOpenBody}
 use Rattle.lj_wire.specs.Standings.{IsHandedOut}
@@ -22,12 +22,19 @@ Finds old (front.Line count) new = Keeps (untaken old) (untaken new) × HoldsLin
 Finds old front.Long new = Keeps (untaken old) (untaken new) × HoldsNoFeed new
 Finds old front.End new = TakesPart old new × IsAtEnd (untaken new)
 
--- a line of more than 256 bytes was taken, with its line feed
+-- nothing was read for a line that is held already; and what was held stays
+abbrev pub SearchesFor : Ahead → Front → Ahead → Type 0
+SearchesFor old (front.Line count) new = count < length old.held → new ≡ old
+SearchesFor old front.Long new = length old.held ≤ length new.held
+SearchesFor old front.End new = Unit {0}
+
+-- a line of more than 256 bytes was taken, with its line feed, of which all that was held is a part
 pub record TakesLongLine (old new : Ahead) : Type 0 where
   pub line : List ℕ
   pub taken : Takes old new (line ++ 10 ∷ [])
   pub is_line : IsLine line
   pub long : MAX_LINE_BYTES < length line
+  pub beyond : length old.held ≤ length line
 
 -- as many bytes without a line feed as no line has were taken
 pub record TakesLong (old new : Ahead) : Type 0 where
@@ -90,6 +97,7 @@ pub record TakesItem (old new : Ahead) (handed : Item) : Type 0 where
   pub taken : Takes old new front
   pub is_item : IsLineItem front found ⊎ IsLongItem front found
   pub is_handed : IsHandedOut found handed
+  pub reads_for : ReadsFor old new (length front)
 
 -- less than an item was taken
 pub record TakesNoItem (old new : Ahead) : Type 0 where

@@ -1,5 +1,5 @@
 //! The reader of a stream of lines and bodies.
-ghost use Rattle.std.specs.Prelude.{◌≡◌, IfOk, IfSome, IfNone, OnErr};
+ghost use Rattle.std.specs.Prelude.{◌≡◌, [], IfOk, IfSome, IfNone, OnErr};
 ghost use Rattle.lj_wire.specs.declared.reader.phase.Phase.TheVariants.{Open};
 
 mod body;
@@ -41,6 +41,7 @@ impl<S: Source> Model for LineReader<S> {
 
     ghost view = { λ reader. record {
       left = untaken reader.input;
+      held = reader.input.held;
       unread = reader.input.unread;
       errors = reader.input.errors;
       items = reader.items;
@@ -56,6 +57,7 @@ impl<S: Source> LineReader<S> {
     /// A reader of `source` that has read nothing.
     pub fn new(alloc: Global, source: S) -> Self
         ensures left { result.left ≡ S.remaining source }
+        ensures held { result.held ≡ [] }
         ensures unread { result.unread ≡ S.remaining source }
         ensures errors { result.errors ≡ S.errors source }
         ensures items { result.items ≡ 0 }

@@ -1,7 +1,7 @@
 //! Bytes that are read by their count, and bodies.
 ghost use Rattle.std.specs.Prelude.{◌≡◌, ℕ, ◌≤◌, ◌<◌, [], length, take, drop, min, IfOk, OnOk, OnErr};
 ghost use Rattle.std.specs.Io.KnownBytes.{Keeps, IsAtEnd};
-ghost use Rattle.lj_wire.specs.Ahead.{untaken, Takes};
+ghost use Rattle.lj_wire.specs.Ahead.{untaken, Takes, ReadsFor};
 ghost use Rattle.lj_wire.specs.Ends.{Rises};
 ghost use Rattle.lj_wire.specs.Steps.{Fills, TakesFewer, PassesCount, ReadsBody};
 
@@ -21,6 +21,7 @@ pub(crate) fn read_body<S: Source>(
     ensures counted { OnOk result (input.new.errors ≡ input.old.errors) }
     ensures part { OnErr result (TakesFewer input.old input.new count) }
     ensures risen { OnErr result (Rises input.old.errors input.new.errors) }
+    ensures reads_for { ReadsFor input.old input.new count }
 {
     let mut bytes = Vec::new(alloc);
     if bytes.resize(count, 0).is_err() {
@@ -38,6 +39,7 @@ pub(crate) fn fill<S: Source>(input: &mut Input<S>, room: &mut [u8]) -> Result<b
     ensures counted { OnOk result (input.new.errors ≡ input.old.errors) }
     ensures part { OnErr result (TakesFewer input.old input.new (length room.new)) }
     ensures risen { OnErr result (Rises input.old.errors input.new.errors) }
+    ensures reads_for { ReadsFor input.old input.new (length room.new) }
 {
     let mut at = copy_held(input, room);
     while at < room.len() {
@@ -69,6 +71,7 @@ pub(crate) fn pass<S: Source>(input: &mut Input<S>, count: usize) -> Result<bool
     ensures counted { OnOk result (input.new.errors ≡ input.old.errors) }
     ensures part { OnErr result (TakesFewer input.old input.new count) }
     ensures risen { OnErr result (Rises input.old.errors input.new.errors) }
+    ensures reads_for { ReadsFor input.old input.new count }
 {
     let mut left = count - take_held(input, count);
     while left > 0 {

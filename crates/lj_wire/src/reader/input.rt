@@ -3,7 +3,7 @@ ghost use Rattle.std.specs.Prelude.{◌≡◌, ℕ, ◌≤◌, ◌<◌, [], leng
 ghost use Rattle.lj_wire.specs.Ahead.{untaken, Grows, Takes, HoldsNoFeed, TakesPart};
 ghost use Rattle.std.specs.Io.KnownBytes.{Keeps, IsAtEnd};
 ghost use Rattle.lj_wire.specs.Ends.{Rises};
-ghost use Rattle.lj_wire.specs.Steps.{Finds, Passes};
+ghost use Rattle.lj_wire.specs.Steps.{Finds, Passes, SearchesFor};
 
 use super::buffer::{Buffer, MAX_HELD_BYTES};
 use crate::ends::{ReadFault, Source};
@@ -122,10 +122,12 @@ impl<S: Source> Input<S> {
         self.source.read(room)
     }
 
+    #[tactic(auto, using(crate::proofs::Passing::searched_more, crate::proofs::Passing::searched_long))]
     /// Reads until the first line is held, or more bytes than a command has, or the input ends.
     /// What is held when it ends, or at a fault, is taken.
     pub(crate) fn find_line(&mut self) -> Result<Front, ReadFault>
         ensures found { IfOk result (λ front. Finds self.old front self.new) }
+        ensures searched { IfOk result (λ front. SearchesFor self.old front self.new) }
         ensures counted { OnOk result (self.new.errors ≡ self.old.errors) }
         ensures part { OnErr result (TakesPart self.old self.new) }
         ensures risen { OnErr result (Rises self.old.errors self.new.errors) }

@@ -1,5 +1,6 @@
 //! Items read whole.
 ghost use Rattle.std.specs.Prelude.{◌≡◌, IfOk, OnOk, OnErr};
+ghost use Rattle.lj_wire.specs.Ahead.{ReadsFor};
 ghost use Rattle.lj_wire.specs.Ends.{Rises};
 ghost use Rattle.lj_wire.specs.Steps.{takes_body, Finishes, ReadsItem, TakesFewer, TakesNoItem};
 
@@ -49,6 +50,7 @@ fn finish<S: Source>(
     ensures counted { OnOk result (input.new.errors ≡ input.old.errors) }
     ensures part { OnErr result (TakesFewer input.old input.new count) }
     ensures risen { OnErr result (Rises input.old.errors input.new.errors) }
+    ensures reads_for { ReadsFor input.old input.new count }
 {
     if !takes_body(&item) {
         return Ok(pass(input, count)?.then_some(item));

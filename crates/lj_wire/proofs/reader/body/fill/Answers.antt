@@ -1,4 +1,4 @@
-use Rattle.std.proofs.Common.{◌-◌, length, sym, ◌∙◌, subst, rules}
+use Rattle.std.proofs.Common.{arith, ◌-◌, length, sym, ◌∙◌, subst, rules}
 use Rattle.lj_wire.specs.Ahead.{Takes}
 use Rattle.lj_wire.proofs.Buffers.{filled_more}
 use Rattle.lj_wire.proofs.Taking.{Takes-trans}
@@ -18,4 +18,5 @@ loop-at-preserved g c =
           (Takes-trans c.args.input.now c.loop-at.input c.read_into.new.self _ _ i.taken c.in_ok-count.ensures.taken);
       held = λ _. c.in_ok-count.ensures.held;
       errors = c.in_ok-count.ensures.counted ∙ i.errors;
+      reads_for = λ enough. absurd (omega (arith, c.loop-at-test.true, (i.reads_for (search rules)).0));
     }

@@ -9,6 +9,7 @@ invariant-loop-at g l = record {
   taken : Takes l.fn.input l.input (take l.at l.room);
   held : l.at < length l.room → l.input.held ≡ [];
   errors : l.input.errors ≡ l.fn.input.errors;
+  reads_for : length l.room ≤ length l.fn.input.held → (l.at ≡ length l.room) × (l.input.unread ≡ l.fn.input.unread);
 }
 
 abbrev pub decreases-loop-at : goal.decreases-loop-at

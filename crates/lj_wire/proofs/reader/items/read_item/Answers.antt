@@ -1,10 +1,10 @@
-use Rattle.std.proofs.Common.{◌≤◌, length, take, ap, ◌∙◌, arith}
+use Rattle.std.proofs.Common.{◌≡◌, ◌≤◌, length, take, ap, ◌∙◌, arith}
 use Rattle.std.proofs.lemmas.Result.{IfOk-weaker, IfErr-weaker}
 use Rattle.lj_wire.specs.declared.reader.buffer.TheConstants.{MAX_HELD_BYTES}
 use Rattle.lj_wire.specs.declared.reader.input.Front.TheVariants as front
 use Rattle.lj_wire.specs.declared.reader.input.Passed.TheVariants as passed
-use Rattle.lj_wire.specs.Steps.{Finds, Passes}
-use Rattle.lj_wire.proofs.Wholes.{line_taken, finished, open_body, long_line, too_long}
+use Rattle.lj_wire.specs.Steps.{Finds, SearchesFor, Passes}
+use Rattle.lj_wire.proofs.Wholes.{line_taken, goes_onward, finished, open_body, long_line, too_long}
 use Rattle.lj_wire.proofs.reader.items.read_item.Goals as goal
 
 pub returns-in-Line-clause-item : goal.returns-in-Line-clause-item
@@ -15,8 +15,11 @@ returns-in-Line-clause-item g c =
     let bounded : length mid.held ≤ MAX_HELD_BYTES = omega (arith, c.held.ensures.bounded, ap length c.held.ensures.value) in
     let t = line_taken c.args.input.now mid c.take.new.self c.in-Line.count line found.0 found.1
     (c.split_at.ensures.front ∙ ap (take c.in-Line.count) c.held.ensures.value) bounded c.take.ensures in
+    let searched : SearchesFor c.args.input.now (front.Line c.in-Line.count) mid = rw c.in-Line.is at c.in_ok-count.ensures.searched in
+    let counted : length line ≡ c.in-Line.count = c.split_at.ensures.front_len in
+    let on = goes_onward c.args.input.now mid c.take.new.self c.finish.new.input line c.in-Line.count _ counted searched c.take.ensures c.finish.ensures.reads_for in
     IfOk-weaker c.finish.result _ _
-    (λ handed f. finished c.args.input.now c.take.new.self c.finish.new.input line _ _ handed t c.read_line-reading.ensures.item c.read_line-reading.ensures.body f)
+    (λ handed f. finished c.args.input.now c.take.new.self c.finish.new.input line _ _ handed t on c.read_line-reading.ensures.item c.read_line-reading.ensures.body f)
     c.finish.ensures.item
 
 pub returns-in-Line-clause-part : goal.returns-in-Line-clause-part
@@ -36,11 +39,13 @@ returns-in-Line-2-clause-item g c =
     let mid = c.find_line.new.self in
     let found : Finds c.args.input.now front.Long mid = rw c.in-Long.is at c.in_ok-count.ensures.found in
     let passes : Passes mid passed.Line c.pass_line.new.self = rw c.in-Line-2.is at c.in_ok-pass_line-in-Long.ensures.passed in
-    long_line c.args.input.now mid c.pass_line.new.self found.0 passes
+    let searched : SearchesFor c.args.input.now front.Long mid = rw c.in-Long.is at c.in_ok-count.ensures.searched in
+    long_line c.args.input.now mid c.pass_line.new.self found.0 searched passes
 
 pub returns-in-Long-2-clause-item : goal.returns-in-Long-2-clause-item
 returns-in-Long-2-clause-item g c =
     let mid = c.find_line.new.self in
     let found : Finds c.args.input.now front.Long mid = rw c.in-Long.is at c.in_ok-count.ensures.found in
     let passes : Passes mid passed.Long c.pass_line.new.self = rw c.in-Long-2.is at c.in_ok-pass_line-in-Long.ensures.passed in
-    too_long c.args.input.now mid c.pass_line.new.self found.0 passes
+    let searched : SearchesFor c.args.input.now front.Long mid = rw c.in-Long.is at c.in_ok-count.ensures.searched in
+    too_long c.args.input.now mid c.pass_line.new.self found.0 searched found.1.bounded passes

@@ -1,6 +1,7 @@
 use Rattle.std.proofs.Common.{◌≡◌, ◌-◌, length}
 use Rattle.std.specs.Io.KnownBytes.{Keeps}
 use Rattle.lj_wire.specs.Ahead.{untaken}
+use Rattle.lj_wire.proofs.Passing.{Searched}
 use Rattle.lj_wire.proofs.reader.input.Input.find_line.Given as goal
 
 -- what is read is not yet taken
@@ -8,6 +9,7 @@ abbrev pub invariant-reads : goal.invariant-reads
 invariant-reads g l = record {
   kept : Keeps (untaken l.fn.self) (untaken l.self);
   errors : l.self.errors ≡ l.fn.self.errors;
+  searched : Searched l.fn.self l.self;
 }
 
 abbrev pub decreases-reads : goal.decreases-reads
