@@ -1,10 +1,10 @@
 -- The flags of an open step, tile by tile and pair by pair.
-use Rattle.std.proofs.Common.{ℕ, ◌*◌, ◌/◌, ◌<◌, ◌≤◌, ◌≡◌, ◌≢◌, ◌&&◌, Bool, true, false, nat_lt, List, length, map, slice_index_or, slice_set, count_by, cond, inl, inr, refl, sym, ap, ◌∙◌, get_or-set_same, get_or-set_other, arith}
+use Rattle.std.proofs.Common.{ℕ, ◌+◌, ◌*◌, ◌/◌, ◌<◌, ◌≤◌, ◌≡◌, ◌≢◌, ◌&&◌, Bool, true, false, nat_lt, List, [], ◌∷◌, length, map, slice_index_or, slice_set, count_by, cond, inl, inr, refl, sym, ap, ◌∙◌, get_or-set_same, get_or-set_other, arith}
 use Rattle.std.specs.List.{range_with_len}
 use Rattle.std.proofs.lemmas.Bool.{cases_lt, cases_Bool, true≢false}
 use Rattle.std.proofs.lemmas.Bool.Decides.{nat_tests}
 use Rattle.std.proofs.lemmas.List.{get_or_past}
-use Rattle.std.proofs.lemmas.List.Sums.{get_or-le-sum_by}
+use Rattle.std.proofs.lemmas.List.Sums.{get_or-le-sum_by, sum_by-cons}
 use Rattle.std.proofs.lemmas.List.FromFn.{get_or-map-range_with_len, length-map-range_with_len}
 use Rattle.lj_tile.specs.declared.names.Kind.{Kind}
 use Rattle.lj_tile.specs.declared.names.Kind.TheVariants.{Force, Energy}
@@ -37,6 +37,14 @@ pub flag_second_other : (flags : List Bool) (bi bj i j : ℕ) → j / 64 ≢ bj 
 flag_second_other flags bi bj i j other few within =
     let apart : tile_number (i / 64) (j / 64) ≢ tile_number bi bj = omega arith in
     get_or-set_other flags (tile_number bi bj) (tile_number (i / 64) (j / 64)) false false apart
+
+-- the flags that are set are as many as the numbers that pass
+pub count_flags : (p : ℕ → Bool) (xs : List ℕ) → count_by (λ awaited. awaited) (map p xs) ≡ count_by p xs
+count_flags p [] = refl
+count_flags p (x ∷ xs) =
+    sum_by-cons (λ (awaited : Bool). cond awaited 1 0) (p x) (map p xs)
+    ∙ ap (λ s. cond (p x) 1 0 + s) (count_flags p xs)
+    ∙ sym (sum_by-cons (λ k. cond (p k) 1 0) x xs)
 
 -- where no flag is left, none is set
 pub none_left : (flags : List Bool) (k : ℕ) → count_by (λ awaited. awaited) flags ≡ 0 → slice_index_or flags k false ≡ false

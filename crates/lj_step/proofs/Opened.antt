@@ -3,7 +3,7 @@ use Rattle.std.proofs.Common.{ℕ, ◌+◌, ◌-◌, ◌*◌, ◌/◌, ◌^◌, 
 use Rattle.std.specs.List.{range_with_len}
 use Rattle.std.proofs.lemmas.List.{get_or-replicate}
 use Rattle.std.proofs.lemmas.Bool.{cases_eq, cases_lt, true≢false}
-use Rattle.std.proofs.lemmas.List.Sums.{length-filter, count_by-le-length, sum_by-set, sum_by-cons, get_or-le-sum_by}
+use Rattle.std.proofs.lemmas.List.Sums.{length-filter, count_by-le-length, sum_by-set, get_or-le-sum_by}
 use Rattle.std.proofs.lemmas.List.FromFn.{length-range_with_len}
 use Rattle.lj_ring.specs.declared.coordinates.Place.{Place}
 use Rattle.lj_ring.specs.Scales.{Units}
@@ -16,17 +16,9 @@ use Rattle.lj_step.specs.OpenSteps.{blocks, block, tile_number, tile_number_of, 
 use Rattle.lj_step.specs.Sums.{HasRoom, HasAdded, IsOpen, IsPartial, force_so_far, energy_so_far}
 use Rattle.lj_step.proofs.BlockSums.{length_in}
 use Rattle.lj_step.proofs.BlockPlaces.{block_length, place_in, length_in_most}
-use Rattle.lj_step.proofs.Flags.{force_opened, energy_opened, opened_within}
+use Rattle.lj_step.proofs.Flags.{count_flags, force_opened, energy_opened, opened_within}
 use Rattle.lj_step.proofs.PartialForces.{block_force, task_is, force_more, force_same, force_none}
 use Rattle.lj_step.proofs.PartialEnergies.{energy_task_is, energy_more, energy_none}
-
--- the flags that are set are as many as the numbers that pass
-count_flags : (p : ℕ → Bool) (xs : List ℕ) → count_by (λ awaited. awaited) (map p xs) ≡ count_by p xs
-count_flags p [] = refl
-count_flags p (x ∷ xs) =
-    sum_by-cons (λ (awaited : Bool). cond awaited 1 0) (p x) (map p xs)
-    ∙ ap (λ s. cond (p x) 1 0 + s) (count_flags p xs)
-    ∙ sym (sum_by-cons (λ k. cond (p k) 1 0) x xs)
 
 -- an opened step
 pub opened_is : (u : Units) (frame : List Place) (p : Partial) (kind : Kind) → length frame ≤ 4096

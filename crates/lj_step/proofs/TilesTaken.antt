@@ -3,7 +3,7 @@ use Rattle.std.proofs.Common.{ℕ, ◌+◌, ◌-◌, ◌*◌, ◌<◌, ◌≤◌
 use Rattle.std.specs.List.{range_with_len, AllPairs}
 use Rattle.std.specs.Option.{option_map}
 use Rattle.std.proofs.lemmas.List.Kept.{AllPairs-filter}
-use Rattle.std.proofs.lemmas.List.Sums.{length-filter, sum_by-cons, sum_by-set}
+use Rattle.std.proofs.lemmas.List.Sums.{length-filter, sum_by-set}
 use Rattle.std.proofs.lemmas.List.FromFn.{get_or-range_with_len, length-range_with_len}
 use Rattle.std.proofs.lemmas.Option.{slice_get_cases, same_Some, none-some, get_or_from_slice_get}
 use Rattle.lj_tile.specs.declared.names.Label.{Label}
@@ -11,7 +11,7 @@ use Rattle.lj_tile.specs.declared.names.Kind.{Kind}
 use Rattle.lj_tile.specs.Tasks.{Work}
 use Rattle.lj_step.specs.Live.{Live, OpenStep}
 use Rattle.lj_step.specs.OpenSteps.{blocks, is_tile, cover, opened, tile_number_of, task_of, task_in, task_at, IsAwaitedTaskIn, IsAwaitedTask, with_tile, kind_of, is_whole}
-use Rattle.lj_step.proofs.Flags.{opened_flag}
+use Rattle.lj_step.proofs.Flags.{count_flags, opened_flag}
 use Rattle.lj_step.specs.InOrder.{AwaitsFrom}
 use Rattle.lj_step.proofs.Steps.{cover_tile, cover_within, set_within}
 
@@ -24,14 +24,6 @@ range_rises a n i j d before below =
 
 pub cover_rises : (kind : Kind) (count : ℕ) → AllPairs (λ x y. x < y) (cover kind count)
 cover_rises kind count = AllPairs-filter (λ x y. x < y) (is_tile kind count) (range_with_len 0 (64 * blocks count)) (range_rises 0 (64 * blocks count))
-
--- the flags that are set are as many as the numbers that pass
-count_flags : (p : ℕ → Bool) (xs : List ℕ) → count_by (λ awaited. awaited) (map p xs) ≡ count_by p xs
-count_flags p [] = refl
-count_flags p (x ∷ xs) =
-    sum_by-cons (λ (awaited : Bool). cond awaited 1 0) (p x) (map p xs)
-    ∙ ap (λ s. cond (p x) 1 0 + s) (count_flags p xs)
-    ∙ sym (sum_by-cons (λ k. cond (p k) 1 0) x xs)
 
 -- an opened step
 pub opened_awaits : (kind : Kind) (count : ℕ) (part : Option OpenStep) → part ≡ Some (opened kind count) → AwaitsFrom kind count 0 part
@@ -55,7 +47,7 @@ all_taken kind count i part h past =
     let none : count_by (λ awaited. awaited) h.flags ≡ 0 = omega (arith, h.left, past) in
     ap is_whole h.is_open ∙ ap (λ n. nat_le n 0) none
 
-number_is : (live : Live) (label : Label) (kind : Kind) (k : ℕ) → tile_number_of (task_of live label kind k) ≡ k
+pub number_is : (live : Live) (label : Label) (kind : Kind) (k : ℕ) → tile_number_of (task_of live label kind k) ≡ k
 number_is live label kind k = omega arith
 
 -- the i-th task of the step is that of the i-th number of the cover
