@@ -25,7 +25,7 @@ take_lacks k bytes h =
     first_false (list_any is_line_feed (take k bytes)) (list_any is_line_feed (drop k bytes))
     (sym (list_any-append is_line_feed (take k bytes) (drop k bytes)) ∙ ap (list_any is_line_feed) (take-append-drop k bytes) ∙ h)
 
--- the first line and what stands behind its line feed
+-- the first line and what stands after its line feed
 record FirstLine (bytes : List ℕ) : Type 0 where
   line : List ℕ
   behind : List ℕ
@@ -46,7 +46,7 @@ first_line (byte ∷ bytes) = by_test (is_line_feed byte) refl (first_line bytes
       lacks = rw e f.lacks;
     })
 
--- an item, and a splitting of what stands behind it
+-- an item, and a splitting of what stands after it
 onward : (n : ℕ) (bytes front behind : List ℕ) (item : Item) → bytes ≡ front ++ behind → IsItem n front item → Split (n + 1) behind → Split n bytes
 onward n bytes front behind item e i next = by_end (ends item) refl
   where
@@ -65,7 +65,7 @@ long_split n bytes front behind below e h l =
     let item : IsLongItem (take 65536 front) (Last Long) = record { one_line = take_lacks 65536 front h; long = length-take-le 65536 front l; means = refl } in
     ended_by n bytes (take 65536 front) (drop 65536 front ++ behind) (Last Long) (e ∙ cut) (inl (below, inr item)) refl
 
--- what stands behind the first item is shorter than the stream
+-- what stands after the first item is shorter than the stream
 abbrev Shorter : ℕ → List ℕ → Type 0
 Shorter n bytes = (behind : List ℕ) → length behind < length bytes → Split (n + 1) behind
 

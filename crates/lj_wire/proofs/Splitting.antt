@@ -19,7 +19,7 @@ tail_of byte bytes h = second (is_line_feed byte) (list_any is_line_feed bytes) 
 no_feed : (bytes : List ℕ) → LacksLineFeed (10 ∷ bytes) → ⊥
 no_feed bytes h = let e : true ≡ false = h in cc
 
--- where a line feed stands behind a line, the line does not go on
+-- where a line feed stands after a line, the line does not go on
 pub no_feed_within : (line behind : List ℕ) → LacksLineFeed (line ++ 10 ∷ behind) → ⊥
 no_feed_within [] behind h = no_feed behind h
 no_feed_within (byte ∷ line) behind h = no_feed_within line behind (tail_of byte (line ++ 10 ∷ behind) h)
@@ -62,7 +62,7 @@ same_front (a ∷ front) (b ∷ other) behind after l e =
     let first = heads a b (front ++ behind) (other ++ after) e in
     (ap (λ x. x ∷ front) first ∙ ap (λ x. b ∷ x) next.0, next.1)
 
--- the line of an item at the front, and what stands behind its line feed
+-- the line of an item at the front, and what stands after its line feed
 pub at_line : {bytes : List ℕ} {item : Item} (behind : List ℕ) (i : IsLineItem bytes item) → bytes ++ behind ≡ i.line ++ 10 ∷ (i.body ++ behind)
 at_line behind i = ap (λ x. x ++ behind) i.whole ∙ append_assoc i.line (10 ∷ i.body) behind
 
@@ -82,7 +82,7 @@ long_long : (front other behind after : List ℕ) (item next : Item) → front +
 long_long front other behind after item next e i j =
     ((same_front front other behind after (i.long ∙ sym j.long) e).1, i.means ∙ sym j.means)
 
--- the item at the front of bytes, and what stands behind it, are one
+-- the item at the front of bytes, and what stands after it, are one
 pub same_item : (n : ℕ) (front other behind after : List ℕ) (item next : Item) → front ++ behind ≡ other ++ after → IsItem n front item → IsItem n other next
     → (behind ≡ after) × (item ≡ next)
 same_item n front other behind after item next e (inl i) (inl j) = of_kinds i.1 j.1
