@@ -60,12 +60,13 @@ pub record Ceases (old new : Standing) : Type 0 where
   pub errors_is : new.errors ≡ old.errors
   pub phase_is : new.phase ≡ Over
 
--- a read has failed in less than an item, which was taken
+-- a read has failed in less than an item, which was taken: of the bytes read none is left
 pub record Fails (old new : Standing) : Type 0 where
   pub was_open : old.phase ≡ Open
   pub part : List ℕ
   pub taken : Consumes old.left new.left part
   pub is_part : IsPart old.items part
+  pub all_taken : new.left ≡ new.unread
   pub items_is : new.items ≡ old.items
   pub errors_rise : Rises old.errors new.errors
   pub phase_is : new.phase ≡ Failed

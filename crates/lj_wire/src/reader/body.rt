@@ -20,6 +20,7 @@ pub(crate) fn read_body<S: Source>(
     ensures body { IfOk result (λ body. ReadsBody input.old body count input.new) }
     ensures counted { OnOk result (input.new.errors ≡ input.old.errors) }
     ensures part { OnErr result (TakesFewer input.old input.new count) }
+    ensures emptied { OnErr result (input.new.held ≡ []) }
     ensures risen { OnErr result (Rises input.old.errors input.new.errors) }
     ensures reads_for { ReadsFor input.old input.new count }
 {
@@ -38,6 +39,7 @@ pub(crate) fn fill<S: Source>(input: &mut Input<S>, room: &mut [u8]) -> Result<b
     ensures filled { IfOk result (λ filled. Fills input.old filled room.new input.new) }
     ensures counted { OnOk result (input.new.errors ≡ input.old.errors) }
     ensures part { OnErr result (TakesFewer input.old input.new (length room.new)) }
+    ensures emptied { OnErr result (input.new.held ≡ []) }
     ensures risen { OnErr result (Rises input.old.errors input.new.errors) }
     ensures reads_for { ReadsFor input.old input.new (length room.new) }
 {
@@ -70,6 +72,7 @@ pub(crate) fn pass<S: Source>(input: &mut Input<S>, count: usize) -> Result<bool
     ensures passed { IfOk result (λ passed. PassesCount input.old passed count input.new) }
     ensures counted { OnOk result (input.new.errors ≡ input.old.errors) }
     ensures part { OnErr result (TakesFewer input.old input.new count) }
+    ensures emptied { OnErr result (input.new.held ≡ []) }
     ensures risen { OnErr result (Rises input.old.errors input.new.errors) }
     ensures reads_for { ReadsFor input.old input.new count }
 {

@@ -130,6 +130,7 @@ impl<S: Source> Input<S> {
         ensures searched { IfOk result (λ front. SearchesFor self.old front self.new) }
         ensures counted { OnOk result (self.new.errors ≡ self.old.errors) }
         ensures part { OnErr result (TakesPart self.old self.new) }
+        ensures emptied { OnErr result (self.new.held ≡ []) }
         ensures risen { OnErr result (Rises self.old.errors self.new.errors) }
     {
         'reads: loop {
@@ -160,6 +161,7 @@ impl<S: Source> Input<S> {
         ensures passed { IfOk result (λ passed. Passes self.old passed self.new) }
         ensures counted { OnOk result (self.new.errors ≡ self.old.errors) }
         ensures part { OnErr result (TakesPart self.old self.new) }
+        ensures emptied { OnErr result (self.new.held ≡ []) }
         ensures risen { OnErr result (Rises self.old.errors self.new.errors) }
     {
         let mut seen = self.held().len();

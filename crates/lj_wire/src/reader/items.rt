@@ -1,6 +1,5 @@
 //! Items read whole.
-ghost use Rattle.std.specs.Prelude.{◌≡◌, IfOk, OnOk, OnErr};
-ghost use Rattle.lj_wire.specs.Ahead.{ReadsFor};
+ghost use Rattle.std.specs.Prelude.{◌≡◌, [], IfOk, OnOk, OnErr};
 ghost use Rattle.lj_wire.specs.Ends.{Rises};
 ghost use Rattle.lj_wire.specs.Steps.{takes_body, Finishes, ReadsItem, TakesFewer, TakesNoItem};
 
@@ -20,6 +19,7 @@ pub(crate) fn read_item<S: Source>(
     ensures item { IfOk result (λ item. ReadsItem input.old item input.new) }
     ensures counted { OnOk result (input.new.errors ≡ input.old.errors) }
     ensures part { OnErr result (TakesNoItem input.old input.new) }
+    ensures emptied { OnErr result (input.new.held ≡ []) }
     ensures risen { OnErr result (Rises input.old.errors input.new.errors) }
 {
     match input.find_line()? {
@@ -49,6 +49,7 @@ fn finish<S: Source>(
     ensures item { IfOk result (λ handed. Finishes input.old item count handed input.new) }
     ensures counted { OnOk result (input.new.errors ≡ input.old.errors) }
     ensures part { OnErr result (TakesFewer input.old input.new count) }
+    ensures emptied { OnErr result (input.new.held ≡ []) }
     ensures risen { OnErr result (Rises input.old.errors input.new.errors) }
     ensures reads_for { ReadsFor input.old input.new count }
 {
