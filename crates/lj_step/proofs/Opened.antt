@@ -1,5 +1,5 @@
 -- The sums of a step as it is opened, and as a result comes in.
-use Rattle.std.proofs.Common.{ℕ, ◌+◌, ◌-◌, ◌*◌, ◌/◌, ◌^◌, ◌<◌, ◌≤◌, ◌≡◌, ◌≢◌, ◌⊎◌, pos, ◌+ℤ◌, unsigned_abs, Bool, true, false, cond, List, [], ◌∷◌, length, map, replicate, slice_index_or, slice_set, count_by, Option, Some, inl, inr, refl, sym, ap, ◌∙◌, subst, get_or-set_same, get_or-set_other, arith}
+use Rattle.std.proofs.Common.{ℕ, ◌+◌, ◌-◌, ◌*◌, ◌/◌, ◌^◌, ◌<◌, ◌≤◌, ◌≡◌, ◌≢◌, ◌⊎◌, pos, ◌+ℤ◌, unsigned_abs, Bool, true, false, cond, List, length, map, replicate, slice_index_or, slice_set, count_by, Option, Some, inl, inr, sym, ap, ◌∙◌, subst, get_or-set_same, get_or-set_other, arith}
 use Rattle.std.specs.List.{range_with_len}
 use Rattle.std.proofs.lemmas.List.{get_or-replicate}
 use Rattle.std.proofs.lemmas.Bool.{cases_eq, cases_lt, true≢false}

@@ -1,13 +1,16 @@
 -- What stays of a simulation in the code where its open step changes.
-use Rattle.std.proofs.Common.{◌≡◌, ◌≤◌, ◌+◌, ◌*◌, ◌^◌, ◌+ℤ◌, unsigned_abs, false, true, length, slice_index_or, slice_set, vec_capacity, Some, refl, sym, ap, ◌∙◌, subst}
+use Rattle.std.proofs.Common.{◌≡◌, ◌≤◌, ◌+◌, ◌*◌, ◌^◌, ◌+ℤ◌, ◌-ℤ◌, unsigned_abs, false, true, length, slice_index_or, slice_set, vec_capacity, Some, None, refl, sym, ap, ◌∙◌, subst}
 use Rattle.std.proofs.lemmas.List.{length-set}
 use Rattle.lj_tile.specs.declared.names.Label.{Label}
 use Rattle.lj_tile.specs.declared.names.Kind.{Kind}
 use Rattle.lj_tile.specs.declared.names.Kind.TheVariants.{Energy}
 use Rattle.lj_tile.specs.Tasks.{Work, task_energy}
 use Rattle.lj_step.specs.declared.partial.Partial.{Partial}
+use Rattle.lj_step.specs.declared.frames.TheConstants.{MAX_ATOMS}
+use Rattle.lj_step.specs.declared.simulations.TheConstants.{MAX_STEP}
 use Rattle.lj_step.specs.declared.simulations.Sim.TheInside.{Inside}
-use Rattle.lj_step.specs.Kept.{IsSound, live_of}
+use Rattle.lj_step.specs.Kept.{IsSound, live_of, sign_of}
+use Rattle.lj_step.specs.Laws.{AreOnRing}
 use Rattle.lj_step.specs.Live.{Live}
 use Rattle.lj_step.specs.OpenSteps.{blocks, tile_number_of, task_of, IsAwaitedTask}
 use Rattle.lj_step.specs.Sums.{HasAdded, HasRoom, IsPartial}
@@ -27,6 +30,23 @@ with_partial a p sound room partial = record {
   room = room;
   partial = partial;
 }
+
+-- with the present frame as the one before, another one as the present, and no step open
+pub with_frames : (a b : Inside) → IsSound a → b.prev.items ≡ a.cur.items → length b.cur.items ≡ length a.cur.items → AreOnRing b.cur.items
+    → unsigned_abs b.step ≤ MAX_STEP → unsigned_abs (b.step -ℤ sign_of b.dir) ≤ MAX_STEP → b.partial ≡ record a.partial { kind = None } → IsSound b
+with_frames a b sound prev count cur step last partial =
+    let room = subst (λ n. HasRoom n a.partial) (sym count) sound.room in
+    record {
+      same = ap length prev ∙ sym count;
+      some = subst (λ n. 1 ≤ n) (sym count) sound.some;
+      most = subst (λ n. n ≤ MAX_ATOMS) (sym count) sound.most;
+      prev_on_ring = subst AreOnRing (sym prev) sound.cur_on_ring;
+      cur_on_ring = cur;
+      step_bound = step;
+      last_bound = last;
+      room = subst (HasRoom (length b.cur.items)) (sym partial) (record { pushes = room.pushes; awaited = room.awaited; tiles = room.tiles });
+      partial = subst (λ p. IsPartial b.scale b.cur.items p p.kind) (sym partial) tt;
+    }
 
 -- with one result more, of a task that is awaited
 module _ (a : Inside) (now : Live) (label : Label) (asked work : Work) (sound : IsSound a) (view : live_of a ≡ now) (same : asked ≡ work)

@@ -1,5 +1,5 @@
 -- The tiles of a step taken in the order of its cover.
-use Rattle.std.proofs.Common.{ℕ, ◌+◌, ◌-◌, ◌*◌, ◌<◌, ◌≤◌, ◌≡◌, ◌≢◌, Bool, true, false, nat_le, cond, List, [], ◌∷◌, length, map, slice_index_or, slice_set, slice_get, count_by, Option, Some, None, inl, inr, refl, sym, ap, ◌∙◌, subst, get_or-set_other, arith}
+use Rattle.std.proofs.Common.{ℕ, ◌+◌, ◌-◌, ◌*◌, ◌<◌, ◌≤◌, ◌≡◌, ◌≢◌, Bool, true, false, nat_le, cond, length, map, slice_index_or, slice_set, slice_get, count_by, Option, Some, None, inl, inr, sym, ap, ◌∙◌, subst, get_or-set_other, arith}
 use Rattle.std.specs.List.{range_with_len, AllPairs}
 use Rattle.std.specs.Option.{option_map}
 use Rattle.std.proofs.lemmas.List.Kept.{AllPairs-filter}

@@ -1,4 +1,4 @@
-use Rattle.std.proofs.Common.{ℕ, ◌≡◌, ◌≤◌, ◌<◌, ◌^◌, ◌+ℤ◌, unsigned_abs, length, slice_index_or, rules, ap, ◌∙◌, subst, sym, to_z, of_z, w64}
+use Rattle.std.proofs.Common.{ℕ, ◌≡◌, ◌≤◌, ◌<◌, ◌^◌, ◌+ℤ◌, unsigned_abs, length, slice_index_or, rules, refl, ap, ◌∙◌, subst, sym, to_z, of_z, w64}
 use Rattle.lj_tile.specs.declared.names.Kind.TheVariants.{Force}
 use Rattle.lj_tile.specs.Pushes.{no_push}
 use Rattle.lj_step.specs.Motion.{next_frame, force, stepped}
@@ -6,10 +6,10 @@ use Rattle.lj_step.specs.Live.{Live}
 use Rattle.lj_step.specs.Kept.{sign_of, live_of}
 use Rattle.lj_step.specs.OpenSteps.{kind_of, is_whole, closed}
 use Rattle.lj_step.specs.Laws.{AreOnRing}
-use Rattle.lj_step.specs.Sums.{HasRoom}
 use Rattle.lj_step.proofs.Undone.{next_frame_length, next_on_ring}
 use Rattle.lj_step.proofs.StepNumbers.{next_number}
 use Rattle.lj_step.proofs.Steps.{whole_of, forces_of, frame_is, turned_is}
+use Rattle.lj_step.proofs.Sound.{with_frames}
 use Rattle.lj_step.proofs.simulations.Sim.turn.Goals as goal
 
 sum_bound : (c : goal.After-self-3-1) → unsigned_abs (c.self.inside.step +ℤ sign_of c.self.inside.dir) ≤ 10 ^ 12
@@ -46,18 +46,7 @@ returns c =
 pub invariant_of-self : goal.invariant_of-self
 invariant_of-self c =
     let a = c.self.inside in
-    let prev : c.swap.new.x.items ≡ a.cur.items = ap (λ v. v.items) c.swap.ensures.x_after in
-    let cur : c.swap.new.y.items ≡ next_frame a.scale a.prev.items a.cur.items = next_is c in
-    let count : length c.swap.new.y.items ≡ length a.cur.items = ap length cur ∙ next_frame_length a.scale a.prev.items a.cur.items in
-    let room = subst (λ n. HasRoom n a.partial) (sym count) c.self.invariant.room in
-    record {
-      same = ap length prev ∙ sym count;
-      some = subst (λ n. 1 ≤ n) (sym count) c.self.invariant.some;
-      most = subst (λ n. n ≤ 4096) (sym count) c.self.invariant.most;
-      prev_on_ring = subst AreOnRing (sym prev) c.self.invariant.cur_on_ring;
-      cur_on_ring = subst AreOnRing (sym cur) (next_on_ring a.scale a.prev.items a.cur.items);
-      step_bound = rw (next_step c) (sum_bound c);
-      last_bound = search rules;
-      room = record { pushes = room.pushes; awaited = room.awaited; tiles = room.tiles };
-      partial = tt;
-    }
+    with_frames a _ c.self.invariant (ap (λ v. v.items) c.swap.ensures.x_after)
+    (ap length (next_is c) ∙ next_frame_length a.scale a.prev.items a.cur.items)
+    (subst AreOnRing (sym (next_is c)) (next_on_ring a.scale a.prev.items a.cur.items))
+    (rw (next_step c) (sum_bound c)) (search rules) refl
