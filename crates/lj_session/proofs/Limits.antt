@@ -18,21 +18,23 @@ over-limit total limit h = by_test (nat_le total limit)
 pub same_over : (a b : Over) → ◌≡◌ {A = Result (Unit {0}) Over} (Err a) (Err b) → a ≡ b
 same_over a b e = cc
 
+-- one more than a total is over a limit, or within it, where these are the code's
+module _ {total limit m n : ℕ} (same : total ≡ m) (allowed : limit ≡ n) where
+  more-over : limit < total + 1 → nat_lt m n ≡ false
+  more-over h = le-ltb m n (omega (arith, h, same, allowed))
+
+  more-room : total + 1 ≤ limit → nat_lt m n ≡ true
+  more-room h = lt-ltb m n (omega (arith, h, same, allowed))
+
 module _ (a : Inside) (old : Owned) (view : owned_of a ≡ old) (counted : a.used ≡ used_by (owned_of a)) where
   before : a.used ≡ used_by old
   before = counted ∙ ap used_by view
 
   pub sessions-over : a.quota.sessions < a.used.sessions + 1 → nat_lt (sessions_used (user_of old)) old.quota.sessions ≡ false
-  sessions-over h =
-      let u = ap (λ (v : Used). v.sessions) before in
-      let q = ap (λ (o : Owned). o.quota.sessions) view in
-      le-ltb (sessions_used (user_of old)) old.quota.sessions (omega (arith, h, u, q))
+  sessions-over = more-over (ap (λ (v : Used). v.sessions) before) (ap (λ (o : Owned). o.quota.sessions) view)
 
   pub sessions-room : a.used.sessions + 1 ≤ a.quota.sessions → nat_lt (sessions_used (user_of old)) old.quota.sessions ≡ true
-  sessions-room h =
-      let u = ap (λ (v : Used). v.sessions) before in
-      let q = ap (λ (o : Owned). o.quota.sessions) view in
-      lt-ltb (sessions_used (user_of old)) old.quota.sessions (omega (arith, h, u, q))
+  sessions-room = more-room (ap (λ (v : Used). v.sessions) before) (ap (λ (o : Owned). o.quota.sessions) view)
 
   pub sessions-within : nat_lt (sessions_used (user_of old)) old.quota.sessions ≡ true → a.used.sessions + 1 ≤ a.quota.sessions
   sessions-within room =
@@ -42,16 +44,10 @@ module _ (a : Inside) (old : Owned) (view : owned_of a ≡ old) (counted : a.use
       omega (arith, h, u, q)
 
   pub branches-over : a.quota.branches < a.used.branches + 1 → nat_lt (branches_used (user_of old)) old.quota.branches ≡ false
-  branches-over h =
-      let u = ap (λ (v : Used). v.branches) before in
-      let q = ap (λ (o : Owned). o.quota.branches) view in
-      le-ltb (branches_used (user_of old)) old.quota.branches (omega (arith, h, u, q))
+  branches-over = more-over (ap (λ (v : Used). v.branches) before) (ap (λ (o : Owned). o.quota.branches) view)
 
   pub branches-room : a.used.branches + 1 ≤ a.quota.branches → nat_lt (branches_used (user_of old)) old.quota.branches ≡ true
-  branches-room h =
-      let u = ap (λ (v : Used). v.branches) before in
-      let q = ap (λ (o : Owned). o.quota.branches) view in
-      lt-ltb (branches_used (user_of old)) old.quota.branches (omega (arith, h, u, q))
+  branches-room = more-room (ap (λ (v : Used). v.branches) before) (ap (λ (o : Owned). o.quota.branches) view)
 
   module _ (atoms count : ℕ) (same : atoms ≡ count) where
     pub atoms-over : a.quota.atoms < a.used.atoms + atoms → nat_le (atoms_used (user_of old) + count) old.quota.atoms ≡ false

@@ -90,7 +90,7 @@ abbrev pub with_step : Kind → Held → Held
 with_step kind held =
     record held { live = record held.live { part = Some (opened kind (length held.live.sim.cur)) }; passed = 0 }
 
--- the place in the cover of the first tile that is neither posted nor in
+-- the position in the cover of the first tile that is neither posted nor in
 abbrev pub next_tile : Held → Option ℕ
 next_tile held = find (awaits_tile held.live) (range_with_len held.passed (tiles_of held.live - held.passed))
 

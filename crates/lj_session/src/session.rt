@@ -155,7 +155,7 @@ impl Session {
         self.passed = 0;
     }
 
-    /// The place in the cover of the first tile that is neither posted nor in.
+    /// The position in the cover of the first tile that is neither posted nor in.
     fn next_tile(&self) -> Option<usize>
         ensures value { result ≡ states.next_tile self.now }
         ensures small { IfSome result (λ i. i + 1 < 2 ^ 64) }

@@ -76,7 +76,7 @@ impl Sessions {
         self.used
     }
 
-    /// The place of a name in the order of loading.
+    /// The index of a name in the order of loading.
     pub fn index_of(&self, name: &Name) -> Option<usize>
         ensures { result ≡ position (bytes_eq name.now) (names self.now) }
     {

@@ -72,7 +72,7 @@ impl UserState {
         self.sessions.used()
     }
 
-    /// The place of a session in the order of loading; None where no session has the name.
+    /// The index of a session in the order of loading; None where no session has the name.
     pub fn index_of(&self, name: &Name) -> Option<usize>
         ensures { result ≡ position (bytes_eq name.now) (names self.now) }
     {
