@@ -1,3 +1,4 @@
+mod AllRead
 pub mod Numbers
 pub mod Gathering
 pub mod Beginning

@@ -1,0 +1,133 @@
+-- What was read ahead of the items that are answered belongs to what was read.
+use Rattle.std.proofs.Common.{◌≡◌, ℕ, ◌+◌, Bool, true, false, List, [], ◌∷◌, ◌++◌, length, length-append, arith, Option, Some, None, refl, sym, ap, ◌∙◌, subst}
+use Rattle.std.specs.Io.KnownBytes.{prepend_known, Consumes, IsAtEnd}
+use Rattle.std.proofs.KnownBytes.{Consumes-trans}
+use Rattle.std.proofs.lemmas.List.{append_assoc, append-nil}
+use Rattle.lj_session.specs.Users.{User}
+use Rattle.lj_wire.specs.declared.item.Item.{Item}
+use Rattle.lj_wire.specs.Items.{ends}
+use Rattle.lj_wire.specs.Streams.{Splits, Dialogue}
+use Rattle.lj_wire.specs.Progress.{Progress}
+use Rattle.lj_pool.specs.declared.served.Served.{Served}
+use Rattle.lj_pool.specs.declared.served.Served.TheVariants.{End, Bye, Ended, ReadFault, WriteFault, PoolClosed, TooManyStrays}
+use Rattle.lj_pool.specs.Seen.{Seen}
+use Rattle.lj_pool.specs.Served.{NoneEnds, EndsByBye, EndsByFault, IsAnswered, Reaches, BreaksOff, StopsShort, IsServed, Serves}
+use Rattle.lj_pool.proofs.Dialogues.{Takes-on}
+
+-- items of which the last ends the connection are so whatever comes after them
+Splits-on : (n : ℕ) (bytes : List ℕ) (earlier : List Item) (last : Item) (rest more : List ℕ) → ends last ≡ true
+    → Splits n bytes (earlier ++ last ∷ []) rest → Splits n (bytes ++ more) (earlier ++ last ∷ []) (rest ++ more)
+Splits-on n bytes [] last rest more over s =
+    (s.0, s.1 ++ more, ap (λ b. b ++ more) s.2 ∙ append_assoc s.0 s.1 more, s.3,
+    (λ e. (refl, ap (λ b. b ++ more) (s.4 e).1)), (λ e. absurd (let differ : true ≡ false = sym over ∙ e in cc)))
+Splits-on n bytes (item ∷ earlier) last rest more over s =
+    (s.0, s.1 ++ more, ap (λ b. b ++ more) s.2 ∙ append_assoc s.0 s.1 more, s.3,
+    (λ e. ((s.4 e).0, ap (λ b. b ++ more) (s.4 e).1)), (λ e. Splits-on (n + 1) s.1 earlier last rest more over (s.5 e)))
+
+module _ (user : User) (read written : List ℕ) (old new : Seen) (held : List ℕ) where
+  reaches-on : (so_far : List ℕ) (between : User) (item : Item) → Reaches user read so_far between item → Reaches user (read ++ held) so_far between item
+  reaches-on so_far between item r = record {
+    count = r.count;
+    left = r.left ++ held;
+    progress = record {
+      items = r.progress.items;
+      marks = r.progress.marks;
+      takes = Takes-on 0 read r.progress.items r.left held r.progress.takes;
+      counted = r.progress.counted;
+      are_marks = r.progress.are_marks;
+      written_is = r.progress.written_is;
+      next_is = r.progress.next_is;
+    };
+    front = r.front;
+    behind = r.behind ++ held;
+    goes_on = ap (λ b. b ++ held) r.goes_on ∙ append_assoc r.front r.behind held;
+    is_item = r.is_item;
+  }
+
+  ended-on : (Ending : List Item → Type 0) (next : User) (a : IsAnswered Ending user read written old new next) (earlier : List Item) (last : Item)
+      → a.dialogue.items ≡ earlier ++ last ∷ [] → ends last ≡ true → IsAnswered Ending user (read ++ held) written old new next
+  ended-on Ending next a earlier last items_are over = record {
+    dialogue = record {
+      items = a.dialogue.items;
+      rest = a.dialogue.rest ++ held;
+      marks = a.dialogue.marks;
+      splits = subst (λ items. Splits 0 (read ++ held) items (a.dialogue.rest ++ held)) (sym items_are)
+          (Splits-on 0 read earlier last a.dialogue.rest held over (subst (λ items. Splits 0 read items a.dialogue.rest) items_are a.dialogue.splits));
+      are_marks = a.dialogue.are_marks;
+      written_is = a.dialogue.written_is;
+      next_is = a.dialogue.next_is;
+    };
+    ending = a.ending;
+    counted = a.counted;
+  }
+
+  stops-on : StopsShort user read written → StopsShort user (read ++ held) written
+  stops-on s = record { between = s.between; item = s.item; reaches = reaches-on written s.between s.item s.reaches; runs = s.runs }
+
+  same-read : held ≡ [] → read ≡ read ++ held
+  same-read none = sym (ap (λ h. read ++ h) none ∙ append-nil read)
+
+  served-on : (served : Served) (next : Option User) → (served ≡ End → held ≡ []) → (served ≡ ReadFault → held ≡ [])
+      → IsServed served user read written old new next → IsServed served user (read ++ held) written old new next
+  served-on End (Some next) at_end at_fault s = subst (λ r. IsAnswered NoneEnds user r written old new next) (same-read (at_end refl)) s
+  served-on Bye (Some next) at_end at_fault s = ended-on EndsByBye next s s.ending.0 _ s.ending.1 refl
+  served-on Ended (Some next) at_end at_fault s = ended-on EndsByFault next s s.ending.0 _ s.ending.2 refl
+  served-on ReadFault (Some next) at_end at_fault s = subst (λ r. IsAnswered NoneEnds user r written old new next) (same-read (at_fault refl)) s
+  served-on WriteFault (Some next) at_end at_fault s = record {
+    before = s.before;
+    between = s.between;
+    item = s.item;
+    reaches = reaches-on s.before s.between s.item s.reaches;
+    mark = s.mark;
+    only_memory = s.only_memory;
+    bytes = s.bytes;
+    within = s.within;
+    written_is = s.written_is;
+    next_is = s.next_is;
+  }
+  served-on PoolClosed None at_end at_fault s = stops-on s
+  served-on TooManyStrays None at_end at_fault s = stops-on s
+  served-on End None at_end at_fault s = absurd s
+  served-on Bye None at_end at_fault s = absurd s
+  served-on Ended None at_end at_fault s = absurd s
+  served-on ReadFault None at_end at_fault s = absurd s
+  served-on WriteFault None at_end at_fault s = absurd s
+  served-on PoolClosed (Some next) at_end at_fault s = absurd s
+  served-on TooManyStrays (Some next) at_end at_fault s = absurd s
+
+-- lists of which the first is nothing before the second
+none_before : (held rest : List ℕ) → held ++ rest ≡ rest → held ≡ []
+none_before [] rest e = refl
+none_before (x ∷ held) rest e = absurd (omega (arith, simp length-append at (ap length e)))
+
+none_at_end : (held rest : List ℕ) → held ++ rest ≡ [] → held ≡ []
+none_at_end [] rest e = refl
+none_at_end (x ∷ held) rest e = cc
+
+module _ (served : Served) (user : User) (left was is : Option (List ℕ)) (old new : Seen) (next : Option User) where
+  -- what is told of the bytes that are left is told of those that the source has left
+  pub serves-all : (rest unread : Option (List ℕ)) (held : List ℕ) → rest ≡ prepend_known held unread
+      → (served ≡ End → IsAtEnd rest) → (served ≡ ReadFault → rest ≡ unread)
+      → Serves served user left rest was is old new next → Serves served user left unread was is old new next
+  serves-all rest None held ahead at_end at_fault s = record {
+    read = s.read;
+    written = s.written;
+    taken = subst (λ r. Consumes left r s.read) ahead s.taken;
+    appends = s.appends;
+    is_served = s.is_served;
+  }
+  serves-all rest (Some bytes) held ahead at_end at_fault s = record {
+    read = s.read ++ held;
+    written = s.written;
+    taken = Consumes-trans left (Some (held ++ bytes)) (Some bytes) s.read held (subst (λ r. Consumes left r s.read) ahead s.taken) refl;
+    appends = s.appends;
+    is_served = served-on user s.read s.written old new held served next
+        (λ e. none_at_end held bytes (subst IsAtEnd ahead (at_end e)))
+        (λ e. let same : Some (held ++ bytes) ≡ Some bytes = sym ahead ∙ at_fault e in none_before held bytes (cc))
+        s.is_served;
+  }
+
+  pub at_end-unread : (rest unread : Option (List ℕ)) (held : List ℕ) → rest ≡ prepend_known held unread → IsAtEnd rest → IsAtEnd unread
+  at_end-unread rest None held ahead ended = tt
+  at_end-unread rest (Some bytes) held ahead ended =
+      let none : held ++ bytes ≡ [] = subst IsAtEnd ahead ended in let h = none_at_end held bytes none in subst (λ h. h ++ bytes ≡ []) h none
