@@ -1,0 +1,64 @@
+-- The row of a user, read and changed.
+use Rattle.std.proofs.Common.{◌≡◌, ℕ, ◌<◌, ◌≤◌, List, length, map, slice_get, slice_set, get_or, Option, Some, None, IsSomeAnd, arith, ap, sym, subst, ◌∙◌, refl}
+use Rattle.std.specs.List.{IsDistinct}
+use Rattle.std.specs.Str.{bytes_eq}
+use Rattle.std.proofs.lemmas.Option.{slice_get_within, slice_get_read, get_or_from_slice_get}
+use Rattle.std.proofs.Math.Seq.{map-set_same}
+use Rattle.std.proofs.lemmas.List.{length-set, length-map}
+use Rattle.std.proofs.lemmas.Simd.{map-map}
+use Rattle.lj_access.specs.declared.user.User.{User}
+use Rattle.lj_access.specs.Rows.{Row, opening, changed, changed_to}
+use Rattle.lj_access.specs.Directories.{IsDirectory}
+
+-- a fact of the row that there is holds of the row that is found
+pub fact_of_row : (o : Option Row) (row : Row) (P : Row → Type 0) → o ≡ Some row → IsSomeAnd o P → P row
+fact_of_row o row P found fact = let Q : Option Row → Type 0 = λ x. IsSomeAnd x P in subst Q found fact
+
+within_from : (o : Option Row) (rows : List Row) (user : ℕ) (P : Row → Type 0) → slice_get rows user ≡ o → IsSomeAnd o P
+    → user < length rows
+within_from None rows user P found fact = absurd fact
+within_from (Some row) rows user P found fact = slice_get_within rows user row found
+
+-- a user of whom something holds is one of the rows
+pub user_within : (rows : List Row) (user : ℕ) (P : Row → Type 0) → IsSomeAnd (slice_get rows user) P → user < length rows
+user_within rows user P fact = within_from (slice_get rows user) rows user P refl fact
+
+-- a row, read and written back changed
+pub record Writes (rows : List Row) (user : ℕ) (row new : Row) (change : Row → Row) : Type 0 where
+  pub within : user < length rows
+  pub read : row ≡ get_or rows user row
+  pub written : new ≡ change row
+
+-- the row that was read is that of the user
+pub slice_get-read : (rows : List Row) (user : ℕ) (row new : Row) (change : Row → Row) → Writes rows user row new change
+    → slice_get rows user ≡ Some row
+slice_get-read rows user row new change w = slice_get_read rows (length rows) user row refl w.within w.read
+
+-- then the row of the user is changed
+pub changed-written : (rows : List Row) (user : ℕ) (row new : Row) (change : Row → Row) → Writes rows user row new change
+    → slice_set rows user new ≡ changed user change rows
+changed-written rows user row new change w =
+    ap (slice_set rows user) w.written
+    ∙ sym (ap (λ o. changed_to user change o rows) (slice_get-read rows user row new change w))
+
+-- where the name stays, a directory stays one
+pub IsDirectory-written : (rows : List Row) (user : ℕ) (row new : Row) (change : Row → Row) → Writes rows user row new change
+    → (change row).name ≡ row.name → IsDirectory rows → IsDirectory (slice_set rows user new)
+IsDirectory-written rows user row new change w same kept =
+    let name : Row → List ℕ = λ r. r.name in
+    let names : map name (slice_set rows user new) ≡ map name rows =
+    map-set_same name rows user new row (ap name w.written ∙ same ∙ ap name (sym (get_or_from_slice_get rows user row row (slice_get-read rows user row new change w)))) in
+    record {
+      some = omega (arith, length-set {A = Row}, kept);
+      most = omega (arith, length-set {A = Row}, kept);
+      distinct = subst (IsDistinct bytes_eq) (sym names) kept.distinct;
+    }
+
+-- users of distinct names, as they begin
+pub IsDirectory-opening : (users : List User) → 1 ≤ length users → length users ≤ 64
+    → IsDistinct bytes_eq (map (λ user. user.name) users) → IsDirectory (map opening users)
+IsDirectory-opening users some most distinct = record {
+  some = omega (arith, length-map users opening);
+  most = omega (arith, length-map users opening);
+  distinct = subst (IsDistinct bytes_eq) (sym (map-map (λ (row : Row). row.name) opening users)) distinct;
+}

@@ -1,0 +1,80 @@
+-- The directory as a list of rows, numbered from 0: what is known of each user, and the state while nobody has it.
+use Rattle.std.specs.Prelude.{◌≡◌, ℕ, ◌+◌, ◌<◌, Bool, ◌&&◌, List, slice_get, slice_set, position, Option, Some, None, IsSome}
+use Rattle.std.specs.Option.{option_map, option_and_then}
+use Rattle.std.specs.Str.{bytes_eq}
+use Rattle.lj_session.specs.States.{Owned, empty}
+use Rattle.lj_access.specs.declared.user.User.{User}
+use Rattle.lj_access.specs.declared.row.TheConstants.{MAX_TICKETS}
+
+-- A user: the name, the token, how many tickets were granted, how many of them have left, and the state while it is at
+-- home. The tickets of a user are numbered from 0 in the order in which they were granted.
+pub record Row : Type 0 where
+  pub name : List ℕ
+  pub token : List ℕ
+  pub granted : ℕ
+  pub past : ℕ
+  pub home : Option Owned
+
+-- a ticket: the number of its user's row, and its number among this user's tickets
+pub record Pass : Type 0 where
+  pub user : ℕ
+  pub number : ℕ
+
+-- a user without tickets, whose state has no sessions
+abbrev pub opening : User → Row
+opening user = record { name = user.name; token = user.token; granted = 0; past = 0; home = Some (empty user.quota) }
+
+-- whether the row is that of a user with this name and this token
+abbrev pub is_of : List ℕ → List ℕ → Row → Bool
+is_of name token row = bytes_eq row.name name && bytes_eq row.token token
+
+-- the number of the user with this name and this token, if there is one
+abbrev pub user_with : List Row → List ℕ → List ℕ → Option ℕ
+user_with rows name token = position (is_of name token) rows
+
+-- not all tickets of the user are granted
+abbrev pub HasTicketLeft : Row → Type 0
+HasTicketLeft row = row.granted < MAX_TICKETS
+
+-- the number of the ticket that the user is granted next
+abbrev pub next_number : List Row → ℕ → Option ℕ
+next_number rows user = option_map (λ row. row.granted) (slice_get rows user)
+
+-- the state of a user, while it is at home
+abbrev pub home_of : List Row → ℕ → Option Owned
+home_of rows user = option_and_then (λ row. row.home) (slice_get rows user)
+
+-- of the granted tickets that have not left, the one of this number is the first
+pub record IsFirst (number : ℕ) (row : Row) : Type 0 where
+  pub granted : number < row.granted
+  pub past : row.past ≡ number
+
+-- the ticket may enter: it is the user's first one that has not left, and the state is at home
+pub record CanEnter (number : ℕ) (row : Row) : Type 0 where
+  pub first : IsFirst number row
+  pub home : IsSome row.home
+
+-- the ticket has entered and has not left: it is the user's first one that has not left, and the state is not at home
+pub record HasEntered (number : ℕ) (row : Row) : Type 0 where
+  pub first : IsFirst number row
+  pub lent : row.home ≡ None
+
+-- one ticket more is granted
+abbrev pub with_ticket : Row → Row
+with_ticket row = record row { granted = row.granted + 1 }
+
+-- the state is not at home
+abbrev pub lent : Row → Row
+lent row = record row { home = None }
+
+-- one ticket more has left, and this state is at home
+abbrev pub with_home : Owned → Row → Row
+with_home state row = record row { past = row.past + 1; home = Some state }
+
+abbrev pub changed_to : ℕ → (Row → Row) → Option Row → List Row → List Row
+changed_to user change None rows = rows
+changed_to user change (Some row) rows = slice_set rows user (change row)
+
+-- with the row of a user changed, and every other as it was
+abbrev pub changed : ℕ → (Row → Row) → List Row → List Row
+changed user change rows = changed_to user change (slice_get rows user) rows

@@ -1,0 +1,165 @@
+//! The directory: users with their tickets, and the states that no ticket has.
+ghost use Rattle.std.specs.Prelude.{◌≡◌, ◌↔◌, ◌<◌, ◌≤◌, length, map, slice_get, Some, IsOk, IsTrue, IsSome, IfOk, IfSome, IfNone, IfErr, IsSomeAnd, OnOk, OnSome, OnErr};
+ghost use Rattle.std.specs.List.{IsDistinct};
+ghost use Rattle.std.specs.Option.{ForSome, option_map, option_copied};
+ghost use Rattle.std.specs.Str.{bytes_eq};
+ghost use Rattle.lj_session.specs.States.{Reached};
+ghost use Rattle.lj_access.specs.Rows.{opening, user_with, HasTicketLeft, next_number, home_of, CanEnter, HasEntered, with_ticket, lent, with_home, changed};
+
+use crate::row::Row;
+use crate::ticket::{Denied, NotEntered, Ticket};
+use crate::user::User;
+use lj_session::UserState;
+use lj_tile::Name;
+use std::alloc::{AllocError, Global};
+use std::fmt;
+use std::marker::Model;
+
+/// The most users.
+pub const MAX_USERS: usize = 64;
+
+/// Users, numbered from 0, with their tickets and their states. A user's state is either at home or lent to one ticket.
+#[derive(Drop)]
+pub struct Directory {
+    rows: Vec<Row>,
+}
+
+impl Model for Directory {
+    ghost use Rattle.std.specs.Prelude.{List};
+    ghost use Rattle.lj_access.specs.Rows as known;
+    ghost use Rattle.lj_access.specs.Directories.{IsDirectory};
+
+    ghost Value = { List known.Row };
+
+    ghost view = { λ directory. directory.rows.items };
+
+    ghost invariant = { λ directory. IsDirectory directory.rows.items };
+}
+
+impl Directory {
+    /// The directory of these users: each has a state without sessions, which is at home, and no ticket is granted.
+    ///
+    /// # Errors
+    /// Out of memory. No other call takes any.
+    pub fn new(alloc: Global, users: Vec<User>) -> Result<Directory, AllocError>
+        requires some { 1 ≤ length users.items }
+        requires most { length users.items ≤ MAX_USERS }
+        requires distinct { IsDistinct bytes_eq (map (λ user. user.name) users.items) }
+        ensures { IfOk result (λ directory. directory ≡ map opening users.items) }
+    {
+        let rows = opening_rows(alloc, users)?;
+        Ok(Directory { rows })
+    }
+
+    /// How many users there are.
+    pub fn count(&self) -> usize
+        ensures value { result ≡ length self.now }
+        ensures some { 1 ≤ result }
+        ensures most { result ≤ MAX_USERS }
+        ensures distinct { IsDistinct bytes_eq (map (λ row. row.name) self.now) }
+    {
+        self.rows.len()
+    }
+
+    /// The name of a user; None where there is no user of this number.
+    pub fn name_at(&self, user: u8) -> Option<&Name>
+        ensures { option_copied result ≡ option_map (λ row. row.name) (slice_get self.now user) }
+    {
+        Some(self.rows.get(usize::from(user))?.name())
+    }
+
+    /// Grants the next ticket of the user with this name and this token.
+    ///
+    /// # Errors
+    /// No user has both, or all tickets of this user are granted. Nothing has changed then.
+    pub fn hello(&mut self, name: &[u8], token: &[u8]) -> Result<Ticket, Denied>
+        ensures granted { IsOk result
+            ↔ IsSomeAnd (user_with self.old name.now token.now)
+            (λ user. IsSomeAnd (slice_get self.old user) HasTicketLeft) }
+        ensures user { IfOk result (λ ticket. user_with self.old name.now token.now ≡ Some ticket.user) }
+        ensures number { IfOk result (λ ticket. next_number self.old ticket.user ≡ Some ticket.number) }
+        ensures counted { IfOk result (λ ticket. self.new ≡ changed ticket.user with_ticket self.old) }
+        ensures unchanged { OnErr result (self.new ≡ self.old) }
+    {
+        let user = self.user_with(name, token).ok_or(Denied)?;
+        if !self.rows[user].has_ticket_left() {
+            return Err(Denied);
+        }
+        let number = self.rows[user].grant();
+        Ok(Ticket::new(user as u8, number))
+    }
+
+    /// The state of the ticket's user, where the ticket is the user's first one that has not left and the state is at
+    /// home. The state is then lent to this ticket.
+    pub fn try_enter(&mut self, ticket: &Ticket) -> Option<UserState>
+        ensures enters { IsSome result ↔ IsSomeAnd (slice_get self.old ticket.now.user) (CanEnter ticket.now.number) }
+        ensures state { IfSome result (λ state. home_of self.old ticket.now.user ≡ Some state) }
+        ensures reached { IfSome result Reached }
+        ensures lent { OnSome result (self.new ≡ changed ticket.now.user lent self.old) }
+        ensures unchanged { IfNone result (self.new ≡ self.old) }
+    {
+        if !self.can_enter(ticket) {
+            return None;
+        }
+        let user = usize::from(ticket.user());
+        Some(self.rows[user].lend())
+    }
+
+    /// Takes the state home from the ticket that it was lent to. The next ticket of the user may then enter.
+    ///
+    /// # Errors
+    /// The ticket has not entered, or has already left. Both are handed back, and nothing has changed.
+    pub fn leave(&mut self, ticket: Ticket, state: UserState) -> Result<(), NotEntered>
+        ensures entered { IsOk result ↔ IsSomeAnd (slice_get self.old ticket.user) (HasEntered ticket.number) }
+        ensures home { OnOk result (self.new ≡ changed ticket.user (with_home state) self.old) }
+        ensures ticket { IfErr result (λ refused. refused.ticket ≡ ticket) }
+        ensures state { IfErr result (λ refused. refused.state ≡ state) }
+        ensures unchanged { OnErr result (self.new ≡ self.old) }
+    {
+        if !self.has_entered(&ticket) {
+            return Err(NotEntered { ticket, state });
+        }
+        let user = usize::from(ticket.user());
+        self.rows[user].take_home(ticket.number(), state);
+        Ok(())
+    }
+
+    fn user_with(&self, name: &[u8], token: &[u8]) -> Option<usize>
+        ensures { result ≡ user_with self.now name.now token.now }
+    {
+        self.rows.iter().position(|row| row.is_of(name, token))
+    }
+
+    fn can_enter(&self, ticket: &Ticket) -> bool
+        ensures { IsTrue result ↔ IsSomeAnd (slice_get self.now ticket.now.user) (CanEnter ticket.now.number) }
+    {
+        match self.rows.get(usize::from(ticket.user())) {
+            Some(row) => row.can_enter(ticket.number()),
+            None => false,
+        }
+    }
+
+    fn has_entered(&self, ticket: &Ticket) -> bool
+        ensures { IsTrue result ↔ IsSomeAnd (slice_get self.now ticket.now.user) (HasEntered ticket.now.number) }
+    {
+        match self.rows.get(usize::from(ticket.user())) {
+            Some(row) => row.has_entered(ticket.number()),
+            None => false,
+        }
+    }
+}
+
+fn opening_rows(alloc: Global, users: Vec<User>) -> Result<Vec<Row>, AllocError>
+    ensures { IfOk result (λ rows. rows.items ≡ map opening users.items) }
+{
+    users
+        .into_iter()
+        .map(|user| Row::new(alloc, user))
+        .collect(alloc)
+}
+
+impl fmt::Debug for Directory {
+    fn fmt<W: fmt::Write>(&self, f: &mut fmt::Formatter<W>) -> fmt::Result {
+        write!(f, "Directory of {} users", self.rows.len())
+    }
+}

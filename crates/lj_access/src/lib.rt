@@ -1,0 +1,13 @@
+//! The directory of users: who may use a user's state now. States are lent out by ticket order, one ticket at a time.
+#![tactic(auto)]
+
+mod directory;
+mod row;
+mod ticket;
+mod user;
+
+pub use directory::{Directory, MAX_USERS};
+pub use lj_tile::Name;
+pub use row::MAX_TICKETS;
+pub use ticket::{Denied, NotEntered, Ticket};
+pub use user::{TOKEN_BYTES, Token, User};
