@@ -1,1 +1,2 @@
-pub mod Statuses
+pub mod Outcomes
+pub mod Conversations

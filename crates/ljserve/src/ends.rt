@@ -2,7 +2,7 @@
 ghost use Rattle.std.specs.Prelude.{◌≡◌, ◌<◌, ◌≤◌, [], None, length, IfOk};
 
 use crate::fault::RunFault;
-use lj_wire::{ReadFault, Sink, Source, WriteFault, Writing, put_all};
+use lj_wire::{ReadFault, Sink, Source, WriteFault, put_all};
 use std::alloc::Global;
 use std::cell::{Cell, RefCell};
 use std::io::{Read, Write};
@@ -10,15 +10,45 @@ use std::io::{Read, Write};
 /// How many bytes of replies are held back at most.
 const MAX_HELD_BYTES: usize = 65_536;
 
+/// A writer that can be flushed.
+#[derive(Drop)]
+struct Outlet<W> {
+    writer: W,
+}
+
+impl<W: Write> Outlet<W> {
+    fn flush(&mut self) -> Result<(), WriteFault> {
+        match self.writer.flush() {
+            Ok(()) => Ok(()),
+            Err(_) => Err(WriteFault),
+        }
+    }
+}
+
+impl<W: Write> Sink for Outlet<W> {
+    ghost contents = { λ outlet. W.contents outlet.writer };
+
+    ghost faults = { λ _. None };
+
+    fn write(&mut self, bytes: &[u8]) -> Result<usize, WriteFault> {
+        match self.writer.write(bytes) {
+            Ok(0) if !bytes.is_empty() => Err(WriteFault),
+            Ok(count) => Ok(count),
+            Err(_) => Err(WriteFault),
+        }
+    }
+}
+
 /// Replies that are held back, and where they go.
 #[derive(Drop)]
 struct Held<W> {
-    writer: W,
+    outlet: Outlet<W>,
     bytes: Vec<u8>,
 }
 
 impl<W: Write> Held<W> {
-    /// Holds back some of `bytes`, and answers how many: 0 only where there are none.
+    /// Holds back some of `bytes`, and answers how many: 0 only where there are none. Where there is no room, what is held
+    /// back is sent first.
     fn hold(&mut self, bytes: &[u8]) -> Result<usize, WriteFault>
         ensures bound { IfOk result (λ n. n ≤ length bytes.now) }
         ensures some { IfOk result (λ n. 0 < length bytes.now → 0 < n) }
@@ -41,13 +71,10 @@ impl<W: Write> Held<W> {
         if self.bytes.is_empty() {
             return Ok(());
         }
-        let sent = put_all(&mut Writing::new(&mut self.writer), self.bytes.as_slice());
+        let sent = put_all(&mut self.outlet, self.bytes.as_slice());
         self.bytes.clear();
         sent?;
-        match self.writer.flush() {
-            Ok(()) => Ok(()),
-            Err(_) => Err(WriteFault),
-        }
+        self.outlet.flush()
     }
 }
 
@@ -66,7 +93,10 @@ impl<W: Write + Drop> Replies<W> {
     pub fn new(alloc: Global, writer: W) -> Result<Self, RunFault> {
         match Vec::with_capacity(alloc, MAX_HELD_BYTES) {
             Ok(bytes) => Ok(Replies {
-                held: RefCell::new(Held { writer, bytes }),
+                held: RefCell::new(Held {
+                    outlet: Outlet { writer },
+                    bytes,
+                }),
                 failed: Cell::new(false),
             }),
             Err(_) => Err(RunFault::Memory),

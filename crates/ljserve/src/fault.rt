@@ -1,6 +1,6 @@
 //! Why a run of the program fails.
 ghost use Rattle.std.specs.Prelude.{◌≡◌};
-ghost use Rattle.ljserve.specs.Statuses.{status_of};
+ghost use Rattle.ljserve.specs.Outcomes.{status_of};
 
 use thiserror::Error;
 

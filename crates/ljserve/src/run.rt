@@ -1,13 +1,15 @@
 //! One user served over a reader and a writer.
 ghost use Rattle.std.specs.Prelude.{◌≡◌};
+ghost use Rattle.ljserve.specs.Conversations.{Converses};
+ghost use Rattle.ljserve.specs.Outcomes.{IsOverOpenPool, outcome};
 
 use crate::ends::{Commands, Replies};
 use crate::fault::RunFault;
-use lj_pool::{InlinePool, Served, serve_lines};
+use lj_pool::{InlinePool, Served, serve};
 use lj_quota::Quota;
 use lj_session::UserState;
 use lj_table::Table;
-use lj_wire::LineReader;
+use lj_wire::{Sink, Source};
 use std::alloc::Global;
 use std::io::{Read, Write};
 
@@ -26,22 +28,40 @@ pub fn run<R: Read + Drop, W: Write + Drop>(
     writer: W,
 ) -> Result<(), RunFault> {
     let replies = Replies::new(alloc, writer)?;
-    let mut lines = LineReader::new(alloc, Commands::new(reader, &replies));
-    let mut pool = InlinePool::new(Table::new());
-    let state = UserState::new(alloc, quota);
-    let (_, served) = serve_lines(state, ONLY_USER, &mut lines, &mut &replies, &mut pool);
+    let commands = Commands::new(reader, &replies);
+    let (served, _) = converse(alloc, quota, commands, &replies);
     if replies.flush().is_err() || replies.has_failed() {
         return Err(RunFault::Write);
     }
     outcome(served)
 }
 
-/// What a run comes to whose connection has ended so, and whose replies are written.
-fn outcome(served: Served) -> Result<(), RunFault> {
+/// Answers the items of a source on a sink, as those of one user with this quota and no sessions, until the input or the
+/// connection ends.
+fn converse<R: Source + Drop, W: Sink>(
+    alloc: Global,
+    quota: Quota,
+    source: R,
+    mut sink: W,
+) -> (Served, W)
+    ensures told { Converses result.0 quota (R.remaining source) (W.contents sink) (W.contents result.1) }
+    ensures open { IsOverOpenPool result.0 }
+{
+    let mut pool = InlinePool::new(Table::new());
+    let state = UserState::new(alloc, quota);
+    let (_, served, _) = serve(alloc, state, ONLY_USER, source, &mut sink, &mut pool);
+    (served, sink)
+}
+
+/// What a run comes to that has ended so, and whose replies are written.
+fn outcome(served: Served) -> Result<(), RunFault>
+    requires { IsOverOpenPool served }
+    ensures { result ≡ outcome served }
+{
     match served {
         Served::End | Served::Bye | Served::Ended => Ok(()),
         Served::ReadFault => Err(RunFault::Read),
         Served::WriteFault => Err(RunFault::Write),
-        Served::PoolClosed | Served::TooManyStrays => Err(RunFault::Write),
+        Served::PoolClosed | Served::TooManyStrays => unreachable!(),
     }
 }

@@ -1,0 +1,18 @@
+-- A conversation of one user, who begins without sessions.
+use Rattle.std.specs.Prelude.{◌≡◌, ℕ, List, Option}
+use Rattle.std.specs.Io.KnownBytes.{IsAtEnd}
+use Rattle.lj_quota.specs.declared.Quota.{Quota}
+use Rattle.lj_session.specs.Users.{User, fresh}
+use Rattle.lj_pool.specs.declared.served.Served.{Served}
+use Rattle.lj_pool.specs.declared.served.Served.TheVariants.{End}
+use Rattle.lj_pool.specs.Seen.{Seen, unseen}
+use Rattle.lj_pool.specs.Served.{Serves}
+
+-- What was written is the dialogue of what was read, from a user of this quota without sessions, and it ended so; at the
+-- end of the input all was read.
+pub record Converses (served : Served) (quota : Quota) (left was is : Option (List ℕ)) : Type 0 where
+  pub rest : Option (List ℕ)
+  pub seen : Seen
+  pub next : Option User
+  pub serves : Serves served (fresh quota) left rest was is unseen seen next
+  pub all : served ≡ End → IsAtEnd rest
