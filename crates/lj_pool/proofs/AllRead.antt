@@ -127,7 +127,8 @@ module _ (served : Served) (user : User) (left was is : Option (List ℕ)) (old 
         s.is_served;
   }
 
-  pub at_end-unread : (rest unread : Option (List ℕ)) (held : List ℕ) → rest ≡ prepend_known held unread → IsAtEnd rest → IsAtEnd unread
-  at_end-unread rest None held ahead ended = tt
-  at_end-unread rest (Some bytes) held ahead ended =
-      let none : held ++ bytes ≡ [] = subst IsAtEnd ahead ended in let h = none_at_end held bytes none in subst (λ h. h ++ bytes ≡ []) h none
+-- where what is left is at its end, so is what the source has left
+pub at_end-unread : (rest unread : Option (List ℕ)) (held : List ℕ) → rest ≡ prepend_known held unread → IsAtEnd rest → IsAtEnd unread
+at_end-unread rest None held ahead ended = tt
+at_end-unread rest (Some bytes) held ahead ended =
+    let none : held ++ bytes ≡ [] = subst IsAtEnd ahead ended in let h = none_at_end held bytes none in subst (λ h. h ++ bytes ≡ []) h none

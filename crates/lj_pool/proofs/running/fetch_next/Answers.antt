@@ -5,12 +5,12 @@ use Rattle.lj_pool.proofs.running.fetch_next.Goals as goal
 pub returns-clause-gathers : goal.returns-clause-gathers
 returns-clause-gathers g c =
     comes_gathers c.args.owner.now (g.P.Pool.seen c.args.pool.now).owed c.requires.gathers c.in-Some.done (g.P.Pool.seen c.args.pool.now) (g.P.Pool.seen c.fetch.new.self) refl
-    c.in-Some.ensures.handed_out c.accept.new.self c.accept.result c.accept.ensures.accepted c.accept.ensures.taken c.accept.ensures.refused
+    c.in-Some.ensures.handed_out c.accept.new.self c.accept.result c.accept.ensures.accepted c.accept.ensures.taken c.accept.ensures.unchanged
 
 pub returns-clause-unposted : goal.returns-clause-unposted
 returns-clause-unposted g c =
     comes_unposted c.args.owner.now (g.P.Pool.seen c.args.pool.now).owed c.requires.gathers c.in-Some.done (g.P.Pool.seen c.args.pool.now) (g.P.Pool.seen c.fetch.new.self) refl
-    c.in-Some.ensures.handed_out c.accept.new.self c.accept.result c.accept.ensures.accepted c.accept.ensures.taken c.accept.ensures.refused
+    c.in-Some.ensures.handed_out c.accept.new.self c.accept.result c.accept.ensures.accepted c.accept.ensures.taken c.accept.ensures.unchanged
 
 pub returns-clause-fewer : goal.returns-clause-fewer
 returns-clause-fewer g c taken =
