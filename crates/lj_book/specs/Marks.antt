@@ -1,7 +1,8 @@
 -- Marks of keys.
-use Rattle.std.specs.Prelude.{◌≡◌, ℕ, ◌≤◌, ◌<◌, List, length, slice_index_or}
+use Rattle.std.specs.Prelude.{◌≡◌, ℕ, ◌≤◌, ◌<◌, ◌+◌, ◌/◌, Bool, true, false, List, [], length, slice_index_or}
 use Rattle.lj_book.specs.declared.marks.Mark.{Mark}
-use Rattle.lj_book.specs.declared.marks.Mark.TheVariants.{Vacant}
+use Rattle.lj_book.specs.declared.marks.Mark.TheVariants.{Vacant, ToTake, Taken, ToFetch}
+use Rattle.lj_book.specs.declared.marks.TheConstants.{GROUP}
 
 -- the mark of a key
 abbrev pub mark_at : List Mark → ℕ → Mark
@@ -22,3 +23,23 @@ pub record IsLeast (marks : List Mark) (mark : Mark) (from to key : ℕ) : Type 
   pub first : from ≤ key
   pub last : key < to
   pub none_before : HasNone marks mark from key
+
+-- a number of its own for each mark
+abbrev pub kind_of : Mark → ℕ
+kind_of Vacant = 0
+kind_of ToTake = 1
+kind_of Taken = 2
+kind_of (ToFetch user) = 3 + user
+
+-- it is noted that this kind of mark may stand in the group
+abbrev pub is_noted : List (List Bool) → ℕ → ℕ → Bool
+is_noted groups group kind = slice_index_or (slice_index_or groups group []) kind false
+
+-- each mark that stands is noted in its key's group
+abbrev pub Covers : List Mark → List (List Bool) → Type 0
+Covers marks groups = (k : ℕ) → k < length marks → is_noted groups (k / GROUP) (kind_of (mark_at marks k)) ≡ true
+
+-- there are as many groups as the keys need, and each mark is noted
+pub record IsIndexed (marks : List Mark) (groups : List (List Bool)) : Type 0 where
+  pub enough : length groups ≡ length marks / GROUP + 1
+  pub covers : Covers marks groups

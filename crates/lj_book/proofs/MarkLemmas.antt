@@ -1,0 +1,39 @@
+-- The notes of which kinds of marks stand in a group of keys.
+use Rattle.std.proofs.Common.{◌≡◌, ◌≢◌, ◌⊎◌, ℕ, ◌+◌, ◌<◌, ◌/◌, Bool, true, false, List, [], length, get_or, set, replicate, refl, sym, ap, ◌∙◌, inl, inr, arith, length-set, get_or-set_same, get_or-set_other}
+use Rattle.std.proofs.lemmas.List.{get_or-replicate, length-replicate}
+use Rattle.std.proofs.lemmas.Bool.{cases_eq}
+use Rattle.lj_book.specs.declared.marks.Mark.{Mark}
+use Rattle.lj_book.specs.declared.marks.Mark.TheVariants.{Vacant}
+use Rattle.lj_book.specs.declared.marks.TheConstants.{GROUP}
+use Rattle.lj_book.specs.Marks.{kind_of, mark_at, is_noted, Covers}
+
+-- a mark that is set and noted
+pub Covers-set : (marks : List Mark) (before after : List (List Bool)) (key : ℕ) (mark : Mark) → key < length marks
+    → is_noted after (key / GROUP) (kind_of mark) ≡ true
+    → ((g k : ℕ) → g ≢ key / GROUP → is_noted after g k ≡ is_noted before g k)
+    → ((k : ℕ) → k ≢ kind_of mark → is_noted after (key / GROUP) k ≡ is_noted before (key / GROUP) k)
+    → Covers marks before → Covers (set marks key mark) after
+Covers-set marks before after key mark within noted other_groups other_kinds covers k below =
+    elim (cases_eq k key) [ inl same ↦ at_key same | inr other ↦ elsewhere other ]
+  where
+    in_range : k < length marks
+    in_range = omega (arith, length-set marks key mark)
+    at_key : k ≡ key → is_noted after (k / GROUP) (kind_of (mark_at (set marks key mark) k)) ≡ true
+    at_key same = rw (same, get_or-set_same marks key mark Vacant within) noted
+    elsewhere : k ≢ key → is_noted after (k / GROUP) (kind_of (mark_at (set marks key mark) k)) ≡ true
+    elsewhere other = rw (get_or-set_other marks key k mark Vacant other)
+        (elim (cases_eq (k / GROUP) (key / GROUP)) [
+          inr another ↦ other_groups (k / GROUP) (kind_of (mark_at marks k)) another ∙ covers k in_range
+        | inl group ↦ elim (cases_eq (kind_of (mark_at marks k)) (kind_of mark)) [
+            inl kind ↦ rw (group, kind) noted
+          | inr another ↦ ap (λ g. is_noted after g (kind_of (mark_at marks k))) group
+              ∙ other_kinds (kind_of (mark_at marks k)) another
+              ∙ sym (ap (λ g. is_noted before g (kind_of (mark_at marks k))) group) ∙ covers k in_range ] ])
+
+-- vacant keys in groups where vacant ones are noted
+pub Covers-vacant : (keys count : ℕ) (kinds : List Bool) → keys / GROUP < count → get_or kinds (kind_of Vacant) false ≡ true
+    → Covers (replicate keys Vacant) (replicate count kinds)
+Covers-vacant keys count kinds enough noted k below =
+    let within : k < keys = omega (arith, length-replicate keys Vacant) in
+    let group : k / GROUP < count = omega arith in
+    rw (get_or-replicate keys k Vacant Vacant within, get_or-replicate count (k / GROUP) kinds [] group) noted
