@@ -5,17 +5,7 @@ use Rattle.lj_pool.specs.declared.served.Served.TheVariants.{End, Bye, Ended, Re
 use Rattle.ljserve.specs.declared.fault.RunFault.{RunFault}
 use Rattle.ljserve.specs.declared.fault.RunFault.TheVariants.{Read, Write, Memory}
 
--- an end that comes over a pool that is open, and that hands out what is owed alone
-abbrev pub IsOverOpenPool : Served → Type 0
-IsOverOpenPool PoolClosed = ⊥
-IsOverOpenPool TooManyStrays = ⊥
-IsOverOpenPool End = Unit {0}
-IsOverOpenPool Bye = Unit {0}
-IsOverOpenPool Ended = Unit {0}
-IsOverOpenPool ReadFault = Unit {0}
-IsOverOpenPool WriteFault = Unit {0}
-
--- what a run comes to whose replies are written
+-- what a run comes to whose replies are written; where its pool gives up, a reply is left out
 abbrev pub outcome : Served → Result (Unit {0}) RunFault
 outcome End = Ok tt
 outcome Bye = Ok tt

