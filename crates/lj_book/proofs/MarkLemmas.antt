@@ -18,17 +18,21 @@ Covers-set marks before after key mark within noted other_groups other_kinds cov
   where
     in_range : k < length marks
     in_range = omega (arith, length-set marks key mark)
+
     at_key : k ≡ key → is_noted after (k / GROUP) (kind_of (mark_at (set marks key mark) k)) ≡ true
     at_key same = rw (same, get_or-set_same marks key mark Vacant within) noted
+
     elsewhere : k ≢ key → is_noted after (k / GROUP) (kind_of (mark_at (set marks key mark) k)) ≡ true
     elsewhere other = rw (get_or-set_other marks key k mark Vacant other)
         (elim (cases_eq (k / GROUP) (key / GROUP)) [
-          inr another ↦ other_groups (k / GROUP) (kind_of (mark_at marks k)) another ∙ covers k in_range
-        | inl group ↦ elim (cases_eq (kind_of (mark_at marks k)) (kind_of mark)) [
-            inl kind ↦ rw (group, kind) noted
-          | inr another ↦ ap (λ g. is_noted after g (kind_of (mark_at marks k))) group
-              ∙ other_kinds (kind_of (mark_at marks k)) another
-              ∙ sym (ap (λ g. is_noted before g (kind_of (mark_at marks k))) group) ∙ covers k in_range ] ])
+          | inr another ↦ other_groups (k / GROUP) (kind_of (mark_at marks k)) another ∙ covers k in_range
+          | inl group ↦ elim (cases_eq (kind_of (mark_at marks k)) (kind_of mark)) [
+            | inl kind ↦ rw (group, kind) noted
+            | inr another ↦ ap (λ g. is_noted after g (kind_of (mark_at marks k))) group
+                ∙ other_kinds (kind_of (mark_at marks k)) another
+                ∙ sym (ap (λ g. is_noted before g (kind_of (mark_at marks k))) group) ∙ covers k in_range
+          ]
+        ])
 
 -- vacant keys in groups where vacant ones are noted
 pub Covers-vacant : (keys count : ℕ) (kinds : List Bool) → keys / GROUP < count → get_or kinds (kind_of Vacant) false ≡ true

@@ -77,7 +77,12 @@ impl Marks {
         let was = self.marks[key];
         self.marks[key] = mark;
         note(self.groups.as_mut_slice(), key / GROUP, mark.kind(), true);
-        tidy(self.marks.as_slice(), self.groups.as_mut_slice(), key, was.kind());
+        tidy(
+            self.marks.as_slice(),
+            self.groups.as_mut_slice(),
+            key,
+            was.kind(),
+        );
     }
 
     /// The least key from `pick` on that has the mark, else the least that has it.
@@ -97,7 +102,13 @@ impl Marks {
         ensures none { IfNone result (HasNone self.now mark from (length self.now)) }
     {
         for group in from / GROUP..self.groups.len() {
-            if let Some(key) = least_in(self.marks.as_slice(), self.groups.as_slice(), mark, from, group) {
+            if let Some(key) = least_in(
+                self.marks.as_slice(),
+                self.groups.as_slice(),
+                mark,
+                from,
+                group,
+            ) {
                 return Some(key);
             }
         }
@@ -157,7 +168,13 @@ fn stands_beside(marks: &[Mark], key: usize, kind: usize) -> bool
 }
 
 /// The least key of a group that has the mark, of those from `from` on.
-fn least_in(marks: &[Mark], groups: &[[bool; KINDS]], mark: Mark, from: usize, group: usize) -> Option<usize>
+fn least_in(
+    marks: &[Mark],
+    groups: &[[bool; KINDS]],
+    mark: Mark,
+    from: usize,
+    group: usize,
+) -> Option<usize>
     requires within { GROUP * group ≤ length marks.now }
     requires group { group < length groups.now }
     requires covers { Covers marks.now groups.now }

@@ -1,1 +1,307 @@
-//! Tests.
+//! A full book, want of memory, and random calls against a plain list.
+ghost use Rattle.std.specs.Prelude.{◌<◌};
+
+use crate::{Book, Counts, MAX_ENTRIES, NotOut};
+use lj_fixed::Nano;
+use lj_ring::{Place, Scale};
+use lj_table::Table;
+use lj_tile::{Block, Done, Kind, Label, Name, Task, TaskName, compute};
+use std::alloc::{AllocError, AllocGlobal};
+use std::process::Abort;
+use std::test::Fail;
+
+fn task(user: u8, step: i64, rt: &impl Abort) -> Task {
+    let edge = Nano::new(256_000_000_000).expect(rt, "an edge");
+    let sigma = Nano::new(1_000_000_000).expect(rt, "a sigma");
+    let name = TaskName {
+        label: Label {
+            user,
+            session: Name::parse(b"a").expect(rt, "a name"),
+        },
+        step,
+        kind: Kind::Force,
+        bi: 0,
+        bj: 0,
+    };
+    let block = Block::new(&[Place { x: 0, y: 0, z: 0 }]);
+    let scale = Scale::new(edge, sigma, 131_072).ok().expect(rt, "a scale");
+    Task::new(name, scale, block.copy(), block)
+}
+
+/// Any one growth may be refused (`rt try --test --fail-alloc`): the same call then succeeds.
+fn empty_book(rt: &impl AllocGlobal) -> Result<Book, AllocError> {
+    Book::new(rt.alloc()).or_else(|_| Book::new(rt.alloc()))
+}
+
+#[test]
+fn a_full_book(rt: HostRuntime) -> Result<(), Fail> {
+    let mut book = empty_book(&rt)?;
+    for step in 0..MAX_ENTRIES {
+        let posted = book.post(task(3, i64::from(step as u32), &rt));
+        assert!(rt; posted.is_ok());
+    }
+    let refused = book.post(task(3, -1, &rt)).err().expect(&rt, "a refusal");
+    assert!(rt; refused.task.is(&task(3, -1, &rt)));
+    let (key, taken) = book.take(0).expect(&rt, "a task");
+    let done = compute(taken, &Table::new());
+    assert!(rt; book.give(key, done.copy()).is_ok());
+    let again = book.give(key, done.copy()).err().expect(&rt, "a refusal");
+    assert!(rt; again.task().is(done.task()));
+    let fetched = book.fetch(3, 0).expect(&rt, "a result");
+    assert!(rt; fetched.task().is(done.task()));
+    let counts = Counts {
+        posted: 1024,
+        given: 1,
+        fetched: 1,
+        withdrawn: 0,
+        entries: 1023,
+    };
+    assert_eq!(rt; book.counts(), counts);
+    Ok(())
+}
+
+#[derive(Clone, Copy, PartialEq, Eq, Debug)]
+enum Stage {
+    Vacant,
+    Open,
+    Out,
+    Done,
+}
+
+#[derive(Clone, Copy, PartialEq, Eq, Debug)]
+struct Slot {
+    stage: Stage,
+    user: u8,
+    step: i64,
+}
+
+/// The book as a plain list that is walked. Of the vacant keys the one that was vacated last is taken first.
+#[derive(Drop)]
+struct Plain {
+    slots: Vec<Slot>,
+    vacated: Vec<usize>,
+    counts: Counts,
+}
+
+impl Plain {
+    fn new(rt: &impl AllocGlobal) -> Result<Plain, AllocError> {
+        Ok(Plain {
+            slots: Vec::with_capacity(rt.alloc(), MAX_ENTRIES)?,
+            vacated: Vec::with_capacity(rt.alloc(), MAX_ENTRIES)?,
+            counts: Counts {
+                posted: 0,
+                given: 0,
+                fetched: 0,
+                withdrawn: 0,
+                entries: 0,
+            },
+        })
+    }
+
+    fn slot(&self, key: usize) -> Option<Slot> {
+        self.slots.get(key).copied()
+    }
+
+    fn set(&mut self, key: usize, stage: Stage) {
+        if let Some(slot) = self.slots.get_mut(key) {
+            slot.stage = stage;
+        }
+    }
+
+    fn find(&self, stage: Stage, user: Option<u8>, pick: usize) -> Option<usize> {
+        match find_from(self.slots.as_slice(), stage, user, pick) {
+            Some(key) => Some(key),
+            None => find_from(self.slots.as_slice(), stage, user, 0),
+        }
+    }
+
+    fn put(&mut self, slot: Slot) -> Result<(), Fail> {
+        match self.vacated.pop() {
+            Some(key) => {
+                if let Some(place) = self.slots.get_mut(key) {
+                    *place = slot;
+                }
+            }
+            None => self.slots.push(slot)?,
+        }
+        Ok(())
+    }
+
+    fn vacate(&mut self, key: usize) -> Result<(), Fail> {
+        self.set(key, Stage::Vacant);
+        self.vacated.push(key)?;
+        Ok(())
+    }
+}
+
+fn find_from(slots: &[Slot], stage: Stage, user: Option<u8>, from: usize) -> Option<usize> {
+    for (key, slot) in slots.iter().enumerate() {
+        if key >= from && slot.stage == stage && user.is_none_or(|user| user == slot.user) {
+            return Some(key);
+        }
+    }
+    None
+}
+
+#[derive(Drop)]
+struct Dice {
+    state: u64,
+}
+
+impl Dice {
+    fn below(&mut self, count: u64) -> u64
+        requires { 0 < count }
+        ensures { result < count }
+    {
+        let state = self.state.wrapping_mul(6_364_136_223_846_793_005);
+        self.state = state.wrapping_add(1_442_695_040_888_963_407);
+        (self.state >> 33) % count
+    }
+
+    fn key(&mut self) -> usize {
+        self.below(1030) as usize
+    }
+
+    fn user(&mut self) -> u8
+        ensures { result < 5 }
+    {
+        self.below(5) as u8
+    }
+
+    fn step(&mut self) -> i64 {
+        i64::from(self.below(3) as u32)
+    }
+}
+
+#[derive(Drop)]
+struct Trial {
+    book: Book,
+    plain: Plain,
+    dice: Dice,
+    table: Table,
+}
+
+impl Trial {
+    fn post(&mut self, rt: &impl Abort) -> Result<(), Fail> {
+        let (user, step) = (self.dice.user(), self.dice.step());
+        let posted = self.book.post(task(user, step, rt)).is_ok();
+        assert_eq!(rt; posted, self.plain.counts.entries < 1024);
+        if posted {
+            let stage = Stage::Open;
+            self.plain.put(Slot { stage, user, step })?;
+            self.plain.counts.posted = self.plain.counts.posted.wrapping_add(1);
+            self.plain.counts.entries = self.plain.counts.entries.wrapping_add(1);
+        }
+        Ok(())
+    }
+
+    fn take(&mut self, rt: &impl Abort) {
+        let pick = self.dice.key();
+        let found = self.plain.find(Stage::Open, None, pick);
+        match self.book.take(pick) {
+            Some((key, taken)) => {
+                assert_eq!(rt; found, Some(key));
+                let slot = self.plain.slot(key).expect(rt, "a slot");
+                assert!(rt; taken.is(&task(slot.user, slot.step, rt)));
+                self.plain.set(key, Stage::Out);
+            }
+            None => assert_eq!(rt; found, None),
+        }
+    }
+
+    /// A key, and a task that is often the one which stands there.
+    fn guess(&mut self, rt: &impl Abort) -> (usize, Task, bool) {
+        let key = self.dice.key();
+        let (user, step) = (self.dice.user(), self.dice.step());
+        match self.plain.slot(key) {
+            Some(slot) => {
+                let right = self.dice.below(4) != 0;
+                let (user, step) = if right {
+                    (slot.user, slot.step)
+                } else {
+                    (user, step)
+                };
+                let is_out = slot.stage == Stage::Out && user == slot.user && step == slot.step;
+                (key, task(user, step, rt), is_out)
+            }
+            None => (key, task(user, step, rt), false),
+        }
+    }
+
+    fn give(&mut self, rt: &impl Abort) {
+        let (key, task, is_out) = self.guess(rt);
+        let done = compute(task, &self.table);
+        assert_eq!(rt; self.book.give(key, done).is_ok(), is_out);
+        if is_out {
+            self.plain.set(key, Stage::Done);
+            self.plain.counts.given = self.plain.counts.given.wrapping_add(1);
+        }
+    }
+
+    fn hand_back(&mut self, rt: &impl Abort) {
+        let (key, task, is_out) = self.guess(rt);
+        let want = if is_out { Ok(()) } else { Err(NotOut) };
+        assert_eq!(rt; self.book.hand_back(key, &task), want);
+        if is_out {
+            self.plain.set(key, Stage::Open);
+        }
+    }
+
+    fn fetch(&mut self, rt: &impl Abort) -> Result<(), Fail> {
+        let (user, pick) = (self.dice.user(), self.dice.key());
+        let found = self.plain.find(Stage::Done, Some(user), pick);
+        let fetched = self.book.fetch(user, pick);
+        assert_eq!(rt; fetched.is_some(), found.is_some());
+        if let (Some(key), Some(done)) = (found, fetched) {
+            let slot = self.plain.slot(key).expect(rt, "a slot");
+            assert!(rt; done.task().is(&task(user, slot.step, rt)));
+            self.plain.vacate(key)?;
+            self.plain.counts.fetched = self.plain.counts.fetched.wrapping_add(1);
+            self.plain.counts.entries = self.plain.counts.entries.wrapping_sub(1);
+        }
+        Ok(())
+    }
+
+    fn withdraw(&mut self) -> Result<(), Fail> {
+        let user = self.dice.user();
+        self.book.withdraw(user);
+        for key in 0..MAX_ENTRIES {
+            let slot = self.plain.slot(key);
+            if slot.is_some_and(|slot| slot.stage != Stage::Vacant && slot.user == user) {
+                self.plain.vacate(key)?;
+                self.plain.counts.withdrawn = self.plain.counts.withdrawn.wrapping_add(1);
+                self.plain.counts.entries = self.plain.counts.entries.wrapping_sub(1);
+            }
+        }
+        Ok(())
+    }
+
+    fn call(&mut self, rt: &impl Abort) -> Result<(), Fail> {
+        match self.dice.below(4096) {
+            0 => self.withdraw()?,
+            1..1300 => self.post(rt)?,
+            1300..2300 => self.take(rt),
+            2300..3000 => self.give(rt),
+            3000..3100 => self.hand_back(rt),
+            _ => self.fetch(rt)?,
+        }
+        assert_eq!(rt; self.book.counts(), self.plain.counts);
+        Ok(())
+    }
+}
+
+#[test]
+fn random_calls_as_a_plain_list(rt: HostRuntime) -> Result<(), Fail> {
+    let mut trial = Trial {
+        book: empty_book(&rt)?,
+        plain: Plain::new(&rt).or_else(|_| Plain::new(&rt))?,
+        dice: Dice { state: 7 },
+        table: Table::new(),
+    };
+    for _ in 0..100_000 {
+        trial.call(&rt)?;
+    }
+    let counts = trial.book.counts();
+    assert!(rt; 0 < counts.withdrawn && 1024 < counts.fetched);
+    Ok(())
+}

@@ -7,11 +7,11 @@ use Rattle.lj_book.proofs.marks.Marks.new.Goals as goal
 pub invariant_of-result : goal.invariant_of-result
 invariant_of-result c =
     let groups : c.in_ok-groups.groups.items ≡ replicate (c.args.keys / 32 + 1) c.vacant_kinds.result =
-            c.in_ok-groups.ensures.items_if_clones_equal
-            (λ y clone. same_lists y c.vacant_kinds.result (clone.long ∙ sym (c.vacant_kinds.ensures.len))
-              (λ k d below. clone.at k d d (omega (arith, clone.long)))) in
+    c.in_ok-groups.ensures.items_if_clones_equal
+    (λ y clone. same_lists y c.vacant_kinds.result (clone.long ∙ sym (c.vacant_kinds.ensures.len))
+    (λ k d below. clone.at k d d (omega (arith, clone.long)))) in
     let marks : c.in_ok-marks.marks.items ≡ replicate c.args.keys Vacant =
-            c.in_ok-marks.ensures.items_if_clones_equal (λ y clone. clone) in
+    c.in_ok-marks.ensures.items_if_clones_equal (λ y clone. clone) in
     rw (groups, marks) (record {
       enough = simp length-replicate;
       covers = Covers-vacant c.args.keys (c.args.keys / 32 + 1) c.vacant_kinds.result (omega arith)
