@@ -1,5 +1,6 @@
 //! The ends of a conversation: what was replied is sent before more input is waited for.
-ghost use Rattle.std.specs.Prelude.{◌≡◌, ◌<◌, ◌≤◌, [], None, length, IfOk};
+ghost use Rattle.std.specs.Prelude.{◌≡◌, ◌<◌, ◌≤◌, [], None, length, IfOk, OnOk};
+ghost use Rattle.std.specs.Io.KnownBytes.{Appends, Keeps};
 
 use crate::fault::RunFault;
 use lj_wire::{ReadFault, Sink, Source, WriteFault, put_all};
@@ -17,7 +18,9 @@ struct Outlet<W> {
 }
 
 impl<W: Write> Outlet<W> {
-    fn flush(&mut self) -> Result<(), WriteFault> {
+    fn flush(&mut self) -> Result<(), WriteFault>
+        ensures { Keeps (W.contents self.old.writer) (W.contents self.new.writer) }
+    {
         match self.writer.flush() {
             Ok(()) => Ok(()),
             Err(_) => Err(WriteFault),
@@ -66,7 +69,8 @@ impl<W: Write> Held<W> {
 
     /// Writes what is held back, and flushes the writer. Nothing is held back then, nor after a fault.
     fn send(&mut self) -> Result<(), WriteFault>
-        ensures { self.new.bytes.items ≡ [] }
+        ensures none { self.new.bytes.items ≡ [] }
+        ensures sent { OnOk result (Appends (W.contents self.old.outlet.writer) (W.contents self.new.outlet.writer) self.old.bytes.items) }
     {
         if self.bytes.is_empty() {
             return Ok(());
