@@ -1,2 +1,3 @@
 pub mod SameLemmas
 pub mod RowLemmas
+pub mod UserLemmas

@@ -1,3 +1,4 @@
 pub mod Tokens
+pub mod Users
 pub mod Rows
 pub mod Directories

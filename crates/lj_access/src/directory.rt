@@ -4,6 +4,7 @@ ghost use Rattle.std.specs.List.{IsDistinct};
 ghost use Rattle.std.specs.Option.{ForSome, option_map, option_copied};
 ghost use Rattle.std.specs.Str.{bytes_eq};
 ghost use Rattle.lj_session.specs.States.{Reached};
+ghost use Rattle.lj_access.specs.Users.{names};
 ghost use Rattle.lj_access.specs.Rows.{opening, user_with, HasTicketLeft, next_number, home_of, CanEnter, HasEntered, with_ticket, lent, with_home, changed};
 
 use crate::row::Row;
@@ -44,7 +45,7 @@ impl Directory {
     pub fn new(alloc: Global, users: Vec<User>) -> Result<Directory, AllocError>
         requires some { 1 ≤ length users.items }
         requires most { length users.items ≤ MAX_USERS }
-        requires distinct { IsDistinct bytes_eq (map (λ user. user.name) users.items) }
+        requires distinct { IsDistinct bytes_eq (names users.items) }
         ensures { IfOk result (λ directory. directory ≡ map opening users.items) }
     {
         let rows = opening_rows(alloc, users)?;

@@ -10,4 +10,7 @@ pub use directory::{Directory, MAX_USERS};
 pub use lj_tile::Name;
 pub use row::MAX_TICKETS;
 pub use ticket::{Denied, NotEntered, Ticket};
-pub use user::{TOKEN_BYTES, Token, User};
+pub use user::{TOKEN_BYTES, Token, User, is_named};
+
+#[cfg(test)]
+mod tests;

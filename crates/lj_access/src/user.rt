@@ -1,6 +1,6 @@
 //! Users, and the tokens that they show.
 ghost use Rattle.std.specs.Prelude.{◌≡◌, Some, codes};
-ghost use Rattle.std.specs.List.{list_all};
+ghost use Rattle.std.specs.List.{list_all, list_any};
 ghost use Rattle.std.specs.Char.{is_ascii_alphanumeric};
 ghost use Rattle.std.specs.Str.{bytes_eq};
 ghost use Rattle.lj_access.specs.Tokens.{is_token, token_of};
@@ -91,4 +91,11 @@ pub struct User {
     pub name: Name,
     pub token: Token,
     pub quota: Quota,
+}
+
+/// Whether one of these users has this name.
+pub fn is_named(users: &[User], name: &Name) -> bool
+    ensures { result ≡ list_any (λ user. bytes_eq name.now user.name) users.now }
+{
+    users.iter().any(|user| *name == user.name)
 }

@@ -1,0 +1,7 @@
+-- Users, as a list.
+use Rattle.std.specs.Prelude.{ℕ, List, map}
+use Rattle.lj_access.specs.declared.user.User.{User}
+
+-- their names
+abbrev pub names : List User → List (List ℕ)
+names users = map (λ user. user.name) users
