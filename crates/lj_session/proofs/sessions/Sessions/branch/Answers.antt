@@ -12,8 +12,13 @@ use Rattle.lj_session.proofs.Performing as performing
 use Rattle.lj_session.proofs.Outcomes as outcomes
 use Rattle.lj_session.proofs.Outcomes.{read-step}
 use Rattle.lj_session.proofs.Results.{performs-refused, performs-starved, on_err, none-of, not-saved, is_some-counted}
-use Rattle.lj_session.proofs.Writing.{not_there, writes, session_there, unchanged, totals_unchanged, totals_saved, told_at}
+use Rattle.lj_session.proofs.Writing.{Writes, not_there, writes, session_there, unchanged, totals_unchanged, totals_saved, told_at}
+use Rattle.lj_session.proofs.sessions.Sessions.branch.Goals.{After-save}
 use Rattle.lj_session.proofs.sessions.Sessions.branch.Goals as goal
+
+-- what is written in the session
+written : (c : After-save) → Writes c.self.inside c.args.self.now c.args.name c.in-Some.session.now c.save.new.self (record { quota = c.self.inside.quota; sessions = (c.get_mut.follows.lender c.save.new.self).entries })
+written c = writes c.self.inside c.args.self.now c.self.view_is c.self.invariant c.args.name _ c.in-Some.ensures.value _ c.save.new.self (c.get_mut.follows.holds c.save.new.self).0
 
 pub returns-in_default-clause-performs : goal.returns-in_default-clause-performs
 returns-in_default-clause-performs c =
@@ -51,7 +56,7 @@ pub returns-in_err-may_branch-clause-unchanged : goal.returns-in_err-may_branch-
 returns-in_err-may_branch-clause-unchanged c = on_err c.from_residual.result (unchanged (writes c.self.inside c.args.self.now c.self.view_is c.self.invariant c.args.name _ c.in-Some.ensures.value _ c.in-Some.session.now (c.get_mut.follows.holds c.in-Some.session.now).0) refl)
 
 pub invariant_of-self-in_err-save : goal.invariant_of-self-in_err-save
-invariant_of-self-in_err-save c = totals_unchanged (writes c.self.inside c.args.self.now c.self.view_is c.self.invariant c.args.name _ c.in-Some.ensures.value _ c.save.new.self (c.get_mut.follows.holds c.save.new.self).0)
+invariant_of-self-in_err-save c = totals_unchanged (written (goal.at.invariant_of-self-in_err-save c).After-save)
     c.in_err-save.ensures.unchanged
 
 pub returns-in_err-save-clause-performs : goal.returns-in_err-save-clause-performs
@@ -66,14 +71,14 @@ returns-in_err-save-clause-performs c =
     (branches-room c.self.inside c.args.self.now c.self.view_is c.self.invariant (c.in_ok-may_branch.ensures.may.0 refl))))
 
 pub returns-in_err-save-clause-unchanged : goal.returns-in_err-save-clause-unchanged
-returns-in_err-save-clause-unchanged c = on_err c.from_residual-in_err-save.result (unchanged (writes c.self.inside c.args.self.now c.self.view_is c.self.invariant c.args.name _ c.in-Some.ensures.value _ c.save.new.self (c.get_mut.follows.holds c.save.new.self).0)
+returns-in_err-save-clause-unchanged c = on_err c.from_residual-in_err-save.result (unchanged (written (goal.at.returns-in_err-save-clause-unchanged c).After-save)
     c.in_err-save.ensures.unchanged)
 
 pub invariant_of-self-2 : goal.invariant_of-self-2
 invariant_of-self-2 c =
     let held = c.in-Some.session.now in
     let new = is_some-counted c.args.branch held.saved c.branches.result.now c.count_of.result c.branches.ensures c.count_of.ensures ∙ (sym c.is_some.ensures ∙ c.if-is_some.false) in
-    totals_saved (writes c.self.inside c.args.self.now c.self.view_is c.self.invariant c.args.name _ c.in-Some.ensures.value _ c.save.new.self (c.get_mut.follows.holds c.save.new.self).0)
+    totals_saved (written (goal.at.invariant_of-self-2 c).After-save)
     (ap (λ (h : Held). length h.live.sim.cur) c.in_ok-save.ensures.saved)
     (ap (λ (h : Held). length h.saved) c.in_ok-save.ensures.saved
     ∙ (ap (λ b. length (put b held.live.sim held.saved)) c.copy.ensures
@@ -82,10 +87,10 @@ invariant_of-self-2 c =
 pub returns-clause-performs : goal.returns-clause-performs
 returns-clause-performs c =
     let held = c.in-Some.session.now in
-    let written = writes c.self.inside c.args.self.now c.self.view_is c.self.invariant c.args.name _ c.in-Some.ensures.value _ c.save.new.self (c.get_mut.follows.holds c.save.new.self).0 in
+    let wrote = written (goal.at.returns-clause-performs c).After-save in
     let new = is_some-counted c.args.branch held.saved c.branches.result.now c.count_of.result c.branches.ensures c.count_of.ensures ∙ (sym c.is_some.ensures ∙ c.if-is_some.false) in
     let saved = c.in_ok-save.ensures.saved ∙ ap (λ b. keeping held (put b held.live.sim held.saved)) c.copy.ensures in
-    told_at written _ (reply.Branched c.args.name c.args.branch) _ _ _
-    (outcomes.branch c.args.self.now c.args.name held written.found c.args.branch new
+    told_at wrote _ (reply.Branched c.args.name c.args.branch) _ _ _
+    (outcomes.branch c.args.self.now c.args.name held wrote.found c.args.branch new
     (branches-room c.self.inside c.args.self.now c.self.view_is c.self.invariant (c.in_ok-may_branch.ensures.may.0 refl)))
     (read-step c.step-step.result c.step-step.ensures.most ∙ (c.step-step.ensures.value ∙ ap (λ (l : Live). l.sim.step) c.sim.ensures ∙ ap (λ (h : Held). h.live.sim.step) saved)) saved
