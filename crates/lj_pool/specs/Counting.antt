@@ -49,7 +49,8 @@ tiles user (item ∷ items) marks =
 pub record CountsRise (number : ℕ) (old new : Seen) : Type 0 where
   pub good : old.good ≤ new.good
   pub strays : old.strays ≤ new.strays
-  pub together : new.good < last_count → new.strays < last_count → old.good + old.strays + number ≤ new.good + new.strays
+  pub together : new.good < last_count → new.strays < last_count
+      → old.good + old.strays + number ≤ new.good + new.strays
 
 -- The count of results that were not owed has risen by this number, or stands at its last value.
 abbrev pub StraysRise : ℕ → Seen → Seen → Type 0

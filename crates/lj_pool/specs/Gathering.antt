@@ -1,4 +1,5 @@
--- The step of a running command whose tasks a pool computes: which tasks are owed, and that each tile still awaited is one of the cover.
+-- The step of a running command whose tasks a pool computes: which tasks are owed, and that each tile still awaited is
+-- one of the cover.
 use Rattle.std.specs.Prelude.{◌≡◌, ℕ, ◌-◌, Bool, true, false, List, length, map, take, count_by, slice_index_or, nat_eq, Option, Some, None}
 use Rattle.std.specs.List.{filter}
 use Rattle.lj_tile.specs.declared.names.Kind.{Kind}
@@ -20,8 +21,8 @@ is_awaited flags k = slice_index_or flags k false
 abbrev pub posted_tiles : List Bool → ℕ → List ℕ → List ℕ
 posted_tiles flags passed tiles = filter (is_awaited flags) (take passed tiles)
 
--- A step is open, each tile that it awaits stands in its cover once, and what is owed are the tasks of the tiles that are
--- posted and not in, in order of the cover.
+-- A step is open, each tile that it awaits stands in its cover once, and what is owed are the tasks of the tiles that
+-- are posted and not in, in order of the cover.
 pub record Gathers (owner : Owning) (owed : List Work) : Type 0 where
   pub name : List ℕ
   pub kind : Kind
@@ -31,7 +32,9 @@ pub record Gathers (owner : Owning) (owed : List Work) : Type 0 where
   pub flags : List Bool
   pub is_open : held.live.part ≡ Some (record { kind = kind; awaited = flags })
   pub once : (k : ℕ) → is_awaited flags k ≡ true → times k (cover kind (length held.live.sim.cur)) ≡ 1
-  pub owed_is : owed ≡ map (task_of held.live (record { user = owner.number; session = name }) kind) (posted_tiles flags held.passed (cover kind (length held.live.sim.cur)))
+  pub owed_is :
+      owed ≡ map (task_of held.live (record { user = owner.number; session = name }) kind)
+      (posted_tiles flags held.passed (cover kind (length held.live.sim.cur)))
 
 -- how many tiles a step awaits, if one is open
 abbrev pub left_in : Option OpenStep → ℕ
@@ -58,7 +61,7 @@ abbrev pub unposted_by : Option (List ℕ × Kind) → Owning → ℕ
 unposted_by None owner = 0
 unposted_by (Some step) owner = unposted_of (held_in owner.state step.0)
 
--- how many tiles of it are behind the last one that was posted
+-- how many tiles of it come after the last one that was posted
 abbrev pub unposted_in : Owning → ℕ
 unposted_in owner = unposted_by (step_in owner) owner
 

@@ -32,4 +32,5 @@ pub record HasBegun (owner : Owning) : Type 0 where
 -- an answer of what is left now is one of the command that ran before
 abbrev pub KeepsAnswer : Owning → Owning → Type 0
 KeepsAnswer old new =
-    IfSome old.rest (λ command. IfSome new.rest (λ rest. (mark : Bool) → answer (user_in new) rest mark ≡ answer (user_in old) command mark))
+    IfSome old.rest (λ command. IfSome new.rest (λ rest.
+    (mark : Bool) → answer (user_in new) rest mark ≡ answer (user_in old) command mark))

@@ -1,9 +1,11 @@
--- What an end of a pool has seen: the tasks that it is owed, how many results it was handed, and whether the pool is closed.
+-- What an end of a pool has seen: the tasks that it is owed, how many results it was handed, and whether the pool is
+-- closed.
 use Rattle.std.specs.Prelude.{◌≡◌, ℕ, ◌+◌, ◌-◌, ◌^◌, min, max, Bool, true, false, List, [], ◌∷◌, ◌++◌, ◌⊎◌}
 use Rattle.std.specs.List.{Contains}
 use Rattle.lj_tile.specs.Tasks.{Work}
 
--- the tasks that are owed, in the order of their posts; the results that were owed and those that were not, as they are counted
+-- the tasks that are owed, in the order of their posts; how many results were owed and how many were not, as far as
+-- they are counted; and whether the pool was seen closed
 pub record Seen : Type 0 where
   pub owed : List Work
   pub good : ℕ
@@ -32,7 +34,7 @@ pub record SameOwed (old new : Seen) : Type 0 where
   pub good : new.good ≡ old.good
   pub strays : new.strays ≡ old.strays
 
--- The task is owed behind the others, and nothing is counted.
+-- The task is owed after the others, and nothing is counted.
 pub record IsPosted (task : Work) (old new : Seen) : Type 0 where
   pub owed : new.owed ≡ old.owed ++ task ∷ []
   pub good : new.good ≡ old.good

@@ -32,7 +32,8 @@ EndsByFault items = (earlier : List Item) × (fault : Fault) × (items ≡ earli
 
 -- The dialogue of what was read, whose items end so. The pool's counts have together risen by the tiles of all their
 -- steps, or one of them stands at its last value.
-pub record IsAnswered (Ending : List Item → Type 0) (user : User) (read written : List ℕ) (old new : Seen) (next : User) : Type 0 where
+pub record IsAnswered (Ending : List Item → Type 0) (user : User) (read written : List ℕ) (old new : Seen)
+    (next : User) : Type 0 where
   pub dialogue : Dialogue user read written next
   pub ending : Ending dialogue.items
   pub counted : CountsRise (tiles user dialogue.items dialogue.marks) old new
@@ -85,8 +86,9 @@ IsServed WriteFault user read written old new None = ⊥
 IsServed PoolClosed user read written old new (Some next) = ⊥
 IsServed TooManyStrays user read written old new (Some next) = ⊥
 
--- What was read of the bytes that were left, and what was written for it behind the contents.
-pub record Serves (served : Served) (user : User) (left rest was is : Option (List ℕ)) (old new : Seen) (next : Option User) : Type 0 where
+-- What was read of the bytes that were left, and what was written for it after the contents.
+pub record Serves (served : Served) (user : User) (left rest was is : Option (List ℕ)) (old new : Seen)
+    (next : Option User) : Type 0 where
   pub read : List ℕ
   pub written : List ℕ
   pub taken : Consumes left rest read

@@ -18,7 +18,8 @@ abbrev pub AnswersItem : User → Item → Reply → User → Type 0
 AnswersItem user item reply next = (mark : Bool) × (answered user item mark ≡ (reply, next))
 
 -- The items that were handed out are answered, and what was read are their bytes.
-pub record Serving (user : User) (first now : Standing) (was is : Option (List ℕ)) (old new : Seen) (next : User) : Type 0 where
+pub record Serving (user : User) (first now : Standing) (was is : Option (List ℕ)) (old new : Seen)
+    (next : User) : Type 0 where
   pub read : List ℕ
   pub written : List ℕ
   pub items : List Item

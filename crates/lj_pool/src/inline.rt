@@ -58,7 +58,8 @@ impl Pool for InlinePool {
     fn fetch(&mut self, _user: u8) -> Option<Done>
         ensures some { IsSome result ↔ (0 < length self.old.owed) }
         ensures owed { IfSome result (λ done. self.old.owed ≡ done ∷ []) }
-        ensures taken_off { IfSome result (λ _. self.new ≡ record self.old { owed = []; good = one_more self.old.good }) }
+        ensures taken_off { IfSome result (λ _.
+            self.new ≡ record self.old { owed = []; good = one_more self.old.good }) }
         ensures unchanged { IfNone result (self.new ≡ self.old) }
     {
         let done = self.held.take()?;

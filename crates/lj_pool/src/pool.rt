@@ -20,8 +20,8 @@ pub enum Refused {
     Closed(Task),
 }
 
-/// An end of a pool. A task that was posted is owed until its result is fetched. Results that are not owed may come at any
-/// time; those that are and those that are not are counted, each count up to 2^64 - 1, where it stays.
+/// An end of a pool. A task that was posted is owed until its result is fetched. Results that are not owed may come at
+/// any time; those that are and those that are not are counted, each count up to 2^64 - 1, where it stays.
 pub trait Pool {
     ghost seen: { Self → Seen };
 

@@ -15,7 +15,8 @@ pub(crate) fn put_reply<W: Sink>(
     state: &UserState,
     reply: &Reply,
 ) -> Result<(), WriteFault>
-    ensures written { OnOk result (Appends (W.contents writer.old) (W.contents writer.new) (text (user_of state.now) reply.now)) }
+    ensures written { OnOk result
+        (Appends (W.contents writer.old) (W.contents writer.new) (text (user_of state.now) reply.now)) }
     ensures counted { OnOk result (W.faults writer.new ≡ W.faults writer.old) }
     ensures begun { OnErr result ((n : ℕ) × (n ≤ length (text (user_of state.now) reply.now))
         × Appends (W.contents writer.old) (W.contents writer.new) (take n (text (user_of state.now) reply.now))) }

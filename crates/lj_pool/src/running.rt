@@ -30,7 +30,8 @@ pub(crate) fn answer_over<P: Pool>(
     ensures idle { OnOk result (owner.new.rest ≡ None) }
     ensures quota { OnOk result (owner.new.state.quota ≡ owner.old.state.quota) }
     ensures none_owed { OnOk result ((P.seen pool.new).owed ≡ []) }
-    ensures counted { OnOk result (CountsRise (command_tiles (user_in owner.old) command) (P.seen pool.old) (P.seen pool.new)) }
+    ensures counted { OnOk result
+        (CountsRise (command_tiles (user_in owner.old) command) (P.seen pool.old) (P.seen pool.new)) }
     ensures runs { OnErr result (0 < turns (user_in owner.old) command) }
     ensures halted { IfErr result (λ halt. IsHalted halt (P.seen pool.old) (P.seen pool.new)) }
 {

@@ -21,8 +21,8 @@ use lj_session::{Owner, Refusal, Reply, UserState};
 use lj_wire::{Item, LineReader, ReadFault, Sink, Source, WriteFault};
 use std::alloc::Global;
 
-/// Serves a stream of commands from a user's state on, over a pool that owes nothing. What is written is the dialogue of
-/// what is read. The state is handed back but where a command was running, and the reader in any case.
+/// Serves a stream of commands from a user's state on, over a pool that owes nothing. What is written is the dialogue
+/// of what is read. The state is handed back but where a command was running, and the reader in any case.
 pub fn serve<R: Source, W: Sink, P: Pool>(
     alloc: Global,
     state: UserState,
@@ -32,9 +32,9 @@ pub fn serve<R: Source, W: Sink, P: Pool>(
     pool: &mut P,
 ) -> (Option<UserState>, Served, R)
     requires none_owed { (P.seen pool.old).owed ≡ [] }
-    ensures told { Serves result.1 (user_of state) (R.remaining reader) (R.remaining result.2) (W.contents writer.old)
-        (W.contents writer.new) (P.seen pool.old) (P.seen pool.new) (option_map user_of result.0) }
-    ensures end { result.1 ≡ served.End → IsAtEnd (R.remaining result.2) }
+    ensures told { (rest : Option (List ℕ)) × Serves result.1 (user_of state) (R.remaining reader) rest
+        (W.contents writer.old) (W.contents writer.new) (P.seen pool.old) (P.seen pool.new) (option_map user_of result.0)
+        × (result.1 ≡ served.End → IsAtEnd rest) }
     ensures read_fault { result.1 ≡ served.ReadFault → Rises (R.errors reader) (R.errors result.2) }
     ensures write_fault { result.1 ≡ served.WriteFault → Rises (W.faults writer.old) (W.faults writer.new) }
     ensures closed { result.1 ≡ served.PoolClosed → (P.seen pool.new).closed ≡ true }
@@ -59,8 +59,8 @@ pub fn serve_lines<R: Source, W: Sink, P: Pool>(
     requires fresh { lines.old.items ≡ 0 }
     requires at_work { lines.old.phase ≡ Open }
     requires none_owed { (P.seen pool.old).owed ≡ [] }
-    ensures told { Serves result.1 (user_of state) lines.old.left lines.new.left (W.contents writer.old) (W.contents writer.new)
-        (P.seen pool.old) (P.seen pool.new) (option_map user_of result.0) }
+    ensures told { Serves result.1 (user_of state) lines.old.left lines.new.left
+        (W.contents writer.old) (W.contents writer.new) (P.seen pool.old) (P.seen pool.new) (option_map user_of result.0) }
     ensures end { result.1 ≡ served.End → IsAtEnd lines.new.left }
     ensures all_read { result.1 ≡ served.ReadFault → lines.new.left ≡ lines.new.unread }
     ensures read_fault { result.1 ≡ served.ReadFault → Rises lines.old.errors lines.new.errors }
@@ -102,7 +102,8 @@ fn answer<P: Pool>(owner: &mut Owner, user: u8, pool: &mut P, item: Item) -> Res
     ensures idle { OnOk result (owner.new.rest ≡ None) }
     ensures quota { OnOk result (owner.new.state.quota ≡ owner.old.state.quota) }
     ensures none_owed { OnOk result ((P.seen pool.new).owed ≡ []) }
-    ensures counted { OnOk result (CountsRise (item_tiles (user_in owner.old) item) (P.seen pool.old) (P.seen pool.new)) }
+    ensures counted { OnOk result
+        (CountsRise (item_tiles (user_in owner.old) item) (P.seen pool.old) (P.seen pool.new)) }
     ensures runs { OnErr result (0 < item_turns (user_in owner.old) item) }
     ensures halted { IfErr result (λ halt. IsHalted halt (P.seen pool.old) (P.seen pool.new)) }
 {
