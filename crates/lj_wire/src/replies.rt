@@ -64,13 +64,12 @@ fn begin(verb: &[u8]) -> Line
     line
 }
 
-/// The line with its line feed.
-fn end(mut line: Line) -> Line
-    requires { array_vec_len line < MAX_REPLY_LINE_BYTES }
-    ensures { result.items ≡ ended line.items }
+/// Appends the line feed.
+fn end(line: &mut Line)
+    requires { array_vec_len line.old < MAX_REPLY_LINE_BYTES }
+    ensures { line.new.items ≡ ended line.old.items }
 {
     line.push(b'\n');
-    line
 }
 
 /// `OK LOAD s 0 atoms`.
@@ -81,7 +80,8 @@ fn loaded_line(name: &Name, atoms: usize) -> Line
     push_word(&mut line, name.as_bytes());
     push_word(&mut line, b"0");
     push_number(&mut line, atoms);
-    end(line)
+    end(&mut line);
+    line
 }
 
 /// `OK`, the word of a command, a session and a step number.
@@ -92,7 +92,8 @@ fn step_line(verb: &[u8], name: &Name, step: i64) -> Line
     let mut line = begin(verb);
     push_word(&mut line, name.as_bytes());
     push_number(&mut line, step);
-    end(line)
+    end(&mut line);
+    line
 }
 
 /// `OK`, the word of a command, and a session.
@@ -102,7 +103,8 @@ fn name_line(verb: &[u8], name: &Name) -> Line
 {
     let mut line = begin(verb);
     push_word(&mut line, name.as_bytes());
-    end(line)
+    end(&mut line);
+    line
 }
 
 /// `OK`, the word of a command, a session, and a name under which something is saved in it.
@@ -113,7 +115,8 @@ fn names_line(verb: &[u8], name: &Name, branch: &Name) -> Line
     let mut line = begin(verb);
     push_word(&mut line, name.as_bytes());
     push_word(&mut line, branch.as_bytes());
-    end(line)
+    end(&mut line);
+    line
 }
 
 /// The same with a step number.
@@ -125,7 +128,17 @@ fn names_and_step_line(verb: &[u8], name: &Name, branch: &Name, step: i64) -> Li
     push_word(&mut line, name.as_bytes());
     push_word(&mut line, branch.as_bytes());
     push_number(&mut line, step);
-    end(line)
+    end(&mut line);
+    line
+}
+
+/// `OK BYE`.
+fn bye_line() -> Line
+    ensures { result.items ≡ ok (codes "BYE" ∷ []) }
+{
+    let mut line = begin(b"BYE");
+    end(&mut line);
+    line
 }
 
 /// `OK TUG s i step`.
@@ -136,7 +149,8 @@ fn tugged_line(name: &Name, atom: u64, step: i64) -> Line
     push_word(&mut line, name.as_bytes());
     push_number(&mut line, atom);
     push_number(&mut line, step);
-    end(line)
+    end(&mut line);
+    line
 }
 
 /// `OK SHOW s step i x y z`.
@@ -151,7 +165,8 @@ fn shown_line(name: &Name, step: i64, atom: u64, place: &Place) -> Line
     push_number(&mut line, place.x);
     push_number(&mut line, place.y);
     push_number(&mut line, place.z);
-    end(line)
+    end(&mut line);
+    line
 }
 
 /// `OK MEASURE s step atoms`, the head of the reply to MEASURE.
@@ -185,7 +200,8 @@ fn frame_line(text: &FrameLine) -> Line
 {
     let mut line = Line::new();
     push(&mut line, text.as_slice());
-    end(line)
+    end(&mut line);
+    line
 }
 
 /// The line of a refusal.
@@ -202,7 +218,8 @@ fn refused_line(refusal: Refusal) -> Line
         push(&mut line, b" line");
         push_number(&mut line, fault.line);
     }
-    end(line)
+    end(&mut line);
+    line
 }
 
 /// `OK MEASURE s step atoms mx my mz kinetic potential`.
@@ -221,7 +238,8 @@ fn measured_line(
     push_momentum(&mut line, momentum);
     push_number(&mut line, kinetic);
     push_number(&mut line, potential);
-    end(line)
+    end(&mut line);
+    line
 }
 
 /// `OK LIST k`.
@@ -230,7 +248,8 @@ fn listed_line(sessions: usize) -> Line
 {
     let mut line = begin(b"LIST");
     push_number(&mut line, sessions);
-    end(line)
+    end(&mut line);
+    line
 }
 
 /// `OK LIST s k`.
@@ -240,7 +259,8 @@ fn listed_branches_line(name: &Name, branches: usize) -> Line
     let mut line = begin(b"LIST");
     push_word(&mut line, name.as_bytes());
     push_number(&mut line, branches);
-    end(line)
+    end(&mut line);
+    line
 }
 
 /// `OK DUMP s step lines`.
@@ -251,7 +271,8 @@ fn dumped_line(name: &Name, step: i64, lines: usize) -> Line
     push_word(&mut line, name.as_bytes());
     push_number(&mut line, step);
     push_number(&mut line, lines);
-    end(line)
+    end(&mut line);
+    line
 }
 
 /// The line of a session in a list: its name, its step, how many atoms it has and how much is saved in it.
@@ -263,7 +284,8 @@ fn entry_line(name: &Name, step: i64, atoms: usize, branches: usize) -> Line
     push_number(&mut line, step);
     push_number(&mut line, atoms);
     push_number(&mut line, branches);
-    end(line)
+    end(&mut line);
+    line
 }
 
 /// The line of the i-th session in a list.
@@ -284,7 +306,8 @@ fn branch_line(branches: &Branches, i: usize) -> Line
     let mut line = Line::new();
     push(&mut line, branches.name_at(i).as_bytes());
     push_number(&mut line, branches.step_at(i));
-    end(line)
+    end(&mut line);
+    line
 }
 
 /// The line of an atom in a frame of the i-th session.
@@ -338,7 +361,7 @@ fn only_line(reply: &Reply) -> Line
             place,
         } => shown_line(name, *step, *atom, place),
         Reply::Unloaded { name } => name_line(b"DROP", name),
-        Reply::Bye => end(begin(b"BYE")),
+        Reply::Bye => bye_line(),
         Reply::Refused(refusal) => refused_line(*refusal),
         Reply::Dumped { .. } | Reply::Listed | Reply::ListedBranches { .. } => unreachable!(),
     }
