@@ -12,7 +12,7 @@ list_any-map : {A B : Type 0} (test : B → Bool) (f : A → B) (xs : List A) �
 list_any-map test f [] = refl
 list_any-map test f (x ∷ xs) = ap (λ b. test (f x) || b) (list_any-map test f xs)
 
--- a user of a new name goes behind
+-- a user of a new name goes last, and the names stay distinct
 pub IsDistinct-names_push : (users : List User) (user : User) → IsDistinct bytes_eq (names users)
     → list_any (λ other. bytes_eq user.name other.name) users ≡ false → IsDistinct bytes_eq (names (users ++ user ∷ []))
 IsDistinct-names_push users user distinct fresh =
