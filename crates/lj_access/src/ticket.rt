@@ -44,7 +44,7 @@ impl Ticket {
     }
 }
 
-/// A HELLO that was denied. It does not tell whether the name or the token was wrong, or whether there is no ticket left.
+/// A HELLO that was denied. It does not tell whether the name or the token was wrong, or whether no ticket is left.
 #[derive(Clone, Copy, PartialEq, Eq, Debug, Error)]
 #[error("denied")]
 pub struct Denied;
