@@ -32,9 +32,10 @@ pub fn serve<R: Source, W: Sink, P: Pool>(
     pool: &mut P,
 ) -> (Option<UserState>, Served, R)
     requires none_owed { (P.seen pool.old).owed ≡ [] }
-    ensures told { (rest : Option (List ℕ)) × Serves result.1 (user_of state) (R.remaining reader) rest
-        (W.contents writer.old) (W.contents writer.new) (P.seen pool.old) (P.seen pool.new) (option_map user_of result.0)
-        × (result.1 ≡ served.End → IsAtEnd rest) }
+    ensures told { Serves result.1 (user_of state) (R.remaining reader) (R.remaining result.2)
+        (W.contents writer.old) (W.contents writer.new) (P.seen pool.old) (P.seen pool.new)
+        (option_map user_of result.0) }
+    ensures end { result.1 ≡ served.End → IsAtEnd (R.remaining result.2) }
     ensures read_fault { result.1 ≡ served.ReadFault → Rises (R.errors reader) (R.errors result.2) }
     ensures write_fault { result.1 ≡ served.WriteFault → Rises (W.faults writer.old) (W.faults writer.new) }
     ensures closed { result.1 ≡ served.PoolClosed → (P.seen pool.new).closed ≡ true }
@@ -60,7 +61,8 @@ pub fn serve_lines<R: Source, W: Sink, P: Pool>(
     requires at_work { lines.old.phase ≡ Open }
     requires none_owed { (P.seen pool.old).owed ≡ [] }
     ensures told { Serves result.1 (user_of state) lines.old.left lines.new.left
-        (W.contents writer.old) (W.contents writer.new) (P.seen pool.old) (P.seen pool.new) (option_map user_of result.0) }
+        (W.contents writer.old) (W.contents writer.new) (P.seen pool.old) (P.seen pool.new)
+        (option_map user_of result.0) }
     ensures end { result.1 ≡ served.End → IsAtEnd lines.new.left }
     ensures all_read { result.1 ≡ served.ReadFault → lines.new.left ≡ lines.new.unread }
     ensures read_fault { result.1 ≡ served.ReadFault → Rises lines.old.errors lines.new.errors }
