@@ -1,5 +1,5 @@
-use Rattle.std.proofs.Common.{refl, arith, ap, ◌+◌, ◌≡◌, Some, None}
-use Rattle.lj_book.specs.Held.{weight, waiting}
+use Rattle.std.proofs.Common.{refl, arith, ap}
+use Rattle.lj_book.specs.Held.{weight}
 use Rattle.lj_book.proofs.CountLemmas.{sum_changed}
 use Rattle.lj_book.proofs.entries.insert.Goals as goal
 

@@ -1,4 +1,4 @@
-use Rattle.std.proofs.Common.{◌≡◌, ◌∙◌, sym, arith, length}
+use Rattle.std.proofs.Common.{◌≡◌, ◌∙◌, arith, length}
 use Rattle.std.proofs.lemmas.List.{take_at}
 use Rattle.lj_book.proofs.MarkLemmas.{Covers-set}
 use Rattle.lj_book.proofs.marks.Marks.set.Goals as goal
