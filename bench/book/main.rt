@@ -7,20 +7,28 @@ use lj_fixed::Nano;
 use lj_ring::{Place, Scale};
 use lj_table::Table;
 use lj_tile::{BLOCK, Block, Done, Kind, Label, Name, Task, TaskName, compute};
-use std::time::Instant;
 use std::io;
+use std::time::Instant;
 
 const ROUNDS: usize = 200_000;
 
 fn task(user: u8) -> Option<Task> {
     let name = TaskName {
-        label: Label { user, session: Name::parse(b"a")? },
+        label: Label {
+            user,
+            session: Name::parse(b"a")?,
+        },
         step: 0,
         kind: Kind::Force,
         bi: 0,
         bj: 0,
     };
-    let scale = Scale::new(Nano::new(256_000_000_000)?, Nano::new(1_000_000_000)?, 131_072).ok()?;
+    let scale = Scale::new(
+        Nano::new(256_000_000_000)?,
+        Nano::new(1_000_000_000)?,
+        131_072,
+    )
+    .ok()?;
     let block = Block::new(&[Place { x: 0, y: 0, z: 0 }; BLOCK]);
     Some(Task::new(name, scale, block.copy(), block))
 }
@@ -69,7 +77,9 @@ fn main(rt: HostRuntime) -> io::Result<()> {
         let start = Instant::now(&rt)?;
         let whole = filled && rounds(&mut book, &table).is_some();
         let took = start.elapsed(&rt)?.as_nanos() / ROUNDS as u128;
-        println!(rt; "{entries} entries: {took} ns for each post, take, give and fetch; all fetched: {whole}")?;
+        println!(rt;
+            "{entries} entries: {took} ns for each post, take, give and fetch; all fetched: {whole}"
+        )?;
     }
     Ok(())
 }
