@@ -3,15 +3,28 @@ ghost use Rattle.std.specs.Prelude.{◌≡◌};
 ghost use Rattle.lj_branch.specs.declared.faults.SaveFault.TheVariants.{Memory};
 
 use std::alloc::AllocError;
+use std::fmt;
 use thiserror::Error;
 
 /// Why a simulation was not saved.
 #[derive(Clone, Copy, PartialEq, Eq, Debug, Error)]
 pub enum SaveFault {
-    #[error("a simulation is saved under this name already")]
     Exists,
-    #[error("out of memory")]
     Memory,
+}
+
+impl fmt::Display for SaveFault {
+    ghost use Rattle.std.specs.Prelude.{Some};
+    ghost use Rattle.lj_branch.specs.FaultTexts.{save_text};
+
+    ghost output = { λ fault. Some (save_text fault) };
+
+    fn fmt<W: fmt::Write>(&self, f: &mut fmt::Formatter<W>) -> fmt::Result {
+        f.write_str(match self {
+            SaveFault::Exists => "a simulation is saved under this name already",
+            SaveFault::Memory => "out of memory",
+        })
+    }
 }
 
 impl From<AllocError> for SaveFault {
@@ -24,5 +37,15 @@ impl From<AllocError> for SaveFault {
 
 /// No simulation is saved under the name.
 #[derive(Clone, Copy, PartialEq, Eq, Debug, Error)]
-#[error("no simulation is saved under this name")]
 pub struct NoBranch;
+
+impl fmt::Display for NoBranch {
+    ghost use Rattle.std.specs.Prelude.{Some};
+    ghost use Rattle.lj_branch.specs.FaultTexts.{no_branch_text};
+
+    ghost output = { λ _. Some no_branch_text };
+
+    fn fmt<W: fmt::Write>(&self, f: &mut fmt::Formatter<W>) -> fmt::Result {
+        f.write_str("no simulation is saved under this name")
+    }
+}

@@ -3,18 +3,37 @@ ghost use Rattle.std.specs.Prelude.{◌≡◌, ℕ, ◌<◌, ◌≤◌, List, Op
 ghost use Rattle.std.specs.Io.KnownBytes.{ReadConsumes, WriteAppends};
 ghost use Rattle.lj_wire.specs.Ends.{Rises};
 
+use std::fmt;
 use std::io::{Read, Write};
 use thiserror::Error;
 
 /// A read that answered an error.
 #[derive(Clone, Copy, Debug, PartialEq, Eq, Error)]
-#[error("read fault")]
 pub struct ReadFault;
+
+impl fmt::Display for ReadFault {
+    ghost use Rattle.std.specs.Prelude.{Some, codes};
+
+    ghost output = { λ _. Some (codes "read fault") };
+
+    fn fmt<W: fmt::Write>(&self, f: &mut fmt::Formatter<W>) -> fmt::Result {
+        f.write_str("read fault")
+    }
+}
 
 /// A write that answered an error, or took none of its bytes.
 #[derive(Clone, Copy, Debug, PartialEq, Eq, Error)]
-#[error("write fault")]
 pub struct WriteFault;
+
+impl fmt::Display for WriteFault {
+    ghost use Rattle.std.specs.Prelude.{Some, codes};
+
+    ghost output = { λ _. Some (codes "write fault") };
+
+    fn fmt<W: fmt::Write>(&self, f: &mut fmt::Formatter<W>) -> fmt::Result {
+        f.write_str("write fault")
+    }
+}
 
 /// Where bytes come from.
 pub trait Source {
