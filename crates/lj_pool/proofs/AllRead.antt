@@ -17,12 +17,22 @@ use Rattle.lj_pool.proofs.Dialogues.{Takes-on}
 -- items of which the last ends the connection are so whatever comes after them
 Splits-on : (n : ℕ) (bytes : List ℕ) (earlier : List Item) (last : Item) (rest more : List ℕ) → ends last ≡ true
     → Splits n bytes (earlier ++ last ∷ []) rest → Splits n (bytes ++ more) (earlier ++ last ∷ []) (rest ++ more)
-Splits-on n bytes [] last rest more over s =
-    (s.0, s.1 ++ more, ap (λ b. b ++ more) s.2 ∙ append_assoc s.0 s.1 more, s.3,
-    (λ e. (refl, ap (λ b. b ++ more) (s.4 e).1)), (λ e. absurd (let differ : true ≡ false = sym over ∙ e in cc)))
-Splits-on n bytes (item ∷ earlier) last rest more over s =
-    (s.0, s.1 ++ more, ap (λ b. b ++ more) s.2 ∙ append_assoc s.0 s.1 more, s.3,
-    (λ e. ((s.4 e).0, ap (λ b. b ++ more) (s.4 e).1)), (λ e. Splits-on (n + 1) s.1 earlier last rest more over (s.5 e)))
+Splits-on n bytes [] last rest more over s = (
+  s.0,
+  s.1 ++ more,
+  ap (λ b. b ++ more) s.2 ∙ append_assoc s.0 s.1 more,
+  s.3,
+  (λ e. (refl, ap (λ b. b ++ more) (s.4 e).1)),
+  (λ e. absurd (let differ : true ≡ false = sym over ∙ e in cc)),
+)
+Splits-on n bytes (item ∷ earlier) last rest more over s = (
+  s.0,
+  s.1 ++ more,
+  ap (λ b. b ++ more) s.2 ∙ append_assoc s.0 s.1 more,
+  s.3,
+  (λ e. ((s.4 e).0, ap (λ b. b ++ more) (s.4 e).1)),
+  (λ e. Splits-on (n + 1) s.1 earlier last rest more over (s.5 e)),
+)
 
 module _ (user : User) (read written : List ℕ) (old new : Seen) (held : List ℕ) where
   reaches-on : (so_far : List ℕ) (between : User) (item : Item) → Reaches user read so_far between item → Reaches user (read ++ held) so_far between item

@@ -8,6 +8,7 @@ use Rattle.std.proofs.lemmas.Option.{none-some}
 use Rattle.lj_tile.specs.declared.names.Kind.{Kind}
 use Rattle.lj_tile.specs.declared.names.Kind.TheVariants.{Force, Energy}
 use Rattle.lj_step.specs.OpenSteps.{blocks, is_tile, cover, opened, left}
+use Rattle.lj_step.proofs.Flags.{count_flags}
 use Rattle.lj_session.specs.declared.command.Command.{Command}
 use Rattle.lj_session.specs.declared.command.Command.TheVariants.{Advance, Measure}
 use Rattle.lj_session.specs.Users.{User}
@@ -52,14 +53,6 @@ steps_of owner (Measure name) some = by (held_in owner.state name) refl
     by None e = absurd (let none = rw (named-absent owner.state name e) at some in omega (arith, none))
     by (Some held) e = record { name = name; kind = Energy; step = refl; held = held; there = e }
 steps_of owner command some = absurd (omega (arith, some))
-
--- the flags that are set are as many as the numbers that pass
-count_flags : (p : ℕ → Bool) (xs : List ℕ) → count_by (λ awaited. awaited) (map p xs) ≡ count_by p xs
-count_flags p [] = refl
-count_flags p (x ∷ xs) =
-    sum_by-cons (λ (awaited : Bool). cond awaited 1 0) (p x) (map p xs)
-    ∙ ap (λ s. cond (p x) 1 0 + s) (count_flags p xs)
-    ∙ sym (sum_by-cons (λ k. cond (p k) 1 0) x xs)
 
 -- an opened step awaits its cover
 opened_left : (kind : Kind) (count : ℕ) → left (opened kind count) ≡ length (cover kind count)

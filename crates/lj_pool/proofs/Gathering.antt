@@ -14,9 +14,11 @@ use Rattle.lj_tile.specs.declared.names.Label.{Label}
 use Rattle.lj_tile.specs.declared.names.Kind.{Kind}
 use Rattle.lj_tile.specs.Tasks.{Work}
 use Rattle.lj_step.specs.Live.{Live}
-use Rattle.lj_step.specs.OpenSteps.{cover, awaits_in, awaits_at, tiles_in, tiles_of, task_of, task_in as task_in_step, task_at, number_of, with_tile, AwaitsIn, is_whole}
-use Rattle.lj_session.specs.States.{Held, held_in, next_tile, next_of, next_task, passed_to, with_posted, with_tile_in, AwaitsOf, whole_of}
-use Rattle.lj_session.specs.Owners.{Owning, label_in, task_in, changed_in, with_task_posted, with_task_in, IsWanted, is_ready}
+use Rattle.lj_step.specs.OpenSteps.{cover, awaits_tile_in, awaits_tile, tiles_in, tiles_of, task_of, task_in as task_in_step, task_at, tile_number_of, with_tile, IsAwaitedTaskIn, IsAwaitedTask, is_whole}
+use Rattle.lj_step.proofs.Flags.{none_left}
+use Rattle.lj_step.proofs.TilesTaken.{number_is}
+use Rattle.lj_session.specs.States.{Held, held_in, next_tile, next_of, next_task, passed_to, with_posted, with_tile_in, whole_of}
+use Rattle.lj_session.specs.Owners.{Owning, label_in, task_in, changed_in, with_task_posted, with_task_in, IsAwaitedIn, is_ready}
 use Rattle.lj_session.proofs.Owning.{held_in-changed}
 use Rattle.lj_pool.specs.Seen.{Seen, TakesOff, IsHandedOut, one_more}
 use Rattle.lj_pool.specs.Gathering.{times, is_awaited, posted_tiles, Gathers, awaited_of, awaited_by, awaited_in, unposted_of, unposted_by, unposted_in, left_in}
@@ -31,20 +33,6 @@ opened_once test n k set =
           times-filter test k passes (range_with_len 0 n) ∙ times-range k 0 n (omega arith) (omega arith)
       | inr past ↦
           absurd (true≢false (sym set ∙ get_or_past (map test (range_with_len 0 n)) k false (omega (arith, length-map-range_with_len test 0 n, past))))
-    ]
-
--- where nothing is counted, no flag is set
-none_awaited : (flags : List Bool) (k : ℕ) → count_by (λ awaited. awaited) flags ≡ 0 → is_awaited flags k ≡ false
-none_awaited flags k none =
-    elim (cases_lt k (length flags)) [
-      | inl within ↦
-          let one : cond (slice_index_or flags k false) 1 0 ≤ count_by (λ awaited. awaited) flags =
-          get_or-le-sum_by (λ (awaited : Bool). cond awaited 1 0) flags k false within in
-          elim (cases_Bool (slice_index_or flags k false)) [
-            | inl set ↦ absurd (omega (arith, none, rw set at one))
-            | inr clear ↦ clear
-          ]
-      | inr past ↦ get_or_past flags k false past
     ]
 
 filter-none : (p : ℕ → Bool) → ((k : ℕ) → p k ≡ false) → (xs : List ℕ) → filter p xs ≡ []
@@ -69,9 +57,6 @@ image_of f p w (x ∷ xs) h = image_head f p w x xs (p x) refl (image_of f p w x
 
 none_once : (n : ℕ) → n ≡ 0 → n ≡ 1 → ⊥
 none_once n none one = omega arith
-
-number-back : (live : Live) (label : Label) (kind : Kind) (k : ℕ) → number_of (task_of live label kind k) ≡ k
-number-back live label kind k = omega arith
 
 module _ (owner : Owning) (owed : List Work) (t : Gathers owner owed) where
   abbrev label : Label
@@ -129,7 +114,7 @@ module _ (owner : Owning) (owed : List Work) (t : Gathers owner owed) where
   pub ready_owes_none : is_ready owner ≡ true → owed ≡ []
   ready_owes_none ready =
       let none : count_by (λ awaited. awaited) t.flags ≡ 0 = leb_zero (sym ready_is ∙ ready) in
-      t.owed_is ∙ ap (map task) (filter-none (is_awaited t.flags) (λ k. none_awaited t.flags k none) (take t.held.passed tiles))
+      t.owed_is ∙ ap (map task) (filter-none (is_awaited t.flags) (λ k. none_left t.flags k none) (take t.held.passed tiles))
     where
       leb_zero : {n : ℕ} → nat_le n 0 ≡ true → n ≡ 0
       leb_zero {n} e = let le : n ≤ 0 = leb-true n 0 e in omega arith
@@ -227,9 +212,9 @@ module _ (owner : Owning) (owed : List Work) (t : Gathers owner owed) where
   pub owed_wanted : (work : Work) → Contains owed work → IsWanted owner work
   owed_wanted work owes =
       let image = image_of task (is_awaited t.flags) work (take t.held.passed tiles) (subst (λ ws. Contains ws work) t.owed_is owes) in
-      let number : number_of work ≡ image.0 = ap number_of (sym image.2) ∙ number-back live label t.kind image.0 in
-      let flag : is_awaited t.flags (number_of work) ≡ true = ap (is_awaited t.flags) number ∙ image.1 in
-      let is : work ≡ task (number_of work) = sym image.2 ∙ ap task (sym number) in
+      let number : tile_number_of work ≡ image.0 = ap tile_number_of (sym image.2) ∙ number_is live label t.kind image.0 in
+      let flag : is_awaited t.flags (tile_number_of work) ≡ true = ap (is_awaited t.flags) number ∙ image.1 in
+      let is : work ≡ task (tile_number_of work) = sym image.2 ∙ ap task (sym number) in
       subst (λ l. IsSomeAnd l (λ label. AwaitsOf label work (held_in owner.state label.session))) (sym label_is)
       (subst (AwaitsOf label work) (sym t.there) (subst (AwaitsIn live label work) (sym t.is_open) (flag, is)))
 
@@ -307,14 +292,14 @@ module _ (owner : Owning) (owed : List Work) (t : Gathers owner owed) where
     pub gathers_taken : (old new : Seen) → old.owed ≡ owed → IsHandedOut work old new → Gathers (with_task_in work owner) new.owed
     gathers_taken old new same (inl off) =
         taken_with new.owed
-        (images-taken (is_awaited t.flags) (is_awaited flags_after) (number_of work) clear_after others_after task number_of (number-back live label t.kind)
+        (images-taken (is_awaited t.flags) (is_awaited flags_after) (tile_number_of work) clear_after others_after task tile_number_of (number_is live label t.kind)
         (take t.held.passed tiles) off.front off.behind once_posted awaited_there.0
         (sym t.owed_is ∙ sym same ∙ off.was ∙ ap (λ w. off.front ++ w ∷ off.behind) awaited_there.1)
         (λ h. off.first (subst (Contains off.front) (sym awaited_there.1) h))
         ∙ sym off.owed)
     gathers_taken old new same (inr stray) =
         taken_with new.owed
-        (images-kept (is_awaited t.flags) (is_awaited flags_after) (number_of work) clear_after others_after task number_of (number-back live label t.kind)
+        (images-kept (is_awaited t.flags) (is_awaited flags_after) (tile_number_of work) clear_after others_after task tile_number_of (number_is live label t.kind)
         (take t.held.passed tiles) awaited_there.0
         (λ h. stray.absent (subst (λ ws. Contains ws work) (sym (same ∙ t.owed_is)) (subst (Contains (map task (posted_tiles t.flags t.held.passed tiles))) (sym awaited_there.1) h)))
         ∙ sym t.owed_is ∙ sym same ∙ sym stray.owed)

@@ -24,15 +24,22 @@ const QUOTA: Quota = Quota {
 
 const DIMER: &str = "LOAD a 256 1 131072 rest 28\n2\ndimer\nAr 0 0 0\nAr 1.5 0 0\n";
 
-/// A pool that is closed from the start.
+/// A pool that closes: it takes one task where it is still open, and hands out no result.
 #[derive(Drop)]
-struct ClosedPool;
+struct ClosingPool {
+    open: bool,
+    taken: Option<Task>,
+}
 
-impl Pool for ClosedPool {
-    ghost seen = { λ _. record unseen { closed = true } };
+impl Pool for ClosingPool {
+    ghost seen = { λ pool. record unseen { owed = held_task pool.taken; closed = true } };
 
     fn post(&mut self, task: Task, _wait: bool) -> Result<(), Refused> {
-        Err(Refused::Closed(task))
+        if !self.open || self.taken.is_some() {
+            return Err(Refused::Closed(task));
+        }
+        self.taken = Some(task);
+        Ok(())
     }
 
     fn fetch(&mut self, _user: u8) -> Option<Done> {
@@ -40,7 +47,7 @@ impl Pool for ClosedPool {
     }
 
     fn owed(&self) -> usize {
-        0
+        usize::from(self.taken.is_some())
     }
 
     fn closed(&self) -> bool {
@@ -179,8 +186,8 @@ fn a_session_ends_by_bye(rt: HostRuntime) -> Result<(), Fail> {
         "{DIMER}ADVANCE a 1\nSHOW a 0\nADVANCE a 1\nSHOW a 1\nTUG a 2 0 0 0\nLIST\nBYE\nLIST\n"
     )?;
     let replies =
-        "OK LOAD a 0 2\nOK ADVANCE a 1\nOK SHOW a 1 0 589 0 0\nOK ADVANCE a 2\nOK SHOW a 2 1 25164050 0 0\n\
-        ERR 14 NO_ATOM\nOK LIST 1\na 2 2 0\nOK BYE\n";
+        "OK LOAD a 0 2\nOK ADVANCE a 1\nOK SHOW a 1 0 589 0 0\nOK ADVANCE a 2\n\
+        OK SHOW a 2 1 25164050 0 0\nERR 14 NO_ATOM\nOK LIST 1\na 2 2 0\nOK BYE\n";
     let mut pool = InlinePool::new(Table::new());
     expect_served(
         &rt,
@@ -220,19 +227,26 @@ fn a_fault_ends(rt: HostRuntime) {
     );
 }
 
-#[test]
-fn a_closed_pool_keeps_the_state(rt: HostRuntime) -> Result<(), Fail> {
-    let input = format!(in rt.alloc(); "{DIMER}ADVANCE a 0\nADVANCE a 1\nLIST\n")?;
+/// Serves a step over a pool that closes as its task is posted, or after that.
+fn expect_closed(rt: &impl Abort, alloc: Global, open: bool) -> Result<(), Fail> {
+    let input = format!(in alloc; "{DIMER}ADVANCE a 0\nADVANCE a 1\nLIST\n")?;
     let replies = "OK LOAD a 0 2\nOK ADVANCE a 0\n";
+    let mut pool = ClosingPool { open, taken: None };
     expect_served(
-        &rt,
-        rt.alloc(),
+        rt,
+        alloc,
         input.as_str(),
-        &mut ClosedPool,
+        &mut pool,
         replies,
         Served::PoolClosed,
     );
     Ok(())
+}
+
+#[test]
+fn a_closed_pool_keeps_the_state(rt: HostRuntime) -> Result<(), Fail> {
+    expect_closed(&rt, rt.alloc(), false)?;
+    expect_closed(&rt, rt.alloc(), true)
 }
 
 /// Serves two steps over a pool that hands out so many strays in the second one.
