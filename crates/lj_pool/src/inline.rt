@@ -1,5 +1,5 @@
 //! A pool of no threads: each task is computed by the one who posts it.
-ghost use Rattle.std.specs.Prelude.{◌≡◌, ◌↔◌, ◌∷◌, ◌<◌, [], false, length, IsOk, IfErr, IfNone, IfSome, IsSome, OnErr, OnOk};
+ghost use Rattle.std.specs.Prelude.{◌≡◌, ◌↔◌, ◌∷◌, ◌<◌, [], true, false, length, IsOk, IfErr, IfNone, IfSome, IsSome, OnErr, OnOk};
 ghost use Rattle.lj_pool.specs.Seen.{unseen, one_more};
 ghost use Rattle.lj_pool.specs.declared.pool.Refused.TheVariants.{Full};
 
@@ -62,13 +62,18 @@ impl Pool for InlinePool {
             self.new ≡ record self.old { owed = []; good = one_more self.old.good }) }
         ensures unchanged { IfNone result (self.new ≡ self.old) }
     {
-        let done = self.held.take()?;
-        self.good = self.good.saturating_add(1);
-        Some(done)
+        self.good = self.good.saturating_add(u64::from(self.held.is_some()));
+        self.held.take()
     }
 
     fn owed(&self) -> usize {
         usize::from(self.held.is_some())
+    }
+
+    fn full(&self) -> bool
+        ensures { result ≡ true ↔ (0 < length self.now.owed) }
+    {
+        self.held.is_some()
     }
 
     fn closed(&self) -> bool

@@ -1,5 +1,5 @@
 //! What a pool is to the one who posts tasks: an end that takes tasks and hands out results.
-ghost use Rattle.std.specs.Prelude.{◌≡◌, ◌<◌, length, true, [], IfErr, IfNone, IfSome, OnErr, OnOk};
+ghost use Rattle.std.specs.Prelude.{◌≡◌, ◌<◌, length, true, false, [], IfErr, IfNone, IfSome, OnErr, OnOk};
 ghost use Rattle.lj_pool.specs.Seen.{Seen, SameOwed, IsPosted, IsHandedOut, StaysClosed};
 ghost use Rattle.lj_pool.specs.Refusals.{task_of, IsClosed};
 
@@ -47,6 +47,11 @@ pub trait Pool {
     /// How many tasks are owed.
     fn owed(&self) -> usize
         ensures { result ≡ length (seen self.now).owed };
+
+    /// Whether there is no room now. Something is owed then.
+    fn full(&self) -> bool
+        ensures room { result ≡ false → length (seen self.now).owed < MAX_OWED }
+        ensures owes { result ≡ true → 0 < length (seen self.now).owed };
 
     /// Whether the end has seen the pool closed.
     fn closed(&self) -> bool

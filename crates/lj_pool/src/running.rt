@@ -7,7 +7,7 @@ ghost use Rattle.lj_pool.specs.Gathering.{Gathers, SameRun, awaited_in, unposted
 ghost use Rattle.lj_pool.specs.Counting.{CountsRise, StraysRise, command_tiles};
 ghost use Rattle.lj_pool.specs.Running.{IsHalted, HasBegun, tiles_left};
 
-use crate::pool::{MAX_OWED, MAX_STRAYS, Pool, Refused};
+use crate::pool::{MAX_STRAYS, Pool, Refused};
 use lj_session::{Begin, Command, Owner, Reply};
 
 /// Why a command was given up.
@@ -99,14 +99,13 @@ fn post_next<P: Pool>(owner: &mut Owner, pool: &mut P) -> Result<bool, Halt>
     ensures strays { OnOk result ((P.seen pool.new).strays ≡ (P.seen pool.old).strays) }
     ensures halted { IfErr result (λ halt. IsHalted halt (P.seen pool.old) (P.seen pool.new)) }
 {
-    let owed = pool.owed();
-    if owed >= MAX_OWED {
+    if pool.full() {
         return Ok(false);
     }
     let Some(task) = owner.next_task() else {
         return Ok(false);
     };
-    match pool.post(task, owed == 0) {
+    match pool.post(task, pool.owed() == 0) {
         Ok(()) => {
             owner.posted();
             Ok(true)

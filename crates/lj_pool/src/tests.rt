@@ -50,6 +50,10 @@ impl Pool for ClosingPool {
         usize::from(self.taken.is_some())
     }
 
+    fn full(&self) -> bool {
+        self.taken.is_some()
+    }
+
     fn closed(&self) -> bool {
         true
     }
@@ -104,6 +108,10 @@ impl Pool for StrayPool {
 
     fn owed(&self) -> usize {
         usize::from(self.held.is_some())
+    }
+
+    fn full(&self) -> bool {
+        self.held.is_some()
     }
 
     fn closed(&self) -> bool {
@@ -185,8 +193,7 @@ fn a_session_ends_by_bye(rt: HostRuntime) -> Result<(), Fail> {
     let input = format!(in rt.alloc();
         "{DIMER}ADVANCE a 1\nSHOW a 0\nADVANCE a 1\nSHOW a 1\nTUG a 2 0 0 0\nLIST\nBYE\nLIST\n"
     )?;
-    let replies =
-        "OK LOAD a 0 2\nOK ADVANCE a 1\nOK SHOW a 1 0 589 0 0\nOK ADVANCE a 2\n\
+    let replies = "OK LOAD a 0 2\nOK ADVANCE a 1\nOK SHOW a 1 0 589 0 0\nOK ADVANCE a 2\n\
         OK SHOW a 2 1 25164050 0 0\nERR 14 NO_ATOM\nOK LIST 1\na 2 2 0\nOK BYE\n";
     let mut pool = InlinePool::new(Table::new());
     expect_served(
