@@ -82,6 +82,18 @@ open_body old mid new line count t n f = record {
   is_part = inr (record { line = line; body = f.part; whole = refl; is_line = t.is_line; announces = omega (arith, n, f.fewer) });
 }
 
+-- nothing is read for a line and so many bytes after it where they are held
+abbrev pub Onward : Ahead → Ahead → Ahead → List ℕ → ℕ → Type 0
+Onward old mid new line count = length line + 1 + count ≤ length old.held → new.unread ≡ old.unread
+
+pub goes_onward : (old found mid new : Ahead) (line : List ℕ) (at count : ℕ) → length line ≡ at → (at < length old.held → found ≡ old)
+    → mid ≡ record found { held = drop (at + 1) found.held } → ReadsFor mid new count → Onward old mid new line count
+goes_onward old found mid new line at count is searched taken reads held =
+    let same = searched (omega (arith, is, held)) in
+    let left = ap (λ a. length a.held) taken ∙ length-drop (at + 1) found.held in
+    let enough : count ≤ length mid.held = omega (arith, left, ap (λ a. length a.held) same, is, held) in
+    reads enough ∙ ap (λ a. a.unread) taken ∙ ap (λ a. a.unread) same
+
 -- the rest of the item was taken after its line
 pub finished : (old mid new : Ahead) (line : List ℕ) (item : Item) (count : ℕ) (handed : Option Item) → LineTaken old mid line
     → Onward old mid new line count

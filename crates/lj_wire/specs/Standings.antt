@@ -66,7 +66,7 @@ pub record Fails (old new : Standing) : Type 0 where
   pub part : List ℕ
   pub taken : Consumes old.left new.left part
   pub is_part : IsPart old.items part
-  pub all_taken : new.left ≡ new.unread
+  pub all_taken : new.held ≡ []
   pub items_is : new.items ≡ old.items
   pub errors_rise : Rises old.errors new.errors
   pub phase_is : new.phase ≡ Failed

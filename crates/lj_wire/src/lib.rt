@@ -3,15 +3,21 @@
 
 mod command;
 mod displacement;
+mod ends;
 mod item;
 mod laws;
 mod limits;
 mod line;
+mod put;
+mod reader;
 mod reading;
 mod replies;
 mod verb;
 mod words;
 
+pub use ends::{
+    CountedReading, CountedWriting, ReadFault, Reading, Sink, Source, WriteFault, Writing,
+};
 pub use item::{Fault, Item};
 pub use laws::{
     body_is_bounded, body_missing_is_marked, lines_are_the_text, mark_is_told, one_splitting,
@@ -19,5 +25,7 @@ pub use laws::{
 };
 pub use limits::{LONG_LINE_BYTES, MAX_BODY_BYTES, MAX_ITEMS, MAX_LINE_BYTES};
 pub use line::split_line;
-pub use reading::{Reading, parse_command, read_line};
+pub use put::put_all;
+pub use reader::{LineReader, Phase, handed_are_all, handed_come_first, lost_is_marked};
+pub use reading::{LineReading, parse_command, read_line};
 pub use replies::{Line, MAX_REPLY_LINE_BYTES, reply_line};

@@ -1,5 +1,5 @@
 //! The reader of a stream of lines and bodies.
-ghost use Rattle.std.specs.Prelude.{◌≡◌, ℕ, List, IfOk, IfSome, IfNone, OnErr};
+ghost use Rattle.std.specs.Prelude.{◌≡◌, [], IfOk, IfSome, IfNone, OnErr};
 ghost use Rattle.std.specs.Io.KnownBytes.{prepend_known};
 ghost use Rattle.lj_wire.specs.declared.reader.phase.Phase.TheVariants.{Open};
 
@@ -111,7 +111,7 @@ impl<S: Source> LineReader<S> {
     /// The source. What was read ahead is given up.
     pub fn into_source(self) -> S
         ensures remaining { S.remaining result ≡ self.unread }
-        ensures ahead { (held : List ℕ) × (self.left ≡ prepend_known held self.unread) }
+        ensures ahead { self.left ≡ prepend_known self.held self.unread }
         ensures errors { S.errors result ≡ self.errors }
     {
         let LineReader {

@@ -1,5 +1,6 @@
 //! Items read whole.
 ghost use Rattle.std.specs.Prelude.{◌≡◌, [], IfOk, OnOk, OnErr};
+ghost use Rattle.lj_wire.specs.Ahead.{ReadsFor};
 ghost use Rattle.lj_wire.specs.Ends.{Rises};
 ghost use Rattle.lj_wire.specs.Steps.{takes_body, Finishes, ReadsItem, TakesFewer, TakesNoItem};
 
