@@ -1,5 +1,5 @@
 -- What was read ahead of the items that are answered belongs to what was read.
-use Rattle.std.proofs.Common.{◌≡◌, ℕ, ◌+◌, Bool, true, false, List, [], ◌∷◌, ◌++◌, length, length-append, arith, Option, Some, None, refl, sym, ap, ◌∙◌, subst}
+use Rattle.std.proofs.Common.{◌≡◌, ℕ, ◌+◌, Bool, true, false, List, [], ◌∷◌, ◌++◌, Option, Some, None, refl, sym, ap, ◌∙◌, subst}
 use Rattle.std.specs.Io.KnownBytes.{prepend_known, Consumes, IsAtEnd}
 use Rattle.std.proofs.KnownBytes.{Consumes-trans}
 use Rattle.std.proofs.lemmas.List.{append_assoc, append-nil}
@@ -105,11 +105,7 @@ module _ (user : User) (read written : List ℕ) (old new : Seen) (held : List �
   served-on PoolClosed (Some next) at_end at_fault s = absurd s
   served-on TooManyStrays (Some next) at_end at_fault s = absurd s
 
--- lists of which the first is nothing before the second
-none_before : (held rest : List ℕ) → held ++ rest ≡ rest → held ≡ []
-none_before [] rest e = refl
-none_before (x ∷ held) rest e = absurd (omega (arith, simp length-append at (ap length e)))
-
+-- nothing stands before nothing
 none_at_end : (held rest : List ℕ) → held ++ rest ≡ [] → held ≡ []
 none_at_end [] rest e = refl
 none_at_end (x ∷ held) rest e = cc
@@ -117,7 +113,7 @@ none_at_end (x ∷ held) rest e = cc
 module _ (served : Served) (user : User) (left was is : Option (List ℕ)) (old new : Seen) (next : Option User) where
   -- what is told of the bytes that are left is told of those that the source has left
   pub serves-all : (rest unread : Option (List ℕ)) (held : List ℕ) → rest ≡ prepend_known held unread
-      → (served ≡ End → IsAtEnd rest) → (served ≡ ReadFault → rest ≡ unread)
+      → (served ≡ End → IsAtEnd rest) → (served ≡ ReadFault → held ≡ [])
       → Serves served user left rest was is old new next → Serves served user left unread was is old new next
   serves-all rest None held ahead at_end at_fault s = record {
     read = s.read;
@@ -133,7 +129,7 @@ module _ (served : Served) (user : User) (left was is : Option (List ℕ)) (old 
     appends = s.appends;
     is_served = served-on user s.read s.written old new held served next
         (λ e. none_at_end held bytes (subst IsAtEnd ahead (at_end e)))
-        (λ e. let same : Some (held ++ bytes) ≡ Some bytes = sym ahead ∙ at_fault e in none_before held bytes (cc))
+        at_fault
         s.is_served;
   }
 

@@ -33,7 +33,7 @@ use Rattle.lj_pool.specs.Serving.{AnswersItem, Serving}
 use Rattle.lj_pool.proofs.Beginning.{rises-more, rises-none}
 
 -- bytes that begin with items do so too where more bytes come behind
-Takes-on : (n : ℕ) (bytes : List ℕ) (items : List Item) (left more : List ℕ) → Takes n bytes items left → Takes n (bytes ++ more) items (left ++ more)
+pub Takes-on : (n : ℕ) (bytes : List ℕ) (items : List Item) (left more : List ℕ) → Takes n bytes items left → Takes n (bytes ++ more) items (left ++ more)
 Takes-on n bytes [] left more t = ap (λ b. b ++ more) t
 Takes-on n bytes (item ∷ items) left more t =
     (t.0, t.1 ++ more, ap (λ b. b ++ more) t.2 ∙ append_assoc t.0 t.1 more, t.3, t.4, Takes-on (n + 1) t.1 items left more t.5)

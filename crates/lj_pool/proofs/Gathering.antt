@@ -24,6 +24,10 @@ use Rattle.lj_pool.specs.Seen.{Seen, TakesOff, IsHandedOut, one_more}
 use Rattle.lj_pool.specs.Gathering.{times, is_awaited, posted_tiles, Gathers, awaited_of, awaited_by, awaited_in, unposted_of, unposted_by, unposted_in, left_in}
 use Rattle.lj_pool.proofs.Numbers.{times-filter, times-none, times-take, times-range, none_set, images-kept, images-taken, found_next, found_none}
 
+-- the task is that of a tile that the open step of a session awaits
+abbrev AwaitsOf : Label → Work → Option Held → Type 0
+AwaitsOf label work held = IsSomeAnd held (λ held. IsAwaitedTask held.live label work)
+
 -- the flags of an opened step
 pub opened_once : (test : ℕ → Bool) (n k : ℕ) → is_awaited (map test (range_with_len 0 n)) k ≡ true → times k (filter test (range_with_len 0 n)) ≡ 1
 opened_once test n k set =
@@ -80,23 +84,23 @@ module _ (owner : Owning) (owed : List Work) (t : Gathers owner owed) where
   tiles_are : tiles_of live ≡ length tiles
   tiles_are = ap (tiles_in (length t.held.live.sim.cur)) t.is_open
 
-  awaits_is : (i : ℕ) → i < length tiles → awaits_at live i ≡ is_awaited t.flags (get_or tiles i 0)
+  awaits_is : (i : ℕ) → i < length tiles → awaits_tile live i ≡ is_awaited t.flags (get_or tiles i 0)
   awaits_is i within =
-      ap (awaits_in (length t.held.live.sim.cur) i) t.is_open
+      ap (awaits_tile_in (length t.held.live.sim.cur) i) t.is_open
       ∙ ap (λ o. option_map_or (λ k. slice_index_or t.flags k false) o false) (slice_get-get_or tiles i 0 within)
 
   task_at_is : (i : ℕ) → i < length tiles → task_at live label i ≡ Some (task (get_or tiles i 0))
   task_at_is i within = ap (task_in_step live label i) t.is_open ∙ ap (option_map task) (slice_get-get_or tiles i 0 within)
 
-  next_is : next_tile t.held ≡ find (awaits_at live) (range_with_len t.held.passed (length tiles - t.held.passed))
-  next_is = ap (λ n. find (awaits_at live) (range_with_len t.held.passed (n - t.held.passed))) tiles_are
+  next_is : next_tile t.held ≡ find (awaits_tile live) (range_with_len t.held.passed (length tiles - t.held.passed))
+  next_is = ap (λ n. find (awaits_tile live) (range_with_len t.held.passed (n - t.held.passed))) tiles_are
 
   next_found : (i : ℕ) → next_tile t.held ≡ Some i
       → (t.held.passed ≤ i) × (i < length tiles)
       × (posted_tiles t.flags (i + 1) tiles ≡ posted_tiles t.flags t.held.passed tiles ++ get_or tiles i 0 ∷ [])
       × (is_awaited t.flags (get_or tiles i 0) ≡ true)
   next_found i e =
-      found_next (awaits_at live) (is_awaited t.flags) tiles awaits_is (length tiles - t.held.passed) t.held.passed i refl (sym next_is ∙ e)
+      found_next (awaits_tile live) (is_awaited t.flags) tiles awaits_is (length tiles - t.held.passed) t.held.passed i refl (sym next_is ∙ e)
 
   ready_is : is_ready owner ≡ nat_le (count_by (λ awaited. awaited) t.flags) 0
   ready_is =
@@ -140,7 +144,7 @@ module _ (owner : Owning) (owed : List Work) (t : Gathers owner owed) where
       by [] e =
           let posted : posted_tiles t.flags t.held.passed tiles ≡ [] = map-none task (posted_tiles t.flags t.held.passed tiles) (sym t.owed_is ∙ e) in
           let all : filter (is_awaited t.flags) tiles ≡ [] =
-          found_none (awaits_at live) (is_awaited t.flags) tiles awaits_is (length tiles - t.held.passed) t.held.passed refl (sym next_is ∙ no_tile none) ∙ posted in
+          found_none (awaits_tile live) (is_awaited t.flags) tiles awaits_is (length tiles - t.held.passed) t.held.passed refl (sym next_is ∙ no_tile none) ∙ posted in
           let none : count_by (λ awaited. awaited) t.flags ≡ 0 =
           none_set t.flags (λ k set. none_once (times k tiles) (times-none (is_awaited t.flags) k tiles set all) (t.once k set)) in
           absurd (true≢false (sym (ready_is ∙ ap (λ n. nat_le n 0) none) ∙ going))
@@ -209,47 +213,47 @@ module _ (owner : Owning) (owed : List Work) (t : Gathers owner owed) where
         ∙ sym awaited_is
 
   -- what is owed is awaited
-  pub owed_wanted : (work : Work) → Contains owed work → IsWanted owner work
+  pub owed_wanted : (work : Work) → Contains owed work → IsAwaitedIn owner work
   owed_wanted work owes =
       let image = image_of task (is_awaited t.flags) work (take t.held.passed tiles) (subst (λ ws. Contains ws work) t.owed_is owes) in
       let number : tile_number_of work ≡ image.0 = ap tile_number_of (sym image.2) ∙ number_is live label t.kind image.0 in
       let flag : is_awaited t.flags (tile_number_of work) ≡ true = ap (is_awaited t.flags) number ∙ image.1 in
       let is : work ≡ task (tile_number_of work) = sym image.2 ∙ ap task (sym number) in
       subst (λ l. IsSomeAnd l (λ label. AwaitsOf label work (held_in owner.state label.session))) (sym label_is)
-      (subst (AwaitsOf label work) (sym t.there) (subst (AwaitsIn live label work) (sym t.is_open) (flag, is)))
+      (subst (AwaitsOf label work) (sym t.there) (subst (IsAwaitedTaskIn live label work) (sym t.is_open) (flag, is)))
 
   -- the result of a task that is awaited is in
-  module _ (work : Work) (wanted : IsWanted owner work) where
-    awaited_there : AwaitsIn live label work (Some (record { kind = t.kind; awaited = t.flags }))
+  module _ (work : Work) (wanted : IsAwaitedIn owner work) where
+    awaited_there : IsAwaitedTaskIn live label work (Some (record { kind = t.kind; awaited = t.flags }))
     awaited_there =
-        subst (AwaitsIn live label work) t.is_open
+        subst (IsAwaitedTaskIn live label work) t.is_open
         (subst (AwaitsOf label work) t.there
         (subst (λ l. IsSomeAnd l (λ label. AwaitsOf label work (held_in owner.state label.session))) label_is wanted))
 
     abbrev flags_after : List Bool
-    flags_after = slice_set t.flags (number_of work) false
+    flags_after = slice_set t.flags (tile_number_of work) false
 
-    taken_there : held_in (with_task_in work owner).state t.name ≡ Some (with_tile_in (number_of work) t.held)
+    taken_there : held_in (with_task_in work owner).state t.name ≡ Some (with_tile_in (tile_number_of work) t.held)
     taken_there =
-        ap (λ step. held_in (changed_in step (with_tile_in (number_of work)) owner.state) t.name) t.step
-        ∙ held_in-changed owner.state t.name (with_tile_in (number_of work)) t.held t.there
+        ap (λ step. held_in (changed_in step (with_tile_in (tile_number_of work)) owner.state) t.name) t.step
+        ∙ held_in-changed owner.state t.name (with_tile_in (tile_number_of work)) t.held t.there
 
-    within_flags : number_of work < length t.flags
+    within_flags : tile_number_of work < length t.flags
     within_flags =
-        elim (cases_lt (number_of work) (length t.flags)) [
+        elim (cases_lt (tile_number_of work) (length t.flags)) [
           | inl within ↦ within
-          | inr past ↦ absurd (true≢false (sym awaited_there.0 ∙ get_or_past t.flags (number_of work) false past))
+          | inr past ↦ absurd (true≢false (sym awaited_there.0 ∙ get_or_past t.flags (tile_number_of work) false past))
         ]
 
-    clear_after : is_awaited flags_after (number_of work) ≡ false
-    clear_after = get_or-set_same t.flags (number_of work) false false within_flags
+    clear_after : is_awaited flags_after (tile_number_of work) ≡ false
+    clear_after = get_or-set_same t.flags (tile_number_of work) false false within_flags
 
-    others_after : (j : ℕ) → (j ≡ number_of work → ⊥) → is_awaited flags_after j ≡ is_awaited t.flags j
-    others_after j other = get_or-set_other t.flags (number_of work) j false false other
+    others_after : (j : ℕ) → (j ≡ tile_number_of work → ⊥) → is_awaited flags_after j ≡ is_awaited t.flags j
+    others_after j other = get_or-set_other t.flags (tile_number_of work) j false false other
 
     once_after : (k : ℕ) → is_awaited flags_after k ≡ true → times k tiles ≡ 1
     once_after k set =
-        elim (cases_eq k (number_of work)) [
+        elim (cases_eq k (tile_number_of work)) [
           | inl same ↦ absurd (true≢false (sym set ∙ ap (is_awaited flags_after) same ∙ clear_after))
           | inr other ↦ t.once k (sym (others_after k other) ∙ set)
         ]
@@ -259,10 +263,10 @@ module _ (owner : Owning) (owed : List Work) (t : Gathers owner owed) where
       name = t.name;
       kind = t.kind;
       step = t.step;
-      held = with_tile_in (number_of work) t.held;
+      held = with_tile_in (tile_number_of work) t.held;
       there = taken_there;
       flags = flags_after;
-      is_open = ap (with_tile (number_of work)) t.is_open;
+      is_open = ap (with_tile (tile_number_of work)) t.is_open;
       once = once_after;
       owed_is = sym is;
     }
@@ -270,23 +274,23 @@ module _ (owner : Owning) (owed : List Work) (t : Gathers owner owed) where
     -- one tile less is awaited
     pub taken_fewer : awaited_in (with_task_in work owner) + 1 ≡ awaited_in owner
     taken_fewer =
-        let set : count_by (λ awaited. awaited) flags_after + cond (is_awaited t.flags (number_of work)) 1 0 ≡ count_by (λ awaited. awaited) t.flags + 0 =
-        sum_by-set (λ (awaited : Bool). cond awaited 1 0) t.flags (number_of work) false false within_flags in
+        let set : count_by (λ awaited. awaited) flags_after + cond (is_awaited t.flags (tile_number_of work)) 1 0 ≡ count_by (λ awaited. awaited) t.flags + 0 =
+        sum_by-set (λ (awaited : Bool). cond awaited 1 0) t.flags (tile_number_of work) false false within_flags in
         let now : awaited_in (with_task_in work owner) ≡ count_by (λ awaited. awaited) flags_after =
         ap (λ step. awaited_by step (with_task_in work owner)) t.step
         ∙ ap awaited_of taken_there
-        ∙ ap (λ part. left_in (with_tile (number_of work) part)) t.is_open in
+        ∙ ap (λ part. left_in (with_tile (tile_number_of work) part)) t.is_open in
         omega (arith, now, awaited_is, rw awaited_there.0 at set)
 
     pub taken_unposted : unposted_in (with_task_in work owner) ≡ unposted_in owner
     taken_unposted =
         ap (λ step. unposted_by step (with_task_in work owner)) t.step
         ∙ ap unposted_of taken_there
-        ∙ ap (λ part. tiles_in (length t.held.live.sim.cur) (with_tile (number_of work) part) - t.held.passed) t.is_open
+        ∙ ap (λ part. tiles_in (length t.held.live.sim.cur) (with_tile (tile_number_of work) part) - t.held.passed) t.is_open
         ∙ sym unposted_is
 
-    once_posted : times (number_of work) (take t.held.passed tiles) ≤ 1
-    once_posted = omega (arith, times-take (number_of work) t.held.passed tiles, t.once (number_of work) awaited_there.0)
+    once_posted : times (tile_number_of work) (take t.held.passed tiles) ≤ 1
+    once_posted = omega (arith, times-take (tile_number_of work) t.held.passed tiles, t.once (tile_number_of work) awaited_there.0)
 
     -- whatever is handed out with it, what is owed stays
     pub gathers_taken : (old new : Seen) → old.owed ≡ owed → IsHandedOut work old new → Gathers (with_task_in work owner) new.owed
@@ -306,7 +310,7 @@ module _ (owner : Owning) (owed : List Work) (t : Gathers owner owed) where
 
   -- a result that comes is taken in, or refused: then it was not owed
   module _ {A B : Type 0} (work : Work) (old new : Seen) (same : old.owed ≡ owed) (handed : IsHandedOut work old new) (next : Owning) where
-    pub comes_gathers : (r : Result A B) → (IsOk r ↔ IsWanted owner work) → OnOk r (next ≡ with_task_in work owner) → OnErr r (next ≡ owner) → Gathers next new.owed
+    pub comes_gathers : (r : Result A B) → (IsOk r ↔ IsAwaitedIn owner work) → OnOk r (next ≡ with_task_in work owner) → OnErr r (next ≡ owner) → Gathers next new.owed
     comes_gathers (Ok a) accepted taken refused =
         subst (λ owner. Gathers owner new.owed) (sym taken) (gathers_taken work (accepted.0 refl) old new same handed)
     comes_gathers (Err b) accepted taken refused =
@@ -319,15 +323,15 @@ module _ (owner : Owning) (owed : List Work) (t : Gathers owner owed) where
         by (inl off) = absurd (false≢true (accepted.1 (owed_wanted work (subst (λ ws. Contains ws work) same (owes off)))))
         by (inr stray) = subst (Gathers owner) (sym (stray.owed ∙ same)) t
 
-    pub comes_unposted : (r : Result A B) → (IsOk r ↔ IsWanted owner work) → OnOk r (next ≡ with_task_in work owner) → OnErr r (next ≡ owner) → unposted_in next ≡ unposted_in owner
+    pub comes_unposted : (r : Result A B) → (IsOk r ↔ IsAwaitedIn owner work) → OnOk r (next ≡ with_task_in work owner) → OnErr r (next ≡ owner) → unposted_in next ≡ unposted_in owner
     comes_unposted (Ok a) accepted taken refused = ap unposted_in taken ∙ taken_unposted work (accepted.0 refl)
     comes_unposted (Err b) accepted taken refused = ap unposted_in refused
 
-    pub comes_fewer : (r : Result A B) → (IsOk r ↔ IsWanted owner work) → OnOk r (next ≡ with_task_in work owner) → is_ok r ≡ true → awaited_in next + 1 ≡ awaited_in owner
+    pub comes_fewer : (r : Result A B) → (IsOk r ↔ IsAwaitedIn owner work) → OnOk r (next ≡ with_task_in work owner) → is_ok r ≡ true → awaited_in next + 1 ≡ awaited_in owner
     comes_fewer (Ok a) accepted taken is = ap (λ owner. awaited_in owner + 1) taken ∙ taken_fewer work (accepted.0 refl)
     comes_fewer (Err b) accepted taken is = absurd (false≢true is)
 
-    pub comes_stray : (r : Result A B) → (IsOk r ↔ IsWanted owner work) → is_ok r ≡ false → new.strays ≡ one_more old.strays
+    pub comes_stray : (r : Result A B) → (IsOk r ↔ IsAwaitedIn owner work) → is_ok r ≡ false → new.strays ≡ one_more old.strays
     comes_stray (Ok a) accepted is = absurd (true≢false is)
     comes_stray (Err b) accepted is = by handed
       where

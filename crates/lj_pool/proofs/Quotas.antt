@@ -7,7 +7,8 @@ use Rattle.lj_tile.specs.declared.names.Kind.{Kind}
 use Rattle.lj_session.specs.declared.command.Command.{Command}
 use Rattle.lj_session.specs.declared.command.Command.TheVariants.{Advance, Measure}
 use Rattle.lj_session.specs.declared.reply.Reply.{Reply}
-use Rattle.lj_session.specs.Users.{Session, User, named}
+use Rattle.lj_branch.specs.Named.{named}
+use Rattle.lj_session.specs.Users.{Session, User}
 use Rattle.lj_session.specs.Answers.{performed, settled, answer, can_advance}
 use Rattle.lj_session.specs.Owners.{Owning, user_in, step_of, step_in, IsReplied}
 

@@ -64,7 +64,7 @@ pub fn serve_lines<R: Source, W: Sink, P: Pool>(
         (W.contents writer.old) (W.contents writer.new) (P.seen pool.old) (P.seen pool.new)
         (option_map user_of result.0) }
     ensures end { result.1 ≡ served.End → IsAtEnd lines.new.left }
-    ensures all_read { result.1 ≡ served.ReadFault → lines.new.left ≡ lines.new.unread }
+    ensures all_read { result.1 ≡ served.ReadFault → lines.new.held ≡ [] }
     ensures read_fault { result.1 ≡ served.ReadFault → Rises lines.old.errors lines.new.errors }
     ensures write_fault { result.1 ≡ served.WriteFault → Rises (W.faults writer.old) (W.faults writer.new) }
     ensures closed { result.1 ≡ served.PoolClosed → (P.seen pool.new).closed ≡ true }
