@@ -102,6 +102,10 @@ impl Pool for OddPool {
         usize::from(self.held.is_some())
     }
 
+    fn full(&self) -> bool {
+        self.held.is_some()
+    }
+
     fn closed(&self) -> bool {
         self.closed
     }
