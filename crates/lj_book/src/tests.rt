@@ -298,7 +298,7 @@ fn random_calls_as_a_plain_list(rt: HostRuntime) -> Result<(), Fail> {
         dice: Dice { state: 7 },
         table: Table::new(),
     };
-    for _ in 0..100_000 {
+    for _ in 0..1_000_000 {
         trial.call(&rt)?;
     }
     let counts = trial.book.counts();
