@@ -84,14 +84,30 @@ fn loaded_line(name: &Name, atoms: usize) -> Line
     line
 }
 
-/// `OK`, the word of a command, a session and a step number.
-fn step_line(verb: &[u8], name: &Name, step: i64) -> Line
-    requires { length verb.now ≤ 16 }
-    ensures { result.items ≡ ok (verb.now ∷ name.now ∷ signed_decimal step ∷ []) }
+/// `OK`, the word of a command, a session and a number.
+fn number_line<I: Integer>(verb: &[u8], name: &Name, number: I) -> Line
+    requires word { length verb.now ≤ 16 }
+    requires number { I.MAX_STR_LEN ≤ 40 }
+    ensures { result.items ≡ ok (verb.now ∷ name.now ∷ I.text number ∷ []) }
 {
     let mut line = begin(verb);
     push_word(&mut line, name.as_bytes());
-    push_number(&mut line, step);
+    push_number(&mut line, number);
+    end(&mut line);
+    line
+}
+
+/// The same with two numbers.
+fn numbers_line<I: Integer, J: Integer>(verb: &[u8], name: &Name, first: I, second: J) -> Line
+    requires word { length verb.now ≤ 16 }
+    requires first { I.MAX_STR_LEN ≤ 40 }
+    requires second { J.MAX_STR_LEN ≤ 40 }
+    ensures { result.items ≡ ok (verb.now ∷ name.now ∷ I.text first ∷ J.text second ∷ []) }
+{
+    let mut line = begin(verb);
+    push_word(&mut line, name.as_bytes());
+    push_number(&mut line, first);
+    push_number(&mut line, second);
     end(&mut line);
     line
 }
@@ -137,18 +153,6 @@ fn bye_line() -> Line
     ensures { result.items ≡ ok (codes "BYE" ∷ []) }
 {
     let mut line = begin(b"BYE");
-    end(&mut line);
-    line
-}
-
-/// `OK TUG s i step`.
-fn tugged_line(name: &Name, atom: u64, step: i64) -> Line
-    ensures { result.items ≡ ok (codes "TUG" ∷ name.now ∷ decimal atom ∷ signed_decimal step ∷ []) }
-{
-    let mut line = begin(b"TUG");
-    push_word(&mut line, name.as_bytes());
-    push_number(&mut line, atom);
-    push_number(&mut line, step);
     end(&mut line);
     line
 }
@@ -252,29 +256,6 @@ fn listed_line(sessions: usize) -> Line
     line
 }
 
-/// `OK LIST s k`.
-fn listed_branches_line(name: &Name, branches: usize) -> Line
-    ensures { result.items ≡ ok (codes "LIST" ∷ name.now ∷ decimal branches ∷ []) }
-{
-    let mut line = begin(b"LIST");
-    push_word(&mut line, name.as_bytes());
-    push_number(&mut line, branches);
-    end(&mut line);
-    line
-}
-
-/// `OK DUMP s step lines`.
-fn dumped_line(name: &Name, step: i64, lines: usize) -> Line
-    ensures { result.items ≡ ok (codes "DUMP" ∷ name.now ∷ signed_decimal step ∷ decimal lines ∷ []) }
-{
-    let mut line = begin(b"DUMP");
-    push_word(&mut line, name.as_bytes());
-    push_number(&mut line, step);
-    push_number(&mut line, lines);
-    end(&mut line);
-    line
-}
-
 /// The line of a session in a list: its name, its step, how many atoms it has and how much is saved in it.
 fn entry_line(name: &Name, step: i64, atoms: usize, branches: usize) -> Line
     ensures { result.items ≡ line_of (name.now ∷ signed_decimal step ∷ decimal atoms ∷ decimal branches ∷ []) }
@@ -336,8 +317,8 @@ fn only_line(reply: &Reply) -> Line
 {
     match reply {
         Reply::Loaded { name, atoms } => loaded_line(name, *atoms),
-        Reply::Advanced { name, step } => step_line(b"ADVANCE", name, *step),
-        Reply::Reversed { name, step } => step_line(b"REVERSE", name, *step),
+        Reply::Advanced { name, step } => number_line(b"ADVANCE", name, *step),
+        Reply::Reversed { name, step } => number_line(b"REVERSE", name, *step),
         Reply::Branched { name, branch, step } => names_and_step_line(
             b"BRANCH", name, branch, *step,
         ),
@@ -345,7 +326,7 @@ fn only_line(reply: &Reply) -> Line
             b"RESTORE", name, branch, *step,
         ),
         Reply::Forgotten { name, branch } => names_line(b"FORGET", name, branch),
-        Reply::Tugged { name, atom, step } => tugged_line(name, *atom, *step),
+        Reply::Tugged { name, atom, step } => numbers_line(b"TUG", name, *atom, *step),
         Reply::Measured {
             name,
             step,
@@ -390,7 +371,7 @@ fn branches_line(state: &UserState, i: usize, name: &Name, k: usize) -> Option<L
     let branches = state.branches_at(i);
     let count = branches.len();
     if k == 0 {
-        return Some(listed_branches_line(name, count));
+        return Some(number_line(b"LIST", name, count));
     }
     if k > count {
         return None;
@@ -407,7 +388,7 @@ fn dump_line(state: &UserState, i: usize, name: &Name, k: usize) -> Option<Line>
     let sim = state.sim_at(i);
     let atoms = sim.count();
     match k {
-        0 => Some(dumped_line(name, sim.step(), atoms + 2)),
+        0 => Some(numbers_line(b"DUMP", name, sim.step(), atoms + 2)),
         1 => Some(frame_line(&lj_xyz::count_line(atoms))),
         2 => Some(frame_line(&lj_xyz::comment_line(sim.step()))),
         _ if k - 3 < atoms => Some(atom_line(state, i, k - 3)),
