@@ -6,7 +6,7 @@ use Rattle.lj_wire.specs.Ahead.{Ahead, Takes, Grows}
 use Rattle.lj_wire.specs.Steps.{TakesLongLine}
 use Rattle.lj_wire.specs.Streams.{LacksLineFeed}
 use Rattle.lj_wire.proofs.Splitting.{no_feed_beyond}
-use Rattle.lj_wire.proofs.Taking.{Takes-trans, Takes-kept, Takes-held, lacks_both}
+use Rattle.lj_wire.proofs.Taking.{Takes-none, Takes-trans, Takes-kept, Takes-held, lacks_both}
 
 pub record Passing (old new : Ahead) (seen : ℕ) : Type 0 where
   pub bytes : List ℕ
@@ -48,26 +48,45 @@ passing_feed old mid grown new seen count wanted line behind p g low within e on
       beyond = omega (arith, length-append p.bytes line, p.counted, p.begun);
     }
 
--- no line feed is among them
-pub passing_more : (old mid grown new : Ahead) (seen count wanted : ℕ) → Passing old mid seen → Grows mid grown count → grown.errors ≡ mid.errors
-    → seen < LONG_LINE_BYTES → wanted ≡ min (LONG_LINE_BYTES - seen) (length grown.held) → LacksLineFeed (take wanted grown.held)
-    → new ≡ record grown { held = drop wanted grown.held } → Passing old new (seen + wanted)
-passing_more old mid grown new seen count wanted p g errors more is one taken =
+-- the first bytes of what is held are taken, after those that were taken before
+record TakesFront (old grown new : Ahead) (bytes : List ℕ) (count : ℕ) : Type 0 where
+  taken : Takes old new (bytes ++ take count grown.held)
+  counted : length (bytes ++ take count grown.held) ≡ length bytes + count
+  emptied : length grown.held ≤ count → new.held ≡ []
+  errors : new.errors ≡ grown.errors
+
+takes_front : (old grown new : Ahead) (bytes : List ℕ) (count : ℕ) → Takes old grown bytes → count ≤ length grown.held
+    → new ≡ record grown { held = drop count grown.held } → TakesFront old grown new bytes count
+takes_front old grown new bytes count t within taken =
+    let front = take count grown.held in
     let held = ap (λ a. a.held) taken in
-    let unread = ap (λ a. a.unread) taken in
-    let same = ap (λ a. a.errors) taken in
-    let within : wanted ≤ length grown.held = omega arith in
-    let front = take wanted grown.held in
+    let cut = sym (take-append-drop count grown.held) in
     record {
-      bytes = p.bytes ++ front;
-      taken = taken_more old mid grown new p.bytes front (drop wanted grown.held) count p.taken g (sym (take-append-drop wanted grown.held)) held unread;
-      one_line = lacks_both p.bytes front p.one_line one;
-      counted = length-append p.bytes front ∙ omega (arith, p.counted, length-take-le wanted grown.held within);
+      taken = Takes-trans old grown new bytes front t
+          (Takes-held grown new front (drop count grown.held) cut held (ap (λ a. a.unread) taken));
+      counted = length-append bytes front ∙ ap (λ n. length bytes + n) (length-take-le count grown.held within);
+      emptied = λ all. held ∙ drop_all count grown.held all;
+      errors = ap (λ a. a.errors) taken;
+    }
+
+-- no line feed is among them
+pub passing_more : (old mid grown new : Ahead) (seen count wanted : ℕ) → Passing old mid seen → Grows mid grown count
+    → grown.errors ≡ mid.errors → seen < LONG_LINE_BYTES → wanted ≡ min (LONG_LINE_BYTES - seen) (length grown.held)
+    → LacksLineFeed (take wanted grown.held) → new ≡ record grown { held = drop wanted grown.held }
+    → Passing old new (seen + wanted)
+passing_more old mid grown new seen count wanted p g errors more is one taken =
+    let read = Takes-kept old mid grown p.bytes p.taken g.kept in
+    let front = takes_front old grown new p.bytes wanted read (omega arith) taken in
+    record {
+      bytes = p.bytes ++ take wanted grown.held;
+      taken = front.taken;
+      one_line = lacks_both p.bytes (take wanted grown.held) p.one_line one;
+      counted = omega (arith, p.counted, front.counted);
       long = omega (arith, p.long);
       begun = omega (arith, p.begun);
       bounded = omega arith;
-      held = λ less. held ∙ drop_all wanted grown.held (omega (arith, is, less));
-      errors = same ∙ errors ∙ p.errors;
+      held = λ less. front.emptied (omega (arith, is, less));
+      errors = front.errors ∙ errors ∙ p.errors;
     }
 
 -- so many bytes were to be taken, and so many of them are left
@@ -82,33 +101,27 @@ pub record Counting (old new : Ahead) (count left : ℕ) : Type 0 where
 pub counting_start : (old new : Ahead) (count some : ℕ) → some ≡ min (length old.held) count
     → new ≡ record old { held = drop some old.held } → Counting old new count (count - some)
 counting_start old new count some is taken =
-    let held = ap (λ a. a.held) taken in
-    let unread = ap (λ a. a.unread) taken in
-    let errors = ap (λ a. a.errors) taken in
-    let within : some ≤ length old.held = omega arith in
+    let front = takes_front old old new [] some (Takes-none old) (omega arith) taken in
     record {
       bytes = take some old.held;
-      taken = Takes-held old new (take some old.held) (drop some old.held) (sym (take-append-drop some old.held)) held unread;
-      counted = omega (arith, is, length-take-le some old.held within);
-      held = λ more. held ∙ drop_all some old.held (omega (arith, is, more));
-      errors = errors;
-      reads_for = λ enough. (omega (arith, is, enough), unread);
+      taken = front.taken;
+      counted = omega (arith, is, front.counted);
+      held = λ more. front.emptied (omega (arith, is, more));
+      errors = front.errors;
+      reads_for = λ enough. (omega (arith, is, enough), ap (λ a. a.unread) taken);
     }
 
-pub counting_more : (old mid grown new : Ahead) (count left read some : ℕ) → Counting old mid count left → Grows mid grown read → grown.errors ≡ mid.errors
-    → some ≡ min (length grown.held) left → new ≡ record grown { held = drop some grown.held } → 0 < left → Counting old new count (left - some)
+pub counting_more : (old mid grown new : Ahead) (count left read some : ℕ) → Counting old mid count left
+    → Grows mid grown read → grown.errors ≡ mid.errors → some ≡ min (length grown.held) left
+    → new ≡ record grown { held = drop some grown.held } → 0 < left → Counting old new count (left - some)
 counting_more old mid grown new count left read some p g errors is taken more_left =
-    let held = ap (λ a. a.held) taken in
-    let unread = ap (λ a. a.unread) taken in
-    let same = ap (λ a. a.errors) taken in
-    let within : some ≤ length grown.held = omega arith in
-    let front = take some grown.held in
+    let front = takes_front old grown new p.bytes some (Takes-kept old mid grown p.bytes p.taken g.kept) (omega arith) taken in
     record {
-      bytes = p.bytes ++ front;
-      taken = taken_more old mid grown new p.bytes front (drop some grown.held) read p.taken g (sym (take-append-drop some grown.held)) held unread;
-      counted = omega (arith, is, p.counted, length-append p.bytes front, length-take-le some grown.held within);
-      held = λ more. held ∙ drop_all some grown.held (omega (arith, is, more));
-      errors = same ∙ errors ∙ p.errors;
+      bytes = p.bytes ++ take some grown.held;
+      taken = front.taken;
+      counted = omega (arith, is, p.counted, front.counted);
+      held = λ more. front.emptied (omega (arith, is, more));
+      errors = front.errors ∙ errors ∙ p.errors;
       reads_for = λ enough. absurd (omega (arith, more_left, (p.reads_for enough).0));
     }
 
