@@ -1,16 +1,16 @@
 -- What each command comes to, case by case.
 use Rattle.std.specs.Prelude.{is_some}
-use Rattle.std.proofs.Common.{◌≡◌, ℕ, Bool, true, false, ℤ, List, [], ◌∷◌, Some, None, Result, Ok, Err, nat_lt, refl}
+use Rattle.std.proofs.Common.{◌≡◌, ℕ, Bool, true, false, ℤ, List, [], ◌∷◌, Option, Some, None, Result, Ok, Err, nat_lt, refl}
 use Rattle.lj_step.specs.Motion.{Simulation, place_at, steps, reversed, tugged, momentum, kinetic, potential}
 use Rattle.lj_session.specs.declared.command.Command.{Command}
-use Rattle.lj_session.specs.declared.command.Command.TheVariants.{Advance, Reverse, Branch, Restore, Forget, Tug, Measure, Show, Dump, List as ListSessions, ListBranches, Unload, Bye}
+use Rattle.lj_session.specs.declared.command.Command.TheVariants.{Load, Advance, Reverse, Branch, Restore, Forget, Tug, Measure, Show, Dump, List as ListSessions, ListBranches, Unload, Bye}
 use Rattle.lj_session.specs.declared.refusal.Refusal.{Refusal}
 use Rattle.lj_session.specs.declared.refusal.Refusal.TheVariants.{NoSession, NoBranch, BranchExists, NoAtom, QuotaBranches, StepRange, Memory}
 use Rattle.lj_session.specs.declared.reply.Reply.{Reply}
 use Rattle.lj_session.specs.declared.reply.Reply.TheVariants as reply
 use Rattle.lj_branch.specs.Named.{named, put, taken_out}
 use Rattle.lj_session.specs.Users.{Session, User, with_session, atoms_of, branches_used}
-use Rattle.lj_session.specs.Answers.{performed, can_advance, with_sim}
+use Rattle.lj_session.specs.Answers.{session_named, performed, can_advance, with_sim}
 use Rattle.lj_session.specs.States.{Owned, OthersKept, Performs, outcome, user_of}
 
 -- a command that is done without the mark
@@ -33,52 +33,35 @@ pub read : (owned : Owned) (command : Command) (result : Result Reply Refusal)
 read owned command (Ok reply) h = told owned owned command reply (h false) (λ other apart. refl)
 read owned command (Err refusal) h = refused owned owned command refusal (h false)
 
+-- no session has the name
+abbrev pub IsNone : User → Option (List ℕ) → Type 0
+IsNone user (Some name) = named name user.sessions ≡ None
+IsNone user None = ⊥
+
+-- the session of a command is not there; LOAD makes one
+abbrev pub IsAbsent : User → Command → Type 0
+IsAbsent user (Load load) = ⊥
+IsAbsent user command = IsNone user (session_named command)
+
+-- every command of a session but LOAD is refused where there is none
+pub none : (user : User) (command : Command) (mark : Bool) → IsAbsent user command → performed user command mark ≡ Err NoSession
+unfolding performed
+none user (Load load) mark absent = absurd absent
+none user (Advance name n) mark absent = rw absent refl
+none user (Reverse name) mark absent = rw absent refl
+none user (Branch name branch) mark absent = rw absent refl
+none user (Restore name branch) mark absent = rw absent refl
+none user (Forget name branch) mark absent = rw absent refl
+none user (Tug name atom x y z) mark absent = rw absent refl
+none user (Measure name) mark absent = rw absent refl
+none user (Show name atom) mark absent = rw absent refl
+none user (Dump name) mark absent = rw absent refl
+none user ListSessions mark absent = absurd absent
+none user (ListBranches name) mark absent = rw absent refl
+none user (Unload name) mark absent = rw absent refl
+none user Bye mark absent = absurd absent
+
 module _ (user : User) (name : List ℕ) (mark : Bool) where
-  module _ (absent : named name user.sessions ≡ None) where
-    pub advance-none : (n : ℕ) → performed user (Advance name n) mark ≡ Err NoSession
-    unfolding performed
-    advance-none n = rw absent refl
-
-    pub reverse-none : performed user (Reverse name) mark ≡ Err NoSession
-    unfolding performed
-    reverse-none = rw absent refl
-
-    pub restore-none : (branch : List ℕ) → performed user (Restore name branch) mark ≡ Err NoSession
-    unfolding performed
-    restore-none branch = rw absent refl
-
-    pub forget-none : (branch : List ℕ) → performed user (Forget name branch) mark ≡ Err NoSession
-    unfolding performed
-    forget-none branch = rw absent refl
-
-    pub branch-none : (branch : List ℕ) → performed user (Branch name branch) mark ≡ Err NoSession
-    unfolding performed
-    branch-none branch = rw absent refl
-
-    pub tug-none : (atom : ℕ) (x y z : ℤ) → performed user (Tug name atom x y z) mark ≡ Err NoSession
-    unfolding performed
-    tug-none atom x y z = rw absent refl
-
-    pub measure-none : performed user (Measure name) mark ≡ Err NoSession
-    unfolding performed
-    measure-none = rw absent refl
-
-    pub show-none : (atom : ℕ) → performed user (Show name atom) mark ≡ Err NoSession
-    unfolding performed
-    show-none atom = rw absent refl
-
-    pub dump-none : performed user (Dump name) mark ≡ Err NoSession
-    unfolding performed
-    dump-none = rw absent refl
-
-    pub list_branches-none : performed user (ListBranches name) mark ≡ Err NoSession
-    unfolding performed
-    list_branches-none = rw absent refl
-
-    pub unload-none : performed user (Unload name) mark ≡ Err NoSession
-    unfolding performed
-    unload-none = rw absent refl
-
   module _ (session : Session) (found : named name user.sessions ≡ Some session) where
     pub advance-far : (n : ℕ) → can_advance session n ≡ false → performed user (Advance name n) mark ≡ Err StepRange
     unfolding performed

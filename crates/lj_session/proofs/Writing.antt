@@ -22,6 +22,11 @@ pub not_there : (a : Inside) (old : Owned) → owned_of a ≡ old → (name : Li
     → named name (user_of old).sessions ≡ None
 not_there a old view name h = named-absent old name (looked_up a old view name None h)
 
+-- what is in the map is one
+pub is_there : (a : Inside) (old : Owned) → owned_of a ≡ old → (name : List ℕ) (held : Held) → Some held ≡ named name a.sessions.entries
+    → named name (user_of old).sessions ≡ Some (as_session held)
+is_there a old view name held h = named-held old name held (looked_up a old view name (Some held) h)
+
 -- The session that a name stands for becomes another one, and `next` is held then.
 pub record Writes (a : Inside) (old : Owned) (name : List ℕ) (held new : Held) (next : Owned) : Type 0 where
   pub found : held_in old name ≡ Some held
@@ -39,9 +44,6 @@ writes a old view counted name held found entries new set = record {
 }
 
 module _ {a : Inside} {old : Owned} {name : List ℕ} {held new : Held} {next : Owned} (w : Writes a old name held new next) where
-  pub session_there : named name (user_of old).sessions ≡ Some (as_session held)
-  session_there = named-held old name held w.found
-
   -- the same session, written once more
   pub unchanged : new ≡ held → next ≡ old
   unchanged same = w.is ∙ ap (λ (h : Held). with_held name h old) same

@@ -10,7 +10,7 @@ use Rattle.lj_session.proofs.sessions.Sessions.advance_at_once.Goals as goal
 pub returns-in_default : goal.returns-in_default
 returns-in_default c = λ mark.
     let old = c.args.self.now in
-    performing.advance-none (user_of old) c.args.name mark (named-absent old c.args.name (sym c.in_default.ensures)) c.args.steps
+    performing.none (user_of old) _ mark (named-absent old c.args.name (sym c.in_default.ensures))
 
 pub returns-then-not-can_advance : goal.returns-then-not-can_advance
 returns-then-not-can_advance c = λ mark.

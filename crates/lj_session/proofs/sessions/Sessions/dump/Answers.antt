@@ -8,7 +8,7 @@ use Rattle.lj_session.proofs.sessions.Sessions.dump.Goals as goal
 pub returns-then-not-has : goal.returns-then-not-has
 returns-then-not-has c = λ mark.
     let user = user_of c.args.self.now in
-    performing.dump-none user c.args.name mark (none-of (named c.args.name user.sessions) (sym c.has.ensures ∙ c.if-not-has.true))
+    performing.none user _ mark (none-of (named c.args.name user.sessions) (sym c.has.ensures ∙ c.if-not-has.true))
 
 pub returns : goal.returns
 returns c = λ mark.

@@ -5,7 +5,7 @@ use Rattle.lj_session.proofs.Entries.{length-taken}
 use Rattle.lj_session.proofs.Performing as performing
 use Rattle.lj_session.proofs.Outcomes as outcomes
 use Rattle.lj_session.proofs.Results.{performs-refused, on_err, none-if, some-of}
-use Rattle.lj_session.proofs.Writing.{Writes, not_there, writes, session_there, unchanged, totals_unchanged, totals_forgotten, one_saved, told_as}
+use Rattle.lj_session.proofs.Writing.{Writes, not_there, writes, is_there, unchanged, totals_unchanged, totals_forgotten, one_saved, told_as}
 use Rattle.lj_session.proofs.sessions.Sessions.forget.Goals.{After-forget}
 use Rattle.lj_session.proofs.sessions.Sessions.forget.Goals as goal
 
@@ -15,8 +15,8 @@ written c = writes c.self.inside c.args.self.now c.self.view_is c.self.invariant
 
 pub returns-in_default-clause-performs : goal.returns-in_default-clause-performs
 returns-in_default-clause-performs c =
-    performing.refused c.args.self.now _ _ _ (performing.forget-none (user_of c.args.self.now) c.args.name false
-    (not_there c.self.inside c.args.self.now c.self.view_is c.args.name c.in_default.ensures.value) c.args.branch)
+    performing.refused c.args.self.now _ _ _ (performing.none (user_of c.args.self.now) _ false
+    (not_there c.self.inside c.args.self.now c.self.view_is c.args.name c.in_default.ensures.value))
 
 pub invariant_of-self-in_err-forget : goal.invariant_of-self-in_err-forget
 invariant_of-self-in_err-forget c = totals_unchanged (written (goal.at.invariant_of-self-in_err-forget c).After-forget)
@@ -27,7 +27,7 @@ returns-in_err-forget-clause-performs c =
     let held = c.in-Some.session.now in
     performs-refused c.args.self.now _ _ c.from_residual.result _ c.from_residual.ensures.1
     (performing.refused c.args.self.now _ _ _ (performing.forget-no_branch (user_of c.args.self.now) c.args.name false (as_session held)
-    (session_there (writes c.self.inside c.args.self.now c.self.view_is c.self.invariant c.args.name _ c.in-Some.ensures.value _ held (c.get_mut.follows.holds held).0))
+    (is_there c.self.inside c.args.self.now c.self.view_is c.args.name held c.in-Some.ensures.value)
     c.args.branch (none-if (named c.args.branch held.saved) c.in_err-forget.ensures.found.1)))
 
 pub returns-in_err-forget-clause-unchanged : goal.returns-in_err-forget-clause-unchanged

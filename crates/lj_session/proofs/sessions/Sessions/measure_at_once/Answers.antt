@@ -6,4 +6,4 @@ use Rattle.lj_session.proofs.sessions.Sessions.measure_at_once.Goals as goal
 pub returns : goal.returns
 returns c = λ mark.
     let user = user_of c.args.self.now in
-    performing.measure-none user c.args.name mark (measure-nothing user c.args.name c.requires)
+    performing.none user _ mark (measure-nothing user c.args.name c.requires)

@@ -11,7 +11,7 @@ use Rattle.lj_session.proofs.sessions.Sessions.show.Goals as goal
 pub returns-in_default : goal.returns-in_default
 returns-in_default c = λ mark.
     let old = c.args.self.now in
-    performing.show-none (user_of old) c.args.name mark (named-absent old c.args.name (sym c.in_default.ensures)) c.args.atom
+    performing.none (user_of old) _ mark (named-absent old c.args.name (sym c.in_default.ensures))
 
 pub returns-then-atom-count : goal.returns-then-atom-count
 returns-then-atom-count c = λ mark.

@@ -1,4 +1,4 @@
-use Rattle.std.proofs.Common.{Some, false, length, refl, ap, ◌∙◌, arith}
+use Rattle.std.proofs.Common.{◌≡◌, Some, false, length, refl, ap, ◌∙◌, arith}
 use Rattle.lj_step.specs.Live.{Live}
 use Rattle.lj_session.proofs.Holding.{taken-of}
 use Rattle.lj_session.proofs.Writing.{looked_up, not_there}
@@ -6,20 +6,25 @@ use Rattle.lj_session.proofs.Performing as performing
 use Rattle.lj_session.proofs.Outcomes as outcomes
 use Rattle.lj_session.proofs.Outcomes.{written-to}
 use Rattle.lj_session.proofs.Totals.{used-less, atoms-within, saved-within}
-use Rattle.lj_session.specs.States.{user_of}
+use Rattle.lj_session.specs.States.{user_of, held_in}
+use Rattle.lj_session.proofs.sessions.Sessions.unload.Goals.{In-Some}
 use Rattle.lj_session.proofs.sessions.Sessions.unload.Goals as goal
+
+-- the session that is taken out was held
+found : (c : In-Some) → held_in c.args.self.now c.args.name ≡ Some c.in-Some.session
+found c = looked_up c.self.inside c.args.self.now c.self.view_is c.args.name (Some c.in-Some.session) c.in-Some.ensures.value
 
 pub returns-in_default-clause-performs : goal.returns-in_default-clause-performs
 returns-in_default-clause-performs c =
     let old = c.args.self.now in
-    performing.refused old _ _ _ (performing.unload-none (user_of old) c.args.name false (not_there c.self.inside old c.self.view_is c.args.name c.in_default.ensures.value))
+    performing.refused old _ _ _ (performing.none (user_of old) _ false (not_there c.self.inside old c.self.view_is c.args.name c.in_default.ensures.value))
 
 pub overflow_sub-self-2 : goal.overflow_sub-self-2
 overflow_sub-self-2 c =
     let old = c.args.self.now in
     let held = c.in-Some.session in
-    let found = looked_up c.self.inside old c.self.view_is c.args.name (Some held) c.in-Some.ensures.value in
-    let most = atoms-within c.self.inside old c.self.view_is c.self.invariant c.args.name held found old in
+    let there = found (goal.at.overflow_sub-self-2 c).In-Some in
+    let most = atoms-within c.self.inside old c.self.view_is c.self.invariant c.args.name held there old in
     let n = c.count.ensures.value ∙ ap (λ (l : Live). length l.sim.cur) c.sim.ensures in
     omega (arith, most, n)
 
@@ -27,8 +32,8 @@ pub overflow_sub-self-3 : goal.overflow_sub-self-3
 overflow_sub-self-3 c =
     let old = c.args.self.now in
     let held = c.in-Some.session in
-    let found = looked_up c.self.inside old c.self.view_is c.args.name (Some held) c.in-Some.ensures.value in
-    let most = saved-within c.self.inside old c.self.view_is c.self.invariant c.args.name held found old in
+    let there = found (goal.at.overflow_sub-self-3 c).In-Some in
+    let most = saved-within c.self.inside old c.self.view_is c.self.invariant c.args.name held there old in
     let n = c.len.ensures.value ∙ ap length c.branches.ensures in
     omega (arith, most, n)
 
@@ -36,8 +41,8 @@ pub invariant_of-self-2 : goal.invariant_of-self-2
 invariant_of-self-2 c =
     let old = c.args.self.now in
     let held = c.in-Some.session in
-    let found = looked_up c.self.inside old c.self.view_is c.args.name (Some held) c.in-Some.ensures.value in
-    used-less c.self.inside old c.self.view_is c.self.invariant c.args.name held found _
+    let there = found (goal.at.invariant_of-self-2 c).In-Some in
+    used-less c.self.inside old c.self.view_is c.self.invariant c.args.name held there _
     (taken-of c.self.inside old c.self.view_is c.args.name _ c.in-Some.ensures.entries) 1 c.count.result c.len.result refl
     (c.count.ensures.value ∙ ap (λ (l : Live). length l.sim.cur) c.sim.ensures) (c.len.ensures.value ∙ ap length c.branches.ensures)
 
@@ -45,5 +50,5 @@ pub returns-clause-performs : goal.returns-clause-performs
 returns-clause-performs c =
     let old = c.args.self.now in
     let held = c.in-Some.session in
-    let found = looked_up c.self.inside old c.self.view_is c.args.name (Some held) c.in-Some.ensures.value in
-    written-to old _ _ _ _ (outcomes.unload old c.args.name held found) (taken-of c.self.inside old c.self.view_is c.args.name _ c.in-Some.ensures.entries)
+    let there = found (goal.at.returns-clause-performs c).In-Some in
+    written-to old _ _ _ _ (outcomes.unload old c.args.name held there) (taken-of c.self.inside old c.self.view_is c.args.name _ c.in-Some.ensures.entries)
