@@ -28,7 +28,7 @@ use Rattle.lj_pool.specs.declared.running.Halt.TheVariants as halts
 use Rattle.lj_pool.specs.Seen.{Seen}
 use Rattle.lj_pool.specs.Counting.{turns_tiles, item_tiles, tiles, CountsRise}
 use Rattle.lj_pool.specs.Endings.{served_of, ending_of}
-use Rattle.lj_pool.specs.Served.{NoneEnds, EndsByBye, EndsByFault, IsAnswered, Reaches, StopsShort, Serves}
+use Rattle.lj_pool.specs.Served.{NoneEnds, EndsByBye, EndsByFault, IsAnswered, IsServed, Reaches, StopsShort, Serves}
 use Rattle.lj_pool.specs.Serving.{AnswersItem, Serving}
 use Rattle.lj_pool.proofs.Beginning.{rises-more, rises-none}
 
@@ -143,25 +143,24 @@ module _ (user : User) (first now : Standing) (was is : Option (List ℕ)) (old 
     counted = s.counted;
   }
 
+  -- bytes more are read, and what is written is as it was
+  serves-on : (ending : Served) (last : Standing) (part : List ℕ) (newer : Seen) (state : Option User) → Consumes now.left last.left part
+      → IsServed ending user (s.read ++ part) s.written old newer state → Serves ending user first.left last.left was is old newer state
+  serves-on ending last part newer state taken served = record {
+    read = s.read ++ part;
+    written = s.written;
+    taken = Consumes-trans first.left now.left last.left s.read part s.taken taken;
+    appends = s.appends;
+    is_served = served;
+  }
+
   -- the input has ended
   pub serving-ceases : (last : Standing) → Ceases now last → Serves served.End user first.left last.left was is old new (Some next)
-  serving-ceases last c = record {
-    read = s.read ++ c.part;
-    written = s.written;
-    taken = Consumes-trans first.left now.left last.left s.read c.part s.taken c.taken;
-    appends = s.appends;
-    is_served = serving-part c.part c.is_part;
-  }
+  serving-ceases last c = serves-on served.End last c.part new (Some next) c.taken (serving-part c.part c.is_part)
 
   -- a read has failed
   pub serving-fails : (last : Standing) → Fails now last → Serves served.ReadFault user first.left last.left was is old new (Some next)
-  serving-fails last f = record {
-    read = s.read ++ f.part;
-    written = s.written;
-    taken = Consumes-trans first.left now.left last.left s.read f.part s.taken f.taken;
-    appends = s.appends;
-    is_served = serving-part f.part f.is_part;
-  }
+  serving-fails last f = serves-on served.ReadFault last f.part new (Some next) f.taken (serving-part f.part f.is_part)
 
   -- an item comes
   module _ (after : Standing) (item : Item) (h : HandsOut now after item) where
@@ -203,19 +202,18 @@ module _ (user : User) (first now : Standing) (was is : Option (List ℕ)) (old 
     }
 
     pub serving-halts : (halt : Halt) (newer : Seen) → 0 < item_turns next item → Serves (served_of halt) user first.left after.left was is old newer None
-    serving-halts halts.PoolClosed newer runs = record {
+    serving-halts halts.PoolClosed newer runs = serves-on served.PoolClosed after h.front newer None h.taken (stops runs)
+    serving-halts halts.TooManyStrays newer runs = serves-on served.TooManyStrays after h.front newer None h.taken (stops runs)
+
+    -- something is written for it
+    serves-more : (ending : Served) (more : List ℕ) (now_is : Option (List ℕ)) (newer : Seen) (state : Option User) → Appends is now_is more
+        → IsServed ending user (s.read ++ h.front) (s.written ++ more) old newer state → Serves ending user first.left after.left was now_is old newer state
+    serves-more ending more now_is newer state appends served = record {
       read = s.read ++ h.front;
-      written = s.written;
+      written = s.written ++ more;
       taken = taken_more;
-      appends = s.appends;
-      is_served = stops runs;
-    }
-    serving-halts halts.TooManyStrays newer runs = record {
-      read = s.read ++ h.front;
-      written = s.written;
-      taken = taken_more;
-      appends = s.appends;
-      is_served = stops runs;
+      appends = Appends-trans was is now_is s.written more s.appends appends;
+      is_served = served;
     }
 
     -- it is answered
@@ -226,24 +224,18 @@ module _ (user : User) (first now : Standing) (was is : Option (List ℕ)) (old 
       -- and the text is not written to its end
       pub serving-breaks : (n : ℕ) (now_is : Option (List ℕ)) (newer : Seen) → n ≤ length (text last reply) → Appends is now_is (take n (text last reply))
           → Serves served.WriteFault user first.left after.left was now_is old newer (Some last)
-      serving-breaks n now_is newer within appends = record {
-        read = s.read ++ h.front;
-        written = s.written ++ take n (text last reply);
-        taken = taken_more;
-        appends = Appends-trans was is now_is s.written (take n (text last reply)) s.appends appends;
-        is_served = record {
-          before = s.written;
-          between = next;
-          item = h.found;
-          reaches = reaches;
-          mark = t.mark;
-          only_memory = t.only;
-          bytes = n;
-          within = subst (λ told. n ≤ length told.0) (sym t.tells) within;
-          written_is = ap (λ told. s.written ++ take n told.0) (sym t.tells);
-          next_is = ap (λ told. told.1) (sym t.tells);
-        };
-      }
+      serving-breaks n now_is newer within appends = serves-more served.WriteFault (take n (text last reply)) now_is newer (Some last) appends (record {
+        before = s.written;
+        between = next;
+        item = h.found;
+        reaches = reaches;
+        mark = t.mark;
+        only_memory = t.only;
+        bytes = n;
+        within = subst (λ told. n ≤ length told.0) (sym t.tells) within;
+        written_is = ap (λ told. s.written ++ take n told.0) (sym t.tells);
+        next_is = ap (λ told. told.1) (sym t.tells);
+      })
 
       -- and the text is written
       module _ (now_is : Option (List ℕ)) (appends : Appends is now_is (text last reply)) (newer : Seen) (risen : CountsRise (item_tiles next item) new newer) where
@@ -278,9 +270,6 @@ module _ (user : User) (first now : Standing) (was is : Option (List ℕ)) (old 
             let from : item_tiles next h.found ≡ item_tiles (last_user user s.items s.marks) h.found = ap (λ u. item_tiles u h.found) s.next_is in
             rises-more (tiles user s.items s.marks) (item_tiles next item) (tiles user items_more marks_more) s.counted risen (omega (arith, sum, same, from))
 
-        appends_more : Appends was now_is (s.written ++ text last reply)
-        appends_more = Appends-trans was is now_is s.written (text last reply) s.appends appends
-
         pub serving-more : ending_of item ≡ None → Serving user first after was now_is old newer last
         serving-more none =
             let goes : ends item ≡ false = goes_on item none in
@@ -290,7 +279,7 @@ module _ (user : User) (first now : Standing) (was is : Option (List ℕ)) (old 
               items = items_more;
               marks = marks_more;
               taken = taken_more;
-              appends = appends_more;
+              appends = Appends-trans was is now_is s.written (text last reply) s.appends appends;
               takes = Takes-more 0 (s.read ++ h.front) s.items h.front h.front [] h.found takes_more (sym (append-nil h.front)) is_next (sym (ends_alike h.found item h.is_found) ∙ goes);
               items_are = length-append s.items (h.found ∷ []) ∙ ap (λ n. n + 1) s.items_are ∙ sym h.items_is;
               are_marks = more.are_marks;
@@ -319,20 +308,12 @@ module _ (user : User) (first now : Standing) (was is : Option (List ℕ)) (old 
         -- and the connection ends with it
         serving-ends_by : (found : Item) (kind : Served) → h.found ≡ found → ending_of found ≡ Some kind
             → Serves kind user first.left after.left was now_is old newer (Some last)
-        serving-ends_by (Command ByeCommand) served.Bye is e = record {
-          read = s.read ++ h.front;
-          written = s.written ++ text last reply;
-          taken = taken_more;
-          appends = appends_more;
-          is_served = ended EndsByBye (s.items, ap (λ i. s.items ++ i ∷ []) is) (ends_alike h.found item h.is_found ∙ ap ends is);
-        }
-        serving-ends_by (Last fault) served.Ended is e = record {
-          read = s.read ++ h.front;
-          written = s.written ++ text last reply;
-          taken = taken_more;
-          appends = appends_more;
-          is_served = ended EndsByFault (s.items, fault, ap (λ i. s.items ++ i ∷ []) is) (ends_alike h.found item h.is_found ∙ ap ends is);
-        }
+        serving-ends_by (Command ByeCommand) served.Bye is e =
+            serves-more served.Bye (text last reply) now_is newer (Some last) appends
+            (ended EndsByBye (s.items, ap (λ i. s.items ++ i ∷ []) is) (ends_alike h.found item h.is_found ∙ ap ends is))
+        serving-ends_by (Last fault) served.Ended is e =
+            serves-more served.Ended (text last reply) now_is newer (Some last) appends
+            (ended EndsByFault (s.items, fault, ap (λ i. s.items ++ i ∷ []) is) (ends_alike h.found item h.is_found ∙ ap ends is))
         serving-ends_by found kind is e = absurd (cc)
 
         pub serving-ends : (kind : Served) → ending_of item ≡ Some kind → Serves kind user first.left after.left was now_is old newer (Some last)
