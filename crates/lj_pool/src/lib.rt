@@ -7,8 +7,6 @@ mod replies;
 mod running;
 mod served;
 mod serving;
-#[cfg(test)]
-mod tests;
 
 pub use inline::InlinePool;
 pub use pool::{MAX_OWED, MAX_STRAYS, Pool, Refused};

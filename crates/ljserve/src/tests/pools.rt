@@ -111,7 +111,7 @@ impl Pool for OddPool {
     }
 }
 
-const STEPS: &str = "ADVANCE a 1\nADVANCE a 1\nLIST\n";
+const STEPS: &str = "ADVANCE a 1\nADVANCE a 1\nSHOW a 0\nLIST\n";
 
 /// Serves a LOAD and two steps over a pool. Answers how it ended, and whether the state was handed back.
 fn serve_over(alloc: Global, pool: &mut OddPool, output: &mut Output) -> (Served, bool)
@@ -135,7 +135,8 @@ fn strays_are_dropped(rt: HostRuntime) {
         let (served, is_handed_back) = serve_over(rt.alloc(), &mut pool, &mut output);
         assert_eq!(rt; served, Served::End);
         assert!(rt; is_handed_back);
-        let replies = b"OK LOAD a 0 2\nOK ADVANCE a 1\nOK ADVANCE a 2\nOK LIST 1\na 2 2 0\n";
+        let replies =
+            b"OK LOAD a 0 2\nOK ADVANCE a 1\nOK ADVANCE a 2\nOK SHOW a 2 0 1774 0 0\nOK LIST 1\na 2 2 0\n";
         assert_eq!(rt; output.as_slice(), replies.as_slice());
         assert_eq!(rt; pool.strays, copies);
     }
