@@ -28,7 +28,7 @@ use Rattle.lj_fixed.proofs.Leading.{digits_value_after-append}
 rest_of : (n : ℕ) (xs : List ℕ) → take (length xs - n) (drop n xs) ≡ drop n xs
 rest_of n xs = ap (λ (k : ℕ). take k (drop n xs)) (sym (length-drop n xs)) ∙ take-length (drop n xs)
 
--- the digits of the whole part, and those of the fraction behind them
+-- the digits of the whole part, and those of the fraction after them
 pub read_digits-value : (text : List ℕ) (count : ℕ) → count ≡ prefix_len is_ascii_digit text
     → digits_value_after 10 (digits_value_after 10 0 (take count text)) (fraction_at (take (length text - count) (drop count text))) ≡ digits_value 10 (read_digits text)
 read_digits-value text count e =
@@ -81,7 +81,7 @@ short_number ds number dropped count e whole short l =
 pub is_short_number-yes : (ds : List ℕ) → 0 < length ds → length ds ≤ 3 → all_ascii_digits ds ≡ true → is_short_number ds ≡ true
 is_short_number-yes ds some short digits = and_from _ _ (and_from _ _ (lt-ltb 0 (length ds) some) (le-leb (length ds) 3 short)) digits
 
--- the exponent behind a letter
+-- the exponent after a letter
 abbrev power_of : List ℕ → Option ℤ
 power_of text = cond (is_exponent text) (Some (signed_digits_value 10 text)) None
 

@@ -72,7 +72,7 @@ no_digits_at : (xs : List ℕ) (c : ℕ) (ys : List ℕ) → is_ascii_digit c �
 no_digits_at [] c ys h = and_left _ _ h
 no_digits_at (x ∷ xs) c ys h = and_right _ _ (no_digits_at xs c ys h)
 
--- the digits at the front of a text are digits, and no digit stands behind them
+-- the digits at the front of a text are digits, and no digit stands after them
 pub whole_of-digits : (text : List ℕ) → all_ascii_digits (whole_of text) ≡ true
 whole_of-digits [] = refl
 whole_of-digits (x ∷ xs) =
@@ -107,7 +107,7 @@ cut_at_letter front (c ∷ more) h b =
 same_exponent : (front tail : List ℕ) → list_any is_exponent_letter front ≡ false → exponent_of (front ++ tail) ≡ exponent_of tail
 same_exponent front tail h = rw (list_any-clean is_exponent_letter front tail h, after_first-clean is_exponent_letter front tail h)
 
--- what stands behind a mantissa and is no exponent belongs to no decimal
+-- what stands after a mantissa and is no exponent belongs to no decimal
 no_letter_first : (tail : List ℕ) → begins_exponent tail ≡ false → (c : ℕ) × (more : List ℕ) × (tail ≡ c ∷ more) × (is_exponent_letter c ≡ false)
 no_letter_first [] b = absurd (true≢false b)
 no_letter_first (c ∷ more) b = (c, more, refl, (or_parts (eqb (length (c ∷ more)) 0) (is_exponent_letter c) b).1)
@@ -134,7 +134,7 @@ before_point whole rest d = before_first-clean is_point whole (46 ∷ rest) (no_
 after_point : (whole rest : List ℕ) → all_ascii_digits whole ≡ true → after_first is_point (whole ++ 46 ∷ rest) ≡ rest
 after_point whole rest d = after_first-clean is_point whole (46 ∷ rest) (no_point whole d) ∙ after_first-stop is_point 46 rest refl
 
--- behind such a mantissa, a byte that is no letter spoils it
+-- after such a mantissa, a byte that is no letter spoils it
 spoiled : (front : List ℕ) (c : ℕ) (more : List ℕ) → list_any is_exponent_letter front ≡ false → is_exponent_letter c ≡ false → before_first is_exponent_letter (front ++ c ∷ more) ≡ front ++ c ∷ before_first is_exponent_letter more
 spoiled front c more h n = before_first-clean is_exponent_letter front (c ∷ more) h ∙ ap (λ (ys : List ℕ). front ++ ys) (before_first-go is_exponent_letter c more n)
 

@@ -132,7 +132,7 @@ digit_value-digit c e =
     let high : c ≤ 57 = leb-true c 57 both.1 in
     omega (arith, digit_value_digit c (low, high))
 
--- the digits of n with one more digit behind them
+-- the digits of n with one more digit after them
 pub digits_value_after-append : (n : ℕ) (xs ys : List ℕ) → digits_value_after 10 n (xs ++ ys) ≡ digits_value_after 10 (digits_value_after 10 n xs) ys
 digits_value_after-append n [] ys = refl
 digits_value_after-append n (x ∷ xs) ys = digits_value_after-append (n * 10 + digit_value x) xs ys

@@ -9,7 +9,7 @@ use Rattle.lj_fixed.specs.declared.words.TheConstants.{MAX_EXPONENT_DIGITS, MAX_
 use Rattle.lj_fixed.specs.declared.numbers.NumberFault.{NumberFault}
 use Rattle.lj_fixed.specs.declared.numbers.NumberFault.TheVariants.{BadNumber, OutOfRange}
 
--- what a word says: a sign, all digits as one number, how many of them stand behind the point, and the exponent of ten
+-- what a word says: a sign, all digits as one number, how many of them stand after the point, and the exponent of ten
 pub record Decimal : Type 0 where
   pub negative : Bool
   pub digits : ℕ
@@ -33,7 +33,7 @@ is_short_number digits =
 abbrev pub is_exponent : List ℕ → Bool
 is_exponent text = is_short_number (without_leading_sign text)
 
--- the exponent behind the first letter, which is 0 where there is no letter
+-- the exponent after the first letter, which is 0 where there is no letter
 abbrev pub exponent_of : List ℕ → Option ℤ
 exponent_of text =
     let power = after_first is_exponent_letter text in
@@ -41,8 +41,8 @@ exponent_of text =
     then (if is_exponent power then Some (signed_digits_value 10 power) else None)
     else Some (pos 0)
 
--- A word is at most 40 bytes: an optional sign; digits, at least one, and at most one point before, among or behind
--- them; and an optional exponent behind a letter.
+-- A word is at most 40 bytes: an optional sign; digits, at least one, and at most one point before, among or after
+-- them; and an optional exponent after a letter.
 unfoldable pub decimal_of : List ℕ → Option Decimal
 decimal_of word =
     let text = without_leading_sign word in

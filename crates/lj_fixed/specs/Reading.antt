@@ -5,7 +5,7 @@ use Rattle.std.specs.List.{prefix_len, take_while}
 use Rattle.lj_fixed.specs.declared.numbers.TheConstants.{MAX_NANO}
 use Rattle.lj_fixed.specs.Decimal.{is_point, is_exponent_letter}
 
--- n without its last digits, so many as were dropped; some are dropped only behind eighteen others
+-- n without its last digits, so many as were dropped; some are dropped only after eighteen others
 pub record Leads (number dropped n : ℕ) : Type 0 where
   pub quotient : number ≡ n / 10 ^ dropped
   pub long : 0 < dropped → 10 ^ 17 ≤ number
@@ -14,21 +14,21 @@ pub record Leads (number dropped n : ℕ) : Type 0 where
 abbrev pub within_limit : ℕ → Option ℕ
 within_limit size = if nat_le size MAX_NANO then Some size else None
 
--- the digits at the front of a text, and what stands behind them
+-- the digits at the front of a text, and what stands after them
 abbrev pub whole_of : List ℕ → List ℕ
 whole_of text = take_while is_ascii_digit text
 
 abbrev pub behind_whole : List ℕ → List ℕ
 behind_whole text = drop (prefix_len is_ascii_digit text) text
 
--- the digits behind a point, if it comes next, and what stands behind them
+-- the digits after a point, if it comes next, and what stands after them
 abbrev pub fraction_at : List ℕ → List ℕ
 fraction_at rest = if is_point (slice_index rest 0) then whole_of (drop 1 rest) else []
 
 abbrev pub tail_at : List ℕ → List ℕ
 tail_at rest = if is_point (slice_index rest 0) then behind_whole (drop 1 rest) else rest
 
--- the same behind the digits at the front of a text
+-- the same after the digits at the front of a text
 abbrev pub fraction_of : List ℕ → List ℕ
 fraction_of text = fraction_at (behind_whole text)
 

@@ -64,7 +64,7 @@ fn lowered(number: u64, power: u32) -> u64
     }
 }
 
-// The digits of a number, of which those behind the first eighteen are dropped and only counted: where one of
+// The digits of a number, of which those after the first eighteen are dropped and only counted: where one of
 // them matters, the number is out of range.
 #[derive(Clone, Copy)]
 pub struct Significand {
@@ -84,7 +84,7 @@ impl Significand {
         }
     }
 
-    // The number with one more digit behind it.
+    // The number with one more digit after it.
     fn push(self, digit: u8) -> Significand
         requires digit { digit < 10 }
         requires dropped { self.dropped < 2 ^ 31 }
@@ -105,7 +105,7 @@ impl Significand {
         }
     }
 
-    // The number with the digits at the front of `text` behind it, and how many these are.
+    // The number with the digits at the front of `text` after it, and how many these are.
     pub fn read_on(self, text: &[u8]) -> (Significand, usize)
         requires { self.dropped + length text.now < 2 ^ 31 }
         ensures count { result.1 ≡ prefix_len is_ascii_digit text.now }

@@ -17,7 +17,7 @@ const MAX_EXPONENT_DIGITS: usize = 3;
 /// The decimal places of a billionth.
 const NANO_PLACES: u32 = 9;
 
-// The digits of a mantissa, how many they are and how many of them stand behind the point; and what comes next.
+// The digits of a mantissa, how many they are and how many of them stand after the point; and what comes next.
 #[derive(Drop)]
 struct Mantissa<'a> {
     significand: Significand,
@@ -39,7 +39,7 @@ struct Numeral {
     ghost highest: { exponent ≤ℤ pos 999 },
 }
 
-// Whether a minus stands first, and what stands behind a sign.
+// Whether a minus stands first, and what stands after a sign.
 fn split_sign(text: &[u8]) -> (bool, &[u8])
     ensures negative { result.0 ≡ starts_with_minus text.now }
     ensures rest { result.1.now ≡ without_leading_sign text.now }
@@ -51,7 +51,7 @@ fn split_sign(text: &[u8]) -> (bool, &[u8])
     }
 }
 
-// If a point comes next, the digits behind it: the whole part with them behind it, how many they are, and what
+// If a point comes next, the digits after it: the whole part with them at its end, how many they are, and what
 // comes next.
 fn read_fraction(whole: Significand, rest: &[u8]) -> (Significand, usize, &[u8])
     requires { whole.dropped + length rest.now < 2 ^ 31 }
@@ -71,7 +71,7 @@ fn read_fraction(whole: Significand, rest: &[u8]) -> (Significand, usize, &[u8])
     }
 }
 
-// The digits at the front of a text, with a point before, among or behind them or without one.
+// The digits at the front of a text, with a point before, among or after them or without one.
 fn read_mantissa(text: &[u8]) -> Mantissa<'_>
     requires { length text.now ≤ MAX_WORD_BYTES }
     ensures number { Leads result.significand.number result.significand.dropped
@@ -108,7 +108,7 @@ fn read_short_number(digits: &[u8]) -> Option<u16>
     Some(significand.number as u16)
 }
 
-// The exponent that stands behind the letter: an optional sign and one to three digits.
+// The exponent that stands after the letter: an optional sign and one to three digits.
 fn read_power(text: &[u8]) -> Option<i32>
     ensures value { result ≡ (if is_exponent text.now
         then Some (signed_digits_value 10 text.now) else None) }

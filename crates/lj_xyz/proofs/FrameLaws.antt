@@ -9,7 +9,7 @@ use Rattle.lj_xyz.specs.declared.row.Row.{Row}
 use Rattle.lj_xyz.specs.declared.reader.Position.{Position}
 use Rattle.lj_xyz.specs.Atoms.{◌>>=◌, row_of}
 use Rattle.lj_xyz.specs.Frames.{IsWordless, Counts, missing, IsHead, AreAtoms, IsFrame, fault_behind, OpeningFault, no_count, bad_count, other_count, no_comment, FirstFault, in_opening, no_atom, bad_atom}
-use Rattle.lj_xyz.specs.Reading.{Left, admitted, head_in, behind_comment, opening_in, next_row, rows_in, frame_in}
+use Rattle.lj_xyz.specs.Reading.{Left, count_or_fault, head_in, behind_comment, opening_in, next_row, rows_in, frame_in}
 use Rattle.lj_xyz.proofs.ReaderLaws.{head_over, head_at, head_none, with_front, no_front}
 
 abbrev pub left : ℕ → List (List ℕ) → Left
@@ -26,12 +26,12 @@ head_skips position taken (blank ∷ blanks) more wordless =
 
 -- what the count line says
 head_counts : (position : Position) (taken : ℕ) (line : List ℕ) (more : List (List ℕ)) (atoms : Option ℕ) → Counts line atoms
-    → head_in position taken (line ∷ more) ≡ (admitted position (taken + 1) atoms >>= λ n. Ok (n, left (taken + 1) more))
+    → head_in position taken (line ∷ more) ≡ (count_or_fault position (taken + 1) atoms >>= λ n. Ok (n, left (taken + 1) more))
 head_counts position taken line more atoms counts = rw (← counts.value) (head_at position taken line more counts.first counts.others counts.words)
 
 behind_blanks : (position : Position) (taken : ℕ) (lines blanks : List (List ℕ)) (count : List ℕ) (more : List (List ℕ)) (atoms : Option ℕ)
     → lines ≡ blanks ++ count ∷ more → AllByRecursion IsWordless blanks → Counts count atoms
-    → head_in position taken lines ≡ (admitted position (taken + length blanks + 1) atoms >>= λ n. Ok (n, left (taken + length blanks + 1) more))
+    → head_in position taken lines ≡ (count_or_fault position (taken + length blanks + 1) atoms >>= λ n. Ok (n, left (taken + length blanks + 1) more))
 behind_blanks position taken lines blanks count more atoms whole wordless counts =
     rw whole (head_skips position taken blanks (count ∷ more) wordless ∙ head_counts position (taken + length blanks) count more atoms counts)
 
@@ -86,7 +86,7 @@ comment_good : (taken : ℕ) (comment : List ℕ) (more : List (List ℕ)) → b
 unfolding behind_comment
 comment_good taken comment more = refl
 
--- behind the head and the comment line come the atoms
+-- after the head and the comment line come the atoms
 frame_body : (position : Position) (taken : ℕ) (head : List (List ℕ)) (comment : List ℕ) (more : List (List ℕ)) (n : ℕ) → IsHead position head n
     → frame_in position (left taken (head ++ comment ∷ more)) ≡ rows_in n (left (taken + length head + 1) more)
 unfolding frame_in

@@ -10,7 +10,7 @@ use Rattle.lj_xyz.specs.declared.reader.Position.{Position}
 use Rattle.lj_xyz.specs.Lines.{words_of}
 use Rattle.lj_xyz.specs.Atoms.{◌>>=◌, count_of, row_of}
 use Rattle.lj_xyz.specs.Frames.{IsWordless, Counts, admits, IsHead, AreAtoms, IsFrame, fault_behind, OpeningFault, no_count, bad_count, other_count, no_comment, FirstFault, in_opening, no_atom, bad_atom}
-use Rattle.lj_xyz.specs.Reading.{Left, admitted, head_in, behind_comment, next_row, rows_in, frame_in}
+use Rattle.lj_xyz.specs.Reading.{Left, count_or_fault, head_in, behind_comment, next_row, rows_in, frame_in}
 use Rattle.lj_xyz.proofs.ReaderLaws.{head_over, head_at, head_none}
 use Rattle.lj_xyz.proofs.FrameLaws.{left}
 
@@ -77,7 +77,7 @@ one_head position before line lines n counts fits = record {
 }
 
 at_count : (position : Position) (before : ℕ) (line : List ℕ) (lines : List (List ℕ)) (atoms : Option ℕ) → Counts line atoms
-    → HeadStands position before (line ∷ lines) (admitted position (before + 1) atoms >>= λ n. Ok (counted_left before lines n))
+    → HeadStands position before (line ∷ lines) (count_or_fault position (before + 1) atoms >>= λ n. Ok (counted_left before lines n))
 at_count position before line lines None counts = bad_count [] line lines refl tt counts (rw add-zero refl)
 at_count position before line lines (Some n) counts =
     elim (cases_Bool (admits position n)) [

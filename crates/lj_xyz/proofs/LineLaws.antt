@@ -137,7 +137,7 @@ position_or_all p xs found r e is =
           rw (is, e, le-ltb (position_or_len p xs) (length xs) le) all
     ]
 
--- the bytes behind the blanks
+-- the bytes after the blanks
 abbrev behind_blanks : List ℕ → ℕ → List ℕ
 behind_blanks line blanks = take (length line - blanks) (drop blanks line)
 

@@ -24,19 +24,19 @@ frames_stand view mode lines (Err error) e = tt
 -- a fault was answered exactly where it stands in the relation
 pub fault_stands : {X : Type 0} (view : X → List (List Row)) (mode : Mode) (lines : List (List ℕ)) (r : Result X XyzError) → Gives view r (reading mode lines)
     → (fault : XyzFault) → (r ≡ Err (errors.Fault fault)) ↔ IsReading mode lines (Err fault)
-fault_stands {X = X} view mode lines r e fault = (told r e, λ is. tells r (rw (reading_is mode lines (Err fault) is) at e))
+fault_stands {X = X} view mode lines r e fault = (found_by r e, λ is. given r (rw (reading_is mode lines (Err fault) is) at e))
   where
-    told : (r : Result X XyzError) → Gives view r (reading mode lines) → r ≡ Err (errors.Fault fault) → IsReading mode lines (Err fault)
-    told (Ok x) e is = absurd cc
-    told (Err errors.Memory) e is = absurd cc
-    told (Err (errors.Fault found)) e is =
+    found_by : (r : Result X XyzError) → Gives view r (reading mode lines) → r ≡ Err (errors.Fault fault) → IsReading mode lines (Err fault)
+    found_by (Ok x) e is = absurd cc
+    found_by (Err errors.Memory) e is = absurd cc
+    found_by (Err (errors.Fault found)) e is =
         let same : found ≡ fault = cc in
         rw (← same) (rw e at (reading_stands mode lines))
 
-    tells : (r : Result X XyzError) → Gives view r (Err fault) → r ≡ Err (errors.Fault fault)
-    tells (Ok x) e = absurd cc
-    tells (Err errors.Memory) e = absurd cc
-    tells (Err (errors.Fault found)) e =
+    given : (r : Result X XyzError) → Gives view r (Err fault) → r ≡ Err (errors.Fault fault)
+    given (Ok x) e = absurd cc
+    given (Err errors.Memory) e = absurd cc
+    given (Err (errors.Fault found)) e =
         let same : fault ≡ found = cc in
         rw same refl
 

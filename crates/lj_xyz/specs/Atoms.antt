@@ -50,7 +50,7 @@ row_of_four symbol x y z =
       Ok (record { symbol = symbol; x = x; y = y; z = z }))
     else Err kind.Symbol
 
--- the atom of a line's words, of which those behind the fourth are not used
+-- the atom of a line's words, of which those after the fourth are not used
 abbrev pub row_of_words : List (List ℕ) → Result Row XyzKind
 row_of_words (symbol ∷ x ∷ y ∷ z ∷ more) = row_of_four symbol x y z
 row_of_words _ = Err kind.Short

@@ -11,7 +11,7 @@ use Rattle.lj_xyz.specs.Reading.{Left, Keeps}
 abbrev pub left_of : Lines → Left
 left_of lines = record { taken = lines.taken; lines = lines_of lines.rest.now }
 
--- atoms that the reader passed are those that reading gives, and it stands behind them
+-- atoms that the reader passed are those that reading gives, and it stands after them
 abbrev pub Passes : Lines → Result Passed XyzFault → Result (List Row × Left) XyzFault → Type 0
 Passes lines (Ok passed) read =
     (rows : List Row) × (read ≡ Ok (rows, left_of lines)) × (length rows ≡ passed.atoms) × Keeps passed.rows rows

@@ -22,10 +22,10 @@ pub record Left : Type 0 where
 abbrev pub fault_at : ℕ → XyzKind → XyzFault
 fault_at line kind = record { kind = kind; line = line }
 
--- the number of atoms of the count line, which is the line of that number
-abbrev pub admitted : Position → ℕ → Option ℕ → Result ℕ XyzFault
-admitted position line None = Err (fault_at line kind.Count)
-admitted position line (Some n) = if admits position n then Ok n else Err (fault_at line kind.Pair)
+-- the number of atoms of the count line, which is the line of that number, or the fault of the line
+abbrev pub count_or_fault : Position → ℕ → Option ℕ → Result ℕ XyzFault
+count_or_fault position line None = Err (fault_at line kind.Count)
+count_or_fault position line (Some n) = if admits position n then Ok n else Err (fault_at line kind.Pair)
 
 -- the number of atoms that the first line with a word says
 unfoldable pub head_in : Position → ℕ → List (List ℕ) → Result (ℕ × Left) XyzFault
@@ -34,10 +34,10 @@ head_in position taken (line ∷ lines) =
     elim (words_of line) [
       | [] ↦ head_in position (taken + 1) lines
       | first ∷ others ↦
-          admitted position (taken + 1) (count_of first) >>= λ n. Ok (n, record { taken = taken + 1; lines = lines })
+          count_or_fault position (taken + 1) (count_of first) >>= λ n. Ok (n, record { taken = taken + 1; lines = lines })
     ]
 
--- the lines behind the comment line
+-- the lines after the comment line
 unfoldable pub behind_comment : ℕ → List (List ℕ) → Result Left XyzFault
 behind_comment taken [] = Err (fault_behind taken kind.Short)
 behind_comment taken (comment ∷ lines) = Ok (record { taken = taken + 1; lines = lines })
@@ -47,7 +47,7 @@ abbrev pub row_at : ℕ → Result Row XyzKind → Result Row XyzFault
 row_at line (Ok row) = Ok row
 row_at line (Err wrong) = Err (fault_at line wrong)
 
--- the atom of the next line, and the lines behind it
+-- the atom of the next line, and the lines after it
 unfoldable pub next_row : ℕ → List (List ℕ) → Result (Row × Left) XyzFault
 next_row taken [] = Err (fault_behind taken kind.Short)
 next_row taken (line ∷ lines) =
@@ -61,14 +61,14 @@ rows_in (suc n) left = do
   others ← rows_in n row.1
   Ok (row.0 ∷ others.0, others.1)
 
--- the number of atoms of a frame, and the lines behind its comment line
+-- the number of atoms of a frame, and the lines after its comment line
 abbrev pub opening_in : Position → Left → Result (ℕ × Left) XyzFault
 opening_in position left = do
   head ← head_in position left.taken left.lines
   body ← behind_comment head.1.taken head.1.lines
   Ok (head.0, body)
 
--- the rows of a frame, and the lines behind it
+-- the rows of a frame, and the lines after it
 unfoldable pub frame_in : Position → Left → Result (List Row × Left) XyzFault
 frame_in position left = do
   opening ← opening_in position left

@@ -4,7 +4,7 @@ ghost use Rattle.lj_xyz.specs.declared.fault.XyzFault.{XyzFault};
 ghost use Rattle.lj_xyz.specs.Lines.{lines_of};
 ghost use Rattle.lj_xyz.specs.Atoms.{is_count, count_of, row_of, row_of_four};
 ghost use Rattle.lj_xyz.specs.Frames.{IsReading, HasFrames, admits, missing, rest, pair};
-ghost use Rattle.lj_xyz.specs.Reading.{Gives, Tells, admitted, head_in, behind_comment, opening_in, next_row, rows_in, frame_in, reading};
+ghost use Rattle.lj_xyz.specs.Reading.{Gives, Tells, count_or_fault, head_in, behind_comment, opening_in, next_row, rows_in, frame_in, reading};
 ghost use Rattle.lj_xyz.specs.Cursor.{left_of, Passes};
 
 use crate::fault::{XyzError, XyzFault, XyzKind};
@@ -88,8 +88,8 @@ fn row_of_four(symbol: &[u8], x: &[u8], y: &[u8], z: &[u8]) -> Result<Row, XyzKi
 }
 
 // The number of atoms that the first word of the count line says, the line of that number.
-fn admitted(position: Position, line: u64, word: &[u8]) -> Result<usize, XyzFault>
-    ensures { result ≡ admitted position line (count_of word.now) }
+fn count_or_fault(position: Position, line: u64, word: &[u8]) -> Result<usize, XyzFault>
+    ensures { result ≡ count_or_fault position line (count_of word.now) }
 {
     let Some(count) = count_of(word) else {
         return Err(XyzFault {
@@ -113,7 +113,7 @@ fn read_head(lines: &mut Lines, position: Position) -> Result<usize, XyzFault>
 {
     while let Some(line) = lines.next_line() {
         if let Some((word, _others)) = split_word(line) {
-            return admitted(position, lines.taken, word);
+            return count_or_fault(position, lines.taken, word);
         }
     }
     Err(XyzFault {

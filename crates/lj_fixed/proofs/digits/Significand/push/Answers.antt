@@ -1,4 +1,4 @@
--- A digit is kept behind a short number, and counted behind a long one.
+-- A digit is kept after a short number, and counted after a long one.
 use Rattle.lj_fixed.proofs.Leading.{leads_kept, leads_dropped}
 use Rattle.lj_fixed.proofs.digits.Significand.push.Goals as goal
 use Rattle.lj_fixed.proofs.digits.Significand.push.Goals.{then-self-lt-FULL, else-self-lt-FULL}
