@@ -11,7 +11,7 @@ use Rattle.lj_wire.specs.Progress.{Progress}
 use Rattle.lj_pool.specs.declared.served.Served.{Served}
 use Rattle.lj_pool.specs.declared.served.Served.TheVariants.{End, Bye, Ended, ReadFault, WriteFault, PoolClosed, TooManyStrays}
 use Rattle.lj_pool.specs.Seen.{Seen}
-use Rattle.lj_pool.specs.Served.{NoneEnds, EndsByBye, EndsByFault, IsAnswered, Reaches, BreaksOff, StopsShort, IsServed, Serves}
+use Rattle.lj_pool.specs.Served.{NoneEnds, EndsByBye, EndsByFault, AnswersAll, Reaches, BreaksOff, StopsShort, IsServed, Serves}
 use Rattle.lj_pool.proofs.Dialogues.{Takes-on}
 
 -- items of which the last ends the connection are so whatever comes after them
@@ -54,8 +54,8 @@ module _ (user : User) (read written : List ℕ) (old new : Seen) (held : List �
     is_item = r.is_item;
   }
 
-  ended-on : (Ending : List Item → Type 0) (next : User) (a : IsAnswered Ending user read written old new next) (earlier : List Item) (last : Item)
-      → a.dialogue.items ≡ earlier ++ last ∷ [] → ends last ≡ true → IsAnswered Ending user (read ++ held) written old new next
+  ended-on : (Ending : List Item → Type 0) (next : User) (a : AnswersAll Ending user read written old new next) (earlier : List Item) (last : Item)
+      → a.dialogue.items ≡ earlier ++ last ∷ [] → ends last ≡ true → AnswersAll Ending user (read ++ held) written old new next
   ended-on Ending next a earlier last items_are over = record {
     dialogue = record {
       items = a.dialogue.items;
@@ -79,10 +79,10 @@ module _ (user : User) (read written : List ℕ) (old new : Seen) (held : List �
 
   served-on : (served : Served) (next : Option User) → (served ≡ End → held ≡ []) → (served ≡ ReadFault → held ≡ [])
       → IsServed served user read written old new next → IsServed served user (read ++ held) written old new next
-  served-on End (Some next) at_end at_fault s = subst (λ r. IsAnswered NoneEnds user r written old new next) (same-read (at_end refl)) s
+  served-on End (Some next) at_end at_fault s = subst (λ r. AnswersAll NoneEnds user r written old new next) (same-read (at_end refl)) s
   served-on Bye (Some next) at_end at_fault s = ended-on EndsByBye next s s.ending.0 _ s.ending.1 refl
   served-on Ended (Some next) at_end at_fault s = ended-on EndsByFault next s s.ending.0 _ s.ending.2 refl
-  served-on ReadFault (Some next) at_end at_fault s = subst (λ r. IsAnswered NoneEnds user r written old new next) (same-read (at_fault refl)) s
+  served-on ReadFault (Some next) at_end at_fault s = subst (λ r. AnswersAll NoneEnds user r written old new next) (same-read (at_fault refl)) s
   served-on WriteFault (Some next) at_end at_fault s = record {
     before = s.before;
     between = s.between;

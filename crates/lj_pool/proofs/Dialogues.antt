@@ -28,11 +28,11 @@ use Rattle.lj_pool.specs.declared.running.Halt.TheVariants as halts
 use Rattle.lj_pool.specs.Seen.{Seen}
 use Rattle.lj_pool.specs.Counting.{turns_tiles, item_tiles, tiles, CountsRise}
 use Rattle.lj_pool.specs.Endings.{served_of, ending_of}
-use Rattle.lj_pool.specs.Served.{NoneEnds, EndsByBye, EndsByFault, IsAnswered, IsServed, Reaches, StopsShort, Serves}
+use Rattle.lj_pool.specs.Served.{NoneEnds, EndsByBye, EndsByFault, AnswersAll, IsServed, Reaches, StopsShort, Serves}
 use Rattle.lj_pool.specs.Serving.{AnswersItem, Serving}
 use Rattle.lj_pool.proofs.Beginning.{rises-more, rises-none}
 
--- bytes that begin with items do so too where more bytes come behind
+-- bytes that begin with items do so too where more bytes come after
 pub Takes-on : (n : ℕ) (bytes : List ℕ) (items : List Item) (left more : List ℕ) → Takes n bytes items left → Takes n (bytes ++ more) items (left ++ more)
 Takes-on n bytes [] left more t = ap (λ b. b ++ more) t
 Takes-on n bytes (item ∷ items) left more t =
@@ -128,7 +128,7 @@ module _ (user : User) (first now : Standing) (was is : Option (List ℕ)) (old 
   number_is : now.items ≡ 0 + length s.items
   number_is = omega (arith, s.items_are)
 
-  serving-part : (part : List ℕ) → IsPart now.items part → IsAnswered NoneEnds user (s.read ++ part) s.written old new next
+  serving-part : (part : List ℕ) → IsPart now.items part → AnswersAll NoneEnds user (s.read ++ part) s.written old new next
   serving-part part p = record {
     dialogue = record {
       items = s.items;
@@ -290,7 +290,7 @@ module _ (user : User) (first now : Standing) (was is : Option (List ℕ)) (old 
               errors = h.errors_is ∙ s.errors;
             }
 
-        ended : (Ending : List Item → Type 0) → Ending items_more → ends item ≡ true → IsAnswered Ending user (s.read ++ h.front) (s.written ++ text last reply) old newer last
+        ended : (Ending : List Item → Type 0) → Ending items_more → ends item ≡ true → AnswersAll Ending user (s.read ++ h.front) (s.written ++ text last reply) old newer last
         ended Ending ending over = record {
           dialogue = record {
             items = items_more;

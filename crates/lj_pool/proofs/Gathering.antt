@@ -190,7 +190,7 @@ module _ (owner : Owning) (owed : List Work) (t : Gathers owner owed) where
               ∙ ap (λ w. owed ++ w ∷ []) (work_is i e found.1));
         }
 
-    -- it is owed behind the others
+    -- it is owed after the others
     pub gathers_posted : Gathers (with_task_posted owner) (owed ++ work ∷ [])
     gathers_posted = posted_with next_place.0 next_place.1
 

@@ -32,7 +32,7 @@ EndsByFault items = (earlier : List Item) × (fault : Fault) × (items ≡ earli
 
 -- The dialogue of what was read, whose items end so. The pool's counts have together risen by the tiles of all their
 -- steps, or one of them stands at its last value.
-pub record IsAnswered (Ending : List Item → Type 0) (user : User) (read written : List ℕ) (old new : Seen)
+pub record AnswersAll (Ending : List Item → Type 0) (user : User) (read written : List ℕ) (old new : Seen)
     (next : User) : Type 0 where
   pub dialogue : Dialogue user read written next
   pub ending : Ending dialogue.items
@@ -70,10 +70,10 @@ pub record StopsShort (user : User) (read written : List ℕ) : Type 0 where
 
 -- What is written for what was read, and the state that is handed back.
 abbrev pub IsServed : Served → User → List ℕ → List ℕ → Seen → Seen → Option User → Type 0
-IsServed End user read written old new (Some next) = IsAnswered NoneEnds user read written old new next
-IsServed Bye user read written old new (Some next) = IsAnswered EndsByBye user read written old new next
-IsServed Ended user read written old new (Some next) = IsAnswered EndsByFault user read written old new next
-IsServed ReadFault user read written old new (Some next) = IsAnswered NoneEnds user read written old new next
+IsServed End user read written old new (Some next) = AnswersAll NoneEnds user read written old new next
+IsServed Bye user read written old new (Some next) = AnswersAll EndsByBye user read written old new next
+IsServed Ended user read written old new (Some next) = AnswersAll EndsByFault user read written old new next
+IsServed ReadFault user read written old new (Some next) = AnswersAll NoneEnds user read written old new next
 IsServed WriteFault user read written old new (Some next) = BreaksOff user read written next
 IsServed PoolClosed user read written old new None = StopsShort user read written
 IsServed TooManyStrays user read written old new None = StopsShort user read written

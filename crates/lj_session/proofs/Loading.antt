@@ -29,7 +29,7 @@ use Rattle.lj_session.specs.States.{Held, Owned, Performs, as_session, user_of, 
 use Rattle.lj_session.proofs.Entries.{by_test, named-seen}
 use Rattle.lj_session.proofs.Holding.{user_of-put}
 use Rattle.lj_session.proofs.Others.{others-put}
-use Rattle.lj_session.proofs.Performing.{told, refused, starved}
+use Rattle.lj_session.proofs.Performing.{done, refused, starved}
 
 -- the session of the frames that were read
 pub session-frames : (units : Units) (first : List Row) (second : Option (List Row)) → session_of_frames units (frames_of first second) ≡ session_from units first (last_of first second)
@@ -133,7 +133,7 @@ module _ (old new : Owned) (load : Load) (units : Units) (scale : admitted (user
       pub loaded : (atoms : ℕ) → atoms ≡ length first → nat_le (atoms_used (user_of old) + length first) old.quota.atoms ≡ true
           → new ≡ with_held load.name (held_from units first (last_of first second)) old
           → Performs old (commands.Load load) (Ok (reply.Loaded load.name atoms)) new
-      loaded atoms its room is = told old new _ _
+      loaded atoms its room is = done old new _ _
           (load-done (user_of old) load units scale body held first second read
           (ap (λ n. nat_le (atoms_used (user_of old) + n) old.quota.atoms) count ∙ room)
           ∙ (ap (λ n. Ok (reply.Loaded load.name n, with_session load.name (session_from units first (last_of first second)) (user_of old))) (count ∙ sym its)

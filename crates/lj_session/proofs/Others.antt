@@ -46,38 +46,38 @@ abbrev IsDone : Reply → Type 0
 IsDone (reply.Refused refusal) = ⊥
 IsDone _ = Unit {0}
 
-after : {A : Type 0} (m : Result A Refusal) (f : A → Result (Reply × User) Refusal) → ((x : A) → IfOk (f x) (λ told. IsDone told.0))
-    → IfOk (m >>= f) (λ told. IsDone told.0)
+after : {A : Type 0} (m : Result A Refusal) (f : A → Result (Reply × User) Refusal) → ((x : A) → IfOk (f x) (λ made. IsDone made.0))
+    → IfOk (m >>= f) (λ made. IsDone made.0)
 after (Ok x) f h = h x
 after (Err refusal) f h = tt
 
 -- what a command does is no refusal
-done : (user : User) (command : Command) (mark : Bool) → IfOk (performed user command mark) (λ told. IsDone told.0)
+is_done : (user : User) (command : Command) (mark : Bool) → IfOk (performed user command mark) (λ made. IsDone made.0)
 unfolding performed
-done user (Load load) mark = after (admitted user load) _ (λ units. after (body_held load.body mark) _ (λ body. after (session_read user units load.mode body) _ (λ session. tt)))
-done user (Advance name n) mark = after (session_of user name) _ (λ session. after (unless (can_advance session n) StepRange) _ (λ near. tt))
-done user (Reverse name) mark = after (session_of user name) _ (λ session. tt)
-done user (Branch name branch) mark = after (session_of user name) _ (λ session.
+is_done user (Load load) mark = after (admitted user load) _ (λ units. after (body_held load.body mark) _ (λ body. after (session_read user units load.mode body) _ (λ session. tt)))
+is_done user (Advance name n) mark = after (session_of user name) _ (λ session. after (unless (can_advance session n) StepRange) _ (λ near. tt))
+is_done user (Reverse name) mark = after (session_of user name) _ (λ session. tt)
+is_done user (Branch name branch) mark = after (session_of user name) _ (λ session.
     after (unless (not (is_some (named branch session.saved))) BranchExists) _ (λ new.
     after (unless (nat_lt (branches_used user) user.quota.branches) QuotaBranches) _ (λ room.
     after (unless (not mark) Memory) _ (λ held. tt))))
-done user (Restore name branch) mark = after (session_of user name) _ (λ session. after (saved_in session branch) _ (λ sim. tt))
-done user (Forget name branch) mark = after (session_of user name) _ (λ session. after (saved_in session branch) _ (λ sim. tt))
-done user (Tug name atom x y z) mark = after (session_of user name) _ (λ session. after (has_atom session atom) _ (λ there. tt))
-done user (Measure name) mark = after (session_of user name) _ (λ session. tt)
-done user (Show name atom) mark = after (session_of user name) _ (λ session. after (has_atom session atom) _ (λ there. tt))
-done user (Dump name) mark = after (session_of user name) _ (λ session. tt)
-done user ListSessions mark = tt
-done user (ListBranches name) mark = after (session_of user name) _ (λ session. tt)
-done user (Unload name) mark = after (session_of user name) _ (λ session. tt)
-done user Bye mark = tt
+is_done user (Restore name branch) mark = after (session_of user name) _ (λ session. after (saved_in session branch) _ (λ sim. tt))
+is_done user (Forget name branch) mark = after (session_of user name) _ (λ session. after (saved_in session branch) _ (λ sim. tt))
+is_done user (Tug name atom x y z) mark = after (session_of user name) _ (λ session. after (has_atom session atom) _ (λ there. tt))
+is_done user (Measure name) mark = after (session_of user name) _ (λ session. tt)
+is_done user (Show name atom) mark = after (session_of user name) _ (λ session. after (has_atom session atom) _ (λ there. tt))
+is_done user (Dump name) mark = after (session_of user name) _ (λ session. tt)
+is_done user ListSessions mark = tt
+is_done user (ListBranches name) mark = after (session_of user name) _ (λ session. tt)
+is_done user (Unload name) mark = after (session_of user name) _ (λ session. tt)
+is_done user Bye mark = tt
 
 -- so a refusal that is replied is an error, which changes nothing
 pub refused-unchanged : (P : Type 0) (old new : Owned) (command : Command) (result : Result Reply Refusal) → Performs old command result new → OnErr result P
     → OnRefused (Answered (reply_of result)) P
 refused-unchanged P old new command (Err refusal) performs same = same
 refused-unchanged P old new command (Ok made) performs same = by made
-    (subst (λ r. IfOk r (λ told. IsDone told.0)) performs.performs (done _ command performs.mark))
+    (subst (λ r. IfOk r (λ made. IsDone made.0)) performs.performs (is_done _ command performs.mark))
   where
     by : (made : Reply) → IsDone made → OnRefused (Answered made) P
     by (reply.Refused refusal) h = absurd h

@@ -29,7 +29,7 @@ module _ (old : Owned) (name : List ℕ) (held : Held) (found : held_in old name
   put_in : (command : Command) (made : Reply) (new : Held) → session_named command ≡ Some name
       → performed (user_of old) command false ≡ Ok (made, with_session name (as_session new) (user_of old))
       → Performs old command (Ok made) (with_held name new old)
-  put_in command made new is h = performing.told old _ command made
+  put_in command made new is h = performing.done old _ command made
       (h ∙ ap (λ (u : User). Ok (made, u)) (sym (user_of-put old name new)))
       (λ other apart. others-put old name new other (rw is at apart))
 
@@ -56,7 +56,7 @@ module _ (old : Owned) (name : List ℕ) (held : Held) (found : held_in old name
       (performing.branch-done (user_of old) name (as_session held) session saved_as new room)
 
   pub unload : Performs old (Unload name) (Ok (reply.Unloaded name)) (record old { sessions = taken_out name old.sessions })
-  unload = performing.told old _ _ _
+  unload = performing.done old _ _ _
       (performing.unload-done (user_of old) name false (as_session held) session
       ∙ ap (λ (u : User). Ok (reply.Unloaded name, u)) (sym (user_of-taken old name)))
       (others-taken old name)

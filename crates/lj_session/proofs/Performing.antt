@@ -14,9 +14,9 @@ use Rattle.lj_session.specs.Answers.{session_named, performed, can_advance, with
 use Rattle.lj_session.specs.States.{Owned, OthersKept, Performs, outcome, user_of}
 
 -- a command that is done without the mark
-pub told : (old new : Owned) (command : Command) (reply : Reply)
+pub done : (old new : Owned) (command : Command) (reply : Reply)
     → performed (user_of old) command false ≡ Ok (reply, user_of new) → OthersKept command old new → Performs old command (Ok reply) new
-told old new command reply h others = record { mark = false; performs = h; only_memory = λ marked. cc; others = others }
+done old new command reply h others = record { mark = false; performs = h; only_memory = λ marked. cc; others = others }
 
 -- a command that is refused without it
 pub refused : (old new : Owned) (command : Command) (refusal : Refusal)
@@ -30,7 +30,7 @@ starved old new command h = record { mark = true; performs = h; only_memory = λ
 -- a command that only reads
 pub read : (owned : Owned) (command : Command) (result : Result Reply Refusal)
     → ((mark : Bool) → performed (user_of owned) command mark ≡ outcome result (user_of owned)) → Performs owned command result owned
-read owned command (Ok reply) h = told owned owned command reply (h false) (λ other apart. refl)
+read owned command (Ok reply) h = done owned owned command reply (h false) (λ other apart. refl)
 read owned command (Err refusal) h = refused owned owned command refusal (h false)
 
 -- no session has the name

@@ -55,15 +55,15 @@ module _ {a : Inside} {old : Owned} {name : List ℕ} {held new : Held} {next : 
   pub user_kept : as_session new ≡ as_session held → user_of next ≡ user_of old
   user_kept same = ap user_of w.is ∙ user_of-kept old name held new w.found same
 
-  -- a command that is told so
-  pub told_as : (command : Command) (reply : Reply) (other : Held) → Performs old command (Ok reply) (with_held name other old) → new ≡ other
+  -- a command that is done so
+  pub done_as : (command : Command) (reply : Reply) (other : Held) → Performs old command (Ok reply) (with_held name other old) → new ≡ other
       → Performs old command (Ok reply) next
-  told_as command reply other performs same = rw (w.is, same) performs
+  done_as command reply other performs same = rw (w.is, same) performs
 
   -- one whose reply names a step number, as the code reads it
-  pub told_at : (command : Command) (made : ℤ → Reply) (step read : ℤ) (other : Held) → Performs old command (Ok (made step)) (with_held name other old)
+  pub done_at : (command : Command) (made : ℤ → Reply) (step read : ℤ) (other : Held) → Performs old command (Ok (made step)) (with_held name other old)
       → read ≡ step → new ≡ other → Performs old command (Ok (made read)) next
-  told_at command made step read other performs same_step same = told_as command (made read) other (rw same_step performs) same
+  done_at command made step read other performs same_step same = done_as command (made read) other (rw same_step performs) same
 
   -- the totals, where the session has as many atoms and as many saved simulations as before
   pub totals_kept : length new.live.sim.cur ≡ length held.live.sim.cur → length new.saved ≡ length held.saved → a.used ≡ used_by next

@@ -45,22 +45,22 @@ Splits-end n bytes (first ∷ items) left front behind item t e i end =
     (t.0, t.1, t.2, t.3, (λ h. let differ : true ≡ false = sym h ∙ t.4 in cc), (λ h. next))
 
 -- marks of texts are as many as the texts
-pub marks-length : (marks : List Bool) (told : List (List ℕ)) → AreMarks marks told → length marks ≡ length told
+pub marks-length : (marks : List Bool) (answers : List (List ℕ)) → AreMarks marks answers → length marks ≡ length answers
 marks-length [] [] h = refl
-marks-length [] (text ∷ told) h = absurd h
+marks-length [] (text ∷ answers) h = absurd h
 marks-length (mark ∷ marks) [] h = absurd h
-marks-length (mark ∷ marks) (text ∷ told) h = ap suc (marks-length marks told h.1)
+marks-length (mark ∷ marks) (text ∷ answers) h = ap suc (marks-length marks answers h.1)
 
 pub texts-length : (user : User) (items : List Item) (marks : List Bool) → length (texts user items marks) ≡ length items
 texts-length user [] marks = refl
 texts-length user (item ∷ items) marks = ap suc (texts-length (told user item (first_mark marks)).1 items (other_marks marks))
 
-AreMarks-more : (marks : List Bool) (told : List (List ℕ)) (mark : Bool) (text : List ℕ) → AreMarks marks told → (mark ≡ true → is_memory text ≡ true)
-    → AreMarks (marks ++ mark ∷ []) (told ++ text ∷ [])
+AreMarks-more : (marks : List Bool) (answers : List (List ℕ)) (mark : Bool) (text : List ℕ) → AreMarks marks answers → (mark ≡ true → is_memory text ≡ true)
+    → AreMarks (marks ++ mark ∷ []) (answers ++ text ∷ [])
 AreMarks-more [] [] mark text h only = (only, tt)
-AreMarks-more [] (next ∷ told) mark text h only = absurd h
+AreMarks-more [] (next ∷ answers) mark text h only = absurd h
 AreMarks-more (next ∷ marks) [] mark text h only = absurd h
-AreMarks-more (next ∷ marks) (first ∷ told) mark text h only = (h.0, AreMarks-more marks told mark text h.1 only)
+AreMarks-more (next ∷ marks) (first ∷ answers) mark text h only = (h.0, AreMarks-more marks answers mark text h.1 only)
 
 texts-more : (user : User) (items : List Item) (marks : List Bool) (item : Item) (mark : Bool) → length marks ≡ length items
     → texts user (items ++ item ∷ []) (marks ++ mark ∷ []) ≡ texts user items marks ++ (told (last_user user items marks) item mark).0 ∷ []

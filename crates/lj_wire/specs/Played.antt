@@ -194,7 +194,7 @@ cut (suc n) bytes =
 pub played : (allowed : Quota) (count : ℕ) (rest : Rest) (bytes written : List ℕ)
     → bytes ≡ stream_of (cut count bytes) (rest_bytes rest) → are_pieces 0 (cut count bytes) rest ≡ true
     → written ≡ concat (texts (fresh allowed) (items_of (cut count bytes)) []) → IsWritten allowed bytes written
-played allowed count rest bytes written whole test told =
+played allowed count rest bytes written whole test is_texts =
     let pieces = cut count bytes in
     let items = items_of pieces in (
       last_user (fresh allowed) items (unset items),
@@ -204,7 +204,7 @@ played allowed count rest bytes written whole test told =
         marks = unset items;
         splits = subst (λ x. Splits 0 x items (rest_bytes rest)) (sym whole) (Splits-from_test 0 pieces rest test);
         are_marks = AreMarks-unset (fresh allowed) items;
-        written_is = told ∙ ap concat (sym (texts-unset (fresh allowed) items));
+        written_is = is_texts ∙ ap concat (sym (texts-unset (fresh allowed) items));
         next_is = refl;
       },
     )

@@ -55,7 +55,7 @@ const GROWTHS: [Growth; 5] = [
     },
 ];
 
-/// What is answered behind `rest`, where it begins so.
+/// What is answered after `rest`, where it begins so.
 fn after<'a>(rt: &impl Abort, rest: &'a [u8], reply: &str) -> &'a [u8] {
     match rest.strip_prefix(reply.as_bytes()) {
         Some(rest) => rest,

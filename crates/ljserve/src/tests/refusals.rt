@@ -3,7 +3,9 @@
 use super::serving::{Text, expect};
 use lj_pool::Served;
 use lj_quota::Quota;
+use std::alloc::AllocGlobal;
 use std::fmt::Write;
+use std::process::Abort;
 use std::test::Fail;
 
 /// A user whose sessions and saved simulations fill the quota, and which has room for one atom more.
@@ -81,28 +83,30 @@ const WHERE_ROOM: [(&str, &str); 30] = [
     ),
 ];
 
-#[test]
-fn a_refusal_leaves_the_user_as_it_was(rt: HostRuntime) -> Result<(), Fail> {
-    for (item, refusal) in WHERE_ROOM {
+/// Each of these items is to be refused so to a user of this quota, and to leave the user as it was.
+fn expect_refusals(
+    rt: &(impl Abort + AllocGlobal),
+    quota: Quota,
+    refusals: &[(&str, &str)],
+) -> Result<(), Fail> {
+    for (item, refusal) in refusals {
         let mut input = Text::new();
         write!(input, "{BEGIN}{item}{LOOK}")?;
         let mut replies = Text::new();
         write!(replies, "{BEGUN}{refusal}{SEEN}")?;
-        expect(&rt, ROOM, &input, &replies, Served::End);
+        expect(rt, quota, &input, &replies, Served::End);
     }
     Ok(())
 }
 
 #[test]
+fn a_refusal_leaves_the_user_as_it_was(rt: HostRuntime) -> Result<(), Fail> {
+    expect_refusals(&rt, ROOM, &WHERE_ROOM)
+}
+
+#[test]
 fn a_refusal_by_the_quota_leaves_the_user_as_it_was(rt: HostRuntime) -> Result<(), Fail> {
-    for (item, refusal) in WHERE_FULL {
-        let mut input = Text::new();
-        write!(input, "{BEGIN}{item}{LOOK}")?;
-        let mut replies = Text::new();
-        write!(replies, "{BEGUN}{refusal}{SEEN}")?;
-        expect(&rt, FULL, &input, &replies, Served::End);
-    }
-    Ok(())
+    expect_refusals(&rt, FULL, &WHERE_FULL)
 }
 
 #[test]

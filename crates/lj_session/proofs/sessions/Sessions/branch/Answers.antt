@@ -12,7 +12,7 @@ use Rattle.lj_session.proofs.Performing as performing
 use Rattle.lj_session.proofs.Outcomes as outcomes
 use Rattle.lj_session.proofs.Outcomes.{read-step}
 use Rattle.lj_session.proofs.Results.{performs-refused, performs-starved, on_err, none-of, not-saved, is_some-counted}
-use Rattle.lj_session.proofs.Writing.{Writes, not_there, writes, is_there, unchanged, totals_unchanged, totals_saved, told_at}
+use Rattle.lj_session.proofs.Writing.{Writes, not_there, writes, is_there, unchanged, totals_unchanged, totals_saved, done_at}
 use Rattle.lj_session.proofs.sessions.Sessions.branch.Goals.{In-Some, After-may_branch, After-save}
 use Rattle.lj_session.proofs.sessions.Sessions.branch.Goals as goal
 
@@ -100,7 +100,7 @@ returns-clause-performs c =
     let wrote = written (goal.at.returns-clause-performs c).After-save in
     let new = is_new (goal.at.returns-clause-performs c).After-may_branch in
     let saved = c.in_ok-save.ensures.saved ∙ ap (λ b. keeping held (put b held.live.sim held.saved)) c.copy.ensures in
-    told_at wrote _ (reply.Branched c.args.name c.args.branch) _ _ _
+    done_at wrote _ (reply.Branched c.args.name c.args.branch) _ _ _
     (outcomes.branch c.args.self.now c.args.name held wrote.found c.args.branch new
     (branches-room c.self.inside c.args.self.now c.self.view_is c.self.invariant (c.in_ok-may_branch.ensures.may.0 refl)))
     (read-step c.step-step.result c.step-step.ensures.most ∙ (c.step-step.ensures.value ∙ ap (λ (l : Live). l.sim.step) c.sim.ensures ∙ ap (λ (h : Held). h.live.sim.step) saved)) saved

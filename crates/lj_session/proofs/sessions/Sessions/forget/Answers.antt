@@ -5,7 +5,7 @@ use Rattle.lj_session.proofs.Entries.{length-taken}
 use Rattle.lj_session.proofs.Performing as performing
 use Rattle.lj_session.proofs.Outcomes as outcomes
 use Rattle.lj_session.proofs.Results.{performs-refused, on_err, none-if, some-of}
-use Rattle.lj_session.proofs.Writing.{Writes, not_there, writes, is_there, unchanged, totals_unchanged, totals_forgotten, one_saved, told_as}
+use Rattle.lj_session.proofs.Writing.{Writes, not_there, writes, is_there, unchanged, totals_unchanged, totals_forgotten, one_saved, done_as}
 use Rattle.lj_session.proofs.sessions.Sessions.forget.Goals.{After-forget}
 use Rattle.lj_session.proofs.sessions.Sessions.forget.Goals as goal
 
@@ -55,4 +55,4 @@ returns-clause-performs c =
     let held = c.in-Some.session.now in
     let wrote = written (goal.at.returns-clause-performs c).After-forget in
     let saved = some-of (named c.args.branch held.saved) (c.in_ok-forget.ensures.found.0 refl) in
-    told_as wrote _ _ _ (outcomes.forget c.args.self.now c.args.name held wrote.found c.args.branch saved.0 saved.1) c.in_ok-forget.ensures.taken
+    done_as wrote _ _ _ (outcomes.forget c.args.self.now c.args.name held wrote.found c.args.branch saved.0 saved.1) c.in_ok-forget.ensures.taken

@@ -7,7 +7,7 @@ use Rattle.lj_session.proofs.Performing as performing
 use Rattle.lj_session.proofs.Outcomes as outcomes
 use Rattle.lj_session.proofs.Outcomes.{read-step}
 use Rattle.lj_session.proofs.Results.{performs-refused, on_err, none-if, some-with}
-use Rattle.lj_session.proofs.Writing.{Writes, not_there, writes, is_there, unchanged, totals_kept, totals_unchanged, told_at}
+use Rattle.lj_session.proofs.Writing.{Writes, not_there, writes, is_there, unchanged, totals_kept, totals_unchanged, done_at}
 use Rattle.lj_session.proofs.sessions.Sessions.restore.Goals.{After-restore}
 use Rattle.lj_session.proofs.sessions.Sessions.restore.Goals as goal
 
@@ -48,5 +48,5 @@ returns-clause-performs c =
     let held = c.in-Some.session.now in
     let wrote = written (goal.at.returns-clause-performs c).After-restore in
     let saved = some-with (λ sim. c.restore.new.self ≡ moved_to held sim) (named c.args.branch held.saved) (c.in_ok-restore.ensures.found.0 refl) c.in_ok-restore.ensures.restored in
-    told_at wrote _ (reply.Restored c.args.name c.args.branch) _ _ _ (outcomes.restore c.args.self.now c.args.name held wrote.found c.args.branch saved.0 saved.1)
+    done_at wrote _ (reply.Restored c.args.name c.args.branch) _ _ _ (outcomes.restore c.args.self.now c.args.name held wrote.found c.args.branch saved.0 saved.1)
     (read-step c.step-step.result c.step-step.ensures.most ∙ (c.step-step.ensures.value ∙ ap (λ (l : Live). l.sim.step) c.sim.ensures ∙ ap (λ (h : Held). h.live.sim.step) saved.2)) saved.2

@@ -5,7 +5,7 @@ use Rattle.lj_session.specs.States.{Held, user_of}
 use Rattle.lj_session.proofs.Performing as performing
 use Rattle.lj_session.proofs.Outcomes as outcomes
 use Rattle.lj_session.proofs.Outcomes.{read-step}
-use Rattle.lj_session.proofs.Writing.{Writes, not_there, writes, totals_kept, told_at}
+use Rattle.lj_session.proofs.Writing.{Writes, not_there, writes, totals_kept, done_at}
 use Rattle.lj_session.proofs.sessions.Sessions.reverse.Goals.{After-reverse}
 use Rattle.lj_session.proofs.sessions.Sessions.reverse.Goals as goal
 
@@ -25,5 +25,5 @@ invariant_of-self-2 c = totals_kept (written (goal.at.invariant_of-self-2 c).Aft
 pub returns-clause-performs : goal.returns-clause-performs
 returns-clause-performs c =
     let wrote = written (goal.at.returns-clause-performs c).After-reverse in
-    told_at wrote _ (reply.Reversed c.args.name) _ _ _ (outcomes.reverse c.args.self.now c.args.name c.in-Some.session.now wrote.found)
+    done_at wrote _ (reply.Reversed c.args.name) _ _ _ (outcomes.reverse c.args.self.now c.args.name c.in-Some.session.now wrote.found)
     (read-step c.step-step.result c.step-step.ensures.most ∙ (c.step-step.ensures.value ∙ ap (λ (l : Live). l.sim.step) c.sim.ensures ∙ ap (λ (h : Held). h.live.sim.step) c.reverse.ensures.value)) c.reverse.ensures.value

@@ -5,7 +5,7 @@ use Rattle.lj_session.specs.States.{Held, as_session, user_of}
 use Rattle.lj_session.proofs.Performing as performing
 use Rattle.lj_session.proofs.Outcomes as outcomes
 use Rattle.lj_session.proofs.Outcomes.{read-step}
-use Rattle.lj_session.proofs.Writing.{Writes, not_there, writes, is_there, unchanged, totals_kept, totals_unchanged, told_at}
+use Rattle.lj_session.proofs.Writing.{Writes, not_there, writes, is_there, unchanged, totals_kept, totals_unchanged, done_at}
 use Rattle.lj_session.proofs.sessions.Sessions.tug.Goals.{In-Some, After-tug}
 use Rattle.lj_session.proofs.sessions.Sessions.tug.Goals as goal
 
@@ -43,7 +43,7 @@ pub returns-clause-performs : goal.returns-clause-performs
 returns-clause-performs c =
     let held = c.in-Some.session.now in
     let wrote = written (goal.at.returns-clause-performs c).After-tug in
-    told_at wrote _ (reply.Tugged c.args.name c.args.atom) _ _ _
+    done_at wrote _ (reply.Tugged c.args.name c.args.atom) _ _ _
     (outcomes.tug c.args.self.now c.args.name held wrote.found c.args.atom c.args.by.x c.args.by.y c.args.by.z
     (outcomes.there c.args.atom (length held.live.sim.cur) (let n = c.count.ensures.value ∙ ap (λ (l : Live). length l.sim.cur) c.sim.ensures in let t = c.if-atom-count.false in omega (arith, n, t))))
     (read-step c.step-step.result c.step-step.ensures.most ∙ (c.step-step.ensures.value ∙ ap (λ (l : Live). l.sim.step) c.sim-2.ensures ∙ ap (λ (h : Held). h.live.sim.step) c.tug.ensures)) c.tug.ensures
