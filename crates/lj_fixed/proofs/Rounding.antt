@@ -1,6 +1,7 @@
 -- What rounding a fraction gives, where both its parts have a common factor or the lower one is a power of ten.
 use Rattle.std.proofs.Common.{◌≡◌, ℕ, zero, suc, ◌+◌, ◌*◌, ◌/◌, ◌^◌, ◌<◌, ◌≤◌, sym, ◌∙◌, ap, arith}
-use Rattle.std.proofs.Math.Nat.{mul-div-mul_left, add-mul-div_right, div-div-eq-div-mul, div-eq_of_lt-le, div-eq_of_lt, pow-succ'}
+use Rattle.std.proofs.Math.Nat.{mul-div-mul_left, add-mul-div_right, div-div-eq-div-mul, div-eq_of_lt-le, div-eq_of_lt}
+use Rattle.std.proofs.Math.Nat.{pow-succ'}
 use Rattle.std.proofs.lemmas.Nat.{le-div}
 use Rattle.lj_fixed.specs.Decimal.{rounded}
 
@@ -20,7 +21,8 @@ doubled n d = mul-div-mul_left n d (omega arith)
 pub rounded_tenths : (n p : ℕ) → 0 < p → rounded n (10 * p) ≡ (n / p + 5) / 10
 rounded_tenths n p h =
     let whole : 2 * n + 10 * p ≡ 2 * (n + 5 * p) = omega arith in
-    let halved : rounded n (10 * p) ≡ (n + 5 * p) / (10 * p) = ap (λ (x : ℕ). x / (2 * (10 * p))) whole ∙ doubled (n + 5 * p) (10 * p) in
+    let halved : rounded n (10 * p) ≡ (n + 5 * p) / (10 * p) =
+    ap (λ (x : ℕ). x / (2 * (10 * p))) whole ∙ doubled (n + 5 * p) (10 * p) in
     let swapped : 10 * p ≡ p * 10 = omega arith in
     let split : (n + 5 * p) / p / 10 ≡ (n + 5 * p) / (p * 10) = div-div-eq-div-mul (n + 5 * p) p 10 in
     let inner : (n + 5 * p) / p ≡ n / p + 5 = add-mul-div_right n 5 h in
@@ -35,7 +37,8 @@ pub rounded_cancel : (x y k : ℕ) → 0 < k → rounded (x * k) (y * k) ≡ rou
 rounded_cancel x y k h =
     let above : 2 * (x * k) + y * k ≡ k * (2 * x + y) = omega arith in
     let below : 2 * (y * k) ≡ k * (2 * y) = omega arith in
-    ap (λ (n : ℕ). n / (2 * (y * k))) above ∙ ap (λ (d : ℕ). k * (2 * x + y) / d) below ∙ mul-div-mul_left (2 * x + y) (2 * y) h
+    ap (λ (n : ℕ). n / (2 * (y * k))) above ∙ ap (λ (d : ℕ). k * (2 * x + y) / d) below
+    ∙ mul-div-mul_left (2 * x + y) (2 * y) h
 
 -- a fraction of at least x is rounded to at least x
 pub le-rounded : (x n d : ℕ) → 0 < d → x * d ≤ n → x ≤ rounded n d

@@ -1,5 +1,6 @@
 -- What a reader finds who goes through a word from left to right.
-use Rattle.std.specs.Prelude.{◌≡◌, ℕ, ◌/◌, ◌^◌, ◌<◌, ◌≤◌, Bool, ◌||◌, ◌==◌, nat_le, List, [], length, drop, if◌then◌else◌, slice_index, Option, Some, None}
+use Rattle.std.specs.Prelude.{◌≡◌, ℕ, ◌/◌, ◌^◌, ◌<◌, ◌≤◌, Bool, ◌||◌, ◌==◌, nat_le, List, [], length, drop}
+use Rattle.std.specs.Prelude.{if◌then◌else◌, slice_index, Option, Some, None}
 use Rattle.std.specs.Char.{is_ascii_digit}
 use Rattle.std.specs.List.{prefix_len, take_while}
 use Rattle.lj_fixed.specs.declared.numbers.TheConstants.{MAX_NANO}

@@ -1,9 +1,13 @@
 //! Decimal words, read from left to right.
-ghost use Rattle.std.specs.Prelude.{◌≡◌, ℕ, ◌++◌, ◌<◌, ◌≤◌, ◌^◌, ◌+◌, pos, negsuc, ◌≤ℤ◌, length, Some, None, if◌then◌else◌, IfSome};
-ghost use Rattle.std.specs.Str.Parse.{digits_value, digits_value_after, starts_with_minus, without_leading_sign, signed_digits_value};
+ghost use Rattle.std.specs.Prelude.{◌≡◌, ℕ, ◌++◌, ◌<◌, ◌≤◌, ◌^◌, ◌+◌, pos, negsuc, ◌≤ℤ◌, length, Some, None};
+ghost use Rattle.std.specs.Prelude.{if◌then◌else◌, IfSome};
+ghost use Rattle.std.specs.Str.Parse.{digits_value, digits_value_after, starts_with_minus, without_leading_sign};
+ghost use Rattle.std.specs.Str.Parse.{signed_digits_value};
 ghost use Rattle.lj_fixed.specs.declared.words.TheConstants.{MAX_WORD_BYTES};
-ghost use Rattle.lj_fixed.specs.Decimal.{Decimal, is_exponent_letter, is_short_number, is_exponent, exponent_of, decimal_of, nano_size, nano_of};
-ghost use Rattle.lj_fixed.specs.Reading.{Leads, within_limit, fraction_at, tail_at, whole_of, fraction_of, tail_of, begins_exponent};
+ghost use Rattle.lj_fixed.specs.Decimal.{Decimal, is_exponent_letter, is_short_number, is_exponent, exponent_of};
+ghost use Rattle.lj_fixed.specs.Decimal.{decimal_of, nano_size, nano_of};
+ghost use Rattle.lj_fixed.specs.Reading.{Leads, within_limit, fraction_at, tail_at, whole_of, fraction_of, tail_of};
+ghost use Rattle.lj_fixed.specs.Reading.{begins_exponent};
 
 use crate::digits::Significand;
 use crate::numbers::{Nano, NumberFault};

@@ -14,4 +14,5 @@ returns-clause-number c =
     (c.read_fraction-behind.ensures.number _ (c.read_on-count.ensures.number 0 c.zero.ensures.number))
 
 pub returns-clause-few_dropped : goal.returns-clause-few_dropped
-returns-clause-few_dropped c = omega (arith, length-drop {A = ℕ}, length-take {A = ℕ}, prefix_len-le-length is_ascii_digit c.args.text.now)
+returns-clause-few_dropped c =
+    omega (arith, length-drop {A = ℕ}, length-take {A = ℕ}, prefix_len-le-length is_ascii_digit c.args.text.now)

@@ -13,17 +13,24 @@ returns-then-count-digits-clause-value c =
 
 pub overflow_cast-result : goal.overflow_cast-result
 overflow_cast-result c =
-    let read = short_number c.args.digits.now _ _ _ c.read_on-count.ensures.count c.if-count-digits.false c.if-digits-gt-MAX_EXPONENT_DIGITS.false (c.read_on-count.ensures.number 0 c.zero.ensures.number) in
+    let read =
+    short_number c.args.digits.now _ _ _ c.read_on-count.ensures.count c.if-count-digits.false
+    c.if-digits-gt-MAX_EXPONENT_DIGITS.false (c.read_on-count.ensures.number 0 c.zero.ensures.number) in
     omega (arith, read.small)
 
 pub returns-clause-value : goal.returns-clause-value
 returns-clause-value c =
-    let read = short_number c.args.digits.now _ _ _ c.read_on-count.ensures.count c.if-count-digits.false c.if-digits-gt-MAX_EXPONENT_DIGITS.false (c.read_on-count.ensures.number 0 c.zero.ensures.number) in
+    let read =
+    short_number c.args.digits.now _ _ _ c.read_on-count.ensures.count c.if-count-digits.false
+    c.if-digits-gt-MAX_EXPONENT_DIGITS.false (c.read_on-count.ensures.number 0 c.zero.ensures.number) in
     let filled = eqb-false (length c.args.digits.now) 0 (sym c.if-is_empty.ensures) in
     let some : 0 < length c.args.digits.now = omega arith in
-    ap Some read.value ∙ sym (cond-true _ _ _ (is_short_number-yes c.args.digits.now some c.if-digits-gt-MAX_EXPONENT_DIGITS.false read.digits))
+    ap Some read.value ∙ sym (cond-true _ _ _ (is_short_number-yes c.args.digits.now some
+    c.if-digits-gt-MAX_EXPONENT_DIGITS.false read.digits))
 
 pub returns-clause-short : goal.returns-clause-short
 returns-clause-short c =
-    let read = short_number c.args.digits.now _ _ _ c.read_on-count.ensures.count c.if-count-digits.false c.if-digits-gt-MAX_EXPONENT_DIGITS.false (c.read_on-count.ensures.number 0 c.zero.ensures.number) in
+    let read =
+    short_number c.args.digits.now _ _ _ c.read_on-count.ensures.count c.if-count-digits.false
+    c.if-digits-gt-MAX_EXPONENT_DIGITS.false (c.read_on-count.ensures.number 0 c.zero.ensures.number) in
     read.small

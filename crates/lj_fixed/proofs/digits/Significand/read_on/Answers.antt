@@ -15,11 +15,13 @@ loop-count-preserved c =
     let digit = sym c.if-not-is_ascii_digit.ensures.value in
     record {
       digits = below_more _ _ c.loop-count.invariant.digits digit;
-      number = λ n h. leads_next _ _ n c.args.text.now c.loop-count.count c.loop-count-test.true digit (c.push-significand.ensures.number _ (c.loop-count.invariant.number n h));
+      number = λ n h. leads_next _ _ n c.args.text.now c.loop-count.count c.loop-count-test.true digit
+          (c.push-significand.ensures.number _ (c.loop-count.invariant.number n h));
       dropped = omega arith;
     }
 
 pub returns-clause-count : goal.returns-clause-count
 returns-clause-count c =
     let all : c.loop-count.count ≡ length c.args.text.now = omega arith in
-    sym all ∙ sym (prefix_len_is is_ascii_digit c.args.text.now c.loop-count.count 0 (omega arith) c.loop-count.invariant.digits (λ less. absurd (omega arith)))
+    sym all ∙ sym (prefix_len_is is_ascii_digit c.args.text.now c.loop-count.count 0 (omega arith)
+    c.loop-count.invariant.digits (λ less. absurd (omega arith)))

@@ -8,11 +8,14 @@ use Rattle.lj_fixed.proofs.digits.Significand.scaled.Goals.{then-up-down+in_ok-s
 
 pub returns-in_err-size : goal.returns-in_err-size
 returns-in_err-size c n h =
-    c.from_residual.ensures ∙ sym (within_limit_above _ c.in_err-size.ensures) ∙ rounded_above_sub _ _ n _ _ h c.if-up-down.true
+    c.from_residual.ensures ∙ sym (within_limit_above _ c.in_err-size.ensures)
+    ∙ rounded_above_sub _ _ n _ _ h c.if-up-down.true
 
 pub returns : goal.returns
 returns c n h =
     elim c.if-up-down.branch [
-      | then-up-down+in_ok-size w ↦ c.then_some.ensures ∙ then_some_within _ ∙ ap within_limit (w.size-is ∙ w.in_ok-size.ensures) ∙ rounded_above_sub _ _ n _ _ h w.if-up-down.true
-      | else-up-down w ↦ c.then_some.ensures ∙ then_some_within _ ∙ ap within_limit (w.size-is ∙ w.lowered-size.ensures ∙ rounded_below_sub _ _ n _ _ h w.if-up-down.false)
+      | then-up-down+in_ok-size w ↦ c.then_some.ensures ∙ then_some_within _
+          ∙ ap within_limit (w.size-is ∙ w.in_ok-size.ensures) ∙ rounded_above_sub _ _ n _ _ h w.if-up-down.true
+      | else-up-down w ↦ c.then_some.ensures ∙ then_some_within _
+          ∙ ap within_limit (w.size-is ∙ w.lowered-size.ensures ∙ rounded_below_sub _ _ n _ _ h w.if-up-down.false)
     ]

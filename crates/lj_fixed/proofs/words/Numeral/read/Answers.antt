@@ -12,7 +12,9 @@ returns-then-word-gt-MAX_WORD_BYTES c = rw (decimal_of-long c.args.word.now c.if
 
 pub returns-then-mantissa-eq0 : goal.returns-then-mantissa-eq0
 returns-then-mantissa-eq0 c =
-    let count = c.read_mantissa-mantissa.ensures.count ∙ ap (λ (ys : List ℕ). length (read_digits ys)) c.split_sign-negative.ensures.rest in
+    let count =
+    c.read_mantissa-mantissa.ensures.count ∙ ap (λ (ys : List ℕ). length (read_digits ys))
+    c.split_sign-negative.ensures.rest in
     rw (decimal_of-empty c.args.word.now (sym count ∙ c.if-mantissa-eq0.true)) tt
 
 pub returns-in_err-exponent : goal.returns-in_err-exponent
@@ -21,7 +23,11 @@ returns-in_err-exponent c =
     let count = c.read_mantissa-mantissa.ensures.count ∙ ap (λ (ys : List ℕ). length (read_digits ys)) rest in
     let some : 0 < length (read_digits (without_leading_sign c.args.word.now)) = omega arith in
     let tail = c.read_mantissa-mantissa.ensures.tail ∙ ap tail_of rest in
-    rw (c.from_residual.ensures, decimal_of-no_exponent c.args.word.now c.if-word-gt-MAX_WORD_BYTES.false some (c.in_err-exponent.ensures.value ∙ ap Exponent tail)) tt
+    rw (
+      c.from_residual.ensures,
+      decimal_of-no_exponent c.args.word.now c.if-word-gt-MAX_WORD_BYTES.false some
+          (c.in_err-exponent.ensures.value ∙ ap Exponent tail),
+    ) tt
 
 pub returns : goal.returns
 returns c =
@@ -32,10 +38,12 @@ returns c =
     let fits : FitsSigned w32 c.in_ok-exponent.exponent = search rules in
     let number : ℕ = c.read_mantissa-mantissa.result.significand.number in
     let dropped : ℕ = c.read_mantissa-mantissa.result.significand.dropped in
-    rw (decimal_of-exponent c.args.word.now c.in_ok-exponent.exponent c.if-word-gt-MAX_WORD_BYTES.false some (c.in_ok-exponent.ensures.value ∙ ap Exponent tail))
+    rw (decimal_of-exponent c.args.word.now c.in_ok-exponent.exponent c.if-word-gt-MAX_WORD_BYTES.false some
+    (c.in_ok-exponent.ensures.value ∙ ap Exponent tail))
     record {
       negative = c.split_sign-negative.ensures.negative;
-      digits = subst (λ (ys : List ℕ). Leads number dropped (digits_value 10 (read_digits ys))) rest c.read_mantissa-mantissa.ensures.number;
+      digits = subst (λ (ys : List ℕ). Leads number dropped (digits_value 10 (read_digits ys)))
+          rest c.read_mantissa-mantissa.ensures.number;
       behind = c.read_mantissa-mantissa.ensures.behind ∙ ap (λ (ys : List ℕ). length (fraction_of ys)) rest;
       exponent = to_z-of_z w32 c.in_ok-exponent.exponent fits;
     }
