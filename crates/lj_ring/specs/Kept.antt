@@ -38,11 +38,28 @@ kept_of u = record {
 }
 
 -- scales with equal numbers are equal
-same_kept : (edge sigma strength square square' reach reach' inverse inverse' : ℕ) → square ≡ square' → reach ≡ reach' → inverse ≡ inverse'
-    → (let a : Inside = record { edge = edge; sigma = sigma; strength = strength; sigma_square = square; reach = reach; inverse = inverse } in
-    let b : Inside = record { edge = edge; sigma = sigma; strength = strength; sigma_square = square'; reach = reach'; inverse = inverse' } in
+same_kept : (edge sigma strength square square' reach reach' inverse inverse' : ℕ) → square ≡ square'
+    → reach ≡ reach' → inverse ≡ inverse'
+    → (let a : Inside = record {
+      edge = edge;
+      sigma = sigma;
+      strength = strength;
+      sigma_square = square;
+      reach = reach;
+      inverse = inverse;
+    } in
+    let b : Inside =
+    record {
+      edge = edge;
+      sigma = sigma;
+      strength = strength;
+      sigma_square = square';
+      reach = reach';
+      inverse = inverse';
+    } in
     b ≡ a)
 same_kept edge sigma strength square square' reach reach' inverse inverse' p q r = cc
 
 pub kept_of-units : (a : Inside) → IsKept a → kept_of (units_of_kept a) ≡ a
-kept_of-units a h = same_kept a.edge a.sigma a.strength a.sigma_square _ a.reach _ a.inverse _ h.square_is h.reach_is h.inverse_is
+kept_of-units a h =
+    same_kept a.edge a.sigma a.strength a.sigma_square _ a.reach _ a.inverse _ h.square_is h.reach_is h.inverse_is

@@ -1,5 +1,6 @@
 -- The scale of a simulation, and the bins of squared distance that its tables stand on.
-use Rattle.std.specs.Prelude.{ℕ, ◌*◌, ◌/◌, ◌^◌, ℤ, pos, ◌&&◌, Bool, int_le, nat_le, nat_lt, if◌then◌else◌, max, unsigned_abs, Result, Ok, Err}
+use Rattle.std.specs.Prelude.{ℕ, ◌*◌, ◌/◌, ◌^◌, ℤ, pos, ◌&&◌, Bool, int_le, nat_le, nat_lt, if◌then◌else◌, max}
+use Rattle.std.specs.Prelude.{unsigned_abs, Result, Ok, Err}
 use Rattle.lj_ring.specs.declared.units.TheConstants.{MIN_EDGE, MAX_EDGE, MIN_SIGMA, MAX_STEP_FACTOR, BINS, MIN_BIN}
 use Rattle.lj_ring.specs.declared.units.ScaleFault.{ScaleFault}
 use Rattle.lj_ring.specs.declared.units.ScaleFault.TheVariants.{Edge, Sigma, StepFactor}

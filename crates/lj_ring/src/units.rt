@@ -1,5 +1,6 @@
 //! The edge of the box, and the scale of a simulation.
-ghost use Rattle.std.specs.Prelude.{ℕ, ◌≡◌, ◌≤◌, ◌<◌, ◌+◌, ◌*◌, ◌/◌, ◌^◌, ◌⊎◌, IsTrue, IsFalse, IfSome, MatchOption, SomeIff, unsigned_abs, nat_lt, true, false};
+ghost use Rattle.std.specs.Prelude.{ℕ, ◌≡◌, ◌≤◌, ◌<◌, ◌+◌, ◌*◌, ◌/◌, ◌^◌, ◌⊎◌, IsTrue, IsFalse, IfSome, MatchOption};
+ghost use Rattle.std.specs.Prelude.{SomeIff, unsigned_abs, nat_lt, true, false};
 ghost use Rattle.lj_ring.specs.Places.{units_of};
 ghost use Rattle.lj_ring.specs.Scales.{edge_fits, sigma_fits, strength_fits, scale_of, bin, interacts};
 

@@ -7,6 +7,7 @@ use Rattle.lj_ring.proofs.units.Scale.bin_within_reach.Goals as goal
 pub returns-else-s-self-clause-reach : goal.returns-else-s-self-clause-reach
 returns-else-s-self-clause-reach c =
     let P : Units → Type 0 = λ u. interacts u c.args.s ≡ false in
-    let far : reach_of (c.self.inside.sigma * c.self.inside.sigma) ≤ c.args.s = rw (← c.self.invariant.reach_is) c.if-s-self.false in
+    let far : reach_of (c.self.inside.sigma * c.self.inside.sigma) ≤ c.args.s =
+    rw (← c.self.invariant.reach_is) c.if-s-self.false in
     let some : 0 < c.self.inside.sigma * c.self.inside.sigma = grind arith in
     subst P c.self.view_is (out_of_reach c.args.s (c.self.inside.sigma * c.self.inside.sigma) some far)

@@ -7,7 +7,8 @@ pub returns-clause-value : goal.returns-clause-value
 returns-clause-value c s =
     let P : Units → Type 0 = λ u. interacts u s ≡ nat_lt s c.self.inside.reach in
     let some : 0 < c.self.inside.sigma * c.self.inside.sigma = grind arith in
-    subst P c.self.view_is (rw c.self.invariant.reach_is (reach_parts s (c.self.inside.sigma * c.self.inside.sigma) some))
+    subst P c.self.view_is (rw c.self.invariant.reach_is
+    (reach_parts s (c.self.inside.sigma * c.self.inside.sigma) some))
 
 pub returns-clause-most : goal.returns-clause-most
 returns-clause-most c = rw c.self.invariant.reach_is (reach_most c.self.inside.sigma c.self.invariant.sigma_most)
