@@ -1,5 +1,6 @@
 -- The cells of a table, one by one.
-use Rattle.std.proofs.Common.{ℕ, ◌+◌, ◌*◌, ◌^◌, ◌<◌, ◌≡◌, ◌≢◌, ℤ, pos, ◌-ℤ◌, ◌*ℤ◌, int_div, List, length, slice_index_or, slice_set, refl, below_more, arith, get_or-set_same, get_or-set_other}
+use Rattle.std.proofs.Common.{ℕ, ◌+◌, ◌*◌, ◌^◌, ◌<◌, ◌≡◌, ◌≢◌, ℤ, pos, ◌-ℤ◌, ◌*ℤ◌, int_div, List, length}
+use Rattle.std.proofs.Common.{slice_index_or, slice_set, refl, below_more, arith, get_or-set_same, get_or-set_other}
 use Rattle.lj_table.specs.Entries.{push_entry, energy_entry}
 use Rattle.lj_table.proofs.Sizes.{cube_is, sixth_is, seventh_is}
 
@@ -14,7 +15,8 @@ cells_more P cells k z within before here =
 
 -- the entries by products of the centre
 pub push_entry_is : (k n : ℕ) → n ≡ 2 * k + 1
-    → int_div (pos (24 * 2 ^ 56) *ℤ (pos (2 ^ 25) -ℤ pos (n * n * n))) (pos (n * n * n * (n * n * n) * n)) ≡ push_entry k
+    → int_div (pos (24 * 2 ^ 56) *ℤ (pos (2 ^ 25) -ℤ pos (n * n * n)))
+    (pos (n * n * n * (n * n * n) * n)) ≡ push_entry k
 unfolding push_entry
 push_entry_is k n e = rw (e, ← seventh_is (2 * k + 1), ← cube_is (2 * k + 1)) refl
 

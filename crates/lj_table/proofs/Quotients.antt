@@ -1,5 +1,6 @@
 -- Quotients toward zero of signed numbers.
-use Rattle.std.proofs.Common.{ℕ, zero, suc, ◌-◌, ◌*◌, ◌/◌, ◌^◌, ◌<◌, ◌≤◌, ◌≡◌, pos, neg_ℤ, ◌-ℤ◌, ◌*ℤ◌, int_div, unsigned_abs, to_z, of_z, w64, refl, ap, ◌∙◌, arith}
+use Rattle.std.proofs.Common.{ℕ, zero, suc, ◌-◌, ◌*◌, ◌/◌, ◌^◌, ◌<◌, ◌≤◌, ◌≡◌, pos, neg_ℤ, ◌-ℤ◌, ◌*ℤ◌, int_div}
+use Rattle.std.proofs.Common.{unsigned_abs, to_z, of_z, w64, refl, ap, ◌∙◌, arith}
 use Rattle.std.proofs.Math.Nat.{zero-div}
 use Rattle.std.proofs.Math.IntN.{pos-*ℤ-pos, *ℤ-negsuc}
 use Rattle.std.proofs.lemmas.Int.{ints}

@@ -30,8 +30,10 @@ cube_most n h = mul-le (n * n) n (1599 * 1599) 1599 (mul-le n n 1599 1599 h h) h
 
 pub seventh_most : (n : ℕ) → n ≤ 1599 → n * n * n * (n * n * n) * n < 2 ^ 128
 seventh_most n h =
-    let six : n * n * n * (n * n * n) ≤ 1599 * 1599 * 1599 * (1599 * 1599 * 1599) = mul-le (n * n * n) (n * n * n) _ _ (cube_most n h) (cube_most n h) in
-    let seven : n * n * n * (n * n * n) * n ≤ 1599 * 1599 * 1599 * (1599 * 1599 * 1599) * 1599 = mul-le _ n _ 1599 six h in
+    let six : n * n * n * (n * n * n) ≤ 1599 * 1599 * 1599 * (1599 * 1599 * 1599) =
+    mul-le (n * n * n) (n * n * n) _ _ (cube_most n h) (cube_most n h) in
+    let seven : n * n * n * (n * n * n) * n ≤ 1599 * 1599 * 1599 * (1599 * 1599 * 1599) * 1599 =
+    mul-le _ n _ 1599 six h in
     omega arith
 
 -- an entry is below 2^37 in size: its factor times 2^25, and times the cube of the centre, is below 2^37 powers
@@ -41,7 +43,8 @@ push_above n h = let least = seventh_least n h in omega arith
 pub push_under : (n : ℕ) → 129 ≤ n → 24 * 2 ^ 56 * (n * n * n) < 2 ^ 37 * (n * n * n * (n * n * n) * n)
 push_under n h =
     let fourth : 2146689 * 129 ≤ n * n * n * n = mul-le 2146689 129 (n * n * n) n (cube_least n h) h in
-    let times : 2146689 * 129 * (n * n * n) ≤ n * n * n * n * (n * n * n) = mul-le _ (n * n * n) _ (n * n * n) fourth (omega arith) in
+    let times : 2146689 * 129 * (n * n * n) ≤ n * n * n * n * (n * n * n) =
+    mul-le _ (n * n * n) _ (n * n * n) fourth (omega arith) in
     let some = cube_least n h in
     omega arith
 
@@ -50,6 +53,7 @@ energy_above n h = let least = sixth_least n h in omega arith
 
 pub energy_under : (n : ℕ) → 129 ≤ n → 2 ^ 50 * (n * n * n) < 2 ^ 37 * (n * n * n * (n * n * n))
 energy_under n h =
-    let times : 2146689 * (n * n * n) ≤ n * n * n * (n * n * n) = mul-le _ (n * n * n) _ (n * n * n) (cube_least n h) (omega arith) in
+    let times : 2146689 * (n * n * n) ≤ n * n * n * (n * n * n) =
+    mul-le _ (n * n * n) _ (n * n * n) (cube_least n h) (omega arith) in
     let some = cube_least n h in
     omega arith

@@ -1,5 +1,6 @@
 -- The entries of the Lennard-Jones tables, at the centres of the bins of squared distance.
-use Rattle.std.specs.Prelude.{ℕ, ◌+◌, ◌*◌, ◌^◌, ◌<◌, ◌≡◌, ℤ, pos, ◌-ℤ◌, ◌*ℤ◌, int_div, unsigned_abs, List, slice_index_or, if◌then◌else◌}
+use Rattle.std.specs.Prelude.{ℕ, ◌+◌, ◌*◌, ◌^◌, ◌<◌, ◌≡◌, ℤ, pos, ◌-ℤ◌, ◌*ℤ◌, int_div, unsigned_abs, List}
+use Rattle.std.specs.Prelude.{slice_index_or, if◌then◌else◌}
 use Rattle.lj_ring.specs.declared.units.TheConstants.{BINS}
 use Rattle.lj_ring.specs.Scales.{Units, bin, interacts, entry}
 

@@ -13,4 +13,5 @@ signed_quotient-requires-clause-under c = energy_under c.centre_of-centre.result
 pub returns-clause-value : goal.returns-clause-value
 returns-clause-value c =
     let fits : FitsSigned w64 c.signed_quotient.result = search rules in
-    to_z-of_z w64 _ fits ∙ c.signed_quotient.ensures.value ∙ energy_entry_is c.args.k c.centre_of-centre.result c.centre_of-centre.ensures.value
+    to_z-of_z w64 _ fits ∙ c.signed_quotient.ensures.value
+    ∙ energy_entry_is c.args.k c.centre_of-centre.result c.centre_of-centre.ensures.value

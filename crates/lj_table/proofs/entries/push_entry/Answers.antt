@@ -13,7 +13,9 @@ signed_quotient-requires-clause-under c = push_under c.centre_of-centre.result c
 pub returns-clause-value : goal.returns-clause-value
 returns-clause-value c =
     let fits : FitsSigned w64 c.signed_quotient.result = search rules in
-    to_z-of_z w64 _ fits ∙ c.signed_quotient.ensures.value ∙ push_entry_is c.args.k c.centre_of-centre.result c.centre_of-centre.ensures.value
+    to_z-of_z w64 _ fits ∙ c.signed_quotient.ensures.value
+    ∙ push_entry_is c.args.k c.centre_of-centre.result c.centre_of-centre.ensures.value
 
 pub overflow_mul-cube-4 : goal.overflow_mul-cube-4
-overflow_mul-cube-4 c = let most = seventh_most c.centre_of-centre.result c.centre_of-centre.ensures.most in search rules
+overflow_mul-cube-4 c =
+    let most = seventh_most c.centre_of-centre.result c.centre_of-centre.ensures.most in search rules

@@ -5,9 +5,11 @@ use Rattle.lj_table.proofs.entries.signed_quotient.Goals as goal
 
 small : (c : goal.Else-cube-top) → c.args.factor * (c.args.cube - c.args.top) / c.args.power < 2 ^ 37
 small c =
-    let under : c.args.factor * (c.args.cube - c.args.top) ≤ c.args.factor * c.args.cube = mul-le c.args.factor _ c.args.factor c.args.cube (omega arith) (omega arith) in
+    let under : c.args.factor * (c.args.cube - c.args.top) ≤ c.args.factor * c.args.cube =
+    mul-le c.args.factor _ c.args.factor c.args.cube (omega arith) (omega arith) in
     let some : 0 < c.args.power = omega (arith, c.requires.under) in
-    div_below (c.args.factor * (c.args.cube - c.args.top)) c.args.power (2 ^ 37) some (omega (arith, under, c.requires.under))
+    div_below (c.args.factor * (c.args.cube - c.args.top)) c.args.power (2 ^ 37) some
+    (omega (arith, under, c.requires.under))
 
 pub returns-else-cube-top-clause-value : goal.returns-else-cube-top-clause-value
 returns-else-cube-top-clause-value c =
