@@ -23,7 +23,8 @@ pub IsUtf8-from_name : (word : List ℕ) → list_all is_name_byte word ≡ true
 IsUtf8-from_name word h = IsUtf8-from_ascii word (all_name_bytes-ascii word h)
 
 -- what `from_utf8` answers of a name
-pub IsOk-from_name : {T E : Type 0} (word : List ℕ) (P : T → Type 0) (Q : E → Type 0) (r : Result T E) → is_name word ≡ true
+pub IsOk-from_name : {T E : Type 0} (word : List ℕ) (P : T → Type 0) (Q : E → Type 0) (r : Result T E)
+    → is_name word ≡ true
     → MatchResult r P (λ e. ¬ (IsUtf8 word) × Q e) → IsOk r
 IsOk-from_name word P Q (Ok text) h m = refl
 IsOk-from_name word P Q (Err e) h m =

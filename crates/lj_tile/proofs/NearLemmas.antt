@@ -1,5 +1,7 @@
 -- The quick test of which places are near, lane by lane.
-use Rattle.std.proofs.Common.{ℕ, zero, suc, ◌+◌, ◌-◌, ◌*◌, ◌/◌, ◌%◌, ◌^◌, ◌<◌, ◌≤◌, ◌≡◌, min, Bool, true, false, cond, ltb, nat_lt, unsigned_abs, List, length, get_or, map, replicate, refl, sym, ap, ◌∙◌, w32, arith}
+use Rattle.std.proofs.Common.{ℕ, zero, suc, ◌+◌, ◌-◌, ◌*◌, ◌/◌, ◌%◌, ◌^◌, ◌<◌, ◌≤◌, ◌≡◌, min, Bool, true, false, cond}
+use Rattle.std.proofs.Common.{ltb, nat_lt, unsigned_abs, List, length, get_or, map, replicate, refl, sym, ap, ◌∙◌, w32}
+use Rattle.std.proofs.Common.{arith}
 use Rattle.std.specs.Simd.Lanes.{zip2, sel_l, mask_l}
 use Rattle.std.specs.Int.{cast_signed, bit_at, div_ceil}
 use Rattle.std.proofs.lemmas.List.{get_or-map, get_or-replicate, length-replicate}
@@ -25,9 +27,11 @@ lesser_lanes a b p q k l =
     ∙ lesser_is (get_or a k 0) (get_or b k 0)
 
 -- each lane shifted
-pub shifted_lanes : (v : List ℕ) → length v ≡ 64 → (k : ℕ) → k < 64 → get_or (zip2 (λ x n. x / 2 ^ n) v (replicate 64 8)) k 0 ≡ get_or v k 0 / 2 ^ 8
+pub shifted_lanes : (v : List ℕ) → length v ≡ 64 → (k : ℕ) → k < 64
+    → get_or (zip2 (λ x n. x / 2 ^ n) v (replicate 64 8)) k 0 ≡ get_or v k 0 / 2 ^ 8
 shifted_lanes v long k l =
-    get_or-zip2 (λ x n. x / 2 ^ n) v (replicate 64 8) k 0 0 0 (omega (arith, long)) (omega (arith, length-replicate {A = ℕ} 64 8))
+    get_or-zip2 (λ x n. x / 2 ^ n) v (replicate 64 8) k 0 0 0 (omega (arith, long))
+    (omega (arith, length-replicate {A = ℕ} 64 8))
     ∙ ap (λ n. get_or v k 0 / 2 ^ n) (get_or-replicate 64 k 8 0 l)
 
 -- three squares whose sum does not wrap
@@ -44,9 +48,11 @@ not_set true e = absurd (omega arith)
 not_set false e = refl
 
 -- where a bit of the mask is 0, its lane is not below
-pub not_below : (v : List ℕ) (reach k : ℕ) → k < length v → bit_at (mask_l (map (λ x. ltb x reach) v)) k ≡ 0 → reach ≤ get_or v k 0
+pub not_below : (v : List ℕ) (reach k : ℕ) → k < length v
+    → bit_at (mask_l (map (λ x. ltb x reach) v)) k ≡ 0 → reach ≤ get_or v k 0
 not_below v reach k l empty =
-    let bit : cond {A = ℕ} (get_or (map (λ x. ltb x reach) v) k false) 1 0 ≡ 0 = sym (bit_mask_l (map (λ x. ltb x reach) v) k) ∙ empty in
+    let bit : cond {A = ℕ} (get_or (map (λ x. ltb x reach) v) k false) 1 0 ≡ 0 =
+    sym (bit_mask_l (map (λ x. ltb x reach) v) k) ∙ empty in
     ltb-false (get_or v k 0) reach (sym (get_or-map (λ x. ltb x reach) v k 0 false l) ∙ not_set _ bit)
 
 abbrev pub wrapped_sum : ℕ → ℕ → ℕ
@@ -57,21 +63,27 @@ wrapped_product a b = a * b % 2 ^ 16
 
 -- the sum of three squares, lane by lane
 pub square_lanes : (x y z : List ℕ) → length x ≡ 64 → length y ≡ 64 → length z ≡ 64
-    → ((k : ℕ) → k < 64 → get_or x k 0 ≤ 2 ^ 7) → ((k : ℕ) → k < 64 → get_or y k 0 ≤ 2 ^ 7) → ((k : ℕ) → k < 64 → get_or z k 0 ≤ 2 ^ 7)
+    → ((k : ℕ) → k < 64 → get_or x k 0 ≤ 2 ^ 7) → ((k : ℕ) → k < 64 → get_or y k 0 ≤ 2 ^ 7)
+    → ((k : ℕ) → k < 64 → get_or z k 0 ≤ 2 ^ 7)
     → (k : ℕ) → k < 64
-    → get_or (zip2 wrapped_sum (zip2 wrapped_sum (zip2 wrapped_product x x) (zip2 wrapped_product y y)) (zip2 wrapped_product z z)) k 0
+    → get_or (zip2 wrapped_sum (zip2 wrapped_sum (zip2 wrapped_product x x) (zip2 wrapped_product y y))
+    (zip2 wrapped_product z z)) k 0
     ≡ get_or x k 0 * get_or x k 0 + get_or y k 0 * get_or y k 0 + get_or z k 0 * get_or z k 0
 square_lanes x y z p q r x_small y_small z_small k l =
     let xx : length (zip2 wrapped_product x x) ≡ 64 = length-zip2 wrapped_product x x refl ∙ p in
     let yy : length (zip2 wrapped_product y y) ≡ 64 = length-zip2 wrapped_product y y refl ∙ q in
     let zz : length (zip2 wrapped_product z z) ≡ 64 = length-zip2 wrapped_product z z refl ∙ r in
-    let xy : length (zip2 wrapped_sum (zip2 wrapped_product x x) (zip2 wrapped_product y y)) ≡ 64 = length-zip2 wrapped_sum _ _ (xx ∙ sym yy) ∙ xx in
+    let xy : length (zip2 wrapped_sum (zip2 wrapped_product x x) (zip2 wrapped_product y y)) ≡ 64 =
+    length-zip2 wrapped_sum _ _ (xx ∙ sym yy) ∙ xx in
     let X = zip2 wrapped_product x x in
     let Y = zip2 wrapped_product y y in
     let Z = zip2 wrapped_product z z in
     get_or-zip2 wrapped_sum (zip2 wrapped_sum X Y) Z k 0 0 0 (omega (arith, xy)) (omega (arith, zz))
-    ∙ (λ i. wrapped_sum (get_or-zip2 wrapped_sum X Y k 0 0 0 (omega (arith, xx)) (omega (arith, yy)) i) (get_or-zip2 wrapped_product z z k 0 0 0 (omega (arith, r)) (omega (arith, r)) i))
-    ∙ (λ i. wrapped_sum (wrapped_sum (get_or-zip2 wrapped_product x x k 0 0 0 (omega (arith, p)) (omega (arith, p)) i) (get_or-zip2 wrapped_product y y k 0 0 0 (omega (arith, q)) (omega (arith, q)) i)) (wrapped_product (get_or z k 0) (get_or z k 0)))
+    ∙ (λ i. wrapped_sum (get_or-zip2 wrapped_sum X Y k 0 0 0 (omega (arith, xx)) (omega (arith, yy)) i)
+    (get_or-zip2 wrapped_product z z k 0 0 0 (omega (arith, r)) (omega (arith, r)) i))
+    ∙ (λ i. wrapped_sum (wrapped_sum (get_or-zip2 wrapped_product x x k 0 0 0 (omega (arith, p)) (omega (arith, p)) i)
+    (get_or-zip2 wrapped_product y y k 0 0 0 (omega (arith, q)) (omega (arith, q)) i))
+    (wrapped_product (get_or z k 0) (get_or z k 0)))
     ∙ no_wrap (get_or x k 0) (get_or y k 0) (get_or z k 0) (x_small k l) (y_small k l) (z_small k l)
 
 cast_size : (d : ℕ) → d < 2 ^ 32 → min d (2 ^ 32 - d) ≤ unsigned_abs (cast_signed w32 d)
@@ -82,11 +94,13 @@ abbrev pub coarse_size : ℕ → ℕ → ℕ
 coarse_size b a = min ((b + (2 ^ 16 - a)) % 2 ^ 16) ((a + (2 ^ 16 - b)) % 2 ^ 16) / 2 ^ 8
 
 -- the coarse size is at most the size of the image, but for the units of 2^16 that were cut off
-pub coarse_least : (a b : ℕ) → a < 2 ^ 32 → b < 2 ^ 32 → coarse_size (b / 2 ^ 16) (a / 2 ^ 16) * 2 ^ 24 < unsigned_abs (image a b) + 2 ^ 16
+pub coarse_least : (a b : ℕ) → a < 2 ^ 32 → b < 2 ^ 32
+    → coarse_size (b / 2 ^ 16) (a / 2 ^ 16) * 2 ^ 24 < unsigned_abs (image a b) + 2 ^ 16
 coarse_least a b p q =
     let d : ℕ = (a + (2 ^ 32 - b)) % 2 ^ 32 in
     let size : min d (2 ^ 32 - d) ≤ unsigned_abs (image a b) = cast_size d (omega arith) in
-    let cut : min ((b / 2 ^ 16 + (2 ^ 16 - a / 2 ^ 16)) % 2 ^ 16) ((a / 2 ^ 16 + (2 ^ 16 - b / 2 ^ 16)) % 2 ^ 16) * 2 ^ 16 + 1 ≤ min d (2 ^ 32 - d) + 2 ^ 16 = omega arith in
+    let cut : min ((b / 2 ^ 16 + (2 ^ 16 - a / 2 ^ 16)) % 2 ^ 16) ((a / 2 ^ 16 + (2 ^ 16 - b / 2 ^ 16)) % 2 ^ 16)
+    * 2 ^ 16 + 1 ≤ min d (2 ^ 32 - d) + 2 ^ 16 = omega arith in
     omega (arith, size, cut)
 
 pub coarse_small : (a b : ℕ) → a < 2 ^ 16 → b < 2 ^ 16 → coarse_size b a ≤ 2 ^ 7
@@ -114,5 +128,6 @@ distance_least reach cx cy cz x y z h x_small y_small z_small p q r =
     omega (arith, xx, yy, zz)
 
 -- from the rounded reach, less three, on no pair interacts
-pub reach_rounded : (u : Units) (reach : ℕ) → ((s : ℕ) → interacts u s ≡ nat_lt s reach) → IsReach u (div_ceil reach (2 ^ 48) + 3)
+pub reach_rounded : (u : Units) (reach : ℕ) → ((s : ℕ) → interacts u s ≡ nat_lt s reach)
+    → IsReach u (div_ceil reach (2 ^ 48) + 3)
 reach_rounded u reach exact s h = exact s ∙ le-ltb s reach (omega arith)

@@ -1,5 +1,6 @@
 -- Pushes: their size, their rounding, and which are none.
-use Rattle.std.proofs.Common.{ℕ, zero, suc, ◌-◌, ◌*◌, ◌/◌, ◌%◌, ◌^◌, ◌<◌, ◌≤◌, ◌≡◌, ℤ, pos, negsuc, ◌+ℤ◌, ◌-ℤ◌, ◌*ℤ◌, int_div, unsigned_abs, FitsSigned, w32, w64, of_z, to_z, neg_ℤ, refl, sym, ap, ◌∙◌, arith}
+use Rattle.std.proofs.Common.{ℕ, zero, suc, ◌-◌, ◌*◌, ◌/◌, ◌%◌, ◌^◌, ◌<◌, ◌≤◌, ◌≡◌, ℤ, pos, negsuc, ◌+ℤ◌, ◌-ℤ◌, ◌*ℤ◌}
+use Rattle.std.proofs.Common.{int_div, unsigned_abs, FitsSigned, w32, w64, of_z, to_z, neg_ℤ, refl, sym, ap, ◌∙◌, arith}
 use Rattle.std.proofs.lemmas.Int.{ints, unsigned_abs-mul, fits_signed_from_abs, to_z-of_z}
 use Rattle.std.proofs.lemmas.Nat.{mul-le}
 use Rattle.std.proofs.Math.IntN.{zero-*ℤ, *ℤ-zero}
@@ -33,10 +34,13 @@ image_size : (image : ℤ) → FitsSigned w32 image → unsigned_abs image ≤ 2
 image_size (pos n) fits = omega (arith, fits.sfits)
 image_size (negsuc n) fits = omega (arith, fits.sfits)
 
-product_size : (factor image : ℤ) → unsigned_abs factor < 2 ^ 61 → FitsSigned w32 image → unsigned_abs (factor *ℤ image) ≤ 2 ^ 61 * 2 ^ 31
-product_size factor image small fits = small_product factor image (2 ^ 61) (2 ^ 31) (omega arith) (image_size image fits)
+product_size : (factor image : ℤ) → unsigned_abs factor < 2 ^ 61 → FitsSigned w32 image
+    → unsigned_abs (factor *ℤ image) ≤ 2 ^ 61 * 2 ^ 31
+product_size factor image small fits =
+    small_product factor image (2 ^ 61) (2 ^ 31) (omega arith) (image_size image fits)
 
-push_fits : (factor image : ℤ) → unsigned_abs factor < 2 ^ 61 → FitsSigned w32 image → FitsSigned w64 (int_div (factor *ℤ image) (pos (2 ^ 56)))
+push_fits : (factor image : ℤ) → unsigned_abs factor < 2 ^ 61 → FitsSigned w32 image
+    → FitsSigned w64 (int_div (factor *ℤ image) (pos (2 ^ 56)))
 push_fits factor image small fits =
     let size = product_size factor image small fits in
     fits_signed_from_abs w64 _ (rw quotient_size (omega (arith, size)))
@@ -44,13 +48,16 @@ push_fits factor image small fits =
 -- a table entry times the step factor
 pub factor_size : (entry : ℤ) (strength : ℕ) → unsigned_abs entry < 2 ^ 37 → strength ≤ 2 ^ 24
     → unsigned_abs (entry *ℤ pos strength) < 2 ^ 61
-factor_size entry strength small few = omega (arith, small_product entry (pos strength) (2 ^ 37 - 1) (2 ^ 24) (omega arith) few)
+factor_size entry strength small few =
+    omega (arith, small_product entry (pos strength) (2 ^ 37 - 1) (2 ^ 24) (omega arith) few)
 
-pub factor_fits : (entry : ℤ) (strength : ℕ) → unsigned_abs entry < 2 ^ 37 → strength ≤ 2 ^ 24 → FitsSigned w64 (entry *ℤ pos strength)
+pub factor_fits : (entry : ℤ) (strength : ℕ) → unsigned_abs entry < 2 ^ 37 → strength ≤ 2 ^ 24
+    → FitsSigned w64 (entry *ℤ pos strength)
 factor_fits entry strength small few = fits_signed_from_abs w64 _ (omega (arith, factor_size entry strength small few))
 
 -- the product in 128 bits
-wide_product : (factor image : ℤ) → unsigned_abs factor < 2 ^ 61 → FitsSigned w32 image → FitsSigned w128 (factor *ℤ image)
+wide_product : (factor image : ℤ) → unsigned_abs factor < 2 ^ 61 → FitsSigned w32 image
+    → FitsSigned w128 (factor *ℤ image)
 wide_product factor image small fits = fits_signed_from_abs w128 _ (omega (arith, product_size factor image small fits))
 
 -- its quotient in 128 bits
@@ -64,7 +71,8 @@ wide_quotient factor image small fits =
 abbrev pub product_of : ℤ → ℤ → ℤ
 product_of factor image = to_z w128 (of_z w128 factor) *ℤ to_z w128 (of_z w128 image)
 
-product_is : (factor image : ℤ) → unsigned_abs factor < 2 ^ 61 → FitsSigned w32 image → product_of factor image ≡ factor *ℤ image
+product_is : (factor image : ℤ) → unsigned_abs factor < 2 ^ 61 → FitsSigned w32 image
+    → product_of factor image ≡ factor *ℤ image
 product_is factor image small fits =
     let f : FitsSigned w128 factor = fits_signed_from_abs w128 factor (omega arith) in
     let i : FitsSigned w128 image = fits_signed_from_abs w128 image (omega (arith, image_size image fits)) in
@@ -77,14 +85,17 @@ quotient_of factor image = int_div (to_z w128 (of_z w128 (product_of factor imag
 quotient_is : (factor image : ℤ) → unsigned_abs factor < 2 ^ 61 → FitsSigned w32 image
     → quotient_of factor image ≡ int_div (factor *ℤ image) (pos (2 ^ 56))
 quotient_is factor image small fits =
-    rw (product_is factor image small fits, to_z-of_z w128 (factor *ℤ image) (wide_product factor image small fits)) refl
+    rw (product_is factor image small fits, to_z-of_z w128 (factor *ℤ image) (wide_product factor image small fits))
+    refl
 
 -- the product fits
-pub product_fits : (factor image : ℤ) → unsigned_abs factor < 2 ^ 61 → FitsSigned w32 image → FitsSigned w128 (product_of factor image)
+pub product_fits : (factor image : ℤ) → unsigned_abs factor < 2 ^ 61 → FitsSigned w32 image
+    → FitsSigned w128 (product_of factor image)
 product_fits factor image small fits = rw (product_is factor image small fits) (wide_product factor image small fits)
 
 -- its quotient fits
-pub quotient_fits : (factor image : ℤ) → unsigned_abs factor < 2 ^ 61 → FitsSigned w32 image → FitsSigned w128 (quotient_of factor image)
+pub quotient_fits : (factor image : ℤ) → unsigned_abs factor < 2 ^ 61 → FitsSigned w32 image
+    → FitsSigned w128 (quotient_of factor image)
 quotient_fits factor image small fits = rw (quotient_is factor image small fits) (wide_quotient factor image small fits)
 
 -- the quotient fits 64 bits
@@ -100,13 +111,18 @@ pub along : (factor image : ℤ) → unsigned_abs factor < 2 ^ 61 → FitsSigned
     ≡ in_ring (int_div (factor *ℤ image) (pos (2 ^ 56)))
 along factor image small fits =
     let narrow = push_fits factor image small fits in
-    rw (quotient_is factor image small fits, to_z-of_z w128 _ (wide_quotient factor image small fits), to_z-of_z w64 _ narrow)
+    rw (
+      quotient_is factor image small fits,
+      to_z-of_z w128 _ (wide_quotient factor image small fits),
+      to_z-of_z w64 _ narrow,
+    )
     (low_bits _ narrow)
 
 -- a push by its three parts
 pub push_is : (u : Units) (p q : Place) (factor ix iy iz : ℤ) (x y z : ℕ)
     → factor ≡ push_at u (distance p q) *ℤ pos u.strength → ix ≡ image p.x q.x → iy ≡ image p.y q.y → iz ≡ image p.z q.z
-    → x ≡ in_ring (int_div (factor *ℤ ix) (pos (2 ^ 56))) → y ≡ in_ring (int_div (factor *ℤ iy) (pos (2 ^ 56))) → z ≡ in_ring (int_div (factor *ℤ iz) (pos (2 ^ 56)))
+    → x ≡ in_ring (int_div (factor *ℤ ix) (pos (2 ^ 56))) → y ≡ in_ring (int_div (factor *ℤ iy) (pos (2 ^ 56)))
+    → z ≡ in_ring (int_div (factor *ℤ iz) (pos (2 ^ 56)))
     → (let made : Push = record { x = x; y = y; z = z } in made ≡ push u p q)
 unfolding push
 push_is u p q factor ix iy iz x y z f i j k e g h = rw (e, g, h, f, i, j, k) refl
@@ -114,7 +130,8 @@ push_is u p q factor ix iy iz x y z f i j k e g h = rw (e, g, h, f, i, j, k) ref
 -- a pair whose entry is 0 does not push
 pub nothing_is : (u : Units) (p q : Place) → push_at u (distance p q) ≡ pos 0 → no_push ≡ push u p q
 unfolding push
-nothing_is u p q none = rw (none, zero-*ℤ (pos u.strength), zero-*ℤ (image p.x q.x), zero-*ℤ (image p.y q.y), zero-*ℤ (image p.z q.z)) refl
+nothing_is u p q none =
+    rw (none, zero-*ℤ (pos u.strength), zero-*ℤ (image p.x q.x), zero-*ℤ (image p.y q.y), zero-*ℤ (image p.z q.z)) refl
 
 -- a signed number whose bits are 0 is 0
 pub zero_bits : (z : ℤ) → FitsSigned w64 z → of_z w64 z ≡ 0 → z ≡ pos 0

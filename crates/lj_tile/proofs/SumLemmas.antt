@@ -1,5 +1,7 @@
 -- Sums of pushes and of energies, place by place, and the bits of a mask.
-use Rattle.std.proofs.Common.{ℕ, zero, suc, ◌+◌, ◌-◌, ◌*◌, ◌/◌, ◌%◌, ◌^◌, ◌<◌, ◌≤◌, ◌≡◌, ◌≢◌, ◌==◌, Bool, true, false, ℤ, pos, ◌+ℤ◌, unsigned_abs, FitsSigned, w64, to_z, of_z, length, refl, sym, ap, min, ◌∙◌, inl, inr, ◌⊎◌, add-one, arith}
+use Rattle.std.proofs.Common.{ℕ, zero, suc, ◌+◌, ◌-◌, ◌*◌, ◌/◌, ◌%◌, ◌^◌, ◌<◌, ◌≤◌, ◌≡◌, ◌≢◌, ◌==◌, Bool, true, false}
+use Rattle.std.proofs.Common.{ℤ, pos, ◌+ℤ◌, unsigned_abs, FitsSigned, w64, to_z, of_z, length, refl, sym, ap, min, ◌∙◌}
+use Rattle.std.proofs.Common.{inl, inr, ◌⊎◌, add-one, arith}
 use Rattle.std.specs.Int.{bit_at, trailing_zeros}
 use Rattle.std.proofs.lemmas.Nat.{shr-shr}
 use Rattle.std.proofs.lemmas.Nat.Bits.{bit_at-trailing_zeros, bit_at_above, bit_at-zero}
@@ -17,7 +19,8 @@ use Rattle.lj_tile.specs.declared.names.Kind.TheVariants.{Energy}
 use Rattle.lj_tile.specs.Near.{IsReach}
 use Rattle.lj_tile.proofs.PushLemmas.{nothing_is}
 use Rattle.lj_tile.specs.Tiles.{place_at, chosen_energy, push_sum}
-use Rattle.lj_tile.specs.Tasks.{Work, IsTask, atom, are_apart, are_in_order, push_of, force_below, task_force, task_energy}
+use Rattle.lj_tile.specs.Tasks.{Work, IsTask, atom, are_apart, are_in_order, push_of, force_below, task_force}
+use Rattle.lj_tile.specs.Tasks.{task_energy}
 
 pub force_all : (w : Work) (t : ℕ) → force_below w t (length w.b) ≡ task_force w t
 unfolding push_sum
@@ -27,15 +30,18 @@ force_all w t = refl
 same_atom : (bi bj t s : ℕ) → t < 64 → s < 64 → atom bi t ≡ atom bj s → (bi ≡ bj) × (t ≡ s)
 same_atom bi bj t s t_small s_small e = (omega arith, omega arith)
 
-pub same_place : (w : Work) (t s : ℕ) → IsTask w → t < length w.a → s < length w.b → atom w.name.bi t ≡ atom w.name.bj s → place_at w.a t ≡ place_at w.b s
+pub same_place : (w : Work) (t s : ℕ) → IsTask w → t < length w.a → s < length w.b → atom w.name.bi t ≡ atom w.name.bj s
+    → place_at w.a t ≡ place_at w.b s
 same_place w t s sound t_in s_in e =
-    let both = same_atom w.name.bi w.name.bj t s (omega (arith, sound.most_first)) (omega (arith, sound.most_second)) e in
+    let both =
+    same_atom w.name.bi w.name.bj t s (omega (arith, sound.most_first)) (omega (arith, sound.most_second)) e in
     let blocks : w.a ≡ w.b = sound.diagonal both.0 in
     rw (blocks, both.1) refl
 
 -- a pair's push is what the pair adds, also where it is one atom twice
 pub push_counts : (w : Work) (t s : ℕ) (p : Push) → IsTask w → t < length w.a → s < length w.b
-    → p ≡ push w.units (place_at w.a t) (place_at w.b s) → (place_at w.a t ≡ place_at w.b s → p ≡ no_push) → p ≡ push_of w t s
+    → p ≡ push w.units (place_at w.a t) (place_at w.b s)
+    → (place_at w.a t ≡ place_at w.b s → p ≡ no_push) → p ≡ push_of w t s
 push_counts w t s p sound t_in s_in value itself =
     elim (cases_eq (atom w.name.bi t) (atom w.name.bj s)) [
       | inl same ↦
@@ -50,7 +56,8 @@ sum_more : (f : ℕ → ℕ) (n p : ℕ) → p ≡ f n → (ring_sum n f + p) % 
 sum_more f n p e = rw (add-one, e) (omega arith)
 
 -- one place more
-pub force_below_more : (w : Work) (t n : ℕ) (p : Push) → p ≡ push_of w t n → plus (force_below w t n) p ≡ force_below w t (n + 1)
+pub force_below_more : (w : Work) (t n : ℕ) (p : Push) → p ≡ push_of w t n
+    → plus (force_below w t n) p ≡ force_below w t (n + 1)
 force_below_more w t n p counts =
     let x = sum_more (λ s. (push_of w t s).x) n p.x (ap (λ (q : Push). q.x) counts) in
     let y = sum_more (λ s. (push_of w t s).y) n p.y (ap (λ (q : Push). q.y) counts) in
@@ -76,25 +83,30 @@ sum_front zero zero f g le same none = refl
 sum_front zero (suc m) f g le same none = absurd (omega arith)
 sum_front (suc n) zero f g le same none =
     rw (none n (omega arith) (omega arith))
-    (sum_front n zero f g (omega arith) (λ t h. same t h) (λ t h k. none t (omega arith) k) ∙ sym (+ℤ_idr (int_sum_below n g)))
+    (sum_front n zero f g (omega arith) (λ t h. same t h) (λ t h k. none t (omega arith) k)
+    ∙ sym (+ℤ_idr (int_sum_below n g)))
 sum_front (suc n) (suc m) f g le same none =
     elim (cases_lt m n) [
       | inl more ↦
           rw (none n (omega arith) (omega arith))
-          (sum_front n (suc m) f g (omega arith) same (λ t h k. none t (omega arith) k) ∙ sym (+ℤ_idr (int_sum_below n g)))
+          (sum_front n (suc m) f g (omega arith) same (λ t h k. none t (omega arith) k)
+          ∙ sym (+ℤ_idr (int_sum_below n g)))
       | inr end ↦
           let e : m ≡ n = omega arith in
           rw (same m (omega arith), e)
-          (ap (λ z. z +ℤ g n) (sum_front n n f g (omega arith) (λ t h. same t (omega arith)) (λ t h k. absurd (omega arith))))
+          (ap (λ z. z +ℤ g n) (sum_front n n f g (omega arith) (λ t h. same t (omega arith))
+          (λ t h k. absurd (omega arith))))
     ]
 
-before : (w : Work) (s t : ℕ) → atom w.name.bi t < atom w.name.bj s → energy_of w s t ≡ energy w.units (place_at w.a t) (place_at w.b s)
+before : (w : Work) (s t : ℕ) → atom w.name.bi t < atom w.name.bj s
+    → energy_of w s t ≡ energy w.units (place_at w.a t) (place_at w.b s)
 before w s t h = let e : are_in_order w t s ≡ true = grind (arith, nat_tests) in rw e refl
 
 not_before : (w : Work) (s t : ℕ) → atom w.name.bj s ≤ atom w.name.bi t → energy_of w s t ≡ pos 0
 not_before w s t h = let e : are_in_order w t s ≡ false = grind (arith, nat_tests) in rw e refl
 
--- the atoms of the first block that stand before one of the second: those at lesser places of the same block, and all of an earlier block
+-- the atoms of the first block that stand before one of the second: those at lesser places of the same block, and all
+-- of an earlier block
 pub energy_row_is : (w : Work) (s count : ℕ) (sum : ℤ) → IsTask w → w.name.kind ≡ Energy → s < length w.b
     → (w.name.bi ≡ w.name.bj → count ≡ s) → (w.name.bi ≢ w.name.bj → count ≡ length w.a)
     → sum ≡ int_sum_below count (λ t. energy w.units (place_at w.a t) (place_at w.b s)) → sum ≡ energy_row w s
@@ -119,7 +131,8 @@ abs_add a b m n p q = omega (arith, ints)
 pub sum_size : (a b : ℤ) (k m : ℕ) → unsigned_abs a ≤ k * m → unsigned_abs b ≤ m → unsigned_abs (a +ℤ b) ≤ (k + 1) * m
 sum_size a b k m p q = let both = abs_add a b (k * m) m p q in omega (arith, both)
 
-pub sum_fits : (a b : ℤ) (k m : ℕ) → unsigned_abs a ≤ k * m → unsigned_abs b ≤ m → k < 64 → m ≤ 2 ^ 43 → FitsSigned w64 (a +ℤ to_z w64 (of_z w64 b))
+pub sum_fits : (a b : ℤ) (k m : ℕ) → unsigned_abs a ≤ k * m → unsigned_abs b ≤ m → k < 64 → m ≤ 2 ^ 43
+    → FitsSigned w64 (a +ℤ to_z w64 (of_z w64 b))
 sum_fits a b k m p q few small =
     let b_fits : FitsSigned w64 b = fits_signed_from_abs w64 b (omega arith) in
     let most : k * m ≤ 63 * 2 ^ 43 = mul-le k m 63 (2 ^ 43) (omega arith) small in
@@ -132,7 +145,8 @@ sum_is a b k m p q few small =
     let b_fits : FitsSigned w64 b = fits_signed_from_abs w64 b (omega arith) in
     to_z-of_z w64 _ fits ∙ ap (λ z. a +ℤ z) (to_z-of_z w64 b b_fits)
 
-pub int_sum_more : (f : ℕ → ℤ) (n : ℕ) (sum term : ℤ) → sum ≡ int_sum_below n f → term ≡ f n → sum +ℤ term ≡ int_sum_below (n + 1) f
+pub int_sum_more : (f : ℕ → ℤ) (n : ℕ) (sum term : ℤ) → sum ≡ int_sum_below n f → term ≡ f n
+    → sum +ℤ term ≡ int_sum_below (n + 1) f
 int_sum_more f n sum term p q = rw (add-one, p, q) refl
 
 m_zero : (m : ℕ) → m ≤ 0 → m ≡ 0
@@ -155,7 +169,8 @@ sum_far f m (suc n) le none =
     ]
 
 -- places that do not push leave the sum as it is
-pub force_below_far : (w : Work) (t m n : ℕ) → m ≤ n → ((s : ℕ) → m ≤ s → s < n → push_of w t s ≡ no_push) → force_below w t m ≡ force_below w t n
+pub force_below_far : (w : Work) (t m n : ℕ) → m ≤ n → ((s : ℕ) → m ≤ s → s < n → push_of w t s ≡ no_push)
+    → force_below w t m ≡ force_below w t n
 force_below_far w t m n le none =
     let x = sum_far (λ s. (push_of w t s).x) m n le (λ s h k. ap (λ (p : Push). p.x) (none s h k)) in
     let y = sum_far (λ s. (push_of w t s).y) m n le (λ s h k. ap (λ (p : Push). p.y) (none s h k)) in
@@ -163,21 +178,25 @@ force_below_far w t m n le none =
     rw (x, y, z) refl
 
 -- a pair out of reach does not push
-pub far_pair : (w : Work) (t s : ℕ) → interacts w.units (distance (place_at w.a t) (place_at w.b s)) ≡ false → push_of w t s ≡ no_push
+pub far_pair : (w : Work) (t s : ℕ) → interacts w.units (distance (place_at w.a t) (place_at w.b s)) ≡ false
+    → push_of w t s ≡ no_push
 far_pair w t s far =
     let none : push_at w.units (distance (place_at w.a t) (place_at w.b s)) ≡ pos 0 = rw far refl in
-    let silent : push w.units (place_at w.a t) (place_at w.b s) ≡ no_push = sym (nothing_is w.units (place_at w.a t) (place_at w.b s) none) in
+    let silent : push w.units (place_at w.a t) (place_at w.b s) ≡ no_push =
+    sym (nothing_is w.units (place_at w.a t) (place_at w.b s) none) in
     elim (bool_cases (are_apart w t s)) [
       | inl apart ↦ rw (apart, silent) refl
       | inr same ↦ rw same refl
     ]
 
 -- a place from the reach on does not push
-pub far_silent : (w : Work) (t reach s : ℕ) → IsReach w.units reach → reach * 2 ^ 48 ≤ distance (place_at w.a t) (place_at w.b s) + 3 * 2 ^ 48 → push_of w t s ≡ no_push
+pub far_silent : (w : Work) (t reach s : ℕ) → IsReach w.units reach
+    → reach * 2 ^ 48 ≤ distance (place_at w.a t) (place_at w.b s) + 3 * 2 ^ 48 → push_of w t s ≡ no_push
 far_silent w t reach s out far = far_pair w t s (out (distance (place_at w.a t) (place_at w.b s)) far)
 
 -- places whose bits are not set leave the sum as it is
-pub force_below_unset : (w : Work) (t near from to : ℕ) → ((s : ℕ) → s < length w.b → bit_at near s ≡ 0 → push_of w t s ≡ no_push)
+pub force_below_unset : (w : Work) (t near from to : ℕ)
+    → ((s : ℕ) → s < length w.b → bit_at near s ≡ 0 → push_of w t s ≡ no_push)
     → from ≤ to → ((s : ℕ) → from ≤ s → s < to → bit_at near s ≡ 0)
     → force_below w t (min from (length w.b)) ≡ force_below w t (min to (length w.b))
 force_below_unset w t near from to silent le unset =
@@ -186,7 +205,8 @@ force_below_unset w t near from to silent le unset =
 
 -- the bits that are left above the lowest n + 1
 bits_left : (rest n k : ℕ) → bit_at (rest / 2 ^ n / 2) k ≡ bit_at rest (n + 1 + k)
-bits_left rest n k = ap (λ m. m % 2) (shr-shr (rest / 2 ^ n) 1 k ∙ shr-shr rest n (1 + k) ∙ ap (λ j. rest / 2 ^ j) (omega arith))
+bits_left rest n k =
+    ap (λ m. m % 2) (shr-shr (rest / 2 ^ n) 1 k ∙ shr-shr rest n (1 + k) ∙ ap (λ j. rest / 2 ^ j) (omega arith))
 
 -- `rest` is a mask from bit s on
 abbrev pub IsFrom : ℕ → ℕ → ℕ → Type 0
@@ -197,7 +217,8 @@ pub record HasNext (mask s n : ℕ) : Type 0 where
   pub within : s + n < 64
   pub before : (k : ℕ) → s ≤ k → k < s + n → bit_at mask k ≡ 0
 
-pub next_set : (mask s rest : ℕ) → mask < 2 ^ 64 → rest < 2 ^ 64 → 0 < rest → IsFrom mask s rest → HasNext mask s (trailing_zeros w64 rest)
+pub next_set : (mask s rest : ℕ) → mask < 2 ^ 64 → rest < 2 ^ 64 → 0 < rest → IsFrom mask s rest
+    → HasNext mask s (trailing_zeros w64 rest)
 next_set mask s rest small rest_small some from =
     let n : ℕ = trailing_zeros w64 rest in
     let found = bit_at-trailing_zeros w64 rest some rest_small in

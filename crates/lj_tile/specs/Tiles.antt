@@ -1,5 +1,6 @@
 -- Tiles, which a step over all pairs of atoms is cut into, and covers: lists of tiles that leave no pair out.
-use Rattle.std.specs.Prelude.{ℕ, ◌/◌, ◌==◌, ◌&&◌, ◌≡◌, ◌≢◌, ◌<◌, ◌≤◌, Bool, true, false, not, nat_lt, ℤ, pos, List, length, slice_index_or, count_by, if◌then◌else◌}
+use Rattle.std.specs.Prelude.{ℕ, ◌/◌, ◌==◌, ◌&&◌, ◌≡◌, ◌≢◌, ◌<◌, ◌≤◌, Bool, true, false, not, nat_lt, ℤ, pos, List}
+use Rattle.std.specs.Prelude.{length, slice_index_or, count_by, if◌then◌else◌}
 use Rattle.lj_ring.specs.declared.coordinates.Place.{Place}
 use Rattle.lj_ring.specs.Ring.{distance, ring_sum, int_sum_below}
 use Rattle.lj_ring.specs.Scales.{Units, interacts}

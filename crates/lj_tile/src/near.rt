@@ -1,5 +1,6 @@
 //! A quick test of which places of a block may be near one, all of them at once.
-ghost use Rattle.std.specs.Prelude.{◌≡◌, ◌≤◌, ◌<◌, ◌+◌, ◌-◌, ◌*◌, ◌/◌, ◌%◌, ◌^◌, ℕ, min, length, slice_index, unsigned_abs};
+ghost use Rattle.std.specs.Prelude.{◌≡◌, ◌≤◌, ◌<◌, ◌+◌, ◌-◌, ◌*◌, ◌/◌, ◌%◌, ◌^◌, ℕ, min, length, slice_index};
+ghost use Rattle.std.specs.Prelude.{unsigned_abs};
 ghost use Rattle.std.specs.Int.{bit_at};
 ghost use Rattle.lj_ring.specs.declared.coordinates.Place.{Place};
 ghost use Rattle.lj_ring.specs.Ring.{distance, image};

@@ -3,9 +3,17 @@ use Rattle.std.proofs.lemmas.Simd.{Each1-get_or}
 use Rattle.lj_tile.proofs.NearLemmas.{coarse_size, coarse_least, coarse_small}
 use Rattle.lj_tile.proofs.near.coarse_sizes.Goals as goal
 
-lane : (c : goal.After-shift_by_8) (k : ℕ) → k < 64 → slice_index c.shift_by_8.result k ≡ coarse_size (slice_index c.args.there k) (c.args.here / 2 ^ 16)
+lane : (c : goal.After-shift_by_8) (k : ℕ) → k < 64 → slice_index c.shift_by_8.result k
+    ≡ coarse_size (slice_index c.args.there k) (c.args.here / 2 ^ 16)
 lane c k l =
-    rw (c.shift_by_8.ensures k l, c.lesser.ensures k l, c.differences.ensures k l, c.differences-2.ensures k l, c.splat-here.ensures k l, c.coarse.ensures) refl
+    rw (
+      c.shift_by_8.ensures k l,
+      c.lesser.ensures k l,
+      c.differences.ensures k l,
+      c.differences-2.ensures k l,
+      c.splat-here.ensures k l,
+      c.coarse.ensures,
+    ) refl
 
 small : (c : goal.After-shift_by_8) (k : ℕ) → k < 64 → slice_index c.args.there k < 2 ^ 16
 small c k l = (Each1-get_or _ c.args.there k 0 (omega (arith, c.fits-there.0)) c.fits-there.1).fits
@@ -14,5 +22,6 @@ pub returns : goal.returns
 returns c = record {
   least = λ k d l same.
       rw (lane c k l, same) (coarse_least c.args.here d c.ranges.here.fits (omega (arith, small c k l)));
-  small = λ k l. rw (lane c k l) (coarse_small (c.args.here / 2 ^ 16) (slice_index c.args.there k) (omega (arith, c.ranges.here.fits)) (small c k l));
+  small = λ k l. rw (lane c k l) (coarse_small (c.args.here / 2 ^ 16) (slice_index c.args.there k)
+      (omega (arith, c.ranges.here.fits)) (small c k l));
 }

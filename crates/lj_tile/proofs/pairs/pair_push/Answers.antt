@@ -8,7 +8,8 @@ pub returns-then-entry-eq0-clause-value : goal.returns-then-entry-eq0-clause-val
 returns-then-entry-eq0-clause-value c =
     let e : FitsSigned w64 c.push-entry.result = search rules in
     nothing_is c.args.scale.now c.args.here.now c.args.there.now
-    (ap (push_at c.args.scale.now) (sym c.dist2.ensures.value) ∙ sym c.push-entry.ensures.value ∙ zero_bits c.push-entry.result e c.if-entry-eq0.true)
+    (ap (push_at c.args.scale.now) (sym c.dist2.ensures.value) ∙ sym c.push-entry.ensures.value
+    ∙ zero_bits c.push-entry.result e c.if-entry-eq0.true)
 
 pub returns-clause-value : goal.returns-clause-value
 returns-clause-value c =
@@ -18,7 +19,8 @@ returns-clause-value c =
     let y : FitsSigned w32 c.image-2.result = search rules in
     let z : FitsSigned w32 c.image-3.result = search rules in
     push_is _ _ _ c.strengthened-factor.result c.image.result c.image-2.result c.image-3.result _ _ _
-    (rw (to_z-of_z w64 _ e, c.push-entry.ensures.value, c.dist2.ensures.value, c.strength.ensures.value) at c.strengthened-factor.ensures.value)
+    (rw (to_z-of_z w64 _ e, c.push-entry.ensures.value, c.dist2.ensures.value, c.strength.ensures.value)
+    at c.strengthened-factor.ensures.value)
     c.image.ensures.value
     c.image-2.ensures.value
     c.image-3.ensures.value
@@ -30,4 +32,5 @@ pub returns-clause-itself : goal.returns-clause-itself
 returns-clause-itself c same =
     returns-clause-value c
     ∙ push_self c.args.scale.now c.args.here.now c.args.there.now c.image.result c.image-2.result c.image-3.result
-    c.image.ensures.value c.image-2.ensures.value c.image-3.ensures.value c.image.ensures.least c.image-2.ensures.least c.image-3.ensures.least same
+    c.image.ensures.value c.image-2.ensures.value c.image-3.ensures.value c.image.ensures.least
+    c.image-2.ensures.least c.image-3.ensures.least same

@@ -13,12 +13,19 @@ pub overflow_mul-push : goal.overflow_mul-push
 overflow_mul-push c = rw (factor c, image c) (product_fits c.args.factor c.args.image c.requires c.ranges.image)
 
 pub nonzero_div-push : goal.nonzero_div-push
-nonzero_div-push c = (omega arith, rw (factor c, image c) (quotient_fits c.args.factor c.args.image c.requires c.ranges.image))
+nonzero_div-push c =
+    (omega arith, rw (factor c, image c) (quotient_fits c.args.factor c.args.image c.requires c.ranges.image))
 
 pub overflow_cast-push : goal.overflow_cast-push
 overflow_cast-push c = rw (factor c, image c) (narrow_fits c.args.factor c.args.image c.requires c.ranges.image)
 
 pub returns : goal.returns
 returns c =
-    rw (c.cast_unsigned.ensures, c.from.ensures, c.from-2.ensures, to_z-of_z w64 c.args.factor c.ranges.factor, to_z-of_z w32 c.args.image c.ranges.image)
+    rw (
+      c.cast_unsigned.ensures,
+      c.from.ensures,
+      c.from-2.ensures,
+      to_z-of_z w64 c.args.factor c.ranges.factor,
+      to_z-of_z w32 c.args.image c.ranges.image,
+    )
     (along c.args.factor c.args.image c.requires c.ranges.image)

@@ -26,4 +26,5 @@ returns-clause-value c =
       | else-name w ↦ w.earlier-is ∙ ap length w.first.ensures.value
     ]) in
     to_z-of_z w64 _ fits
-    ∙ energy_row_is c.args.task.now c.args.s c.if-name.earlier c.energy_with.result c.name.ensures.sound c.requires.kind c.requires.within same other value
+    ∙ energy_row_is c.args.task.now c.args.s c.if-name.earlier c.energy_with.result c.name.ensures.sound c.requires.kind
+    c.requires.within same other value

@@ -4,17 +4,27 @@ use Rattle.lj_tile.proofs.SumLemmas.{energy_row, energy_all, sum_fits, sum_is, s
 use Rattle.lj_tile.proofs.sums.energy_sum.Goals as goal
 
 few : (c : goal.After-energy_before-sum) → c.loop-s.s < 64
-few c = omega (arith, ap length c.second-s-end.ensures.value, c.second-s-end.ensures.sound.most_second, c.loop-s-test.true)
+few c = omega (
+  arith,
+  ap length c.second-s-end.ensures.value,
+  c.second-s-end.ensures.sound.most_second,
+  c.loop-s-test.true,
+)
 
 pub overflow_add-sum : goal.overflow_add-sum
-overflow_add-sum c = sum_fits _ c.energy_before-sum.result c.loop-s.s (64 * 2 ^ 37) c.loop-s.invariant.size c.energy_before-sum.ensures.size (few c) (omega arith)
+overflow_add-sum c =
+    sum_fits _ c.energy_before-sum.result c.loop-s.s (64 * 2 ^ 37)
+    c.loop-s.invariant.size c.energy_before-sum.ensures.size (few c) (omega arith)
 
 pub loop-s-preserved : goal.loop-s-preserved
 loop-s-preserved c =
-    rw (sum_is _ c.energy_before-sum.result c.loop-s.s (64 * 2 ^ 37) c.loop-s.invariant.size c.energy_before-sum.ensures.size (few c) (omega arith))
+    rw (sum_is _ c.energy_before-sum.result c.loop-s.s (64 * 2 ^ 37)
+    c.loop-s.invariant.size c.energy_before-sum.ensures.size (few c) (omega arith))
     record {
-      value = int_sum_more (energy_row c.args.task.now) c.loop-s.s _ c.energy_before-sum.result c.loop-s.invariant.value c.energy_before-sum.ensures.value;
-      size = sum_size _ c.energy_before-sum.result c.loop-s.s (64 * 2 ^ 37) c.loop-s.invariant.size c.energy_before-sum.ensures.size;
+      value = int_sum_more (energy_row c.args.task.now)
+          c.loop-s.s _ c.energy_before-sum.result c.loop-s.invariant.value c.energy_before-sum.ensures.value;
+      size = sum_size _ c.energy_before-sum.result c.loop-s.s (64 * 2 ^ 37)
+          c.loop-s.invariant.size c.energy_before-sum.ensures.size;
     }
 
 pub returns : goal.returns
