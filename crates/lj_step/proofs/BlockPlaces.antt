@@ -12,9 +12,11 @@ unfolding length_in
 block_length frame b = length-between frame (64 * b) (min (64 * b + 64) (length frame)) (omega arith)
 
 -- place t of block b is that of atom 64 b + t
-pub block_place : (frame : List Place) (b t : ℕ) → t < length_in b (length frame) → place_at (block frame b) t ≡ place_at frame (64 * b + t)
+pub block_place : (frame : List Place) (b t : ℕ) → t < length_in b (length frame)
+    → place_at (block frame b) t ≡ place_at frame (64 * b + t)
 unfolding length_in
-block_place frame b t h = get_or-between frame (64 * b) (min (64 * b + 64) (length frame)) t (record { x = 0; y = 0; z = 0 }) (omega arith)
+block_place frame b t h =
+    get_or-between frame (64 * b) (min (64 * b + 64) (length frame)) t (record { x = 0; y = 0; z = 0 }) (omega arith)
 
 pub atom_within : (n b t : ℕ) → t < length_in b n → 64 * b + t < n
 unfolding length_in
@@ -29,7 +31,8 @@ unfolding length_in
 first_in n b h = (omega arith, omega arith, omega arith)
 
 -- each atom stands in its block
-pub place_in : (n i : ℕ) → i < n → (i - 64 * (i / 64) < length_in (i / 64) n) × (64 * (i / 64) + (i - 64 * (i / 64)) ≡ i)
+pub place_in : (n i : ℕ) → i < n → (i - 64 * (i / 64) < length_in (i / 64) n)
+    × (64 * (i / 64) + (i - 64 * (i / 64)) ≡ i)
 unfolding length_in
 place_in n i h = (omega arith, omega arith)
 

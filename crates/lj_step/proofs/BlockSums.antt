@@ -1,5 +1,6 @@
 -- Sums over the atoms of one block among those of all.
-use Rattle.std.proofs.Common.{ℕ, zero, suc, ◌+◌, ◌-◌, ◌*◌, ◌/◌, ◌<◌, ◌≤◌, ◌≡◌, ◌≢◌, ◌==◌, ℤ, pos, ◌+ℤ◌, Bool, true, false, nat_lt, min, if◌then◌else◌, inl, inr, refl, sym, ap, ◌∙◌, add-zero, arith}
+use Rattle.std.proofs.Common.{ℕ, zero, suc, ◌+◌, ◌-◌, ◌*◌, ◌/◌, ◌<◌, ◌≤◌, ◌≡◌, ◌≢◌, ◌==◌, ℤ, pos, ◌+ℤ◌, Bool, true}
+use Rattle.std.proofs.Common.{false, nat_lt, min, if◌then◌else◌, inl, inr, refl, sym, ap, ◌∙◌, add-zero, arith}
 use Rattle.std.proofs.Math.IntN.{+ℤ_assoc, +ℤ_comm, +ℤ_idr}
 use Rattle.std.proofs.lemmas.Bool.{cases_eq, cases_lt}
 use Rattle.std.proofs.lemmas.Bool.Decides.{nat_tests}
@@ -23,7 +24,8 @@ unfolding length_in
 no_atoms b = omega arith
 
 -- the terms of one block among those of all atoms
-pub block_sum : (f : ℕ → ℕ) (b n : ℕ) → sum_below n (λ j. if j / 64 == b then f j else 0) ≡ sum_below (length_in b n) (λ s. f (64 * b + s))
+pub block_sum : (f : ℕ → ℕ) (b n : ℕ) → sum_below n (λ j. if j / 64 == b then f j else 0)
+    ≡ sum_below (length_in b n) (λ s. f (64 * b + s))
 block_sum f b zero = sym (ap (λ m. sum_below m (λ s. f (64 * b + s))) (no_atoms b))
 block_sum f b (suc n) =
     elim (cases_eq (n / 64) b) [
@@ -42,7 +44,8 @@ block_sum f b (suc n) =
     ]
 
 -- the same of signed numbers
-pub int_block_sum : (f : ℕ → ℤ) (b n : ℕ) → int_sum_below n (λ j. if j / 64 == b then f j else pos 0) ≡ int_sum_below (length_in b n) (λ s. f (64 * b + s))
+pub int_block_sum : (f : ℕ → ℤ) (b n : ℕ) → int_sum_below n (λ j. if j / 64 == b then f j else pos 0)
+    ≡ int_sum_below (length_in b n) (λ s. f (64 * b + s))
 int_block_sum f b zero = sym (ap (λ m. int_sum_below m (λ s. f (64 * b + s))) (no_atoms b))
 int_block_sum f b (suc n) =
     elim (cases_eq (n / 64) b) [
@@ -81,10 +84,12 @@ regroup a b c d =
 -- the sum of two sums
 pub int_sum_plus : (n : ℕ) (f g : ℕ → ℤ) → int_sum_below n (λ k. f k +ℤ g k) ≡ int_sum_below n f +ℤ int_sum_below n g
 int_sum_plus zero f g = refl
-int_sum_plus (suc n) f g = ap (λ s. s +ℤ (f n +ℤ g n)) (int_sum_plus n f g) ∙ regroup (int_sum_below n f) (int_sum_below n g) (f n) (g n)
+int_sum_plus (suc n) f g =
+    ap (λ s. s +ℤ (f n +ℤ g n)) (int_sum_plus n f g) ∙ regroup (int_sum_below n f) (int_sum_below n g) (f n) (g n)
 
 -- the first j terms as terms among the first n
-pub int_sum_cut : (f : ℕ → ℤ) (j n : ℕ) → j ≤ n → int_sum_below n (λ i. if nat_lt i j then f i else pos 0) ≡ int_sum_below j f
+pub int_sum_cut : (f : ℕ → ℤ) (j n : ℕ) → j ≤ n → int_sum_below n (λ i. if nat_lt i j then f i else pos 0)
+    ≡ int_sum_below j f
 int_sum_cut f j zero below = let e : j ≡ 0 = omega arith in sym (ap (λ m. int_sum_below m f) e)
 int_sum_cut f j (suc n) below =
     elim (cases_lt n j) [

@@ -1,5 +1,7 @@
 -- The sums of a cover are those of all pairs.
-use Rattle.std.proofs.Common.{ℕ, zero, suc, ◌+◌, ◌*◌, ◌%◌, ◌^◌, ◌<◌, ◌≡◌, ◌==◌, ℤ, pos, ◌+ℤ◌, Bool, true, false, cond, if◌then◌else◌, List, [], ◌∷◌, length, map, sum_by, inl, inr, refl, sym, ap, ◌∙◌, zero-add, arith}
+use Rattle.std.proofs.Common.{ℕ, zero, suc, ◌+◌, ◌*◌, ◌%◌, ◌^◌, ◌<◌, ◌≡◌, ◌==◌, ℤ, pos, ◌+ℤ◌, Bool, true, false, cond}
+use Rattle.std.proofs.Common.{if◌then◌else◌, List, [], ◌∷◌, length, map, sum_by, inl, inr, refl, sym, ap, ◌∙◌, zero-add}
+use Rattle.std.proofs.Common.{arith}
 use Rattle.std.specs.List.{range_with_len}
 use Rattle.std.proofs.Math.IntN.{+ℤ_idl, +ℤ_idr}
 use Rattle.std.proofs.lemmas.Bool.{cases_eq, cases_Bool}
@@ -13,7 +15,8 @@ use Rattle.lj_ring.specs.Scales.{Units, interacts, entry, bin}
 use Rattle.lj_table.specs.Entries.{energy_entry}
 use Rattle.lj_tile.specs.declared.pairs.Push.{Push}
 use Rattle.lj_tile.specs.Pushes.{push, push_along, no_push, energy}
-use Rattle.lj_tile.specs.Tiles.{Tile, chosen_energy, push_sum, tile_energy, times, are_near, IsForceCover, IsEnergyCover}
+use Rattle.lj_tile.specs.Tiles.{Tile, chosen_energy, push_sum, tile_energy, times, are_near, IsForceCover}
+use Rattle.lj_tile.specs.Tiles.{IsEnergyCover}
 use Rattle.lj_step.specs.Motion.{Simulation, place_at, push_of, force, next_place, moved, stepped, potential}
 use Rattle.lj_step.specs.Laws.{tiles_force, stepped_by, tiles_energy}
 use Rattle.lj_step.proofs.RingSums.{sum_same, ring_sum_same, ring_sum_zero, sum_plus}
@@ -34,7 +37,8 @@ push_far u p q far =
 energy_far : (u : Units) (p q : Place) → interacts u (distance p q) ≡ false → energy u p q ≡ pos 0
 energy_far u p q far = ap (λ (b : Bool). if b then energy_entry (entry (bin u (distance p q))) else pos 0) far
 
-count_more : (i j : ℕ) (tile : Tile) (tiles : List Tile) → times i j (tile ∷ tiles) ≡ cond (tile i j) 1 0 + times i j tiles
+count_more : (i j : ℕ) (tile : Tile) (tiles : List Tile)
+    → times i j (tile ∷ tiles) ≡ cond (tile i j) 1 0 + times i j tiles
 count_more i j tile tiles = sum_by-cons (λ (t : Tile). cond (t i j) 1 0) tile tiles
 
 -- the sums of tiles, each pair as often as it lies in one, along one axis
@@ -52,7 +56,8 @@ module _ (axis : Push → ℕ) (none : axis no_push ≡ 0) where
   join : (a b c : ℕ) → b % 2 ^ 32 ≡ c % 2 ^ 32 → (a % 2 ^ 32 + b) % 2 ^ 32 ≡ (a + c) % 2 ^ 32
   join a b c e = omega arith
 
-  by_times : (n i : ℕ) (p : ℕ → Push) (tiles : List Tile) → sum_by (λ (tile : Tile). tile_sum n p (tile i)) tiles % 2 ^ 32 ≡ ring_sum n (λ j. times i j tiles * axis (p j))
+  by_times : (n i : ℕ) (p : ℕ → Push) (tiles : List Tile)
+      → sum_by (λ (tile : Tile). tile_sum n p (tile i)) tiles % 2 ^ 32 ≡ ring_sum n (λ j. times i j tiles * axis (p j))
   unfolding tile_sum
   by_times n i p [] = sym (ring_sum_zero n (λ j. times i j [] * axis (p j)) (λ j h. zero_times (axis (p j))))
     where
@@ -60,33 +65,42 @@ module _ (axis : Push → ℕ) (none : axis no_push ≡ 0) where
       zero_times a = omega arith
   by_times n i p (tile ∷ tiles) =
       ap (λ s. s % 2 ^ 32) (sum_by-cons (λ (t : Tile). tile_sum n p (t i)) tile tiles)
-      ∙ join (sum_below n (λ j. axis (if tile i j then p j else no_push))) (sum_by (λ (t : Tile). tile_sum n p (t i)) tiles) (sum_below n (λ j. times i j tiles * axis (p j))) (by_times n i p tiles)
-      ∙ ap (λ s. s % 2 ^ 32) (sym (sum_plus n (λ j. axis (if tile i j then p j else no_push)) (λ j. times i j tiles * axis (p j))))
-      ∙ ap (λ s. s % 2 ^ 32) (sum_same n (λ j. axis (if tile i j then p j else no_push) + times i j tiles * axis (p j)) (λ j. times i j (tile ∷ tiles) * axis (p j))
+      ∙ join (sum_below n (λ j. axis (if tile i j then p j else no_push)))
+      (sum_by (λ (t : Tile). tile_sum n p (t i)) tiles)
+      (sum_below n (λ j. times i j tiles * axis (p j))) (by_times n i p tiles)
+      ∙ ap (λ s. s % 2 ^ 32) (sym (sum_plus n (λ j. axis (if tile i j then p j else no_push))
+      (λ j. times i j tiles * axis (p j))))
+      ∙ ap (λ s. s % 2 ^ 32) (sum_same n (λ j. axis (if tile i j then p j else no_push) + times i j tiles * axis (p j))
+      (λ j. times i j (tile ∷ tiles) * axis (p j))
       (λ j h. sym (ap (λ k. k * axis (p j)) (count_more i j tile tiles) ∙ one_term (tile i j) (times i j tiles) (p j))))
 
   once : (m : ℕ) (p q : Push) → m ≡ 1 → q ≡ p → (m * axis p) % 2 ^ 32 ≡ axis q % 2 ^ 32
-  once m p q e same = ap (λ k. (k * axis p) % 2 ^ 32) e ∙ ap (λ k. k % 2 ^ 32) (single (axis p)) ∙ sym (ap (λ r. axis r % 2 ^ 32) same)
+  once m p q e same =
+      ap (λ k. (k * axis p) % 2 ^ 32) e ∙ ap (λ k. k % 2 ^ 32) (single (axis p)) ∙ sym (ap (λ r. axis r % 2 ^ 32) same)
     where
       single : (a : ℕ) → 1 * a ≡ a
       single a = omega arith
 
   never : (m : ℕ) (p q : Push) → p ≡ no_push → q ≡ no_push → (m * axis p) % 2 ^ 32 ≡ axis q % 2 ^ 32
   never m p q first second =
-      ap (λ r. (m * axis r) % 2 ^ 32) first ∙ ap (λ a. (m * a) % 2 ^ 32) none ∙ nothing m ∙ sym (ap (λ r. axis r % 2 ^ 32) second ∙ ap (λ a. a % 2 ^ 32) none)
+      ap (λ r. (m * axis r) % 2 ^ 32) first ∙ ap (λ a. (m * a) % 2 ^ 32) none ∙ nothing m
+      ∙ sym (ap (λ r. axis r % 2 ^ 32) second ∙ ap (λ a. a % 2 ^ 32) none)
     where
       nothing : (m : ℕ) → (m * 0) % 2 ^ 32 ≡ 0 % 2 ^ 32
       nothing m = omega arith
 
   not_in : (m : ℕ) (p q : Push) → m ≡ 0 → q ≡ no_push → (m * axis p) % 2 ^ 32 ≡ axis q % 2 ^ 32
   not_in m p q e second =
-      ap (λ k. (k * axis p) % 2 ^ 32) e ∙ nothing (axis p) ∙ sym (ap (λ r. axis r % 2 ^ 32) second ∙ ap (λ a. a % 2 ^ 32) none)
+      ap (λ k. (k * axis p) % 2 ^ 32) e ∙ nothing (axis p)
+      ∙ sym (ap (λ r. axis r % 2 ^ 32) second ∙ ap (λ a. a % 2 ^ 32) none)
     where
       nothing : (a : ℕ) → (0 * a) % 2 ^ 32 ≡ 0 % 2 ^ 32
       nothing a = omega arith
 
-  pair_counts : (u : Units) (frame : List Place) (tiles : List Tile) → IsForceCover u frame tiles → (i j : ℕ) → i < length frame → j < length frame
-      → (times i j tiles * axis (push u (place_at frame i) (place_at frame j))) % 2 ^ 32 ≡ axis (push_of u frame i j) % 2 ^ 32
+  pair_counts : (u : Units) (frame : List Place) (tiles : List Tile) → IsForceCover u frame tiles → (i j : ℕ)
+      → i < length frame → j < length frame
+      → (times i j tiles * axis (push u (place_at frame i) (place_at frame j))) % 2 ^ 32
+      ≡ axis (push_of u frame i j) % 2 ^ 32
   pair_counts u frame tiles covers i j hi hj =
       elim (cases_eq j i) [
         | inl same ↦
@@ -96,45 +110,59 @@ module _ (axis : Push → ℕ) (none : axis no_push ≡ 0) where
             (ap (λ (b : Bool). if b then no_push else push u (place_at frame i) (place_at frame j)) e)
         | inr other ↦
             let e : (j == i) ≡ false = grind (arith, nat_tests) in
-            let is : push_of u frame i j ≡ push u (place_at frame i) (place_at frame j) = ap (λ (b : Bool). if b then no_push else push u (place_at frame i) (place_at frame j)) e in
+            let is : push_of u frame i j ≡ push u (place_at frame i) (place_at frame j) =
+            ap (λ (b : Bool). if b then no_push else push u (place_at frame i) (place_at frame j)) e in
             elim (cases_Bool (are_near u frame i j)) [
-              | inl near ↦ once (times i j tiles) (push u (place_at frame i) (place_at frame j)) (push_of u frame i j) (covers.near i j hi hj (λ f. other (sym f)) near) is
+              | inl near ↦ once (times i j tiles) (push u (place_at frame i) (place_at frame j)) (push_of u frame i j)
+                  (covers.near i j hi hj (λ f. other (sym f)) near) is
               | inr far ↦
                   let none_far = push_far u (place_at frame i) (place_at frame j) far in
-                  never (times i j tiles) (push u (place_at frame i) (place_at frame j)) (push_of u frame i j) none_far (is ∙ none_far)
+                  never (times i j tiles) (push u (place_at frame i) (place_at frame j))
+                  (push_of u frame i j) none_far (is ∙ none_far)
             ]
       ]
 
-  cover_along : (u : Units) (frame : List Place) (tiles : List Tile) → IsForceCover u frame tiles → (i : ℕ) → i < length frame
-      → sum_by (λ (tile : Tile). tile_sum (length frame) (λ j. push u (place_at frame i) (place_at frame j)) (tile i)) tiles % 2 ^ 32
+  cover_along : (u : Units) (frame : List Place) (tiles : List Tile) → IsForceCover u frame tiles
+      → (i : ℕ) → i < length frame
+      → sum_by (λ (tile : Tile). tile_sum (length frame) (λ j. push u (place_at frame i) (place_at frame j)) (tile i))
+      tiles % 2 ^ 32
       ≡ ring_sum (length frame) (λ j. axis (push_of u frame i j))
   cover_along u frame tiles covers i hi =
       by_times (length frame) i (λ j. push u (place_at frame i) (place_at frame j)) tiles
-      ∙ ring_sum_same (length frame) (λ j. times i j tiles * axis (push u (place_at frame i) (place_at frame j))) (λ j. axis (push_of u frame i j))
+      ∙ ring_sum_same (length frame) (λ j. times i j tiles * axis (push u (place_at frame i) (place_at frame j)))
+      (λ j. axis (push_of u frame i j))
       (λ j hj. pair_counts u frame tiles covers i j hi hj)
 
 -- the sums of a cover are the forces
-pub cover_force : (u : Units) (frame : List Place) (tiles : List Tile) → IsForceCover u frame tiles → (i : ℕ) → i < length frame → tiles_force u frame tiles i ≡ force u frame i
+pub cover_force : (u : Units) (frame : List Place) (tiles : List Tile) → IsForceCover u frame tiles → (i : ℕ)
+    → i < length frame → tiles_force u frame tiles i ≡ force u frame i
 unfolding tiles_force push_sum force tile_sum
 cover_force u frame tiles covers i hi =
     same_push (tiles_force u frame tiles i) (force u frame i)
-    (cover_along (λ p. p.x) refl u frame tiles covers i hi) (cover_along (λ p. p.y) refl u frame tiles covers i hi) (cover_along (λ p. p.z) refl u frame tiles covers i hi)
+    (cover_along (λ p. p.x) refl u frame tiles covers i hi) (cover_along (λ p. p.y) refl u frame tiles covers i hi)
+    (cover_along (λ p. p.z) refl u frame tiles covers i hi)
 
 -- a step over a cover is the step over all pairs
-pub cover_step : (u : Units) (sim : Simulation) (tiles : List Tile) → IsForceCover u sim.cur tiles → stepped_by u tiles sim ≡ stepped u sim
+pub cover_step : (u : Units) (sim : Simulation) (tiles : List Tile) → IsForceCover u sim.cur tiles
+    → stepped_by u tiles sim ≡ stepped u sim
 cover_step u sim tiles covers = ap (λ frame. after sim frame) same_frame
   where
     after : Simulation → List Place → Simulation
     after sim frame = record { prev = sim.cur; cur = frame; step = sim.step +ℤ sim.dir; dir = sim.dir }
 
-    same_frame : map (λ i. next_place (place_at sim.prev i) (place_at sim.cur i) (tiles_force u sim.cur tiles i)) (range_with_len 0 (length sim.cur))
+    same_frame : map (λ i. next_place (place_at sim.prev i) (place_at sim.cur i) (tiles_force u sim.cur tiles i))
+        (range_with_len 0 (length sim.cur))
         ≡ map (moved u sim.prev sim.cur) (range_with_len 0 (length sim.cur))
     same_frame =
-        fill_by_all (moved u sim.prev sim.cur) (map (λ i. next_place (place_at sim.prev i) (place_at sim.cur i) (tiles_force u sim.cur tiles i)) (range_with_len 0 (length sim.cur)))
+        fill_by_all (moved u sim.prev sim.cur) (map
+        (λ i. next_place (place_at sim.prev i) (place_at sim.cur i) (tiles_force u sim.cur tiles i))
+        (range_with_len 0 (length sim.cur)))
         (length sim.cur) (record { x = 0; y = 0; z = 0 })
-        (length-map-range_with_len (λ i. next_place (place_at sim.prev i) (place_at sim.cur i) (tiles_force u sim.cur tiles i)) 0 (length sim.cur))
+        (length-map-range_with_len (λ i. next_place (place_at sim.prev i) (place_at sim.cur i)
+        (tiles_force u sim.cur tiles i)) 0 (length sim.cur))
         (λ k h.
-        get_or-map-range_with_len (λ i. next_place (place_at sim.prev i) (place_at sim.cur i) (tiles_force u sim.cur tiles i)) 0 (length sim.cur) k k _ h (omega arith)
+        get_or-map-range_with_len (λ i. next_place (place_at sim.prev i) (place_at sim.cur i)
+        (tiles_force u sim.cur tiles i)) 0 (length sim.cur) k k _ h (omega arith)
         ∙ ap (λ f. next_place (place_at sim.prev k) (place_at sim.cur k) f) (cover_force u sim.cur tiles covers k h))
 
 -- the energy of a pair as often as it lies in a tile
@@ -160,38 +188,49 @@ pair_energy : Units → List Place → ℕ → ℕ → ℤ
 pair_energy u frame i j = energy u (place_at frame i) (place_at frame j)
 
 energies_by_times : (u : Units) (frame : List Place) (tiles : List Tile)
-    → tiles_energy u frame tiles ≡ int_sum_below (length frame) (λ j. int_sum_below j (λ i. repeated (times i j tiles) (pair_energy u frame i j)))
+    → tiles_energy u frame tiles ≡ int_sum_below (length frame)
+    (λ j. int_sum_below j (λ i. repeated (times i j tiles) (pair_energy u frame i j)))
 unfolding repeated pair_energy
 energies_by_times u frame [] =
     sym (int_sum_none (length frame) (λ j. int_sum_below j (λ i. repeated (times i j []) (pair_energy u frame i j)))
     (λ j h. int_sum_none j (λ i. repeated (times i j []) (pair_energy u frame i j)) (λ i k. refl)))
 energies_by_times u frame (tile ∷ tiles) =
     ap (λ s. tile_energy u frame tile +ℤ s) (energies_by_times u frame tiles)
-    ∙ sym (int_sum_plus (length frame) (λ j. int_sum_below j (λ i. chosen_energy u (tile i j) (place_at frame i) (place_at frame j)))
+    ∙ sym (int_sum_plus (length frame) (λ j. int_sum_below j
+    (λ i. chosen_energy u (tile i j) (place_at frame i) (place_at frame j)))
     (λ j. int_sum_below j (λ i. repeated (times i j tiles) (pair_energy u frame i j))))
     ∙ int_sum_same (length frame)
-    (λ j. int_sum_below j (λ i. chosen_energy u (tile i j) (place_at frame i) (place_at frame j)) +ℤ int_sum_below j (λ i. repeated (times i j tiles) (pair_energy u frame i j)))
+    (λ j. int_sum_below j (λ i. chosen_energy u (tile i j) (place_at frame i) (place_at frame j)) +ℤ int_sum_below j
+    (λ i. repeated (times i j tiles) (pair_energy u frame i j)))
     (λ j. int_sum_below j (λ i. repeated (times i j (tile ∷ tiles)) (pair_energy u frame i j)))
     (λ j h. row u frame tile tiles j)
   where
     row : (u : Units) (frame : List Place) (tile : Tile) (tiles : List Tile) (j : ℕ)
-        → int_sum_below j (λ i. chosen_energy u (tile i j) (place_at frame i) (place_at frame j)) +ℤ int_sum_below j (λ i. repeated (times i j tiles) (pair_energy u frame i j))
+        → int_sum_below j (λ i. chosen_energy u (tile i j) (place_at frame i) (place_at frame j)) +ℤ int_sum_below j
+        (λ i. repeated (times i j tiles) (pair_energy u frame i j))
         ≡ int_sum_below j (λ i. repeated (times i j (tile ∷ tiles)) (pair_energy u frame i j))
     row u frame tile tiles j =
-        sym (int_sum_plus j (λ i. chosen_energy u (tile i j) (place_at frame i) (place_at frame j)) (λ i. repeated (times i j tiles) (pair_energy u frame i j)))
-        ∙ int_sum_same j (λ i. chosen_energy u (tile i j) (place_at frame i) (place_at frame j) +ℤ repeated (times i j tiles) (pair_energy u frame i j))
+        sym (int_sum_plus j (λ i. chosen_energy u (tile i j) (place_at frame i) (place_at frame j))
+        (λ i. repeated (times i j tiles) (pair_energy u frame i j)))
+        ∙ int_sum_same j (λ i. chosen_energy u (tile i j) (place_at frame i) (place_at frame j) +ℤ repeated
+        (times i j tiles) (pair_energy u frame i j))
         (λ i. repeated (times i j (tile ∷ tiles)) (pair_energy u frame i j))
-        (λ i k. sym (ap (λ m. repeated m (pair_energy u frame i j)) (count_more i j tile tiles) ∙ repeated_more (tile i j) (times i j tiles) (pair_energy u frame i j)))
+        (λ i k. sym (ap (λ m. repeated m (pair_energy u frame i j)) (count_more i j tile tiles)
+        ∙ repeated_more (tile i j) (times i j tiles) (pair_energy u frame i j)))
 
 -- the sums of a cover are the potential
-pub cover_energy : (u : Units) (frame : List Place) (tiles : List Tile) → IsEnergyCover u frame tiles → tiles_energy u frame tiles ≡ potential u frame
+pub cover_energy : (u : Units) (frame : List Place) (tiles : List Tile) → IsEnergyCover u frame tiles
+    → tiles_energy u frame tiles ≡ potential u frame
 unfolding pair_energy
 cover_energy u frame tiles covers =
     energies_by_times u frame tiles
-    ∙ int_sum_same (length frame) (λ j. int_sum_below j (λ i. repeated (times i j tiles) (pair_energy u frame i j))) (λ j. int_sum_below j (λ i. energy u (place_at frame i) (place_at frame j)))
-    (λ j h. int_sum_same j (λ i. repeated (times i j tiles) (pair_energy u frame i j)) (λ i. energy u (place_at frame i) (place_at frame j))
+    ∙ int_sum_same (length frame) (λ j. int_sum_below j (λ i. repeated (times i j tiles) (pair_energy u frame i j)))
+    (λ j. int_sum_below j (λ i. energy u (place_at frame i) (place_at frame j)))
+    (λ j h. int_sum_same j (λ i. repeated (times i j tiles) (pair_energy u frame i j))
+    (λ i. energy u (place_at frame i) (place_at frame j))
     (λ i k. elim (cases_Bool (are_near u frame i j)) [
-      | inl near ↦ repeated_once (times i j tiles) (energy u (place_at frame i) (place_at frame j)) (covers.near i j k h near)
+      | inl near ↦ repeated_once (times i j tiles) (energy u (place_at frame i) (place_at frame j))
+          (covers.near i j k h near)
       | inr far ↦
           let none = energy_far u (place_at frame i) (place_at frame j) far in
           repeated_none (times i j tiles) (energy u (place_at frame i) (place_at frame j)) none ∙ sym none

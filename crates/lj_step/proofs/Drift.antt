@@ -1,5 +1,6 @@
 -- The drift: a step keeps it, and a reverse changes its sign.
-use Rattle.std.proofs.Common.{ℕ, zero, suc, ◌+◌, ◌%◌, ◌^◌, ◌<◌, ◌≡◌, List, length, true, false, ◌==◌, inl, inr, refl, sym, ap, ◌∙◌, arith}
+use Rattle.std.proofs.Common.{ℕ, zero, suc, ◌+◌, ◌%◌, ◌^◌, ◌<◌, ◌≡◌, List, length, true, false, ◌==◌, inl, inr, refl}
+use Rattle.std.proofs.Common.{sym, ap, ◌∙◌, arith}
 use Rattle.std.proofs.lemmas.Bool.{cases_eq}
 use Rattle.std.proofs.lemmas.Bool.Decides.{nat_tests}
 use Rattle.lj_ring.specs.declared.coordinates.Place.{Place}
@@ -7,7 +8,8 @@ use Rattle.lj_ring.specs.Ring.{sum_below, ring_sum}
 use Rattle.lj_ring.specs.Scales.{Units}
 use Rattle.lj_tile.specs.declared.pairs.Push.{Push}
 use Rattle.lj_tile.specs.Pushes.{no_push}
-use Rattle.lj_step.specs.Motion.{Simulation, place_at, push_of, force, next_coordinate, next_place, stepped, steps, reversed}
+use Rattle.lj_step.specs.Motion.{Simulation, place_at, push_of, force, next_coordinate, next_place, stepped, steps}
+use Rattle.lj_step.specs.Motion.{reversed}
 use Rattle.lj_step.specs.Laws.{IsOnRing, IsWhole, IsScale, ring_sub, drift_along, drift, opposite}
 use Rattle.lj_step.proofs.RingSums.{ring_sum_same, ring_sum_zero, sum_plus, square_zero}
 use Rattle.lj_step.proofs.Opposites.{AddToNone, pushes_opposite}
@@ -17,7 +19,8 @@ no_pushes : AddToNone no_push no_push
 no_pushes = record { x = refl; y = refl; z = refl }
 
 -- what two atoms of a frame push each other adds up to none
-pair_opposite : (u : Units) (frame : List Place) (i j : ℕ) → IsScale u → IsOnRing (place_at frame i) → IsOnRing (place_at frame j)
+pair_opposite : (u : Units) (frame : List Place) (i j : ℕ) → IsScale u → IsOnRing (place_at frame i)
+    → IsOnRing (place_at frame j)
     → AddToNone (push_of u frame i j) (push_of u frame j i)
 pair_opposite u frame i j scale hi hj =
     elim (cases_eq j i) [
@@ -39,16 +42,19 @@ module _ (axis : Push → ℕ) (none : axis no_push ≡ 0) where
   pushes : Units → List Place → ℕ → ℕ → ℕ
   pushes u frame i j = axis (push_of u frame i j)
 
-  forces_none : (u : Units) (frame : List Place) → ((i j : ℕ) → i < length frame → j < length frame → (axis (push_of u frame i j) + axis (push_of u frame j i)) % 2 ^ 32 ≡ 0)
+  forces_none : (u : Units) (frame : List Place) → ((i j : ℕ) → i < length frame → j < length frame
+      → (axis (push_of u frame i j) + axis (push_of u frame j i)) % 2 ^ 32 ≡ 0)
       → ring_sum (length frame) (λ i. ring_sum (length frame) (pushes u frame i)) ≡ 0
   unfolding pushes
   forces_none u frame opposite =
-      ring_sum_same (length frame) (λ i. ring_sum (length frame) (pushes u frame i)) (λ i. sum_below (length frame) (pushes u frame i)) (λ k below. omega arith)
+      ring_sum_same (length frame) (λ i. ring_sum (length frame) (pushes u frame i))
+      (λ i. sum_below (length frame) (pushes u frame i)) (λ k below. omega arith)
       ∙ square_zero (pushes u frame) (length frame) opposite
       (λ i below. ap (λ (p : Push). axis p % 2 ^ 32) (itself_none u frame i) ∙ ap (λ n. n % 2 ^ 32) none)
 
 -- one coordinate of an atom: what a step adds to its displacement is its force
-one_step : (p c f : ℕ) → p < 2 ^ 32 → c < 2 ^ 32 → ring_sub (next_coordinate p c f) c % 2 ^ 32 ≡ (ring_sub c p + f) % 2 ^ 32
+one_step : (p c f : ℕ) → p < 2 ^ 32 → c < 2 ^ 32 → ring_sub (next_coordinate p c f) c % 2 ^ 32
+    ≡ (ring_sub c p + f) % 2 ^ 32
 one_step p c f hp hc = omega arith
 
 joined : (a b : ℕ) → b % 2 ^ 32 ≡ 0 → (a + b) % 2 ^ 32 ≡ a % 2 ^ 32
@@ -60,7 +66,8 @@ axis_kept : (n : ℕ) (p c f m : ℕ → ℕ) → ((i : ℕ) → i < n → p i <
     → ring_sum n (λ i. ring_sub (m i) (c i)) ≡ ring_sum n (λ i. ring_sub (c i) (p i))
 axis_kept n p c f m hp hc moves none =
     ring_sum_same n (λ i. ring_sub (m i) (c i)) (λ i. ring_sub (c i) (p i) + f i)
-    (λ k below. ap (λ w. ring_sub w (c k) % 2 ^ 32) (moves k below) ∙ one_step (p k) (c k) (f k) (hp k below) (hc k below))
+    (λ k below. ap (λ w. ring_sub w (c k) % 2 ^ 32) (moves k below)
+    ∙ one_step (p k) (c k) (f k) (hp k below) (hc k below))
     ∙ ap (λ s. s % 2 ^ 32) (sum_plus n (λ i. ring_sub (c i) (p i)) f)
     ∙ joined (sum_below n (λ i. ring_sub (c i) (p i))) (sum_below n f) none
 
@@ -69,29 +76,38 @@ push_of_axes x y z = record { x = x; y = y; z = z }
 
 pub same_push : (a b : Push) → a.x ≡ b.x → a.y ≡ b.y → a.z ≡ b.z → a ≡ b
 unfolding push_of_axes
-same_push a b x y z = ap (λ k. push_of_axes k a.y a.z) x ∙ ap (λ k. push_of_axes b.x k a.z) y ∙ ap (λ k. push_of_axes b.x b.y k) z
+same_push a b x y z =
+    ap (λ k. push_of_axes k a.y a.z) x ∙ ap (λ k. push_of_axes b.x k a.z) y ∙ ap (λ k. push_of_axes b.x b.y k) z
 
 module _ (u : Units) (sim : Simulation) (scale : IsScale u) (whole : IsWhole sim) where
-  pairs : (i j : ℕ) → i < length sim.cur → j < length sim.cur → AddToNone (push_of u sim.cur i j) (push_of u sim.cur j i)
+  pairs : (i j : ℕ) → i < length sim.cur → j < length sim.cur
+      → AddToNone (push_of u sim.cur i j) (push_of u sim.cur j i)
   pairs i j p q = pair_opposite u sim.cur i j scale (whole.cur i p) (whole.cur j q)
 
   before : (i : ℕ) → i < length sim.cur → IsOnRing (place_at sim.prev i)
-  before i h = let same : length sim.prev ≡ length sim.cur = whole.same in let within : i < length sim.prev = omega arith in whole.prev i within
+  before i h = let same : length sim.prev ≡ length sim.cur = whole.same in let within : i < length sim.prev =
+      omega arith in whole.prev i within
 
   -- the drift along one axis of places, that of the pushes beside it
   along : (axis : Place → ℕ) (push_axis : Push → ℕ) → push_axis no_push ≡ 0
       → ((p c : Place) (f : Push) → axis (next_place p c f) ≡ next_coordinate (axis p) (axis c) (push_axis f))
       → ((p : Place) → IsOnRing p → axis p < 2 ^ 32)
       → ((i : ℕ) → push_axis (force u sim.cur i) ≡ ring_sum (length sim.cur) (λ j. push_axis (push_of u sim.cur i j)))
-      → ((i j : ℕ) → i < length sim.cur → j < length sim.cur → (push_axis (push_of u sim.cur i j) + push_axis (push_of u sim.cur j i)) % 2 ^ 32 ≡ 0)
+      → ((i j : ℕ) → i < length sim.cur → j < length sim.cur
+      → (push_axis (push_of u sim.cur i j) + push_axis (push_of u sim.cur j i)) % 2 ^ 32 ≡ 0)
       → drift_along axis (stepped u sim) ≡ drift_along axis sim
   unfolding pushes
   along axis push_axis none next below sum opposite =
-      ap (λ n. ring_sum n (λ i. ring_sub (axis (place_at (stepped u sim).cur i)) (axis (place_at sim.cur i)))) (next_frame_length u sim.prev sim.cur)
-      ∙ axis_kept (length sim.cur) (λ i. axis (place_at sim.prev i)) (λ i. axis (place_at sim.cur i)) (λ i. push_axis (force u sim.cur i)) (λ i. axis (place_at (stepped u sim).cur i))
+      ap (λ n. ring_sum n (λ i. ring_sub (axis (place_at (stepped u sim).cur i)) (axis (place_at sim.cur i))))
+      (next_frame_length u sim.prev sim.cur)
+      ∙ axis_kept (length sim.cur) (λ i. axis (place_at sim.prev i)) (λ i. axis (place_at sim.cur i))
+      (λ i. push_axis (force u sim.cur i)) (λ i. axis (place_at (stepped u sim).cur i))
       (λ i h. below (place_at sim.prev i) (before i h)) (λ i h. below (place_at sim.cur i) (whole.cur i h))
-      (λ i h. ap axis (next_frame_at u sim.prev sim.cur i h) ∙ next (place_at sim.prev i) (place_at sim.cur i) (force u sim.cur i))
-      (ring_sum_same (length sim.cur) (λ i. push_axis (force u sim.cur i)) (λ i. ring_sum (length sim.cur) (λ j. push_axis (push_of u sim.cur i j))) (λ k h. ap (λ n. n % 2 ^ 32) (sum k))
+      (λ i h. ap axis (next_frame_at u sim.prev sim.cur i h)
+      ∙ next (place_at sim.prev i) (place_at sim.cur i) (force u sim.cur i))
+      (ring_sum_same (length sim.cur) (λ i. push_axis (force u sim.cur i))
+      (λ i. ring_sum (length sim.cur) (λ j. push_axis (push_of u sim.cur i j)))
+      (λ k h. ap (λ n. n % 2 ^ 32) (sum k))
       ∙ forces_none push_axis none u sim.cur opposite)
 
   step_kept : drift (stepped u sim) ≡ drift sim
@@ -104,7 +120,8 @@ module _ (u : Units) (sim : Simulation) (scale : IsScale u) (whole : IsWhole sim
 
 pub drift_kept : (u : Units) (n : ℕ) (sim : Simulation) → IsScale u → IsWhole sim → drift (steps u n sim) ≡ drift sim
 drift_kept u zero sim scale whole = refl
-drift_kept u (suc n) sim scale whole = drift_kept u n (stepped u sim) scale (stepped_whole u sim whole) ∙ step_kept u sim scale whole
+drift_kept u (suc n) sim scale whole =
+    drift_kept u n (stepped u sim) scale (stepped_whole u sim whole) ∙ step_kept u sim scale whole
 
 -- differences the other way round add up to the opposite sum
 axis_turned : (n : ℕ) (p c : ℕ → ℕ) → ((i : ℕ) → i < n → p i < 2 ^ 32) → ((i : ℕ) → i < n → c i < 2 ^ 32)
@@ -112,7 +129,8 @@ axis_turned : (n : ℕ) (p c : ℕ → ℕ) → ((i : ℕ) → i < n → p i < 2
 axis_turned n p c hp hc =
     let both : (sum_below n (λ i. ring_sub (p i) (c i)) + sum_below n (λ i. ring_sub (c i) (p i))) % 2 ^ 32 ≡ 0 =
     ap (λ s. s % 2 ^ 32) (sym (sum_plus n (λ i. ring_sub (p i) (c i)) (λ i. ring_sub (c i) (p i))))
-    ∙ ring_sum_zero n (λ i. ring_sub (p i) (c i) + ring_sub (c i) (p i)) (λ k below. turned_none (p k) (c k) (hp k below) (hc k below)) in
+    ∙ ring_sum_zero n (λ i. ring_sub (p i) (c i) + ring_sub (c i) (p i))
+    (λ k below. turned_none (p k) (c k) (hp k below) (hc k below)) in
     turned_sum (sum_below n (λ i. ring_sub (p i) (c i))) (sum_below n (λ i. ring_sub (c i) (p i))) both
   where
     turned_none : (p c : ℕ) → p < 2 ^ 32 → c < 2 ^ 32 → (ring_sub p c + ring_sub c p) % 2 ^ 32 ≡ 0
@@ -123,9 +141,11 @@ axis_turned n p c hp hc =
 
 module _ (sim : Simulation) (whole : IsWhole sim) where
   prev_on_ring : (i : ℕ) → i < length sim.cur → IsOnRing (place_at sim.prev i)
-  prev_on_ring i h = let same : length sim.prev ≡ length sim.cur = whole.same in let within : i < length sim.prev = omega arith in whole.prev i within
+  prev_on_ring i h = let same : length sim.prev ≡ length sim.cur = whole.same in let within : i < length sim.prev =
+      omega arith in whole.prev i within
 
-  turned_along : (axis : Place → ℕ) → ((p : Place) → IsOnRing p → axis p < 2 ^ 32) → drift_along axis (reversed sim) ≡ ring_sub 0 (drift_along axis sim)
+  turned_along : (axis : Place → ℕ) → ((p : Place) → IsOnRing p → axis p < 2 ^ 32)
+      → drift_along axis (reversed sim) ≡ ring_sub 0 (drift_along axis sim)
   turned_along axis below =
       ap (λ n. ring_sum n (λ i. ring_sub (axis (place_at sim.prev i)) (axis (place_at sim.cur i)))) whole.same
       ∙ axis_turned (length sim.cur) (λ i. axis (place_at sim.prev i)) (λ i. axis (place_at sim.cur i))
@@ -133,7 +153,9 @@ module _ (sim : Simulation) (whole : IsWhole sim) where
 
   turned : drift (reversed sim) ≡ opposite (drift sim)
   unfolding drift
-  turned = same_push (drift (reversed sim)) (opposite (drift sim)) (turned_along (λ p. p.x) (λ p h. h.x)) (turned_along (λ p. p.y) (λ p h. h.y)) (turned_along (λ p. p.z) (λ p h. h.z))
+  turned = same_push (drift (reversed sim)) (opposite (drift sim))
+      (turned_along (λ p. p.x) (λ p h. h.x)) (turned_along (λ p. p.y) (λ p h. h.y)) (turned_along
+      (λ p. p.z) (λ p h. h.z))
 
 pub drift_turned : (sim : Simulation) → IsWhole sim → drift (reversed sim) ≡ opposite (drift sim)
 drift_turned sim whole = turned sim whole

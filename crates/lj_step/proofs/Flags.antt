@@ -1,5 +1,7 @@
 -- The flags of an open step, tile by tile and pair by pair.
-use Rattle.std.proofs.Common.{ℕ, ◌+◌, ◌*◌, ◌/◌, ◌<◌, ◌≤◌, ◌≡◌, ◌≢◌, ◌&&◌, Bool, true, false, nat_lt, List, [], ◌∷◌, length, map, slice_index_or, slice_set, count_by, cond, inl, inr, refl, sym, ap, ◌∙◌, get_or-set_same, get_or-set_other, arith}
+use Rattle.std.proofs.Common.{ℕ, ◌+◌, ◌*◌, ◌/◌, ◌<◌, ◌≤◌, ◌≡◌, ◌≢◌, ◌&&◌, Bool, true, false, nat_lt, List, [], ◌∷◌}
+use Rattle.std.proofs.Common.{length, map, slice_index_or, slice_set, count_by, cond, inl, inr, refl, sym, ap, ◌∙◌}
+use Rattle.std.proofs.Common.{get_or-set_same, get_or-set_other, arith}
 use Rattle.std.specs.List.{range_with_len}
 use Rattle.std.proofs.lemmas.Bool.{cases_lt, cases_Bool, true≢false}
 use Rattle.std.proofs.lemmas.Bool.Decides.{nat_tests}
@@ -21,7 +23,8 @@ flag_in flags bi bj i j ei ej within =
     ap (λ k. slice_index_or (slice_set flags (tile_number bi bj) false) k false) (same_tile bi bj i j ei ej)
     ∙ get_or-set_same flags (tile_number bi bj) false false within
 
-pub flag_before : (flags : List Bool) (bi bj i j : ℕ) → i / 64 ≡ bi → j / 64 ≡ bj → slice_index_or flags (tile_number bi bj) false ≡ true
+pub flag_before : (flags : List Bool) (bi bj i j : ℕ) → i / 64 ≡ bi → j / 64 ≡ bj
+    → slice_index_or flags (tile_number bi bj) false ≡ true
     → pair_awaited flags i j ≡ true
 flag_before flags bi bj i j ei ej awaited = ap (λ k. slice_index_or flags k false) (same_tile bi bj i j ei ej) ∙ awaited
 
@@ -47,7 +50,8 @@ count_flags p (x ∷ xs) =
     ∙ sym (sum_by-cons (λ k. cond (p k) 1 0) x xs)
 
 -- where no flag is left, none is set
-pub none_left : (flags : List Bool) (k : ℕ) → count_by (λ awaited. awaited) flags ≡ 0 → slice_index_or flags k false ≡ false
+pub none_left : (flags : List Bool) (k : ℕ) → count_by (λ awaited. awaited) flags ≡ 0
+    → slice_index_or flags k false ≡ false
 none_left flags k none =
     elim (cases_lt k (length flags)) [
       | inl within ↦
@@ -61,19 +65,24 @@ none_left flags k none =
     ]
 
 -- the first flag of an opened step at each tile
-pub opened_flag : (kind : Kind) (count k : ℕ) → k < 64 * blocks count → slice_index_or (map (is_tile kind count) (range_with_len 0 (64 * blocks count))) k false ≡ is_tile kind count k
-opened_flag kind count k within = get_or-map-range_with_len (is_tile kind count) 0 (64 * blocks count) k k false within (omega arith)
+pub opened_flag : (kind : Kind) (count k : ℕ) → k < 64 * blocks count
+    → slice_index_or (map (is_tile kind count) (range_with_len 0 (64 * blocks count))) k false ≡ is_tile kind count k
+opened_flag kind count k within =
+    get_or-map-range_with_len (is_tile kind count) 0 (64 * blocks count) k k false within (omega arith)
 
-pub tile_within : (count i j : ℕ) → i < count → j < count → count ≤ 4096 → tile_number (i / 64) (j / 64) < 64 * blocks count
+pub tile_within : (count i j : ℕ) → i < count → j < count → count ≤ 4096
+    → tile_number (i / 64) (j / 64) < 64 * blocks count
 tile_within count i j hi hj few = omega arith
 
-pub parts_of : (count i j : ℕ) → j < count → count ≤ 4096 → (first_block (tile_number (i / 64) (j / 64)) ≡ i / 64) × (second_block (tile_number (i / 64) (j / 64)) ≡ j / 64)
+pub parts_of : (count i j : ℕ) → j < count → count ≤ 4096 → (first_block (tile_number (i / 64) (j / 64)) ≡ i / 64)
+    × (second_block (tile_number (i / 64) (j / 64)) ≡ j / 64)
 parts_of count i j hj few = (omega arith, omega arith)
 
 pub block_below : (count j : ℕ) → j < count → j / 64 < blocks count
 block_below count j h = omega arith
 
-pub tile_passes : (kind : Kind) (count k : ℕ) → second_block k < blocks count → in_order kind k ≡ true → is_tile kind count k ≡ true
+pub tile_passes : (kind : Kind) (count k : ℕ) → second_block k < blocks count → in_order kind k ≡ true
+    → is_tile kind count k ≡ true
 tile_passes kind count k below ordered =
     let first : nat_lt (second_block k) (blocks count) ≡ true = grind (arith, nat_tests) in
     ap (λ (b : Bool). b && in_order kind k) first ∙ ordered
@@ -87,7 +96,8 @@ force_opened count i j hi hj few =
     opened_flag Force count (tile_number (i / 64) (j / 64)) (tile_within count i j hi hj few)
     ∙ tile_passes Force count (tile_number (i / 64) (j / 64)) below refl
 
-pub ordered_blocks : (count i j : ℕ) → i < j → j < count → count ≤ 4096 → first_block (tile_number (i / 64) (j / 64)) ≤ second_block (tile_number (i / 64) (j / 64))
+pub ordered_blocks : (count i j : ℕ) → i < j → j < count → count ≤ 4096
+    → first_block (tile_number (i / 64) (j / 64)) ≤ second_block (tile_number (i / 64) (j / 64))
 ordered_blocks count i j before hj few = omega arith
 
 pub ordered_is : (k : ℕ) → first_block k ≤ second_block k → in_order Energy k ≡ true
@@ -100,17 +110,21 @@ energy_opened count i j before hj few =
     let parts = parts_of count i j hj few in
     let below : second_block (tile_number (i / 64) (j / 64)) < blocks count = rw parts.1 (block_below count j hj) in
     let order = ordered_blocks count i j before hj few in
-    let ordered : in_order Energy (tile_number (i / 64) (j / 64)) ≡ true = ordered_is (tile_number (i / 64) (j / 64)) order in
+    let ordered : in_order Energy (tile_number (i / 64) (j / 64)) ≡ true =
+    ordered_is (tile_number (i / 64) (j / 64)) order in
     opened_flag Energy count (tile_number (i / 64) (j / 64)) (tile_within count i j (omega arith) hj few)
     ∙ tile_passes Energy count (tile_number (i / 64) (j / 64)) below ordered
 
 -- the flags that are set are those of tiles
-pub opened_within : (kind : Kind) (count k : ℕ) → slice_index_or (map (is_tile kind count) (range_with_len 0 (64 * blocks count))) k false ≡ true → is_tile kind count k ≡ true
+pub opened_within : (kind : Kind) (count k : ℕ) → slice_index_or
+    (map (is_tile kind count) (range_with_len 0 (64 * blocks count))) k false ≡ true → is_tile kind count k ≡ true
 opened_within kind count k set =
     elim (cases_lt k (64 * blocks count)) [
       | inl within ↦ sym (opened_flag kind count k within) ∙ set
       | inr past ↦
           let length_is = length-map-range_with_len (is_tile kind count) 0 (64 * blocks count) in
-          let clear = get_or_past (map (is_tile kind count) (range_with_len 0 (64 * blocks count))) k false (rw length_is past) in
+          let clear =
+          get_or_past (map (is_tile kind count) (range_with_len 0 (64 * blocks count)))
+          k false (rw length_is past) in
           absurd (true≢false (sym set ∙ clear))
     ]

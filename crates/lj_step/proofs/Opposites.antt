@@ -1,5 +1,7 @@
 -- Two atoms push each other by opposite pushes.
-use Rattle.std.proofs.Common.{ℕ, zero, suc, ◌+◌, ◌-◌, ◌*◌, ◌/◌, ◌%◌, ◌^◌, ◌<◌, ◌≤◌, ◌≡◌, ℤ, pos, negsuc, ◌*ℤ◌, neg_ℤ, int_div, unsigned_abs, Bool, false, ◌⊎◌, inl, inr, if◌then◌else◌, refl, sym, ap, ◌∙◌, arith}
+use Rattle.std.proofs.Common.{ℕ, zero, suc, ◌+◌, ◌-◌, ◌*◌, ◌/◌, ◌%◌, ◌^◌, ◌<◌, ◌≤◌, ◌≡◌, ℤ, pos, negsuc, ◌*ℤ◌, neg_ℤ}
+use Rattle.std.proofs.Common.{int_div, unsigned_abs, Bool, false, ◌⊎◌, inl, inr, if◌then◌else◌, refl, sym, ap, ◌∙◌}
+use Rattle.std.proofs.Common.{arith}
 use Rattle.std.proofs.Math.IntN.{zero-*ℤ, *ℤ-zero, *ℤ-negsuc, neg_ℤ-neg_ℤ}
 use Rattle.std.proofs.lemmas.Bool.{cases_lt, cases_eq, cases_Bool}
 use Rattle.std.proofs.lemmas.Bool.Decides.{nat_tests}
@@ -43,23 +45,28 @@ signed_opposite r below =
     elim (cases_eq r 0) [
       | inl none ↦
           let e : (2 ^ 32 - r) % 2 ^ 32 ≡ 0 = omega arith in
-          inl (ap signed e ∙ lower_half 0 (omega arith) ∙ sym (ap (λ n. neg_ℤ (signed n)) none ∙ ap neg_ℤ (lower_half 0 (omega arith))))
+          inl (ap signed e ∙ lower_half 0 (omega arith)
+          ∙ sym (ap (λ n. neg_ℤ (signed n)) none ∙ ap neg_ℤ (lower_half 0 (omega arith))))
       | inr some ↦
           let e : (2 ^ 32 - r) % 2 ^ 32 ≡ 2 ^ 32 - r = omega arith in
           elim (cases_lt r (2 ^ 31)) [
-            | inl near ↦ inl (ap signed e ∙ upper_half (2 ^ 32 - r) (omega arith) (omega arith) ∙ sym (ap neg_ℤ (lower_half r near) ∙ neg_lower r (2 ^ 32 - 1 - (2 ^ 32 - r)) (omega arith)))
+            | inl near ↦
+                inl (ap signed e ∙ upper_half (2 ^ 32 - r) (omega arith) (omega arith)
+                ∙ sym (ap neg_ℤ (lower_half r near) ∙ neg_lower r (2 ^ 32 - 1 - (2 ^ 32 - r)) (omega arith)))
             | inr far ↦ elim (cases_eq r (2 ^ 31)) [
               | inl middle ↦
                   let h : signed r ≡ half = ap signed middle ∙ upper_half (2 ^ 31) (omega arith) (omega arith) in
                   let o : 2 ^ 32 - r ≡ 2 ^ 31 = omega arith in
                   inr (ap signed (e ∙ o) ∙ upper_half (2 ^ 31) (omega arith) (omega arith), h)
               | inr beyond ↦
-                  inl (ap signed e ∙ lower_half (2 ^ 32 - r) (omega arith) ∙ sym (ap neg_ℤ (upper_half r far below) ∙ neg_upper r (omega arith) below))
+                  inl (ap signed e ∙ lower_half (2 ^ 32 - r) (omega arith)
+                  ∙ sym (ap neg_ℤ (upper_half r far below) ∙ neg_upper r (omega arith) below))
             ]
           ]
     ]
 
-turned_difference : (a b : ℕ) → a < 2 ^ 32 → b < 2 ^ 32 → (b + (2 ^ 32 - a)) % 2 ^ 32 ≡ (2 ^ 32 - (a + (2 ^ 32 - b)) % 2 ^ 32) % 2 ^ 32
+turned_difference : (a b : ℕ) → a < 2 ^ 32 → b < 2 ^ 32
+    → (b + (2 ^ 32 - a)) % 2 ^ 32 ≡ (2 ^ 32 - (a + (2 ^ 32 - b)) % 2 ^ 32) % 2 ^ 32
 turned_difference a b p q = omega arith
 
 images_opposite : (a b : ℕ) → a < 2 ^ 32 → b < 2 ^ 32 → AreOpposite (image b a) (image a b)
@@ -143,9 +150,11 @@ none_along u d e y z first second =
 
 -- of two equal entries and opposite images
 near_along : (u : Units) (d e y z : ℤ) → d ≡ e → y ≡ neg_ℤ z → (push_along u d y + push_along u e z) % 2 ^ 32 ≡ 0
-near_along u d e y z same opposite = ap (λ w. (push_along u w y + push_along u e z) % 2 ^ 32) same ∙ along_odd u e y z opposite
+near_along u d e y z same opposite =
+    ap (λ w. (push_along u w y + push_along u e z) % 2 ^ 32) same ∙ along_odd u e y z opposite
 
-far_pair : (u : Units) (p q : Place) → interacts u (distance p q) ≡ false → distance q p ≡ distance p q → AddToNone (push u q p) (push u p q)
+far_pair : (u : Units) (p q : Place) → interacts u (distance p q) ≡ false → distance q p ≡ distance p q
+    → AddToNone (push u q p) (push u p q)
 unfolding push
 far_pair u p q far same =
     let here : push_at u (distance p q) ≡ pos 0 = entry_far u (distance p q) far in
@@ -156,13 +165,17 @@ far_pair u p q far same =
       z = none_along u (push_at u (distance q p)) (push_at u (distance p q)) (image q.z p.z) (image p.z q.z) there here;
     }
 
-near_pair : (u : Units) (p q : Place) → IsOnRing p → IsOnRing q → distance p q < 2 ^ 62 → distance q p ≡ distance p q → AddToNone (push u q p) (push u p q)
+near_pair : (u : Units) (p q : Place) → IsOnRing p → IsOnRing q → distance p q < 2 ^ 62 → distance q p ≡ distance p q
+    → AddToNone (push u q p) (push u p q)
 unfolding push
 near_pair u p q hp hq small same =
     let e : push_at u (distance q p) ≡ push_at u (distance p q) = ap (push_at u) same in
-    let x : image q.x p.x ≡ neg_ℤ (image p.x q.x) = near_opposite (image q.x p.x) (image p.x q.x) (omega arith) (images_opposite p.x q.x hp.x hq.x) in
-    let y : image q.y p.y ≡ neg_ℤ (image p.y q.y) = near_opposite (image q.y p.y) (image p.y q.y) (omega arith) (images_opposite p.y q.y hp.y hq.y) in
-    let z : image q.z p.z ≡ neg_ℤ (image p.z q.z) = near_opposite (image q.z p.z) (image p.z q.z) (omega arith) (images_opposite p.z q.z hp.z hq.z) in
+    let x : image q.x p.x ≡ neg_ℤ (image p.x q.x) =
+    near_opposite (image q.x p.x) (image p.x q.x) (omega arith) (images_opposite p.x q.x hp.x hq.x) in
+    let y : image q.y p.y ≡ neg_ℤ (image p.y q.y) =
+    near_opposite (image q.y p.y) (image p.y q.y) (omega arith) (images_opposite p.y q.y hp.y hq.y) in
+    let z : image q.z p.z ≡ neg_ℤ (image p.z q.z) =
+    near_opposite (image q.z p.z) (image p.z q.z) (omega arith) (images_opposite p.z q.z hp.z hq.z) in
     record {
       x = near_along u (push_at u (distance q p)) (push_at u (distance p q)) (image q.x p.x) (image p.x q.x) e x;
       y = near_along u (push_at u (distance q p)) (push_at u (distance p q)) (image q.y p.y) (image p.y q.y) e y;
@@ -170,7 +183,8 @@ near_pair u p q hp hq small same =
     }
 
 -- the two pushes of a pair add up to none
-pub pushes_opposite : (u : Units) (p q : Place) → IsScale u → IsOnRing p → IsOnRing q → AddToNone (push u q p) (push u p q)
+pub pushes_opposite : (u : Units) (p q : Place) → IsScale u → IsOnRing p → IsOnRing q
+    → AddToNone (push u q p) (push u p q)
 pushes_opposite u p q scale hp hq =
     let same = distance_symmetric p q hp hq in
     elim (cases_Bool (interacts u (distance p q))) [

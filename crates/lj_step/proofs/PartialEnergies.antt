@@ -1,5 +1,7 @@
 -- The energies of the tiles that are in.
-use Rattle.std.proofs.Common.{ℕ, ◌+◌, ◌*◌, ◌/◌, ◌<◌, ◌≤◌, ◌≡◌, ◌≢◌, ◌==◌, ℤ, pos, ◌+ℤ◌, Bool, true, false, nat_lt, List, length, slice_index_or, slice_set, count_by, if◌then◌else◌, inl, inr, refl, sym, ap, ◌∙◌, arith}
+use Rattle.std.proofs.Common.{ℕ, ◌+◌, ◌*◌, ◌/◌, ◌<◌, ◌≤◌, ◌≡◌, ◌≢◌, ◌==◌, ℤ, pos, ◌+ℤ◌, Bool, true, false, nat_lt, List}
+use Rattle.std.proofs.Common.{length, slice_index_or, slice_set, count_by, if◌then◌else◌, inl, inr, refl, sym, ap, ◌∙◌}
+use Rattle.std.proofs.Common.{arith}
 use Rattle.std.proofs.Math.IntN.{+ℤ_idl, +ℤ_idr}
 use Rattle.std.proofs.lemmas.Bool.{cases_eq, cases_Bool, eqb-true, eqb-false}
 use Rattle.std.proofs.lemmas.Bool.Decides.{nat_tests}
@@ -21,7 +23,8 @@ pair : Units → List Place → ℕ → ℕ → ℤ
 pair u frame i j = energy u (place_at frame i) (place_at frame j)
 
 -- what a pair adds where a tile comes in
-term : (e : ℤ) (before after here : Bool) → (here ≡ true → (before ≡ true) × (after ≡ false)) → (here ≡ false → after ≡ before)
+term : (e : ℤ) (before after here : Bool) → (here ≡ true → (before ≡ true) × (after ≡ false))
+    → (here ≡ false → after ≡ before)
     → (if after then pos 0 else e) ≡ (if before then pos 0 else e) +ℤ (if here then e else pos 0)
 term e before after here comes stays =
     elim (cases_Bool here) [
@@ -40,28 +43,33 @@ term e before after here comes stays =
 unfoldable pub in_first : (e : ℕ → ℕ → ℤ) (b j : ℕ) → ℤ
 in_first e b j = int_sum_below j (λ i. if i / 64 == b then e i j else pos 0)
 
-swap_tests : (s t : Bool) (e : ℤ) → (if s then (if t then e else pos 0) else pos 0) ≡ (if t then (if s then e else pos 0) else pos 0)
+swap_tests : (s t : Bool) (e : ℤ) → (if s then (if t then e else pos 0) else pos 0)
+    ≡ (if t then (if s then e else pos 0) else pos 0)
 swap_tests true true e = refl
 swap_tests true false e = refl
 swap_tests false true e = refl
 swap_tests false false e = refl
 
 -- these pairs by their places in the block
-first_places : (e : ℕ → ℕ → ℤ) (b j n : ℕ) → j ≤ n → in_first e b j ≡ int_sum_below (length_in b n) (λ t. if nat_lt (64 * b + t) j then e (64 * b + t) j else pos 0)
+first_places : (e : ℕ → ℕ → ℤ) (b j n : ℕ) → j ≤ n
+    → in_first e b j ≡ int_sum_below (length_in b n) (λ t. if nat_lt (64 * b + t) j then e (64 * b + t) j else pos 0)
 unfolding in_first
 first_places e b j n below =
     sym (int_sum_cut (λ i. if i / 64 == b then e i j else pos 0) j n below)
-    ∙ int_sum_same n (λ i. if nat_lt i j then (if i / 64 == b then e i j else pos 0) else pos 0) (λ i. if i / 64 == b then (if nat_lt i j then e i j else pos 0) else pos 0)
+    ∙ int_sum_same n (λ i. if nat_lt i j then (if i / 64 == b then e i j else pos 0) else pos 0)
+    (λ i. if i / 64 == b then (if nat_lt i j then e i j else pos 0) else pos 0)
     (λ i h. swap_tests (nat_lt i j) (i / 64 == b) (e i j))
     ∙ int_block_sum (λ i. if nat_lt i j then e i j else pos 0) b n
 
 -- the pairs of two blocks, by their places in these
 pub block_pairs : (e : ℕ → ℕ → ℤ) (bi bj n : ℕ) → int_sum_below n (λ j. if j / 64 == bj then in_first e bi j else pos 0)
-    ≡ int_sum_below (length_in bj n) (λ s. int_sum_below (length_in bi n) (λ t. if nat_lt (64 * bi + t) (64 * bj + s) then e (64 * bi + t) (64 * bj + s) else pos 0))
+    ≡ int_sum_below (length_in bj n) (λ s. int_sum_below (length_in bi n)
+    (λ t. if nat_lt (64 * bi + t) (64 * bj + s) then e (64 * bi + t) (64 * bj + s) else pos 0))
 block_pairs e bi bj n =
     int_block_sum (in_first e bi) bj n
     ∙ int_sum_same (length_in bj n) (λ s. in_first e bi (64 * bj + s))
-    (λ s. int_sum_below (length_in bi n) (λ t. if nat_lt (64 * bi + t) (64 * bj + s) then e (64 * bi + t) (64 * bj + s) else pos 0))
+    (λ s. int_sum_below (length_in bi n) (λ t. if nat_lt (64 * bi + t) (64 * bj + s)
+    then e (64 * bi + t) (64 * bj + s) else pos 0))
     (λ s h. let within : 64 * bj + s < n = atom_within n bj s h in first_places e bi (64 * bj + s) n (omega arith))
 
 module _ (e : ℕ → ℕ → ℤ) (bi bj n : ℕ) (before after : ℕ → ℕ → Bool)
@@ -74,7 +82,8 @@ module _ (e : ℕ → ℕ → ℤ) (bi bj n : ℕ) (before after : ℕ → ℕ �
   row_in : (j : ℕ) → j < n → j / 64 ≡ bj → so_far after j ≡ so_far before j +ℤ in_first e bi j
   unfolding so_far in_first
   row_in j h second =
-      int_sum_same j (λ i. if after i j then pos 0 else e i j) (λ i. (if before i j then pos 0 else e i j) +ℤ (if i / 64 == bi then e i j else pos 0))
+      int_sum_same j (λ i. if after i j then pos 0 else e i j)
+      (λ i. (if before i j then pos 0 else e i j) +ℤ (if i / 64 == bi then e i j else pos 0))
       (λ i below. term (e i j) (before i j) (after i j) (i / 64 == bi)
       (λ t. comes i j below h (eqb-true (i / 64) bi t) second) (λ f. first_stays i j below h (eqb-false (i / 64) bi f)))
       ∙ int_sum_plus j (λ i. if before i j then pos 0 else e i j) (λ i. if i / 64 == bi then e i j else pos 0)
@@ -93,12 +102,14 @@ module _ (e : ℕ → ℕ → ℤ) (bi bj n : ℕ) (before after : ℕ → ℕ �
             row_in j h same ∙ sym (ap (λ (b : Bool). so_far before j +ℤ (if b then in_first e bi j else pos 0)) t)
         | inr other ↦
             let f : (j / 64 == bj) ≡ false = grind (arith, nat_tests) in
-            row_out j h other ∙ sym (ap (λ (b : Bool). so_far before j +ℤ (if b then in_first e bi j else pos 0)) f ∙ +ℤ_idr (so_far before j))
+            row_out j h other ∙ sym (ap (λ (b : Bool). so_far before j +ℤ (if b then in_first e bi j else pos 0)) f
+            ∙ +ℤ_idr (so_far before j))
       ]
 
   rows : int_sum_below n (so_far after)
       ≡ int_sum_below n (so_far before)
-      +ℤ int_sum_below (length_in bj n) (λ s. int_sum_below (length_in bi n) (λ t. if nat_lt (64 * bi + t) (64 * bj + s) then e (64 * bi + t) (64 * bj + s) else pos 0))
+      +ℤ int_sum_below (length_in bj n) (λ s. int_sum_below (length_in bi n)
+      (λ t. if nat_lt (64 * bi + t) (64 * bj + s) then e (64 * bi + t) (64 * bj + s) else pos 0))
   rows =
       int_sum_same n (so_far after) (λ j. so_far before j +ℤ (if j / 64 == bj then in_first e bi j else pos 0)) row
       ∙ int_sum_plus n (so_far before) (λ j. if j / 64 == bj then in_first e bi j else pos 0)
@@ -108,24 +119,40 @@ module _ (e : ℕ → ℕ → ℤ) (bi bj n : ℕ) (before after : ℕ → ℕ �
 unfoldable pub block_energy : Units → List Place → ℕ → ℕ → ℤ
 block_energy u frame bi bj =
     int_sum_below (length_in bj (length frame)) (λ s. int_sum_below (length_in bi (length frame))
-    (λ t. if nat_lt (64 * bi + t) (64 * bj + s) then energy u (place_at frame (64 * bi + t)) (place_at frame (64 * bj + s)) else pos 0))
+    (λ t. if nat_lt (64 * bi + t) (64 * bj + s) then energy u (place_at frame (64 * bi + t))
+    (place_at frame (64 * bj + s)) else pos 0))
 
 -- the value of the energy task of two blocks
-pub energy_task_is : (u : Units) (frame : List Place) (work : Work) → work.units ≡ u → work.a ≡ block frame work.name.bi → work.b ≡ block frame work.name.bj
+pub energy_task_is : (u : Units) (frame : List Place) (work : Work) → work.units ≡ u → work.a ≡ block frame work.name.bi
+    → work.b ≡ block frame work.name.bj
     → task_energy work ≡ block_energy u frame work.name.bi work.name.bj
 unfolding task_energy block_energy
 energy_task_is u frame work units a b =
-    ap (λ m. int_sum_below m (λ s. int_sum_below (length work.a) (λ t. chosen_energy work.units (nat_lt (64 * work.name.bi + t) (64 * work.name.bj + s)) (place_at work.a t) (place_at work.b s)))) second
-    ∙ int_sum_same (length_in work.name.bj (length frame)) (λ s. int_sum_below (length work.a) (λ t. chosen_energy work.units (nat_lt (64 * work.name.bi + t) (64 * work.name.bj + s)) (place_at work.a t) (place_at work.b s)))
-    (λ s. int_sum_below (length_in work.name.bi (length frame)) (λ t. chosen_energy u (nat_lt (64 * work.name.bi + t) (64 * work.name.bj + s)) (place_at frame (64 * work.name.bi + t)) (place_at frame (64 * work.name.bj + s))))
+    ap (λ m. int_sum_below m (λ s. int_sum_below (length work.a)
+    (λ t. chosen_energy work.units (nat_lt (64 * work.name.bi + t) (64 * work.name.bj + s)) (place_at work.a t)
+    (place_at work.b s)))) second
+    ∙ int_sum_same (length_in work.name.bj (length frame))
+    (λ s. int_sum_below (length work.a) (λ t. chosen_energy work.units
+    (nat_lt (64 * work.name.bi + t) (64 * work.name.bj + s)) (place_at work.a t) (place_at work.b s)))
+    (λ s. int_sum_below (length_in work.name.bi (length frame))
+    (λ t. chosen_energy u (nat_lt (64 * work.name.bi + t) (64 * work.name.bj + s))
+    (place_at frame (64 * work.name.bi + t)) (place_at frame (64 * work.name.bj + s))))
     (λ s h.
-    ap (λ m. int_sum_below m (λ t. chosen_energy work.units (nat_lt (64 * work.name.bi + t) (64 * work.name.bj + s)) (place_at work.a t) (place_at work.b s))) first
-    ∙ int_sum_same (length_in work.name.bi (length frame)) (λ t. chosen_energy work.units (nat_lt (64 * work.name.bi + t) (64 * work.name.bj + s)) (place_at work.a t) (place_at work.b s))
-    (λ t. chosen_energy u (nat_lt (64 * work.name.bi + t) (64 * work.name.bj + s)) (place_at frame (64 * work.name.bi + t)) (place_at frame (64 * work.name.bj + s)))
+    ap (λ m. int_sum_below m (λ t. chosen_energy work.units (nat_lt (64 * work.name.bi + t) (64 * work.name.bj + s))
+    (place_at work.a t) (place_at work.b s))) first
+    ∙ int_sum_same (length_in work.name.bi (length frame))
+    (λ t. chosen_energy work.units (nat_lt (64 * work.name.bi + t) (64 * work.name.bj + s))
+    (place_at work.a t) (place_at work.b s))
+    (λ t. chosen_energy u (nat_lt (64 * work.name.bi + t) (64 * work.name.bj + s))
+    (place_at frame (64 * work.name.bi + t)) (place_at frame (64 * work.name.bj + s)))
     (λ t k.
-    ap (λ w. chosen_energy w (nat_lt (64 * work.name.bi + t) (64 * work.name.bj + s)) (place_at work.a t) (place_at work.b s)) units
-    ∙ ap (λ p. chosen_energy u (nat_lt (64 * work.name.bi + t) (64 * work.name.bj + s)) p (place_at work.b s)) (ap (λ places. place_at places t) a ∙ block_place frame work.name.bi t k)
-    ∙ ap (λ q. chosen_energy u (nat_lt (64 * work.name.bi + t) (64 * work.name.bj + s)) (place_at frame (64 * work.name.bi + t)) q) (ap (λ places. place_at places s) b ∙ block_place frame work.name.bj s h)))
+    ap (λ w. chosen_energy w (nat_lt (64 * work.name.bi + t) (64 * work.name.bj + s))
+    (place_at work.a t) (place_at work.b s)) units
+    ∙ ap (λ p. chosen_energy u (nat_lt (64 * work.name.bi + t) (64 * work.name.bj + s)) p (place_at work.b s))
+    (ap (λ places. place_at places t) a ∙ block_place frame work.name.bi t k)
+    ∙ ap (λ q. chosen_energy u (nat_lt (64 * work.name.bi + t) (64 * work.name.bj + s))
+    (place_at frame (64 * work.name.bi + t)) q)
+    (ap (λ places. place_at places s) b ∙ block_place frame work.name.bj s h)))
   where
     first : length work.a ≡ length_in work.name.bi (length frame)
     first = ap length a ∙ block_length frame work.name.bi
@@ -136,24 +163,31 @@ energy_task_is u frame work units a b =
 module _ (u : Units) (frame : List Place) (flags : List Bool) (bi bj : ℕ) (few : length frame ≤ 4096) (second : bj < 64)
     (within : tile_number bi bj < length flags) (awaited : slice_index_or flags (tile_number bi bj) false ≡ true) where
   -- an energy tile that comes in adds its sum
-  pub energy_more : energy_so_far u frame (slice_set flags (tile_number bi bj) false) ≡ energy_so_far u frame flags +ℤ block_energy u frame bi bj
+  pub energy_more : energy_so_far u frame (slice_set flags (tile_number bi bj) false)
+      ≡ energy_so_far u frame flags +ℤ block_energy u frame bi bj
   unfolding energy_so_far block_energy so_far pair
   energy_more =
-      rows (pair u frame) bi bj (length frame) (pair_awaited flags) (pair_awaited (slice_set flags (tile_number bi bj) false))
+      rows (pair u frame) bi bj (length frame) (pair_awaited flags)
+      (pair_awaited (slice_set flags (tile_number bi bj) false))
       (λ i j h k ei ej. (flag_before flags bi bj i j ei ej awaited, flag_in flags bi bj i j ei ej within))
       (λ i j h k other. let small : j < 4096 = omega arith in flag_first_other flags bi bj i j other small second)
       (λ i j h k other. let small : j < 4096 = omega arith in flag_second_other flags bi bj i j other small second)
 
 -- a whole step has the energies of all pairs
-pub energy_whole : (u : Units) (frame : List Place) (flags : List Bool) → count_by (λ awaited. awaited) flags ≡ 0 → energy_so_far u frame flags ≡ potential u frame
+pub energy_whole : (u : Units) (frame : List Place) (flags : List Bool) → count_by (λ awaited. awaited) flags ≡ 0
+    → energy_so_far u frame flags ≡ potential u frame
 unfolding energy_so_far
 energy_whole u frame flags whole =
-    int_sum_same (length frame) (λ j. int_sum_below j (λ i. energy_so_far_of u frame flags i j)) (λ j. int_sum_below j (λ i. energy u (place_at frame i) (place_at frame j)))
-    (λ j h. int_sum_same j (λ i. energy_so_far_of u frame flags i j) (λ i. energy u (place_at frame i) (place_at frame j))
-    (λ i k. ap (λ (b : Bool). if b then pos 0 else energy u (place_at frame i) (place_at frame j)) (none_left flags (tile_number (i / 64) (j / 64)) whole)))
+    int_sum_same (length frame) (λ j. int_sum_below j (λ i. energy_so_far_of u frame flags i j))
+    (λ j. int_sum_below j (λ i. energy u (place_at frame i) (place_at frame j)))
+    (λ j h. int_sum_same j (λ i. energy_so_far_of u frame flags i j)
+    (λ i. energy u (place_at frame i) (place_at frame j))
+    (λ i k. ap (λ (b : Bool). if b then pos 0 else energy u (place_at frame i) (place_at frame j))
+    (none_left flags (tile_number (i / 64) (j / 64)) whole)))
 
 -- a step with all pairs awaited has none
-pub energy_none : (u : Units) (frame : List Place) (flags : List Bool) → ((i j : ℕ) → i < j → j < length frame → pair_awaited flags i j ≡ true) → energy_so_far u frame flags ≡ pos 0
+pub energy_none : (u : Units) (frame : List Place) (flags : List Bool)
+    → ((i j : ℕ) → i < j → j < length frame → pair_awaited flags i j ≡ true) → energy_so_far u frame flags ≡ pos 0
 unfolding energy_so_far
 energy_none u frame flags all =
     int_sum_none (length frame) (λ j. int_sum_below j (λ i. energy_so_far_of u frame flags i j))

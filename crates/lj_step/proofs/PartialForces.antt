@@ -1,5 +1,7 @@
 -- The pushes of the tiles that are in.
-use Rattle.std.proofs.Common.{ℕ, ◌+◌, ◌*◌, ◌/◌, ◌%◌, ◌^◌, ◌<◌, ◌≤◌, ◌≡◌, ◌≢◌, ◌==◌, Bool, true, false, not, List, length, slice_index_or, slice_set, count_by, if◌then◌else◌, inl, inr, refl, sym, ap, ◌∙◌, zero-add, add-zero, arith}
+use Rattle.std.proofs.Common.{ℕ, ◌+◌, ◌*◌, ◌/◌, ◌%◌, ◌^◌, ◌<◌, ◌≤◌, ◌≡◌, ◌≢◌, ◌==◌, Bool, true, false, not, List}
+use Rattle.std.proofs.Common.{length, slice_index_or, slice_set, count_by, if◌then◌else◌, inl, inr, refl, sym, ap, ◌∙◌}
+use Rattle.std.proofs.Common.{zero-add, add-zero, arith}
 use Rattle.std.proofs.lemmas.Bool.{cases_eq, cases_Bool, eqb-true, eqb-false}
 use Rattle.std.proofs.lemmas.Bool.Decides.{nat_tests}
 use Rattle.lj_ring.specs.declared.coordinates.Place.{Place}
@@ -20,7 +22,8 @@ use Rattle.lj_step.proofs.Flags.{flag_in, flag_before, flag_first_other, flag_se
 
 -- what a tile that comes in adds, along one axis
 module _ (axis : Push → ℕ) (none : axis no_push ≡ 0) where
-  term : (p : Push) (before after here : Bool) → (here ≡ true → (before ≡ true) × (after ≡ false)) → (here ≡ false → after ≡ before)
+  term : (p : Push) (before after here : Bool) → (here ≡ true → (before ≡ true) × (after ≡ false))
+      → (here ≡ false → after ≡ before)
       → axis (if after then no_push else p) ≡ axis (if before then no_push else p) + (if here then axis p else 0)
   term p before after here comes stays =
       elim (cases_Bool here) [
@@ -37,12 +40,16 @@ module _ (axis : Push → ℕ) (none : axis no_push ≡ 0) where
       ]
 
   more_on_axis : (n b : ℕ) (g : ℕ → Push) (before after : ℕ → Bool)
-      → ((j : ℕ) → j < n → j / 64 ≡ b → (before j ≡ true) × (after j ≡ false)) → ((j : ℕ) → j < n → j / 64 ≢ b → after j ≡ before j)
+      → ((j : ℕ) → j < n → j / 64 ≡ b → (before j ≡ true) × (after j ≡ false))
+      → ((j : ℕ) → j < n → j / 64 ≢ b → after j ≡ before j)
       → sum_below n (λ j. axis (if after j then no_push else g j))
-      ≡ sum_below n (λ j. axis (if before j then no_push else g j)) + sum_below (length_in b n) (λ s. axis (g (64 * b + s)))
+      ≡ sum_below n (λ j. axis (if before j then no_push else g j)) + sum_below
+      (length_in b n) (λ s. axis (g (64 * b + s)))
   more_on_axis n b g before after comes stays =
-      sum_same n (λ j. axis (if after j then no_push else g j)) (λ j. axis (if before j then no_push else g j) + (if j / 64 == b then axis (g j) else 0))
-      (λ j h. term (g j) (before j) (after j) (j / 64 == b) (λ t. comes j h (eqb-true (j / 64) b t)) (λ f. stays j h (eqb-false (j / 64) b f)))
+      sum_same n (λ j. axis (if after j then no_push else g j))
+      (λ j. axis (if before j then no_push else g j) + (if j / 64 == b then axis (g j) else 0))
+      (λ j h. term (g j) (before j) (after j) (j / 64 == b) (λ t. comes j h (eqb-true (j / 64) b t))
+      (λ f. stays j h (eqb-false (j / 64) b f)))
       ∙ sum_plus n (λ j. axis (if before j then no_push else g j)) (λ j. if j / 64 == b then axis (g j) else 0)
       ∙ ap (λ s. sum_below n (λ j. axis (if before j then no_push else g j)) + s) (block_sum (λ j. axis (g j)) b n)
 
@@ -50,15 +57,20 @@ module _ (axis : Push → ℕ) (none : axis no_push ≡ 0) where
   parts a b = omega arith
 
   more_on_ring : (n b : ℕ) (g : ℕ → Push) (before after : ℕ → Bool)
-      → ((j : ℕ) → j < n → j / 64 ≡ b → (before j ≡ true) × (after j ≡ false)) → ((j : ℕ) → j < n → j / 64 ≢ b → after j ≡ before j)
+      → ((j : ℕ) → j < n → j / 64 ≡ b → (before j ≡ true) × (after j ≡ false))
+      → ((j : ℕ) → j < n → j / 64 ≢ b → after j ≡ before j)
       → ring_sum n (λ j. axis (if after j then no_push else g j))
-      ≡ (ring_sum n (λ j. axis (if before j then no_push else g j)) + ring_sum (length_in b n) (λ s. axis (g (64 * b + s)))) % 2 ^ 32
+      ≡ (ring_sum n (λ j. axis (if before j then no_push else g j)) + ring_sum (length_in b n)
+      (λ s. axis (g (64 * b + s)))) % 2 ^ 32
   more_on_ring n b g before after comes stays =
       ap (λ s. s % 2 ^ 32) (more_on_axis n b g before after comes stays)
-      ∙ parts (sum_below n (λ j. axis (if before j then no_push else g j))) (sum_below (length_in b n) (λ s. axis (g (64 * b + s))))
+      ∙ parts (sum_below n (λ j. axis (if before j then no_push else g j)))
+      (sum_below (length_in b n) (λ s. axis (g (64 * b + s))))
 
-  same_on_ring : (n : ℕ) (g h : ℕ → Push) → ((j : ℕ) → j < n → g j ≡ h j) → ring_sum n (λ j. axis (g j)) ≡ ring_sum n (λ j. axis (h j))
-  same_on_ring n g h same = ap (λ s. s % 2 ^ 32) (sum_same n (λ j. axis (g j)) (λ j. axis (h j)) (λ j below. ap axis (same j below)))
+  same_on_ring : (n : ℕ) (g h : ℕ → Push) → ((j : ℕ) → j < n → g j ≡ h j)
+      → ring_sum n (λ j. axis (g j)) ≡ ring_sum n (λ j. axis (h j))
+  same_on_ring n g h same =
+      ap (λ s. s % 2 ^ 32) (sum_same n (λ j. axis (g j)) (λ j. axis (h j)) (λ j below. ap axis (same j below)))
 
 -- the sum on the ring of the pushes on atom i of the atoms of one block
 unfoldable pub block_force : Units → List Place → ℕ → ℕ → Push
@@ -68,7 +80,8 @@ block_force u frame i b = record {
   z = ring_sum (length_in b (length frame)) (λ s. (push_of u frame i (64 * b + s)).z);
 }
 
-pub chosen_is : (u : Units) (frame : List Place) (i j : ℕ) → chosen_push u (not (i == j)) (place_at frame i) (place_at frame j) ≡ push_of u frame i j
+pub chosen_is : (u : Units) (frame : List Place) (i j : ℕ)
+    → chosen_push u (not (i == j)) (place_at frame i) (place_at frame j) ≡ push_of u frame i j
 chosen_is u frame i j =
     elim (cases_eq j i) [
       | inl same ↦
@@ -84,11 +97,14 @@ chosen_is u frame i j =
     ]
 
 -- the value of the force task of two blocks
-pub task_is : (u : Units) (frame : List Place) (work : Work) (t : ℕ) → work.units ≡ u → work.a ≡ block frame work.name.bi → work.b ≡ block frame work.name.bj
-    → t < length_in work.name.bi (length frame) → task_force work t ≡ block_force u frame (64 * work.name.bi + t) work.name.bj
+pub task_is : (u : Units) (frame : List Place) (work : Work) (t : ℕ) → work.units ≡ u
+    → work.a ≡ block frame work.name.bi → work.b ≡ block frame work.name.bj
+    → t < length_in work.name.bi (length frame) → task_force work t
+    ≡ block_force u frame (64 * work.name.bi + t) work.name.bj
 unfolding push_sum block_force
 task_is u frame work t units a b within =
-    same_push (task_force work t) (block_force u frame i work.name.bj) (along (λ p. p.x) refl) (along (λ p. p.y) refl) (along (λ p. p.z) refl)
+    same_push (task_force work t) (block_force u frame i work.name.bj) (along (λ p. p.x) refl)
+    (along (λ p. p.y) refl) (along (λ p. p.z) refl)
   where
     i : ℕ
     i = 64 * work.name.bi + t
@@ -97,40 +113,51 @@ task_is u frame work t units a b within =
     here = ap (λ places. place_at places t) a ∙ block_place frame work.name.bi t within
 
     along : (axis : Push → ℕ) → axis no_push ≡ 0
-        → ring_sum (length work.b) (λ s. axis (chosen_push work.units (not (64 * work.name.bi + t == 64 * work.name.bj + s)) (place_at work.a t) (place_at work.b s)))
-        ≡ ring_sum (length_in work.name.bj (length frame)) (λ s. axis (push_of u frame (64 * work.name.bi + t) (64 * work.name.bj + s)))
+        → ring_sum (length work.b) (λ s. axis (chosen_push work.units
+        (not (64 * work.name.bi + t == 64 * work.name.bj + s)) (place_at work.a t) (place_at work.b s)))
+        ≡ ring_sum (length_in work.name.bj (length frame))
+        (λ s. axis (push_of u frame (64 * work.name.bi + t) (64 * work.name.bj + s)))
     along axis none =
-        ap (λ m. ring_sum m (λ s. axis (chosen_push work.units (not (64 * work.name.bi + t == 64 * work.name.bj + s)) (place_at work.a t) (place_at work.b s))))
+        ap (λ m. ring_sum m (λ s. axis (chosen_push work.units (not (64 * work.name.bi + t == 64 * work.name.bj + s))
+        (place_at work.a t) (place_at work.b s))))
         (ap length b ∙ block_length frame work.name.bj)
         ∙ same_on_ring axis none (length_in work.name.bj (length frame))
-        (λ s. chosen_push work.units (not (64 * work.name.bi + t == 64 * work.name.bj + s)) (place_at work.a t) (place_at work.b s))
+        (λ s. chosen_push work.units (not (64 * work.name.bi + t == 64 * work.name.bj + s))
+        (place_at work.a t) (place_at work.b s))
         (λ s. push_of u frame (64 * work.name.bi + t) (64 * work.name.bj + s))
         (λ s below.
-        ap (λ w. chosen_push w (not (64 * work.name.bi + t == 64 * work.name.bj + s)) (place_at work.a t) (place_at work.b s)) units
+        ap (λ w. chosen_push w (not (64 * work.name.bi + t == 64 * work.name.bj + s))
+        (place_at work.a t) (place_at work.b s)) units
         ∙ ap (λ p. chosen_push u (not (64 * work.name.bi + t == 64 * work.name.bj + s)) p (place_at work.b s)) here
-        ∙ ap (λ q. chosen_push u (not (64 * work.name.bi + t == 64 * work.name.bj + s)) (place_at frame (64 * work.name.bi + t)) q)
+        ∙ ap (λ q. chosen_push u (not (64 * work.name.bi + t == 64 * work.name.bj + s))
+        (place_at frame (64 * work.name.bi + t)) q)
         (ap (λ places. place_at places s) b ∙ block_place frame work.name.bj s below)
         ∙ chosen_is u frame (64 * work.name.bi + t) (64 * work.name.bj + s))
 
 module _ (u : Units) (frame : List Place) (flags : List Bool) (bi bj : ℕ) (few : length frame ≤ 4096) (second : bj < 64)
     (within : tile_number bi bj < length flags) (awaited : slice_index_or flags (tile_number bi bj) false ≡ true) where
   -- an atom of the first block gets the sums of the tile
-  pub force_more : (i : ℕ) → i / 64 ≡ bi → force_so_far u frame (slice_set flags (tile_number bi bj) false) i ≡ plus (force_so_far u frame flags i) (block_force u frame i bj)
+  pub force_more : (i : ℕ) → i / 64 ≡ bi → force_so_far u frame (slice_set flags (tile_number bi bj) false) i
+      ≡ plus (force_so_far u frame flags i) (block_force u frame i bj)
   unfolding force_so_far block_force
   force_more i first =
-      same_push (force_so_far u frame (slice_set flags (tile_number bi bj) false) i) (plus (force_so_far u frame flags i) (block_force u frame i bj))
+      same_push (force_so_far u frame (slice_set flags (tile_number bi bj) false) i)
+      (plus (force_so_far u frame flags i) (block_force u frame i bj))
       (along (λ p. p.x) refl) (along (λ p. p.y) refl) (along (λ p. p.z) refl)
     where
       along : (axis : Push → ℕ) → axis no_push ≡ 0
           → ring_sum (length frame) (λ j. axis (push_so_far u frame (slice_set flags (tile_number bi bj) false) i j))
-          ≡ (ring_sum (length frame) (λ j. axis (push_so_far u frame flags i j)) + ring_sum (length_in bj (length frame)) (λ s. axis (push_of u frame i (64 * bj + s)))) % 2 ^ 32
+          ≡ (ring_sum (length frame) (λ j. axis (push_so_far u frame flags i j))
+          + ring_sum (length_in bj (length frame)) (λ s. axis (push_of u frame i (64 * bj + s)))) % 2 ^ 32
       along axis none =
-          more_on_ring axis none (length frame) bj (push_of u frame i) (pair_awaited flags i) (pair_awaited (slice_set flags (tile_number bi bj) false) i)
+          more_on_ring axis none (length frame) bj (push_of u frame i) (pair_awaited flags i)
+          (pair_awaited (slice_set flags (tile_number bi bj) false) i)
           (λ j h e. (flag_before flags bi bj i j first e awaited, flag_in flags bi bj i j first e within))
           (λ j h e. let small : j < 4096 = omega arith in flag_second_other flags bi bj i j e small second)
 
   -- another atom keeps its sums
-  pub force_same : (i : ℕ) → i / 64 ≢ bi → force_so_far u frame (slice_set flags (tile_number bi bj) false) i ≡ force_so_far u frame flags i
+  pub force_same : (i : ℕ) → i / 64 ≢ bi → force_so_far u frame (slice_set flags (tile_number bi bj) false) i
+      ≡ force_so_far u frame flags i
   unfolding force_so_far
   force_same i other =
       same_push (force_so_far u frame (slice_set flags (tile_number bi bj) false) i) (force_so_far u frame flags i)
@@ -140,28 +167,38 @@ module _ (u : Units) (frame : List Place) (flags : List Bool) (bi bj : ℕ) (few
           → ring_sum (length frame) (λ j. axis (push_so_far u frame (slice_set flags (tile_number bi bj) false) i j))
           ≡ ring_sum (length frame) (λ j. axis (push_so_far u frame flags i j))
       along axis none =
-          same_on_ring axis none (length frame) (push_so_far u frame (slice_set flags (tile_number bi bj) false) i) (push_so_far u frame flags i)
-          (λ j h. let small : j < 4096 = omega arith in ap (λ (b : Bool). if b then no_push else push_of u frame i j) (flag_first_other flags bi bj i j other small second))
+          same_on_ring axis none (length frame) (push_so_far u frame (slice_set flags (tile_number bi bj) false) i)
+          (push_so_far u frame flags i)
+          (λ j h. let small : j < 4096 = omega arith in ap (λ (b : Bool). if b then no_push else push_of u frame i j)
+          (flag_first_other flags bi bj i j other small second))
 
 -- a whole step has all pushes
-pub force_whole : (u : Units) (frame : List Place) (flags : List Bool) (i : ℕ) → count_by (λ awaited. awaited) flags ≡ 0 → force_so_far u frame flags i ≡ force u frame i
+pub force_whole : (u : Units) (frame : List Place) (flags : List Bool) (i : ℕ) → count_by (λ awaited. awaited) flags ≡ 0
+    → force_so_far u frame flags i ≡ force u frame i
 unfolding force_so_far force
 force_whole u frame flags i whole =
-    same_push (force_so_far u frame flags i) (force u frame i) (along (λ p. p.x) refl) (along (λ p. p.y) refl) (along (λ p. p.z) refl)
+    same_push (force_so_far u frame flags i) (force u frame i) (along (λ p. p.x) refl)
+    (along (λ p. p.y) refl) (along (λ p. p.z) refl)
   where
     along : (axis : Push → ℕ) → axis no_push ≡ 0
-        → ring_sum (length frame) (λ j. axis (push_so_far u frame flags i j)) ≡ ring_sum (length frame) (λ j. axis (push_of u frame i j))
+        → ring_sum (length frame) (λ j. axis (push_so_far u frame flags i j))
+        ≡ ring_sum (length frame) (λ j. axis (push_of u frame i j))
     along axis none =
         same_on_ring axis none (length frame) (push_so_far u frame flags i) (push_of u frame i)
-        (λ j h. ap (λ (b : Bool). if b then no_push else push_of u frame i j) (none_left flags (tile_number (i / 64) (j / 64)) whole))
+        (λ j h. ap (λ (b : Bool). if b then no_push else push_of u frame i j)
+        (none_left flags (tile_number (i / 64) (j / 64)) whole))
 
 -- a step with all pairs awaited has none
-pub force_none : (u : Units) (frame : List Place) (flags : List Bool) (i : ℕ) → ((j : ℕ) → j < length frame → pair_awaited flags i j ≡ true) → force_so_far u frame flags i ≡ no_push
+pub force_none : (u : Units) (frame : List Place) (flags : List Bool) (i : ℕ)
+    → ((j : ℕ) → j < length frame → pair_awaited flags i j ≡ true) → force_so_far u frame flags i ≡ no_push
 unfolding force_so_far
 force_none u frame flags i all =
-    same_push (force_so_far u frame flags i) no_push (along (λ p. p.x) refl) (along (λ p. p.y) refl) (along (λ p. p.z) refl)
+    same_push (force_so_far u frame flags i) no_push (along (λ p. p.x) refl)
+    (along (λ p. p.y) refl) (along (λ p. p.z) refl)
   where
-    along : (axis : Push → ℕ) → axis no_push ≡ 0 → ring_sum (length frame) (λ j. axis (push_so_far u frame flags i j)) ≡ 0
+    along : (axis : Push → ℕ) → axis no_push ≡ 0 → ring_sum (length frame)
+        (λ j. axis (push_so_far u frame flags i j)) ≡ 0
     along axis none =
         ring_sum_zero (length frame) (λ j. axis (push_so_far u frame flags i j))
-        (λ j h. ap (λ (b : Bool). axis (if b then no_push else push_of u frame i j) % 2 ^ 32) (all j h) ∙ ap (λ m. m % 2 ^ 32) none)
+        (λ j h. ap (λ (b : Bool). axis (if b then no_push else push_of u frame i j) % 2 ^ 32) (all j h)
+        ∙ ap (λ m. m % 2 ^ 32) none)

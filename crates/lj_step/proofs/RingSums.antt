@@ -17,7 +17,8 @@ pub sum_same : (n : ℕ) (f g : ℕ → ℕ) → ((k : ℕ) → k < n → f k �
 sum_same = same_terms ◌+◌ sum_below (λ f g. refl) (λ n f. refl)
 
 -- the same, of terms that are equal on the ring
-pub ring_sum_same : (n : ℕ) (f g : ℕ → ℕ) → ((k : ℕ) → k < n → f k % 2 ^ 32 ≡ g k % 2 ^ 32) → ring_sum n f ≡ ring_sum n g
+pub ring_sum_same : (n : ℕ) (f g : ℕ → ℕ) → ((k : ℕ) → k < n → f k % 2 ^ 32 ≡ g k % 2 ^ 32)
+    → ring_sum n f ≡ ring_sum n g
 ring_sum_same zero f g h = refl
 ring_sum_same (suc n) f g h =
     let front : sum_below n f % 2 ^ 32 ≡ sum_below n g % 2 ^ 32 = ring_sum_same n f g (λ k below. h k (omega arith)) in
@@ -52,14 +53,17 @@ module _ (g : ℕ → ℕ → ℕ) where
   parts_zero : (a b c d : ℕ) → a % 2 ^ 32 ≡ 0 → (b + c) % 2 ^ 32 ≡ 0 → d % 2 ^ 32 ≡ 0 → (a + b + (c + d)) % 2 ^ 32 ≡ 0
   parts_zero a b c d h k l = omega arith
 
-  pub square_zero : (n : ℕ) → ((i j : ℕ) → i < n → j < n → (g i j + g j i) % 2 ^ 32 ≡ 0) → ((i : ℕ) → i < n → g i i % 2 ^ 32 ≡ 0)
+  pub square_zero : (n : ℕ) → ((i j : ℕ) → i < n → j < n → (g i j + g j i) % 2 ^ 32 ≡ 0)
+      → ((i : ℕ) → i < n → g i i % 2 ^ 32 ≡ 0)
       → ring_sum n (λ i. sum_below n (g i)) ≡ 0
   unfolding square_sum
   square_zero zero opposite itself = refl
   square_zero (suc n) opposite itself =
-      let inner : square_sum n n % 2 ^ 32 ≡ 0 = square_zero n (λ i j p q. opposite i j (omega arith) (omega arith)) (λ i p. itself i (omega arith)) in
+      let inner : square_sum n n % 2 ^ 32 ≡ 0 =
+      square_zero n (λ i j p q. opposite i j (omega arith) (omega arith)) (λ i p. itself i (omega arith)) in
       let edges : (sum_below n (λ i. g i n) + sum_below n (g n)) % 2 ^ 32 ≡ 0 =
       ap (λ s. s % 2 ^ 32) (sym (sum_plus n (λ i. g i n) (g n)))
       ∙ ring_sum_zero n (λ i. g i n + g n i) (λ k below. opposite k n (omega arith) (omega arith)) in
       ap (λ s. (s + (sum_below n (g n) + g n n)) % 2 ^ 32) (one_column n n)
-      ∙ parts_zero (square_sum n n) (sum_below n (λ i. g i n)) (sum_below n (g n)) (g n n) inner edges (itself n (omega arith))
+      ∙ parts_zero (square_sum n n) (sum_below n (λ i. g i n)) (sum_below n (g n)) (g n n)
+      inner edges (itself n (omega arith))

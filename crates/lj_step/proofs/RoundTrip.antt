@@ -1,5 +1,6 @@
 -- A step whose tasks are taken in order, and the steps there and back.
-use Rattle.std.proofs.Common.{ℕ, ◌+◌, ◌*◌, ◌^◌, ◌<◌, ◌≤◌, ◌≡◌, ℤ, ◌+ℤ◌, ◌-ℤ◌, unsigned_abs, length, Option, Some, None, Result, Ok, Err, true≢false, refl, sym, ap, ◌∙◌, arith}
+use Rattle.std.proofs.Common.{ℕ, ◌+◌, ◌*◌, ◌^◌, ◌<◌, ◌≤◌, ◌≡◌, ℤ, ◌+ℤ◌, ◌-ℤ◌, unsigned_abs, length, Option, Some, None}
+use Rattle.std.proofs.Common.{Result, Ok, Err, true≢false, refl, sym, ap, ◌∙◌, arith}
 use Rattle.std.specs.Option.{IsSome}
 use Rattle.std.specs.Result.{IsOk, OnOk}
 use Rattle.std.proofs.lemmas.Int.{ints}
@@ -16,7 +17,8 @@ use Rattle.lj_step.proofs.TilesTaken.{none_past}
 use Rattle.lj_step.proofs.Undone.{undone}
 
 -- each tile of the cover has a task
-pub task_some : (live : Live) (label : Label) (kind : Kind) (i : ℕ) (o : Option Work) → AwaitsFrom kind (length live.sim.cur) i live.part → o ≡ task_at live label i
+pub task_some : (live : Live) (label : Label) (kind : Kind) (i : ℕ) (o : Option Work)
+    → AwaitsFrom kind (length live.sim.cur) i live.part → o ≡ task_at live label i
     → i < length (cover kind (length live.sim.cur)) → IsSome o
 task_some live label kind i None h e within = absurd (omega (arith, none_past live label kind i None h e refl))
 task_some live label kind i (Some work) h e within = refl
@@ -29,7 +31,8 @@ pub next_size : (s d : ℤ) (a k n : ℕ) → unsigned_abs s ≤ a + k → unsig
     → (unsigned_abs (s +ℤ d) ≤ a + (k + 1)) × (unsigned_abs (s +ℤ d) ≤ 10 ^ 12)
 next_size s d a k n most one fits below = (omega (arith, ints), omega (arith, ints))
 
-pub turned_size : (s d : ℤ) (a n : ℕ) → unsigned_abs s ≤ a + n → unsigned_abs d ≡ 1 → a + 2 * n < 10 ^ 12 → unsigned_abs (s -ℤ d) + n ≤ 10 ^ 12
+pub turned_size : (s d : ℤ) (a n : ℕ) → unsigned_abs s ≤ a + n → unsigned_abs d ≡ 1 → a + 2 * n < 10 ^ 12
+    → unsigned_abs (s -ℤ d) + n ≤ 10 ^ 12
 turned_size s d a n most one fits = omega (arith, ints)
 
 -- the simulations there, back and turned once more
@@ -39,9 +42,11 @@ pub back_again : (start there turned back end : Live) (n : ℕ) → IsWhole star
     → end ≡ closed start start.sim
 back_again start there turned back end n whole units motion turns back_units back_motion ends =
     let same_units : turned.units ≡ start.units = ap (λ (v : Live). v.units) turns ∙ units in
-    let turned_sim : turned.sim ≡ reversed (steps start.units n start.sim) = ap (λ (v : Live). v.sim) turns ∙ ap reversed motion in
+    let turned_sim : turned.sim ≡ reversed (steps start.units n start.sim) =
+    ap (λ (v : Live). v.sim) turns ∙ ap reversed motion in
     let same_sim : reversed back.sim ≡ start.sim =
-    ap reversed (back_motion ∙ ap (λ u. steps u n turned.sim) same_units ∙ ap (steps start.units n) turned_sim) ∙ undone start.units n start.sim whole in
+    ap reversed (back_motion ∙ ap (λ u. steps u n turned.sim) same_units ∙ ap (steps start.units n) turned_sim)
+    ∙ undone start.units n start.sim whole in
     ends ∙ ap (λ u. closed_in u (reversed back.sim)) (back_units ∙ same_units) ∙ ap (closed_in start.units) same_sim
   where
     closed_in : Units → Simulation → Live

@@ -1,5 +1,6 @@
 -- What stays of a simulation in the code where its open step changes.
-use Rattle.std.proofs.Common.{◌≡◌, ◌≤◌, ◌+◌, ◌*◌, ◌^◌, ◌+ℤ◌, ◌-ℤ◌, unsigned_abs, false, true, length, slice_index_or, slice_set, vec_capacity, Some, None, refl, sym, ap, ◌∙◌, subst}
+use Rattle.std.proofs.Common.{◌≡◌, ◌≤◌, ◌+◌, ◌*◌, ◌^◌, ◌+ℤ◌, ◌-ℤ◌, unsigned_abs, false, true, length, slice_index_or}
+use Rattle.std.proofs.Common.{slice_set, vec_capacity, Some, None, refl, sym, ap, ◌∙◌, subst}
 use Rattle.std.proofs.lemmas.List.{length-set}
 use Rattle.lj_tile.specs.declared.names.Label.{Label}
 use Rattle.lj_tile.specs.declared.names.Kind.{Kind}
@@ -17,7 +18,8 @@ use Rattle.lj_step.specs.Sums.{HasAdded, HasRoom, IsPartial}
 use Rattle.lj_step.proofs.Steps.{awaited_at, left_some, size_fits, partial_after}
 
 -- with another open step
-pub with_partial : (a : Inside) (p : Partial) → IsSound a → HasRoom (length a.cur.items) p → IsPartial a.scale a.cur.items p p.kind
+pub with_partial : (a : Inside) (p : Partial) → IsSound a → HasRoom (length a.cur.items) p
+    → IsPartial a.scale a.cur.items p p.kind
     → IsSound (record a { partial = p })
 with_partial a p sound room partial = record {
   same = sound.same;
@@ -32,8 +34,10 @@ with_partial a p sound room partial = record {
 }
 
 -- with the present frame as the one before, another one as the present, and no step open
-pub with_frames : (a b : Inside) → IsSound a → b.prev.items ≡ a.cur.items → length b.cur.items ≡ length a.cur.items → AreOnRing b.cur.items
-    → unsigned_abs b.step ≤ MAX_STEP → unsigned_abs (b.step -ℤ sign_of b.dir) ≤ MAX_STEP → b.partial ≡ record a.partial { kind = None } → IsSound b
+pub with_frames : (a b : Inside) → IsSound a → b.prev.items ≡ a.cur.items
+    → length b.cur.items ≡ length a.cur.items → AreOnRing b.cur.items
+    → unsigned_abs b.step ≤ MAX_STEP → unsigned_abs (b.step -ℤ sign_of b.dir) ≤ MAX_STEP
+    → b.partial ≡ record a.partial { kind = None } → IsSound b
 with_frames a b sound prev count cur step last partial =
     let room = subst (λ n. HasRoom n a.partial) (sym count) sound.room in
     record {
@@ -44,14 +48,18 @@ with_frames a b sound prev count cur step last partial =
       cur_on_ring = cur;
       step_bound = step;
       last_bound = last;
-      room = subst (HasRoom (length b.cur.items)) (sym partial) (record { pushes = room.pushes; awaited = room.awaited; tiles = room.tiles });
+      room = subst (HasRoom (length b.cur.items)) (sym partial)
+          (record { pushes = room.pushes; awaited = room.awaited; tiles = room.tiles });
       partial = subst (λ p. IsPartial b.scale b.cur.items p p.kind) (sym partial) tt;
     }
 
 -- with one result more, of a task that is awaited
-module _ (a : Inside) (now : Live) (label : Label) (asked work : Work) (sound : IsSound a) (view : live_of a ≡ now) (same : asked ≡ work)
+module _ (a : Inside) (now : Live) (label : Label) (asked work : Work) (sound : IsSound a)
+    (view : live_of a ≡ now) (same : asked ≡ work)
     (awaited : IsAwaitedTask now label asked) where
-  wanted : (kind : Kind) × (a.partial.kind ≡ Some kind) × (slice_index_or a.partial.awaited.items (tile_number_of work) false ≡ true) × (work ≡ task_of (live_of a) label kind (tile_number_of work))
+  wanted : (kind : Kind) × (a.partial.kind ≡ Some kind)
+      × (slice_index_or a.partial.awaited.items (tile_number_of work) false ≡ true)
+      × (work ≡ task_of (live_of a) label kind (tile_number_of work))
   wanted = awaited_at (live_of a) now label asked work a.partial.kind a.partial.awaited.items view refl same awaited
 
   pub sums_fit : (1 ≤ a.partial.left) × (unsigned_abs a.partial.energy + 2 ^ 63 ≤ 2 ^ 75)
@@ -60,9 +68,11 @@ module _ (a : Inside) (now : Live) (label : Label) (asked work : Work) (sound : 
     size_fits (live_of a) label work a.partial sound.most sound.room sound.partial wanted,
   )
 
-  pub with_result : (q : Partial) → q.kind ≡ a.partial.kind → q.tiles.items ≡ a.partial.tiles.items → vec_capacity q.tiles ≡ vec_capacity a.partial.tiles
+  pub with_result : (q : Partial) → q.kind ≡ a.partial.kind → q.tiles.items ≡ a.partial.tiles.items
+      → vec_capacity q.tiles ≡ vec_capacity a.partial.tiles
       → q.awaited.items ≡ slice_set a.partial.awaited.items (tile_number_of work) false → q.left + 1 ≡ a.partial.left
-      → HasAdded work a.partial.pushes.items q.pushes.items → (work.name.kind ≡ Energy → q.energy ≡ a.partial.energy +ℤ task_energy work)
+      → HasAdded work a.partial.pushes.items q.pushes.items
+      → (work.name.kind ≡ Energy → q.energy ≡ a.partial.energy +ℤ task_energy work)
       → unsigned_abs q.energy ≤ unsigned_abs a.partial.energy + 2 ^ 63 → IsSound (record a { partial = q })
   with_result q kind tiles capacity flags less added energy size =
       with_partial a q sound
@@ -71,4 +81,5 @@ module _ (a : Inside) (now : Live) (label : Label) (asked work : Work) (sound : 
         awaited = ap length flags ∙ simp length-set sound.room.awaited;
         tiles = subst (λ n. 64 * blocks (length a.cur.items) ≤ n) (sym capacity) sound.room.tiles;
       })
-      (partial_after (live_of a) label work a.partial sound.most sound.room sound.partial wanted q kind tiles flags less added energy size)
+      (partial_after (live_of a) label work a.partial sound.most sound.room sound.partial wanted q kind tiles
+      flags less added energy size)

@@ -1,7 +1,10 @@
 -- The tiles of a step are a cover.
-use Rattle.std.proofs.Common.{ℕ, zero, suc, ◌+◌, ◌*◌, ◌/◌, ◌%◌, ◌<◌, ◌≤◌, ◌≡◌, ◌≢◌, ◌==◌, ◌&&◌, Bool, true, false, not, nat_lt, cond, List, [], ◌∷◌, length, map, count_by, inl, inr, refl, sym, ap, ◌∙◌, zero-add, arith}
+use Rattle.std.proofs.Common.{ℕ, zero, suc, ◌+◌, ◌*◌, ◌/◌, ◌%◌, ◌<◌, ◌≤◌, ◌≡◌, ◌≢◌, ◌==◌, ◌&&◌, Bool, true, false, not}
+use Rattle.std.proofs.Common.{nat_lt, cond, List, [], ◌∷◌, length, map, count_by, inl, inr, refl, sym, ap, ◌∙◌}
+use Rattle.std.proofs.Common.{zero-add, arith}
 use Rattle.std.specs.List.{range_with_len, filter}
-use Rattle.std.proofs.lemmas.Bool.{cases_eq, eqb-true, eq-eqb, lt-ltb, and_parts, and_from, true≢false, false_from_ne_true}
+use Rattle.std.proofs.lemmas.Bool.{cases_eq, eqb-true, eq-eqb, lt-ltb, and_parts, and_from, true≢false}
+use Rattle.std.proofs.lemmas.Bool.{false_from_ne_true}
 use Rattle.std.proofs.lemmas.Bool.Decides.{nat_tests}
 use Rattle.std.proofs.lemmas.List.Sums.{sum_by-cons}
 use Rattle.lj_ring.specs.declared.coordinates.Place.{Place}
@@ -30,7 +33,8 @@ module _ (test : ℕ → Bool) where
       ∙ zero-add (counted (range_with_len (a + 1) n))
       ∙ counted_none (a + 1) n (λ k h. fails k (omega arith))
 
-  pub counted_one : (a n k : ℕ) → a ≤ k → k < a + n → test k ≡ true → ((m : ℕ) → m ≢ k → test m ≡ false) → count_by test (range_with_len a n) ≡ 1
+  pub counted_one : (a n k : ℕ) → a ≤ k → k < a + n → test k ≡ true → ((m : ℕ) → m ≢ k → test m ≡ false)
+      → count_by test (range_with_len a n) ≡ 1
   unfolding counted
   counted_one a zero k from below passes others = absurd (omega arith)
   counted_one a (suc n) k from below passes others =
@@ -51,22 +55,26 @@ module _ (test : ℕ → Bool) where
   counted_never n fails = counted_none 0 n (λ k h. fails k)
 
 -- the tiles of a cover that have a pair
-pub times_is : (kind : Kind) (p : ℕ → Bool) (i j : ℕ) (xs : List ℕ) → times i j (map (tile_of kind) (filter p xs)) ≡ count_by (λ k. p k && tile_of kind k i j) xs
+pub times_is : (kind : Kind) (p : ℕ → Bool) (i j : ℕ) (xs : List ℕ)
+    → times i j (map (tile_of kind) (filter p xs)) ≡ count_by (λ k. p k && tile_of kind k i j) xs
 times_is kind p i j [] = refl
 times_is kind p i j (x ∷ xs) =
     first (p x) (times_is kind p i j xs)
     ∙ sym (sum_by-cons (λ k. cond (p k && tile_of kind k i j) 1 0) x xs)
   where
     first : (b : Bool) → times i j (map (tile_of kind) (filter p xs)) ≡ count_by (λ k. p k && tile_of kind k i j) xs
-        → times i j (map (tile_of kind) (cond b (x ∷ filter p xs) (filter p xs))) ≡ cond (b && tile_of kind x i j) 1 0 + count_by (λ k. p k && tile_of kind k i j) xs
-    first true rest = sum_by-cons (λ (t : Tile). cond (t i j) 1 0) (tile_of kind x) (map (tile_of kind) (filter p xs)) ∙ ap (λ m. cond (tile_of kind x i j) 1 0 + m) rest
+        → times i j (map (tile_of kind) (cond b (x ∷ filter p xs) (filter p xs)))
+        ≡ cond (b && tile_of kind x i j) 1 0 + count_by (λ k. p k && tile_of kind k i j) xs
+    first true rest = sum_by-cons (λ (t : Tile). cond (t i j) 1 0) (tile_of kind x) (map (tile_of kind) (filter p xs))
+        ∙ ap (λ m. cond (tile_of kind x i j) 1 0 + m) rest
     first false rest = rest ∙ sym (zero-add (count_by (λ k. p k && tile_of kind k i j) xs))
 
 number_is : (k i j : ℕ) → i / 64 ≡ k / 64 → j / 64 ≡ k % 64 → k ≡ tile_number (i / 64) (j / 64)
 number_is k i j first second = omega arith
 
 -- a pair of different atoms lies in the force tile of their blocks, and in no other
-force_others : (count i j k : ℕ) → k ≢ tile_number (i / 64) (j / 64) → (is_tile Force count k && tile_of Force k i j) ≡ false
+force_others : (count i j k : ℕ) → k ≢ tile_number (i / 64) (j / 64)
+    → (is_tile Force count k && tile_of Force k i j) ≡ false
 force_others count i j k other =
     false_from_ne_true (is_tile Force count k && tile_of Force k i j)
     (λ both.
@@ -84,9 +92,11 @@ force_here count i j hi hj few other =
     let parts = parts_of count i j hj few in
     and_from (is_tile Force count (tile_number (i / 64) (j / 64))) (tile_of Force (tile_number (i / 64) (j / 64)) i j)
     (tile_passes Force count (tile_number (i / 64) (j / 64)) (rw parts.1 (block_below count j hj)) refl)
-    (and_from (i / 64 == tile_number (i / 64) (j / 64) / 64 && j / 64 == tile_number (i / 64) (j / 64) % 64) (not (i == j))
+    (and_from (i / 64 == tile_number (i / 64) (j / 64) / 64 && j / 64 == tile_number (i / 64) (j / 64) % 64)
+    (not (i == j))
     (and_from (i / 64 == tile_number (i / 64) (j / 64) / 64) (j / 64 == tile_number (i / 64) (j / 64) % 64)
-    (eq-eqb (i / 64) (tile_number (i / 64) (j / 64) / 64) (sym parts.0)) (eq-eqb (j / 64) (tile_number (i / 64) (j / 64) % 64) (sym parts.1)))
+    (eq-eqb (i / 64) (tile_number (i / 64) (j / 64) / 64) (sym parts.0))
+    (eq-eqb (j / 64) (tile_number (i / 64) (j / 64) % 64) (sym parts.1)))
     (apart_is i j other))
 
 force_itself : (count i k : ℕ) → (is_tile Force count k && tile_of Force k i i) ≡ false
@@ -98,24 +108,29 @@ force_itself count i k =
     let same : (i == i) ≡ true = grind (arith, nat_tests) in
     true≢false (sym parts.1 ∙ ap not same))
 
-force_once : (count i j : ℕ) → i < count → j < count → count ≤ 4096 → i ≢ j → times i j (map (tile_of Force) (cover Force count)) ≡ 1
+force_once : (count i j : ℕ) → i < count → j < count → count ≤ 4096 → i ≢ j
+    → times i j (map (tile_of Force) (cover Force count)) ≡ 1
 force_once count i j hi hj few other =
     times_is Force (is_tile Force count) i j (range_with_len 0 (64 * blocks count))
-    ∙ counted_one (λ k. is_tile Force count k && tile_of Force k i j) 0 (64 * blocks count) (tile_number (i / 64) (j / 64)) (omega arith)
+    ∙ counted_one (λ k. is_tile Force count k && tile_of Force k i j) 0 (64 * blocks count)
+    (tile_number (i / 64) (j / 64)) (omega arith)
     (let within = tile_within count i j hi hj few in omega (arith, within))
     (force_here count i j hi hj few other) (force_others count i j)
 
 -- the force tasks of a step are a cover
-pub force_cover : (u : Units) (frame : List Place) → length frame ≤ 4096 → IsForceCover u frame (map (tile_of Force) (cover Force (length frame)))
+pub force_cover : (u : Units) (frame : List Place) → length frame ≤ 4096
+    → IsForceCover u frame (map (tile_of Force) (cover Force (length frame)))
 force_cover u frame few = record {
   near = λ i j hi hj other near. force_once (length frame) i j hi hj few other;
   far = λ i j hi hj other far. let once = force_once (length frame) i j hi hj few other in omega (arith, once);
   itself = λ i hi.
       times_is Force (is_tile Force (length frame)) i i (range_with_len 0 (64 * blocks (length frame)))
-      ∙ counted_never (λ k. is_tile Force (length frame) k && tile_of Force k i i) (64 * blocks (length frame)) (force_itself (length frame) i);
+      ∙ counted_never (λ k. is_tile Force (length frame) k && tile_of Force k i i) (64 * blocks (length frame))
+      (force_itself (length frame) i);
 }
 
-energy_others : (count i j k : ℕ) → k ≢ tile_number (i / 64) (j / 64) → (is_tile Energy count k && tile_of Energy k i j) ≡ false
+energy_others : (count i j k : ℕ) → k ≢ tile_number (i / 64) (j / 64)
+    → (is_tile Energy count k && tile_of Energy k i j) ≡ false
 energy_others count i j k other =
     false_from_ne_true (is_tile Energy count k && tile_of Energy k i j)
     (λ both.
@@ -125,25 +140,32 @@ energy_others count i j k other =
     other (number_is k i j (eqb-true (i / 64) (k / 64) blocks_are.0) (eqb-true (j / 64) (k % 64) blocks_are.1)))
 
 energy_here : (count i j : ℕ) → i < j → j < count → count ≤ 4096
-    → (is_tile Energy count (tile_number (i / 64) (j / 64)) && tile_of Energy (tile_number (i / 64) (j / 64)) i j) ≡ true
+    → (is_tile Energy count (tile_number (i / 64) (j / 64)) && tile_of Energy (tile_number (i / 64) (j / 64)) i j)
+    ≡ true
 energy_here count i j before hj few =
     let parts = parts_of count i j hj few in
     and_from (is_tile Energy count (tile_number (i / 64) (j / 64))) (tile_of Energy (tile_number (i / 64) (j / 64)) i j)
-    (tile_passes Energy count (tile_number (i / 64) (j / 64)) (rw parts.1 (block_below count j hj)) (ordered_is (tile_number (i / 64) (j / 64)) (ordered_blocks count i j before hj few)))
-    (and_from (i / 64 == tile_number (i / 64) (j / 64) / 64 && j / 64 == tile_number (i / 64) (j / 64) % 64) (nat_lt i j)
+    (tile_passes Energy count (tile_number (i / 64) (j / 64)) (rw parts.1 (block_below count j hj))
+    (ordered_is (tile_number (i / 64) (j / 64)) (ordered_blocks count i j before hj few)))
+    (and_from (i / 64 == tile_number (i / 64) (j / 64) / 64 && j / 64 == tile_number (i / 64) (j / 64) % 64)
+    (nat_lt i j)
     (and_from (i / 64 == tile_number (i / 64) (j / 64) / 64) (j / 64 == tile_number (i / 64) (j / 64) % 64)
-    (eq-eqb (i / 64) (tile_number (i / 64) (j / 64) / 64) (sym parts.0)) (eq-eqb (j / 64) (tile_number (i / 64) (j / 64) % 64) (sym parts.1)))
+    (eq-eqb (i / 64) (tile_number (i / 64) (j / 64) / 64) (sym parts.0))
+    (eq-eqb (j / 64) (tile_number (i / 64) (j / 64) % 64) (sym parts.1)))
     (lt-ltb i j before))
 
-energy_once : (count i j : ℕ) → i < j → j < count → count ≤ 4096 → times i j (map (tile_of Energy) (cover Energy count)) ≡ 1
+energy_once : (count i j : ℕ) → i < j → j < count → count ≤ 4096
+    → times i j (map (tile_of Energy) (cover Energy count)) ≡ 1
 energy_once count i j before hj few =
     times_is Energy (is_tile Energy count) i j (range_with_len 0 (64 * blocks count))
-    ∙ counted_one (λ k. is_tile Energy count k && tile_of Energy k i j) 0 (64 * blocks count) (tile_number (i / 64) (j / 64)) (omega arith)
+    ∙ counted_one (λ k. is_tile Energy count k && tile_of Energy k i j) 0 (64 * blocks count)
+    (tile_number (i / 64) (j / 64)) (omega arith)
     (let within = tile_within count i j (omega arith) hj few in omega (arith, within))
     (energy_here count i j before hj few) (energy_others count i j)
 
 -- the energy tasks of a step are a cover
-pub energy_cover : (u : Units) (frame : List Place) → length frame ≤ 4096 → IsEnergyCover u frame (map (tile_of Energy) (cover Energy (length frame)))
+pub energy_cover : (u : Units) (frame : List Place) → length frame ≤ 4096
+    → IsEnergyCover u frame (map (tile_of Energy) (cover Energy (length frame)))
 energy_cover u frame few = record {
   near = λ i j before hj near. energy_once (length frame) i j before hj few;
   far = λ i j before hj far. let once = energy_once (length frame) i j before hj few in omega (arith, once);

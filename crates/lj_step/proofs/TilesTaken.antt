@@ -1,5 +1,7 @@
 -- The tiles of a step taken in the order of its cover.
-use Rattle.std.proofs.Common.{ℕ, ◌+◌, ◌-◌, ◌*◌, ◌<◌, ◌≤◌, ◌≡◌, ◌≢◌, Bool, true, false, nat_le, cond, length, map, slice_index_or, slice_set, slice_get, count_by, Option, Some, None, inl, inr, sym, ap, ◌∙◌, subst, get_or-set_other, arith}
+use Rattle.std.proofs.Common.{ℕ, ◌+◌, ◌-◌, ◌*◌, ◌<◌, ◌≤◌, ◌≡◌, ◌≢◌, Bool, true, false, nat_le, cond, length, map}
+use Rattle.std.proofs.Common.{slice_index_or, slice_set, slice_get, count_by, Option, Some, None, inl, inr, sym, ap}
+use Rattle.std.proofs.Common.{◌∙◌, subst, get_or-set_other, arith}
 use Rattle.std.specs.List.{range_with_len, AllPairs}
 use Rattle.std.specs.Option.{option_map}
 use Rattle.std.proofs.lemmas.List.Kept.{AllPairs-filter}
@@ -10,7 +12,8 @@ use Rattle.lj_tile.specs.declared.names.Label.{Label}
 use Rattle.lj_tile.specs.declared.names.Kind.{Kind}
 use Rattle.lj_tile.specs.Tasks.{Work}
 use Rattle.lj_step.specs.Live.{Live, OpenStep}
-use Rattle.lj_step.specs.OpenSteps.{blocks, is_tile, cover, opened, tile_number_of, task_of, task_in, task_at, IsAwaitedTaskIn, IsAwaitedTask, with_tile, kind_of, is_whole}
+use Rattle.lj_step.specs.OpenSteps.{blocks, is_tile, cover, opened, tile_number_of, task_of, task_in, task_at}
+use Rattle.lj_step.specs.OpenSteps.{IsAwaitedTaskIn, IsAwaitedTask, with_tile, kind_of, is_whole}
 use Rattle.lj_step.proofs.Flags.{count_flags, opened_flag}
 use Rattle.lj_step.specs.InOrder.{AwaitsFrom}
 use Rattle.lj_step.proofs.Steps.{cover_tile, cover_within, set_within}
@@ -23,26 +26,32 @@ range_rises a n i j d before below =
     rw (get_or-range_with_len a n i d first_within, get_or-range_with_len a n j d within) (omega arith)
 
 pub cover_rises : (kind : Kind) (count : ℕ) → AllPairs (λ x y. x < y) (cover kind count)
-cover_rises kind count = AllPairs-filter (λ x y. x < y) (is_tile kind count) (range_with_len 0 (64 * blocks count)) (range_rises 0 (64 * blocks count))
+cover_rises kind count =
+    AllPairs-filter (λ x y. x < y) (is_tile kind count) (range_with_len 0 (64 * blocks count))
+    (range_rises 0 (64 * blocks count))
 
 -- an opened step
-pub opened_awaits : (kind : Kind) (count : ℕ) (part : Option OpenStep) → part ≡ Some (opened kind count) → AwaitsFrom kind count 0 part
+pub opened_awaits : (kind : Kind) (count : ℕ) (part : Option OpenStep) → part ≡ Some (opened kind count)
+    → AwaitsFrom kind count 0 part
 opened_awaits kind count part e = record {
   flags = map (is_tile kind count) (range_with_len 0 (64 * blocks count));
   is_open = e;
   waiting = λ k from within.
-      opened_flag kind count (slice_index_or (cover kind count) k 0) (cover_within kind count k 0 within) ∙ cover_tile kind count k 0 within;
+      opened_flag kind count (slice_index_or (cover kind count) k 0) (cover_within kind count k 0 within)
+      ∙ cover_tile kind count k 0 within;
   left =
       let flags = count_flags (is_tile kind count) (range_with_len 0 (64 * blocks count)) in
       let tiles = length-filter (is_tile kind count) (range_with_len 0 (64 * blocks count)) in
       omega (arith, flags, tiles);
 }
 
-pub kind_is : (kind : Kind) (count i : ℕ) (part : Option OpenStep) → AwaitsFrom kind count i part → kind_of part ≡ Some kind
+pub kind_is : (kind : Kind) (count i : ℕ) (part : Option OpenStep) → AwaitsFrom kind count i part
+    → kind_of part ≡ Some kind
 kind_is kind count i part h = ap kind_of h.is_open
 
 -- once all tiles are in, the step is whole
-pub all_taken : (kind : Kind) (count i : ℕ) (part : Option OpenStep) → AwaitsFrom kind count i part → length (cover kind count) ≤ i → is_whole part ≡ true
+pub all_taken : (kind : Kind) (count i : ℕ) (part : Option OpenStep) → AwaitsFrom kind count i part
+    → length (cover kind count) ≤ i → is_whole part ≡ true
 all_taken kind count i part h past =
     let none : count_by (λ awaited. awaited) h.flags ≡ 0 = omega (arith, h.left, past) in
     ap is_whole h.is_open ∙ ap (λ n. nat_le n 0) none
@@ -51,35 +60,46 @@ pub number_is : (live : Live) (label : Label) (kind : Kind) (k : ℕ) → tile_n
 number_is live label kind k = omega arith
 
 -- the i-th task of the step is that of the i-th number of the cover
-task_read : (live : Live) (label : Label) (kind : Kind) (i : ℕ) (o : Option Work) → AwaitsFrom kind (length live.sim.cur) i live.part → o ≡ task_at live label i
+task_read : (live : Live) (label : Label) (kind : Kind) (i : ℕ) (o : Option Work)
+    → AwaitsFrom kind (length live.sim.cur) i live.part → o ≡ task_at live label i
     → o ≡ option_map (task_of live label kind) (slice_get (cover kind (length live.sim.cur)) i)
 task_read live label kind i o h e = e ∙ ap (task_in live label i) h.is_open
 
-pub none_past : (live : Live) (label : Label) (kind : Kind) (i : ℕ) (o : Option Work) → AwaitsFrom kind (length live.sim.cur) i live.part → o ≡ task_at live label i → o ≡ None
+pub none_past : (live : Live) (label : Label) (kind : Kind) (i : ℕ) (o : Option Work)
+    → AwaitsFrom kind (length live.sim.cur) i live.part → o ≡ task_at live label i → o ≡ None
     → length (cover kind (length live.sim.cur)) ≤ i
 none_past live label kind i o h e none =
     elim ((slice_get_cases (cover kind (length live.sim.cur)) i).1) [
-      | inl r ↦ absurd (none-some (task_of live label kind r.0) (sym none ∙ task_read live label kind i o h e ∙ ap (option_map (task_of live label kind)) r.2))
+      | inl r ↦
+          absurd (none-some (task_of live label kind r.0)
+          (sym none ∙ task_read live label kind i o h e ∙ ap (option_map (task_of live label kind)) r.2))
       | inr r ↦ r.0
     ]
 
-pub task_at_place : (live : Live) (label : Label) (kind : Kind) (i : ℕ) (o : Option Work) (work : Work) → AwaitsFrom kind (length live.sim.cur) i live.part → o ≡ task_at live label i → o ≡ Some work
-    → (number : ℕ) × (i < length (cover kind (length live.sim.cur))) × (slice_index_or (cover kind (length live.sim.cur)) i 0 ≡ number) × (work ≡ task_of live label kind number)
+pub task_at_place : (live : Live) (label : Label) (kind : Kind) (i : ℕ) (o : Option Work) (work : Work)
+    → AwaitsFrom kind (length live.sim.cur) i live.part → o ≡ task_at live label i → o ≡ Some work
+    → (number : ℕ) × (i < length (cover kind (length live.sim.cur)))
+    × (slice_index_or (cover kind (length live.sim.cur)) i 0 ≡ number) × (work ≡ task_of live label kind number)
 task_at_place live label kind i o work h e some =
     elim ((slice_get_cases (cover kind (length live.sim.cur)) i).1) [
       | inl r ↦ (
         r.0,
         r.1,
         get_or_from_slice_get (cover kind (length live.sim.cur)) i r.0 0 r.2,
-        same_Some work (task_of live label kind r.0) (sym some ∙ task_read live label kind i o h e ∙ ap (option_map (task_of live label kind)) r.2),
+        same_Some work (task_of live label kind r.0)
+            (sym some ∙ task_read live label kind i o h e ∙ ap (option_map (task_of live label kind)) r.2),
       )
-      | inr r ↦ absurd (none-some work (sym (sym some ∙ task_read live label kind i o h e ∙ ap (option_map (task_of live label kind)) r.1)))
+      | inr r ↦
+          absurd (none-some work (sym (sym some ∙ task_read live label kind i o h e
+          ∙ ap (option_map (task_of live label kind)) r.1)))
     ]
 
 -- the i-th task is awaited, and once it is in those from the next one on
-module _ (live : Live) (label : Label) (kind : Kind) (i : ℕ) (o : Option Work) (work : Work) (h : AwaitsFrom kind (length live.sim.cur) i live.part)
+module _ (live : Live) (label : Label) (kind : Kind) (i : ℕ) (o : Option Work) (work : Work)
+    (h : AwaitsFrom kind (length live.sim.cur) i live.part)
     (e : o ≡ task_at live label i) (some : o ≡ Some work) where
-  place : (number : ℕ) × (i < length (cover kind (length live.sim.cur))) × (slice_index_or (cover kind (length live.sim.cur)) i 0 ≡ number) × (work ≡ task_of live label kind number)
+  place : (number : ℕ) × (i < length (cover kind (length live.sim.cur)))
+      × (slice_index_or (cover kind (length live.sim.cur)) i 0 ≡ number) × (work ≡ task_of live label kind number)
   place = task_at_place live label kind i o work h e some
 
   number_same : tile_number_of work ≡ slice_index_or (cover kind (length live.sim.cur)) i 0
@@ -95,17 +115,25 @@ module _ (live : Live) (label : Label) (kind : Kind) (i : ℕ) (o : Option Work)
   is_awaited = subst (IsAwaitedTaskIn live label work) (sym h.is_open) (flag_set, work_is)
 
   waiting_after : (k : ℕ) → i + 1 ≤ k → k < length (cover kind (length live.sim.cur))
-      → slice_index_or (slice_set h.flags (tile_number_of work) false) (slice_index_or (cover kind (length live.sim.cur)) k 0) false ≡ true
+      → slice_index_or (slice_set h.flags (tile_number_of work) false)
+      (slice_index_or (cover kind (length live.sim.cur)) k 0) false ≡ true
   waiting_after k from within =
-      let rises : slice_index_or (cover kind (length live.sim.cur)) i 0 < slice_index_or (cover kind (length live.sim.cur)) k 0 =
+      let rises : slice_index_or (cover kind (length live.sim.cur)) i 0 < slice_index_or
+      (cover kind (length live.sim.cur)) k 0 =
       cover_rises kind (length live.sim.cur) i k 0 (omega arith) within in
-      let other : slice_index_or (cover kind (length live.sim.cur)) k 0 ≢ tile_number_of work = omega (arith, number_same, rises) in
-      get_or-set_other h.flags (tile_number_of work) (slice_index_or (cover kind (length live.sim.cur)) k 0) false false other ∙ h.waiting k (omega arith) within
+      let other : slice_index_or (cover kind (length live.sim.cur)) k 0 ≢ tile_number_of work =
+      omega (arith, number_same, rises) in
+      get_or-set_other h.flags (tile_number_of work) (slice_index_or (cover kind (length live.sim.cur)) k 0)
+      false false other ∙ h.waiting k (omega arith) within
 
-  left_after : count_by (λ awaited. awaited) (slice_set h.flags (tile_number_of work) false) ≡ length (cover kind (length live.sim.cur)) - (i + 1)
+  left_after : count_by (λ awaited. awaited) (slice_set h.flags (tile_number_of work) false)
+      ≡ length (cover kind (length live.sim.cur)) - (i + 1)
   left_after =
-      let set : count_by (λ awaited. awaited) (slice_set h.flags (tile_number_of work) false) + cond (slice_index_or h.flags (tile_number_of work) false) 1 0
-      ≡ count_by (λ awaited. awaited) h.flags + 0 = sum_by-set (λ (awaited : Bool). cond awaited 1 0) h.flags (tile_number_of work) false false (set_within h.flags (tile_number_of work) flag_set) in
+      let set : count_by (λ awaited. awaited) (slice_set h.flags (tile_number_of work) false)
+      + cond (slice_index_or h.flags (tile_number_of work) false) 1 0
+      ≡ count_by (λ awaited. awaited) h.flags + 0 =
+      sum_by-set (λ (awaited : Bool). cond awaited 1 0) h.flags (tile_number_of work) false false
+      (set_within h.flags (tile_number_of work) flag_set) in
       omega (arith, h.left, rw flag_set at set)
 
   pub awaits_next : AwaitsFrom kind (length live.sim.cur) (i + 1) (with_tile (tile_number_of work) live.part)

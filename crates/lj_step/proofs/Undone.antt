@@ -1,15 +1,18 @@
 -- A step back undoes a step.
-use Rattle.std.proofs.Common.{ℕ, zero, suc, ◌^◌, ◌<◌, ◌≡◌, ℤ, pos, negsuc, ◌+ℤ◌, ◌-ℤ◌, neg_ℤ, List, length, refl, sym, ap, ◌∙◌, arith}
+use Rattle.std.proofs.Common.{ℕ, zero, suc, ◌^◌, ◌<◌, ◌≡◌, ℤ, pos, negsuc, ◌+ℤ◌, ◌-ℤ◌, neg_ℤ, List, length, refl, sym}
+use Rattle.std.proofs.Common.{ap, ◌∙◌, arith}
 use Rattle.std.proofs.lemmas.Int.{ints}
 use Rattle.std.proofs.lemmas.List.FromFn.{length-map-range_with_len, get_or-map-range_with_len, fill_by_all}
 use Rattle.lj_ring.specs.declared.coordinates.Place.{Place}
 use Rattle.lj_ring.specs.Scales.{Units}
 use Rattle.lj_tile.specs.declared.pairs.Push.{Push}
-use Rattle.lj_step.specs.Motion.{Simulation, place_at, force, next_coordinate, next_place, moved, next_frame, stepped, steps, reversed}
+use Rattle.lj_step.specs.Motion.{Simulation, place_at, force, next_coordinate, next_place, moved, next_frame, stepped}
+use Rattle.lj_step.specs.Motion.{steps, reversed}
 use Rattle.lj_step.specs.Laws.{IsOnRing, AreOnRing, IsWhole}
 
 -- the place at index i of the frame after cur
-pub next_frame_at : (u : Units) (prev cur : List Place) (i : ℕ) → i < length cur → place_at (next_frame u prev cur) i ≡ moved u prev cur i
+pub next_frame_at : (u : Units) (prev cur : List Place) (i : ℕ) → i < length cur
+    → place_at (next_frame u prev cur) i ≡ moved u prev cur i
 next_frame_at u prev cur i h = get_or-map-range_with_len (moved u prev cur) 0 (length cur) i i _ h (omega arith)
 
 pub next_frame_length : (u : Units) (prev cur : List Place) → length (next_frame u prev cur) ≡ length cur
@@ -51,10 +54,12 @@ same_place p q x y z = ap (λ a. place a p.y p.z) x ∙ ap (λ b. place q.x b p.
 
 back_place : (p c : Place) (f : Push) → IsOnRing p → next_place (next_place p c f) c f ≡ p
 back_place p c f h =
-    same_place (next_place (next_place p c f) c f) p (back_coordinate p.x c.x f.x h.x) (back_coordinate p.y c.y f.y h.y) (back_coordinate p.z c.z f.z h.z)
+    same_place (next_place (next_place p c f) c f) p (back_coordinate p.x c.x f.x h.x) (back_coordinate p.y c.y f.y h.y)
+    (back_coordinate p.z c.z f.z h.z)
 
 -- the push depends on the present frame alone, so that the step back finds the frame before
-frame_back : (u : Units) (prev cur : List Place) → length prev ≡ length cur → AreOnRing prev → next_frame u (next_frame u prev cur) cur ≡ prev
+frame_back : (u : Units) (prev cur : List Place) → length prev ≡ length cur → AreOnRing prev
+    → next_frame u (next_frame u prev cur) cur ≡ prev
 frame_back u prev cur same on_ring =
     sym (fill_by_all (moved u (next_frame u prev cur) cur) prev (length cur) (record { x = 0; y = 0; z = 0 }) same
     (λ k h. let within : k < length prev = omega arith in
@@ -99,5 +104,6 @@ reversed_twice sim =
     ap (λ s. at_step sim s (neg_ℤ (neg_ℤ sim.dir))) (turned_twice sim.step sim.dir)
     ∙ ap (λ d. at_step sim sim.step d) (same_direction sim.dir)
 
-pub undone : (u : Units) (n : ℕ) (sim : Simulation) → IsWhole sim → reversed (steps u n (reversed (steps u n sim))) ≡ sim
+pub undone : (u : Units) (n : ℕ) (sim : Simulation) → IsWhole sim
+    → reversed (steps u n (reversed (steps u n sim))) ≡ sim
 undone u n sim h = ap reversed (steps_back u n sim h) ∙ reversed_twice sim

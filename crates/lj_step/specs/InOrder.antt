@@ -1,5 +1,6 @@
 -- A step whose tiles come in one after the other, in the order of its cover.
-use Rattle.std.specs.Prelude.{◌≡◌, ◌-◌, ◌<◌, ◌≤◌, ℕ, Bool, true, false, List, length, count_by, slice_index_or, Option, Some}
+use Rattle.std.specs.Prelude.{◌≡◌, ◌-◌, ◌<◌, ◌≤◌, ℕ, Bool, true, false, List, length, count_by, slice_index_or, Option}
+use Rattle.std.specs.Prelude.{Some}
 use Rattle.lj_tile.specs.declared.names.Kind.{Kind}
 use Rattle.lj_step.specs.Live.{OpenStep}
 use Rattle.lj_step.specs.OpenSteps.{cover}

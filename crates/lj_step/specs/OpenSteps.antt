@@ -1,5 +1,6 @@
 -- An open step: its cover by tiles of two blocks, the tasks of these tiles, and which of them are still awaited.
-use Rattle.std.specs.Prelude.{ℕ, ◌+◌, ◌*◌, ◌/◌, ◌%◌, ◌≡◌, ◌&&◌, Bool, true, false, nat_le, nat_lt, min, List, length, map, count_by, slice_index_or, slice_set, slice_range, slice_get, Option, Some, None}
+use Rattle.std.specs.Prelude.{ℕ, ◌+◌, ◌*◌, ◌/◌, ◌%◌, ◌≡◌, ◌&&◌, Bool, true, false, nat_le, nat_lt, min, List, length}
+use Rattle.std.specs.Prelude.{map, count_by, slice_index_or, slice_set, slice_range, slice_get, Option, Some, None}
 use Rattle.std.specs.List.{range_with_len, filter}
 use Rattle.std.specs.Option.{option_map, option_map_or}
 use Rattle.lj_ring.specs.declared.coordinates.Place.{Place}

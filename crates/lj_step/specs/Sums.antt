@@ -1,5 +1,6 @@
 -- The sums of an open step: those of the tiles that are in.
-use Rattle.std.specs.Prelude.{ℕ, ◌+◌, ◌*◌, ◌^◌, ◌<◌, ◌≤◌, ◌≡◌, ◌/◌, ◌⊎◌, Bool, true, false, ℤ, pos, unsigned_abs, List, length, slice_index_or, vec_capacity, count_by, Option, Some, None, if◌then◌else◌}
+use Rattle.std.specs.Prelude.{ℕ, ◌+◌, ◌*◌, ◌^◌, ◌<◌, ◌≤◌, ◌≡◌, ◌/◌, ◌⊎◌, Bool, true, false, ℤ, pos, unsigned_abs, List}
+use Rattle.std.specs.Prelude.{length, slice_index_or, vec_capacity, count_by, Option, Some, None, if◌then◌else◌}
 use Rattle.lj_ring.specs.declared.coordinates.Place.{Place}
 use Rattle.lj_ring.specs.Ring.{ring_sum, int_sum_below}
 use Rattle.lj_ring.specs.Scales.{Units}

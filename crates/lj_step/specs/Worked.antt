@@ -5,7 +5,8 @@ use Rattle.lj_ring.specs.declared.coordinates.Place.{Place}
 use Rattle.lj_ring.specs.Scales.{Units}
 use Rattle.lj_table.specs.Entries.{push_entry, energy_entry}
 use Rattle.lj_tile.specs.Pushes.{push}
-use Rattle.lj_step.specs.Motion.{Simulation, opening, stepped, steps, reversed, tugged, force, momentum, kinetic, potential}
+use Rattle.lj_step.specs.Motion.{Simulation, opening, stepped, steps, reversed, tugged, force, momentum, kinetic}
+use Rattle.lj_step.specs.Motion.{potential}
 
 -- a place on the x axis
 abbrev pub on_x : ℕ → Place
@@ -56,6 +57,7 @@ unfolding after push force push_entry
 back_past_opening = refl
 
 -- a tug of 5 along x at step 1 shows in the next step
-pub tugged_then_stepped : (stepped dimer_units (tugged 0 (record { x = pos 5; y = pos 0; z = pos 0 }) (after 1))).cur ≡ on_x 1779 ∷ on_x 25164050 ∷ []
+pub tugged_then_stepped : (stepped dimer_units (tugged 0 (record { x = pos 5; y = pos 0; z = pos 0 }) (after 1))).cur
+    ≡ on_x 1779 ∷ on_x 25164050 ∷ []
 unfolding after push force push_entry
 tugged_then_stepped = refl

@@ -1,5 +1,6 @@
 //! The sums of a step that is open, of the tiles that are in.
-ghost use Rattle.std.specs.Prelude.{◌≡◌, ◌≤◌, ◌<◌, ◌+◌, ◌-◌, ◌*◌, ◌^◌, ℕ, pos, ◌+ℤ◌, unsigned_abs, length, map, count_by, slice_index_or, slice_set, vec_capacity, IfOk, Some, None, false, true};
+ghost use Rattle.std.specs.Prelude.{◌≡◌, ◌≤◌, ◌<◌, ◌+◌, ◌-◌, ◌*◌, ◌^◌, ℕ, pos, ◌+ℤ◌, unsigned_abs, length, map};
+ghost use Rattle.std.specs.Prelude.{count_by, slice_index_or, slice_set, vec_capacity, IfOk, Some, None, false, true};
 ghost use Rattle.std.specs.List.{range_with_len};
 ghost use Rattle.std.proofs.Common.{replicate};
 ghost use Rattle.lj_tile.specs.declared.names.Kind.TheVariants.{Force, Energy};

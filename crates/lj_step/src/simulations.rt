@@ -1,5 +1,7 @@
 //! Simulations: the two frames, the step that is open, and what is measured.
-ghost use Rattle.std.specs.Prelude.{◌≡◌, ◌≤◌, ◌<◌, ◌+◌, ◌^◌, ◌↔◌, pos, ◌+ℤ◌, ◌-ℤ◌, length, unsigned_abs, IfOk, IfErr, IfSome, IsOk, IsTrue, OnOk, OnErr, Some, None, true, ℕ, ◌*◌, slice_index_or, [], ◌∷◌};
+ghost use Rattle.std.specs.Prelude.{◌≡◌, ◌≤◌, ◌<◌, ◌+◌, ◌^◌, ◌↔◌, pos, ◌+ℤ◌, ◌-ℤ◌, length, unsigned_abs, IfOk, IfErr};
+ghost use Rattle.std.specs.Prelude.{IfSome, IsOk, IsTrue, OnOk, OnErr, Some, None, true, ℕ, ◌*◌, slice_index_or, []};
+ghost use Rattle.std.specs.Prelude.{◌∷◌};
 ghost use Rattle.lj_tile.specs.declared.names.Kind.TheVariants.{Force, Energy};
 ghost use Rattle.lj_ring.specs.Ring.{in_ring};
 ghost use Rattle.lj_tile.specs.Pushes.{no_push};

@@ -7,6 +7,8 @@ abbrev pub invariant-loop-place : goal.invariant-loop-place
 invariant-loop-place l = record {
   count : length l.pushes.items ≡ length l.fn.pushes.items;
   added : (t : ℕ) → t < l.place
-      → slice_index_or l.pushes.items (l.first + t) no_push ≡ plus (slice_index_or l.fn.pushes.items (l.first + t) no_push) (task_force l.done t);
-  others : (i : ℕ) → (i < l.first) ⊎ (l.first + l.place ≤ i) → slice_index_or l.pushes.items i no_push ≡ slice_index_or l.fn.pushes.items i no_push;
+      → slice_index_or l.pushes.items (l.first + t) no_push
+      ≡ plus (slice_index_or l.fn.pushes.items (l.first + t) no_push) (task_force l.done t);
+  others : (i : ℕ) → (i < l.first) ⊎ (l.first + l.place ≤ i)
+      → slice_index_or l.pushes.items i no_push ≡ slice_index_or l.fn.pushes.items i no_push;
 }

@@ -6,5 +6,6 @@ use Rattle.lj_step.proofs.partial.await_tiles.Goals as goal
 pub returns : goal.returns
 returns c =
     let all : 64 * blocks c.args.count ≤ c.loop-number.number = omega arith in
-    fill_by_all (is_tile c.args.kind c.args.count) c.loop-number.awaited.items (64 * blocks c.args.count) _ (omega arith)
+    fill_by_all (is_tile c.args.kind c.args.count) c.loop-number.awaited.items
+    (64 * blocks c.args.count) _ (omega arith)
     (λ k h. c.loop-number.invariant.done k (omega arith))

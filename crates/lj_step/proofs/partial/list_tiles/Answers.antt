@@ -11,7 +11,8 @@ loop-number-preserved c =
     let old = c.loop-number.tiles.items in
     elim c.if-is_tile.branch [
       | then-is_tile w ↦
-          let pushed : c.if-is_tile.tiles.items ≡ old ++ n ∷ [] = ap (λ v. v.items) w.tiles-is ∙ w.push_reserved.ensures.items in
+          let pushed : c.if-is_tile.tiles.items ≡ old ++ n ∷ [] =
+          ap (λ v. v.items) w.tiles-is ∙ w.push_reserved.ensures.items in
           let passes : p n ≡ true = sym c.is_tile.ensures ∙ w.if-is_tile.true in
           record {
             tiles = one_kept p n old c.if-is_tile.tiles.items c.loop-number.invariant.tiles passes pushed;

@@ -10,13 +10,16 @@ use Rattle.lj_step.proofs.round_trip.go.Goals as goal
 pub step-requires : goal.step-requires
 step-requires c =
     let sim = c.loop.sim.sim in
-    (next_size sim.step sim.dir (unsigned_abs c.args.sim.now.sim.step) c.loop.counter c.args.steps c.loop.invariant.step c.loop.invariant.dir c.requires c.loop-test.true).1
+    (next_size sim.step sim.dir (unsigned_abs c.args.sim.now.sim.step)
+    c.loop.counter c.args.steps c.loop.invariant.step c.loop.invariant.dir c.requires c.loop-test.true).1
 
 pub loop-preserved : goal.loop-preserved
 loop-preserved c =
     let old = c.args.sim.now in
     let sim = c.loop.sim.sim in
-    let size = (next_size sim.step sim.dir (unsigned_abs old.sim.step) c.loop.counter c.args.steps c.loop.invariant.step c.loop.invariant.dir c.requires c.loop-test.true).0 in
+    let size =
+    (next_size sim.step sim.dir (unsigned_abs old.sim.step)
+    c.loop.counter c.args.steps c.loop.invariant.step c.loop.invariant.dir c.requires c.loop-test.true).0 in
     let same = c.step.ensures in
     record {
       units = ap (λ (v : Live). v.units) same ∙ c.loop.invariant.units;
@@ -24,8 +27,10 @@ loop-preserved c =
           ap (λ (v : Live). v.sim) same
           ∙ ap (λ u. stepped u sim) c.loop.invariant.units
           ∙ ap (stepped old.units) c.loop.invariant.motion
-          ∙ sym (ap (λ n. steps old.units n old.sim) (add-one c.loop.counter) ∙ steps_more old.units c.loop.counter old.sim);
-      step = subst (λ (v : Live). unsigned_abs v.sim.step ≤ unsigned_abs old.sim.step + (c.loop.counter + 1)) (sym same) size;
+          ∙ sym (ap (λ n. steps old.units n old.sim) (add-one c.loop.counter)
+          ∙ steps_more old.units c.loop.counter old.sim);
+      step = subst (λ (v : Live). unsigned_abs v.sim.step ≤ unsigned_abs old.sim.step + (c.loop.counter + 1))
+          (sym same) size;
       dir = ap (λ (v : Live). unsigned_abs v.sim.dir) same ∙ c.loop.invariant.dir;
     }
 
@@ -33,5 +38,6 @@ pub returns-clause-drift : goal.returns-clause-drift
 returns-clause-drift c =
     let old = c.args.sim.now in
     let motion : c.loop.sim.sim ≡ steps old.units c.args.steps old.sim =
-    c.loop.invariant.motion ∙ ap (λ n. steps old.units n old.sim) (let e : c.loop.counter ≡ c.args.steps = omega arith in e) in
+    c.loop.invariant.motion ∙ ap (λ n. steps old.units n old.sim)
+    (let e : c.loop.counter ≡ c.args.steps = omega arith in e) in
     ap drift motion ∙ drift_kept old.units c.args.steps old.sim c.scale-near.ensures.near c.count-whole.ensures.whole

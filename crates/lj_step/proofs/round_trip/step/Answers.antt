@@ -1,4 +1,5 @@
-use Rattle.std.proofs.Common.{◌≡◌, ◌≤◌, ◌<◌, ◌^◌, ◌+◌, ◌+ℤ◌, unsigned_abs, length, Some, refl, ap, sym, ◌∙◌, subst, arith}
+use Rattle.std.proofs.Common.{◌≡◌, ◌≤◌, ◌<◌, ◌^◌, ◌+◌, ◌+ℤ◌, unsigned_abs, length, Some, refl, ap, sym, ◌∙◌, subst}
+use Rattle.std.proofs.Common.{arith}
 use Rattle.lj_tile.specs.declared.names.Kind.TheVariants.{Force}
 use Rattle.lj_step.specs.Motion.{Simulation}
 use Rattle.lj_step.specs.Live.{Live}
@@ -20,16 +21,22 @@ loop-i-init c =
     record {
       units = ap (λ (v : Live). v.units) opened;
       motion = ap (λ (v : Live). v.sim) opened;
-      end = c.tiles-i-end.ensures.value ∙ ap tiles_of opened ∙ sym (ap (λ (v : Live). length (cover Force (length v.sim.cur))) opened);
-      tiles = subst (λ (v : Live). AwaitsFrom Force (length v.sim.cur) 0 v.part) (sym opened) (opened_awaits Force (length c.args.sim.now.sim.cur) _ refl);
+      end = c.tiles-i-end.ensures.value ∙ ap tiles_of opened
+          ∙ sym (ap (λ (v : Live). length (cover Force (length v.sim.cur))) opened);
+      tiles = subst (λ (v : Live). AwaitsFrom Force (length v.sim.cur) 0 v.part) (sym opened)
+          (opened_awaits Force (length c.args.sim.now.sim.cur) _ refl);
     }
 
 pub loop-i-preserved : goal.loop-i-preserved
 loop-i-preserved c =
     let live = c.loop-i.sim in
     let is_work : c.task.result ≡ Some c.compute.result = c.unwrap-task.ensures ∙ ap Some (sym c.compute.ensures) in
-    let awaited = is_awaited live c.args.label.now Force c.loop-i.i c.task.result c.compute.result c.loop-i.invariant.tiles c.task.ensures.value is_work in
-    let next = awaits_next live c.args.label.now Force c.loop-i.i c.task.result c.compute.result c.loop-i.invariant.tiles c.task.ensures.value is_work in
+    let awaited =
+    is_awaited live c.args.label.now Force c.loop-i.i c.task.result c.compute.result c.loop-i.invariant.tiles
+    c.task.ensures.value is_work in
+    let next =
+    awaits_next live c.args.label.now Force c.loop-i.i c.task.result c.compute.result c.loop-i.invariant.tiles
+    c.task.ensures.value is_work in
     let taken = when_ok c.accept.result (c.accept.ensures.accepted.1 awaited) c.accept.ensures.taken in
     record {
       units = ap (λ (v : Live). v.units) taken ∙ c.loop-i.invariant.units;
@@ -45,7 +52,8 @@ turn-requires c =
     record {
       kind = kind_is Force (length live.sim.cur) c.loop-i.i live.part c.loop-i.invariant.tiles;
       whole = all_taken Force (length live.sim.cur) c.loop-i.i live.part c.loop-i.invariant.tiles past;
-      step = subst (λ (s : Simulation). unsigned_abs (s.step +ℤ s.dir) ≤ 10 ^ 12) (sym c.loop-i.invariant.motion) c.requires;
+      step = subst (λ (s : Simulation). unsigned_abs (s.step +ℤ s.dir) ≤ 10 ^ 12)
+          (sym c.loop-i.invariant.motion) c.requires;
     }
 
 pub returns : goal.returns

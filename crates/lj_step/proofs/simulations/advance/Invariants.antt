@@ -6,6 +6,7 @@ use Rattle.lj_step.proofs.simulations.advance.Given as goal
 abbrev pub invariant-loop-i : goal.invariant-loop-i
 invariant-loop-i l = record {
   same : length l.prev.items ≡ length l.cur;
-  done : (k : ℕ) → k < l.i → place_at l.prev.items k ≡ next_place (place_at l.fn.prev.items k) (place_at l.cur k) (slice_index_or l.pushes k no_push);
+  done : (k : ℕ) → k < l.i → place_at l.prev.items k
+      ≡ next_place (place_at l.fn.prev.items k) (place_at l.cur k) (slice_index_or l.pushes k no_push);
   left : (k : ℕ) → l.i ≤ k → place_at l.prev.items k ≡ place_at l.fn.prev.items k;
 }

@@ -21,4 +21,5 @@ returns c =
     let z : m.z ≡ now.z = rw (sums.z, c.as_slice.ensures.value, c.as_slice-2.ensures.value) refl in
     three (to_z w64 (of_z w64 m.x)) (to_z w64 (of_z w64 m.y)) (to_z w64 (of_z w64 m.z)) now.x now.y now.z
     (kept m.x now.x (search rules) x) (kept m.y now.y (search rules) y) (kept m.z now.z (search rules) z)
-    ∙ ap (λ (v : Live). (motion.momentum v.sim).x ∷ (motion.momentum v.sim).y ∷ (motion.momentum v.sim).z ∷ []) c.self.view_is
+    ∙ ap (λ (v : Live). (motion.momentum v.sim).x ∷ (motion.momentum v.sim).y ∷ (motion.momentum v.sim).z ∷ [])
+    c.self.view_is

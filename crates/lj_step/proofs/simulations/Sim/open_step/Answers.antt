@@ -10,5 +10,6 @@ invariant_of-self c =
     let opened = c.open.ensures in
     let count : length c.as_slice.result.now ≡ length a.cur.items = ap length c.as_slice.ensures.value in
     with_partial a c.open.new.self c.self.invariant (subst (λ n. HasRoom n c.open.new.self) count opened.room)
-    (opened_partial a.scale a.cur.items c.open.new.self c.args.kind (length c.as_slice.result.now) count c.self.invariant.most
+    (opened_partial a.scale a.cur.items c.open.new.self c.args.kind (length c.as_slice.result.now)
+    count c.self.invariant.most
     opened.kind opened.tiles opened.awaited opened.left opened.pushes opened.energy)

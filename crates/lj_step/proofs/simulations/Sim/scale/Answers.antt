@@ -9,6 +9,7 @@ returns-clause-near c =
     subst (λ (v : Live). IsScale v.units) c.self.view_is
     (record {
       near = λ s interacts.
-          let below : s < c.reach-reach.result = ltb-true s c.reach-reach.result (sym (c.reach-reach.ensures.value s) ∙ interacts) in
+          let below : s < c.reach-reach.result =
+          ltb-true s c.reach-reach.result (sym (c.reach-reach.ensures.value s) ∙ interacts) in
           omega (arith, c.reach-reach.ensures.most);
     })

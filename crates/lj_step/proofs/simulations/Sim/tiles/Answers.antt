@@ -5,5 +5,6 @@ use Rattle.lj_step.proofs.simulations.Sim.tiles.Goals as goal
 
 pub returns-in-Some-clause-cover : goal.returns-in-Some-clause-cover
 returns-in-Some-clause-cover c =
-    let few : length c.args.self.now.sim.cur ≤ 4096 = subst (λ (v : Live). length v.sim.cur ≤ 4096) c.self.view_is c.self.invariant.most in
+    let few : length c.args.self.now.sim.cur ≤ 4096 =
+    subst (λ (v : Live). length v.sim.cur ≤ 4096) c.self.view_is c.self.invariant.most in
     step_covered c.args.self.now few c.args.self.now.part refl

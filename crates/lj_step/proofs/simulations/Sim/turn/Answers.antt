@@ -1,4 +1,5 @@
-use Rattle.std.proofs.Common.{ℕ, ◌≡◌, ◌≤◌, ◌<◌, ◌^◌, ◌+ℤ◌, unsigned_abs, length, slice_index_or, rules, refl, ap, ◌∙◌, subst, sym, to_z, of_z, w64}
+use Rattle.std.proofs.Common.{ℕ, ◌≡◌, ◌≤◌, ◌<◌, ◌^◌, ◌+ℤ◌, unsigned_abs, length, slice_index_or, rules, refl, ap, ◌∙◌}
+use Rattle.std.proofs.Common.{subst, sym, to_z, of_z, w64}
 use Rattle.lj_tile.specs.declared.names.Kind.TheVariants.{Force}
 use Rattle.lj_tile.specs.Pushes.{no_push}
 use Rattle.lj_step.specs.Motion.{next_frame, force, stepped}
@@ -13,27 +14,35 @@ use Rattle.lj_step.proofs.Sound.{with_frames}
 use Rattle.lj_step.proofs.simulations.Sim.turn.Goals as goal
 
 sum_bound : (c : goal.After-self-3-1) → unsigned_abs (c.self.inside.step +ℤ sign_of c.self.inside.dir) ≤ 10 ^ 12
-sum_bound c = let P : Live → Type 0 = λ v. unsigned_abs (v.sim.step +ℤ v.sim.dir) ≤ 10 ^ 12 in subst P (sym c.self.view_is) c.requires.step
+sum_bound c = let P : Live → Type 0 =
+    λ v. unsigned_abs (v.sim.step +ℤ v.sim.dir) ≤ 10 ^ 12 in subst P (sym c.self.view_is) c.requires.step
 
-next_step : (c : goal.After-self-3-1) → to_z w64 (of_z w64 (to_z w64 (of_z w64 c.self.inside.step) +ℤ to_z w64 (of_z w64 c.sign.result))) ≡ c.self.inside.step +ℤ sign_of c.self.inside.dir
+next_step : (c : goal.After-self-3-1) → to_z w64 (of_z w64
+    (to_z w64 (of_z w64 c.self.inside.step) +ℤ to_z w64 (of_z w64 c.sign.result)))
+    ≡ c.self.inside.step +ℤ sign_of c.self.inside.dir
 next_step c =
-    next_number c.self.inside.step c.sign.result c.self.invariant.step_bound c.sign.ensures.size (rw c.sign.ensures.value (sum_bound c))
+    next_number c.self.inside.step c.sign.result c.self.invariant.step_bound c.sign.ensures.size
+    (rw c.sign.ensures.value (sum_bound c))
     ∙ ap (λ d. c.self.inside.step +ℤ d) c.sign.ensures.value
 
-forces : (c : goal.After-self-3-1) (i : ℕ) → i < length c.as_slice.result.now → slice_index_or c.as_slice-2.result.now i no_push ≡ force c.self.inside.scale c.as_slice.result.now i
+forces : (c : goal.After-self-3-1) (i : ℕ) → i < length c.as_slice.result.now
+    → slice_index_or c.as_slice-2.result.now i no_push ≡ force c.self.inside.scale c.as_slice.result.now i
 forces c i h =
     let kind = ap (λ (v : Live). kind_of v.part) c.self.view_is ∙ c.requires.kind in
     let all = ap (λ (v : Live). is_whole v.part) c.self.view_is ∙ c.requires.whole in
     let whole = whole_of c.self.inside.partial.kind c.self.inside.partial.awaited.items Force kind all in
     let within : i < length c.self.inside.cur.items = subst (λ xs. i < length xs) c.as_slice.ensures.value h in
     ap (λ xs. slice_index_or xs i no_push) c.as_slice-2.ensures.value
-    ∙ forces_of c.self.inside.scale c.self.inside.cur.items c.self.inside.partial i c.self.invariant.partial whole within
+    ∙ forces_of c.self.inside.scale c.self.inside.cur.items c.self.inside.partial i
+    c.self.invariant.partial whole within
     ∙ sym (ap (λ frame. force c.self.inside.scale frame i) c.as_slice.ensures.value)
 
-next_is : (c : goal.After-self-3-1) → c.swap.new.y.items ≡ next_frame c.self.inside.scale c.self.inside.prev.items c.self.inside.cur.items
+next_is : (c : goal.After-self-3-1) → c.swap.new.y.items
+    ≡ next_frame c.self.inside.scale c.self.inside.prev.items c.self.inside.cur.items
 next_is c =
     ap (λ v. v.items) c.swap.ensures.y_after
-    ∙ frame_is c.self.inside.scale c.self.inside.prev.items c.as_slice.result.now c.advance.new.prev.items c.as_slice-2.result.now c.advance.ensures.count c.advance.ensures.places (forces c)
+    ∙ frame_is c.self.inside.scale c.self.inside.prev.items c.as_slice.result.now c.advance.new.prev.items
+    c.as_slice-2.result.now c.advance.ensures.count c.advance.ensures.places (forces c)
     ∙ ap (next_frame c.self.inside.scale c.self.inside.prev.items) c.as_slice.ensures.value
 
 pub returns : goal.returns
