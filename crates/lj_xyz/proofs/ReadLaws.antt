@@ -16,17 +16,21 @@ use Rattle.lj_xyz.specs.Reading.{Left, frame_in, start, reading, Gives, Keeps}
 use Rattle.lj_xyz.proofs.ReadingLaws.{reading_is, reading_stands, reads_one}
 
 -- what was read stands in the relation
-pub frames_stand : {X : Type 0} (view : X → List (List Row)) (mode : Mode) (lines : List (List ℕ)) (r : Result X XyzError) → Gives view r (reading mode lines)
+pub frames_stand : {X : Type 0} (view : X → List (List Row)) (mode : Mode) (lines : List (List ℕ))
+    (r : Result X XyzError) → Gives view r (reading mode lines)
     → IfOk r (λ x. IsReading mode lines (Ok (view x)))
 frames_stand view mode lines (Ok x) e = rw e at (reading_stands mode lines)
 frames_stand view mode lines (Err error) e = tt
 
 -- a fault was answered exactly where it stands in the relation
-pub fault_stands : {X : Type 0} (view : X → List (List Row)) (mode : Mode) (lines : List (List ℕ)) (r : Result X XyzError) → Gives view r (reading mode lines)
+pub fault_stands : {X : Type 0} (view : X → List (List Row)) (mode : Mode) (lines : List (List ℕ))
+    (r : Result X XyzError) → Gives view r (reading mode lines)
     → (fault : XyzFault) → (r ≡ Err (errors.Fault fault)) ↔ IsReading mode lines (Err fault)
-fault_stands {X = X} view mode lines r e fault = (found_by r e, λ is. given r (rw (reading_is mode lines (Err fault) is) at e))
+fault_stands {X = X} view mode lines r e fault =
+    (found_by r e, λ is. given r (rw (reading_is mode lines (Err fault) is) at e))
   where
-    found_by : (r : Result X XyzError) → Gives view r (reading mode lines) → r ≡ Err (errors.Fault fault) → IsReading mode lines (Err fault)
+    found_by : (r : Result X XyzError) → Gives view r (reading mode lines) → r ≡ Err (errors.Fault fault)
+        → IsReading mode lines (Err fault)
     found_by (Ok x) e is = absurd cc
     found_by (Err errors.Memory) e is = absurd cc
     found_by (Err (errors.Fault found)) e is =
@@ -41,7 +45,8 @@ fault_stands {X = X} view mode lines r e fault = (found_by r e, λ is. given r (
         rw same refl
 
 -- memory ran out only where the lines have frames
-pub memory_stands : {X : Type 0} (view : X → List (List Row)) (mode : Mode) (lines : List (List ℕ)) (r : Result X XyzError) → Gives view r (reading mode lines)
+pub memory_stands : {X : Type 0} (view : X → List (List Row)) (mode : Mode) (lines : List (List ℕ))
+    (r : Result X XyzError) → Gives view r (reading mode lines)
     → r ≡ Err errors.Memory → HasFrames mode lines
 memory_stands view mode lines r e is = good (reading mode lines) (rw is at e) (reading_stands mode lines)
   where
@@ -50,7 +55,8 @@ memory_stands view mode lines r e is = good (reading mode lines) (rw is at e) (r
     good (Err fault) ok stands = absurd cc
 
 -- what was read, where there was memory to keep it
-pub kept_one : (lines : List (List ℕ)) (rows : List Row) (after : Left) → frame_in First (start lines) ≡ Ok (rows, after) → (kept : Option (List Row)) → Keeps kept rows
+pub kept_one : (lines : List (List ℕ)) (rows : List Row) (after : Left)
+    → frame_in First (start lines) ≡ Ok (rows, after) → (kept : Option (List Row)) → Keeps kept rows
     → Gives (λ (rows : List Row). rows ∷ []) (ok_or kept errors.Memory) (reading rest lines)
 kept_one lines rows after e None keeps = rw (reads_one lines rows after e) refl
 kept_one lines rows after e (Some kept) keeps = rw keeps (reads_one lines rows after e)
@@ -72,12 +78,14 @@ counted (Some m) n e =
     ]
 
 -- a frame has 1 to 4,096 atoms
-pub frame_count : (position : Position) (frame : List (List ℕ)) (rows : List Row) → IsFrame position frame rows → is_count (length rows) ≡ true
+pub frame_count : (position : Position) (frame : List (List ℕ)) (rows : List Row) → IsFrame position frame rows
+    → is_count (length rows) ≡ true
 frame_count position frame rows is = counted (number_of is.is_head.counts.first) (length rows) is.is_head.counts.value
 
 -- ---- the numbers of atoms
 
-pub one_count : (lines : List (List ℕ)) (rows : List Row) → IsReading rest lines (Ok (rows ∷ [])) → is_count (length rows) ≡ true
+pub one_count : (lines : List (List ℕ)) (rows : List Row) → IsReading rest lines (Ok (rows ∷ []))
+    → is_count (length rows) ≡ true
 one_count lines rows is =
     let same : is.0 ≡ rows = cc in
     rw (← same) (frame_count First is.2.frame is.0 is.2.is_frame)

@@ -1,5 +1,7 @@
 -- Reading line by line, as the loops of the reader do.
-use Rattle.std.proofs.Common.{◌≡◌, ℕ, suc, ◌+◌, ◌-◌, ◌≤◌, ◌<◌, List, [], ◌∷◌, ◌++◌, Option, Some, None, Result, Ok, Err, IfSome, IsSomeAnd, MatchOption, refl, sym, ap, subst, ◌∙◌, append_assoc, append-nil, arith}
+use Rattle.std.proofs.Common.{◌≡◌, ℕ, suc, ◌+◌, ◌-◌, ◌≤◌, ◌<◌, List, [], ◌∷◌, ◌++◌, Option, Some, None, Result, Ok, Err}
+use Rattle.std.proofs.Common.{IfSome, IsSomeAnd, MatchOption, refl, sym, ap, subst, ◌∙◌, append_assoc, append-nil}
+use Rattle.std.proofs.Common.{arith}
 use Rattle.lj_xyz.specs.declared.fault.XyzKind.{XyzKind}
 use Rattle.lj_xyz.specs.declared.fault.XyzFault.{XyzFault}
 use Rattle.lj_xyz.specs.declared.row.Row.{Row}
@@ -19,12 +21,15 @@ pub head_over : (position : Position) (taken : ℕ) (line : List ℕ) (lines : L
 unfolding head_in
 head_over position taken line lines e = rw (e, head_in) refl
 
-pub head_at : (position : Position) (taken : ℕ) (line : List ℕ) (lines : List (List ℕ)) (first : List ℕ) (others : List (List ℕ)) → words_of line ≡ first ∷ others
-    → head_in position taken (line ∷ lines) ≡ (count_or_fault position (taken + 1) (count_of first) >>= λ n. Ok (n, after_line taken lines))
+pub head_at : (position : Position) (taken : ℕ) (line : List ℕ) (lines : List (List ℕ)) (first : List ℕ)
+    (others : List (List ℕ)) → words_of line ≡ first ∷ others
+    → head_in position taken (line ∷ lines) ≡ (count_or_fault position (taken + 1) (count_of first)
+    >>= λ n. Ok (n, after_line taken lines))
 unfolding head_in
 head_at position taken line lines first others e = rw (e, head_in) refl
 
-pub head_none : (position : Position) (taken : ℕ) → head_in position taken [] ≡ Err (fault_behind taken (missing position))
+pub head_none : (position : Position) (taken : ℕ) → head_in position taken []
+    ≡ Err (fault_behind taken (missing position))
 unfolding head_in
 head_none position taken = refl
 
@@ -33,10 +38,12 @@ pub record Steps (old new : Left) (line : List ℕ) : Type 0 where
   pub lines : old.lines ≡ line ∷ new.lines
   pub taken : new.taken ≡ old.taken + 1
 
-pub head_goes_on : (position : Position) (old new : Left) (line : List ℕ) (total : Result (ℕ × Left) XyzFault) → Steps old new line → words_of line ≡ []
+pub head_goes_on : (position : Position) (old new : Left) (line : List ℕ) (total : Result (ℕ × Left) XyzFault)
+    → Steps old new line → words_of line ≡ []
     → head_in position old.taken old.lines ≡ total → head_in position new.taken new.lines ≡ total
 head_goes_on position old new line total step e so_far =
-    let one : head_in position old.taken old.lines ≡ head_in position new.taken new.lines = rw (step.lines, step.taken) (head_over position old.taken line new.lines e) in
+    let one : head_in position old.taken old.lines ≡ head_in position new.taken new.lines =
+    rw (step.lines, step.taken) (head_over position old.taken line new.lines e) in
     sym one ∙ so_far
 
 abbrev counted : Left → ℕ → ℕ × Left
@@ -46,19 +53,23 @@ tells_as : (r : Result ℕ XyzFault) (left : Left) → Tells (counted left) r (r
 tells_as (Ok n) left = refl
 tells_as (Err fault) left = refl
 
-pub head_ends : (position : Position) (old new : Left) (line first : List ℕ) (others : List (List ℕ)) (r : Result ℕ XyzFault) (total : Result (ℕ × Left) XyzFault)
+pub head_ends : (position : Position) (old new : Left) (line first : List ℕ) (others : List (List ℕ))
+    (r : Result ℕ XyzFault) (total : Result (ℕ × Left) XyzFault)
     → Steps old new line → words_of line ≡ first ∷ others → r ≡ count_or_fault position new.taken (count_of first)
     → head_in position old.taken old.lines ≡ total → Tells (counted new) r total
 head_ends position old new line first others r total step e is so_far =
-    let at : head_in position old.taken old.lines ≡ (count_or_fault position (old.taken + 1) (count_of first) >>= λ n. Ok (counted (after_line old.taken new.lines) n)) =
+    let at : head_in position old.taken old.lines ≡ (count_or_fault position (old.taken + 1) (count_of first)
+    >>= λ n. Ok (counted (after_line old.taken new.lines) n)) =
     rw step.lines (head_at position old.taken line new.lines first others e) in
     let one : head_in position old.taken old.lines ≡ (r >>= λ n. Ok (counted new n)) = rw (is, step.taken) at in
     subst (λ (t : Result (ℕ × Left) XyzFault). Tells (counted new) r t) (sym one ∙ so_far) (tells_as r new)
 
-pub head_missing : (position : Position) (old new : Left) (wrong : XyzKind) (total : Result (ℕ × Left) XyzFault) → old.lines ≡ [] → new.taken ≡ old.taken → wrong ≡ missing position
+pub head_missing : (position : Position) (old new : Left) (wrong : XyzKind) (total : Result (ℕ × Left) XyzFault)
+    → old.lines ≡ [] → new.taken ≡ old.taken → wrong ≡ missing position
     → head_in position old.taken old.lines ≡ total → total ≡ Err (fault_behind new.taken wrong)
 head_missing position old new wrong total none same is so_far =
-    let one : head_in position old.taken old.lines ≡ Err (fault_behind new.taken wrong) = rw (none, same, is) (head_none position old.taken) in
+    let one : head_in position old.taken old.lines ≡ Err (fault_behind new.taken wrong) =
+    rw (none, same, is) (head_none position old.taken) in
     sym so_far ∙ one
 
 -- ---- the atoms
@@ -67,19 +78,25 @@ head_missing position old new wrong total none same is so_far =
 abbrev pub with_front : List Row → Result (List Row × Left) XyzFault → Result (List Row × Left) XyzFault
 with_front front read = read >>= λ x. Ok (front ++ x.0, x.1)
 
-pub regroup : (front : List Row) (row : Row) (read : Result (List Row × Left) XyzFault) → with_front front (read >>= λ x. Ok (row ∷ x.0, x.1)) ≡ with_front (front ++ row ∷ []) read
+pub regroup : (front : List Row) (row : Row) (read : Result (List Row × Left) XyzFault)
+    → with_front front (read >>= λ x. Ok (row ∷ x.0, x.1)) ≡ with_front (front ++ row ∷ []) read
 regroup front row (Ok x) = ap (λ (rows : List Row). Ok (rows, x.1)) (simp append_assoc)
 regroup front row (Err fault) = refl
 
-pub rows_go_on : (front : List Row) (count i : ℕ) (old new : Left) (row : Row) (total : Result (List Row × Left) XyzFault) → i < count → next_row old.taken old.lines ≡ Ok (row, new)
-    → with_front front (rows_in (count - i) old) ≡ total → with_front (front ++ row ∷ []) (rows_in (count - (i + 1)) new) ≡ total
+pub rows_go_on : (front : List Row) (count i : ℕ) (old new : Left) (row : Row)
+    (total : Result (List Row × Left) XyzFault) → i < count → next_row old.taken old.lines ≡ Ok (row, new)
+    → with_front front (rows_in (count - i) old) ≡ total
+    → with_front (front ++ row ∷ []) (rows_in (count - (i + 1)) new) ≡ total
 unfolding rows_in
 rows_go_on front count i old new row total lt h so_far =
     let k : count - i ≡ suc (count - (i + 1)) = omega arith in
-    let one : with_front front (rows_in (count - i) old) ≡ with_front (front ++ row ∷ []) (rows_in (count - (i + 1)) new) = rw (k, h) (regroup front row (rows_in (count - (i + 1)) new)) in
+    let one : with_front front (rows_in (count - i) old)
+    ≡ with_front (front ++ row ∷ []) (rows_in (count - (i + 1)) new) =
+    rw (k, h) (regroup front row (rows_in (count - (i + 1)) new)) in
     sym one ∙ so_far
 
-pub rows_end : (front : List Row) (count i : ℕ) (old : Left) (fault : XyzFault) (total : Result (List Row × Left) XyzFault) → i < count → next_row old.taken old.lines ≡ Err fault
+pub rows_end : (front : List Row) (count i : ℕ) (old : Left) (fault : XyzFault)
+    (total : Result (List Row × Left) XyzFault) → i < count → next_row old.taken old.lines ≡ Err fault
     → with_front front (rows_in (count - i) old) ≡ total → total ≡ Err fault
 unfolding rows_in
 rows_end front count i old fault total lt h so_far =
@@ -87,11 +104,13 @@ rows_end front count i old fault total lt h so_far =
     let one : with_front front (rows_in (count - i) old) ≡ Err fault = rw (k, h) refl in
     sym so_far ∙ one
 
-pub rows_done : (front : List Row) (count i : ℕ) (left : Left) (total : Result (List Row × Left) XyzFault) → count ≤ i → with_front front (rows_in (count - i) left) ≡ total → total ≡ Ok (front, left)
+pub rows_done : (front : List Row) (count i : ℕ) (left : Left) (total : Result (List Row × Left) XyzFault) → count ≤ i
+    → with_front front (rows_in (count - i) left) ≡ total → total ≡ Ok (front, left)
 unfolding rows_in
 rows_done front count i left total le so_far =
     let k : count - i ≡ 0 = omega arith in
-    let one : with_front front (rows_in (count - i) left) ≡ Ok (front, left) = rw k (ap (λ (rows : List Row). Ok (rows, left)) (append-nil front)) in
+    let one : with_front front (rows_in (count - i) left) ≡ Ok (front, left) =
+    rw k (ap (λ (rows : List Row). Ok (rows, left)) (append-nil front)) in
     sym so_far ∙ one
 
 pub no_front : (read : Result (List Row × Left) XyzFault) → with_front [] read ≡ read
@@ -105,7 +124,8 @@ rows_start count left =
 
 -- the rows that were kept, and one more of them
 pub kept_more : {A : Type 0} (items : A → List Row) (before after : Option A) (front : List Row) (row : Row)
-    → IfSome after (λ more. IsSomeAnd before (λ kept. items more ≡ items kept ++ row ∷ [])) → IfSome before (λ kept. items kept ≡ front)
+    → IfSome after (λ more. IsSomeAnd before (λ kept. items more ≡ items kept ++ row ∷ []))
+    → IfSome before (λ kept. items kept ≡ front)
     → IfSome after (λ more. items more ≡ front ++ row ∷ [])
 kept_more items before None front row one kept = tt
 kept_more items (Some b) (Some more) front row one kept = rw (← kept) one
@@ -113,7 +133,8 @@ kept_more items None (Some more) front row one kept = absurd one
 
 -- the rows that were kept, as a frame
 pub kept_all : {A : Type 0} (items : A → List Row) (before : Option A) (after : Option (List Row)) (front : List Row)
-    → MatchOption before (after ≡ None) (λ kept. IsSomeAnd after (λ rows. rows ≡ items kept)) → IfSome before (λ kept. items kept ≡ front) → Keeps after front
+    → MatchOption before (after ≡ None) (λ kept. IsSomeAnd after (λ rows. rows ≡ items kept))
+    → IfSome before (λ kept. items kept ≡ front) → Keeps after front
 kept_all items None after front cases kept = rw cases tt
 kept_all items (Some b) None front cases kept = tt
 kept_all items (Some b) (Some rows) front cases kept = cases ∙ kept

@@ -1,6 +1,7 @@
 -- XYZ bodies as lists of whole lines: the frames that a body gives, or its first fault in reading order and the
 -- line where it stands.
-use Rattle.std.specs.Prelude.{◌≡◌, ℕ, ◌+◌, ◌<◌, Bool, true, false, ◌==◌, List, [], ◌∷◌, ◌++◌, length, map, Option, Some, None, Result, Ok, Err, ◌⊎◌}
+use Rattle.std.specs.Prelude.{◌≡◌, ℕ, ◌+◌, ◌<◌, Bool, true, false, ◌==◌, List, [], ◌∷◌, ◌++◌, length, map, Option, Some}
+use Rattle.std.specs.Prelude.{None, Result, Ok, Err, ◌⊎◌}
 use Rattle.std.specs.List.{AllByRecursion}
 use Rattle.lj_xyz.specs.declared.fault.XyzKind.{XyzKind}
 use Rattle.lj_xyz.specs.declared.fault.XyzKind.TheVariants as kind

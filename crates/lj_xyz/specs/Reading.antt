@@ -1,6 +1,7 @@
 -- Reading from the first line to the last, with the first fault that is met. It gives what `Frames` says, by a law of
 -- this crate.
-use Rattle.std.specs.Prelude.{◌≡◌, ℕ, zero, suc, ◌+◌, List, [], ◌∷◌, length, Option, Some, None, Result, Ok, Err, IsOk, if◌then◌else◌}
+use Rattle.std.specs.Prelude.{◌≡◌, ℕ, zero, suc, ◌+◌, List, [], ◌∷◌, length, Option, Some, None, Result, Ok, Err, IsOk}
+use Rattle.std.specs.Prelude.{if◌then◌else◌}
 use Rattle.lj_xyz.specs.declared.fault.XyzKind.{XyzKind}
 use Rattle.lj_xyz.specs.declared.fault.XyzKind.TheVariants as kind
 use Rattle.lj_xyz.specs.declared.fault.XyzFault.{XyzFault}
@@ -34,7 +35,8 @@ head_in position taken (line ∷ lines) =
     elim (words_of line) [
       | [] ↦ head_in position (taken + 1) lines
       | first ∷ others ↦
-          count_or_fault position (taken + 1) (count_of first) >>= λ n. Ok (n, record { taken = taken + 1; lines = lines })
+          count_or_fault position (taken + 1) (count_of first)
+          >>= λ n. Ok (n, record { taken = taken + 1; lines = lines })
     ]
 
 -- the lines after the comment line

@@ -16,7 +16,8 @@ use Rattle.lj_xyz.specs.Texts.{count_text, comment_text, atom_text}
 
 -- what a body answers, where memory is found
 answer : Mode → List ℕ → Result (List (List Row)) XyzFault
-unfolding reading frame_in head_in behind_comment next_row rows_in row_of row_of_four number_of lines_of words_of nano_of decimal_of
+unfolding reading frame_in head_in behind_comment next_row rows_in row_of row_of_four number_of
+    lines_of words_of nano_of decimal_of
 answer mode body = reading mode (lines_of body)
 
 fault : XyzKind → ℕ → Result (List (List Row)) XyzFault
@@ -25,7 +26,8 @@ fault wrong line = Err (record { kind = wrong; line = line })
 atom : List ℕ → ℤ → ℤ → ℤ → Row
 atom symbol x y z = record { symbol = symbol; x = x; y = y; z = z }
 
--- lines: a carriage return before the line feed or the end is dropped once, and two line feeds have an empty line between
+-- lines: a carriage return before the line feed or the end is dropped once, and two line feeds have an empty line
+-- between
 ends_of_lines : lines_of (codes "a\r\n\r\r\n\nb\r") ≡ codes "a" ∷ codes "\r" ∷ [] ∷ codes "b" ∷ []
 unfolding lines_of
 ends_of_lines = refl
@@ -39,11 +41,13 @@ words_of_line : words_of (codes " \tNa  1\u{b}2\t") ≡ codes "Na" ∷ codes "1\
 unfolding words_of
 words_of_line = refl
 
-half_a_nano : answer rest (codes "1\nq\nH -0.0000000005 0 0\n") ≡ Ok ((atom (codes "H") (negsuc 0) (pos 0) (pos 0) ∷ []) ∷ [])
+half_a_nano : answer rest (codes "1\nq\nH -0.0000000005 0 0\n")
+    ≡ Ok ((atom (codes "H") (negsuc 0) (pos 0) (pos 0) ∷ []) ∷ [])
 unfolding answer atom
 half_a_nano = refl
 
-exponents : answer rest (codes "1\nn\nH 15D-1 1.5e0 +1.5\n") ≡ Ok ((atom (codes "H") (pos 1500000000) (pos 1500000000) (pos 1500000000) ∷ []) ∷ [])
+exponents : answer rest (codes "1\nn\nH 15D-1 1.5e0 +1.5\n")
+    ≡ Ok ((atom (codes "H") (pos 1500000000) (pos 1500000000) (pos 1500000000) ∷ []) ∷ [])
 unfolding answer atom
 exponents = refl
 
@@ -96,12 +100,14 @@ uneven_pair : answer pair uneven ≡ fault kind.Pair 5
 unfolding answer fault uneven
 uneven_pair = refl
 
-uneven_rest : answer rest uneven ≡ Ok ((atom (codes "X") (pos 0) (pos 0) (pos 0) ∷ atom (codes "X") (pos 1000000000) (pos 0) (pos 0) ∷ []) ∷ [])
+uneven_rest : answer rest uneven ≡ Ok ((atom (codes "X") (pos 0) (pos 0) (pos 0)
+    ∷ atom (codes "X") (pos 1000000000) (pos 0) (pos 0) ∷ []) ∷ [])
 unfolding answer atom uneven
 uneven_rest = refl
 
 even_pair : answer pair (codes "1\np\nH -0.0000003 0 0\n1\nc\nH -0.000000001 0 0\n")
-    ≡ Ok ((atom (codes "H") (negsuc 299) (pos 0) (pos 0) ∷ []) ∷ (atom (codes "H") (negsuc 0) (pos 0) (pos 0) ∷ []) ∷ [])
+    ≡ Ok ((atom (codes "H") (negsuc 299) (pos 0) (pos 0) ∷ [])
+    ∷ (atom (codes "H") (negsuc 0) (pos 0) (pos 0) ∷ []) ∷ [])
 unfolding answer atom
 even_pair = refl
 

@@ -4,7 +4,8 @@ ghost use Rattle.lj_xyz.specs.declared.fault.XyzFault.{XyzFault};
 ghost use Rattle.lj_xyz.specs.Lines.{lines_of};
 ghost use Rattle.lj_xyz.specs.Atoms.{is_count, count_of, row_of, row_of_four};
 ghost use Rattle.lj_xyz.specs.Frames.{IsReading, HasFrames, admits, missing, rest, pair};
-ghost use Rattle.lj_xyz.specs.Reading.{Gives, Tells, count_or_fault, head_in, behind_comment, opening_in, next_row, rows_in, frame_in, reading};
+ghost use Rattle.lj_xyz.specs.Reading.{Gives, Tells, count_or_fault, head_in, behind_comment, opening_in, next_row};
+ghost use Rattle.lj_xyz.specs.Reading.{rows_in, frame_in, reading};
 ghost use Rattle.lj_xyz.specs.Cursor.{left_of, Passes};
 
 use crate::fault::{XyzError, XyzFault, XyzKind};

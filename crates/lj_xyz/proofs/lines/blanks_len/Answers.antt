@@ -6,5 +6,7 @@ use Rattle.lj_xyz.proofs.lines.blanks_len.Goals as goal
 
 pub returns-clause-value : goal.returns-clause-value
 returns-clause-value c =
-    let found = position_from_yields_List is_in_word _ _ c.position.result c.position.ensures.ran (YieldsList-from_slice c.args.line.now cc) (λ x b q k. search (rules, tests)) in
+    let found =
+    position_from_yields_List is_in_word _ _ c.position.result c.position.ensures.ran
+    (YieldsList-from_slice c.args.line.now cc) (λ x b q k. search (rules, tests)) in
     position_or_all is_in_word c.args.line.now _ _ found c.unwrap_or.ensures

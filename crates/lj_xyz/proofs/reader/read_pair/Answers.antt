@@ -11,20 +11,25 @@ abbrev view : FramePair → List (List Row)
 view frames = frames.first ∷ frames.second ∷ []
 
 pub returns-clause-frames : goal.returns-clause-frames
-returns-clause-frames c = frames_stand view pair (lines_of c.args.text.now) c.first_two_frames.result c.first_two_frames.ensures
+returns-clause-frames c =
+    frames_stand view pair (lines_of c.args.text.now) c.first_two_frames.result c.first_two_frames.ensures
 
 pub returns-clause-fault : goal.returns-clause-fault
-returns-clause-fault c = fault_stands view pair (lines_of c.args.text.now) c.first_two_frames.result c.first_two_frames.ensures
+returns-clause-fault c =
+    fault_stands view pair (lines_of c.args.text.now) c.first_two_frames.result c.first_two_frames.ensures
 
 pub returns-clause-count : goal.returns-clause-count
 returns-clause-count c =
-    IfOk-weaker c.first_two_frames.result _ _ (λ frames is. (two_counts (lines_of c.args.text.now) frames.first frames.second is).0)
+    IfOk-weaker c.first_two_frames.result _ _ (λ frames is.
+    (two_counts (lines_of c.args.text.now) frames.first frames.second is).0)
     (frames_stand view pair (lines_of c.args.text.now) c.first_two_frames.result c.first_two_frames.ensures)
 
 pub returns-clause-same_count : goal.returns-clause-same_count
 returns-clause-same_count c =
-    IfOk-weaker c.first_two_frames.result _ _ (λ frames is. (two_counts (lines_of c.args.text.now) frames.first frames.second is).1)
+    IfOk-weaker c.first_two_frames.result _ _ (λ frames is.
+    (two_counts (lines_of c.args.text.now) frames.first frames.second is).1)
     (frames_stand view pair (lines_of c.args.text.now) c.first_two_frames.result c.first_two_frames.ensures)
 
 pub returns-clause-memory : goal.returns-clause-memory
-returns-clause-memory c = memory_stands view pair (lines_of c.args.text.now) c.first_two_frames.result c.first_two_frames.ensures
+returns-clause-memory c =
+    memory_stands view pair (lines_of c.args.text.now) c.first_two_frames.result c.first_two_frames.ensures

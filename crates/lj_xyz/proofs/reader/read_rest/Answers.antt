@@ -17,7 +17,8 @@ returns-clause-fault c = fault_stands view rest (lines_of c.args.text.now) c.fir
 
 pub returns-clause-count : goal.returns-clause-count
 returns-clause-count c =
-    IfOk-weaker c.first_frame.result _ _ (λ rows. one_count (lines_of c.args.text.now) rows) (frames_stand view rest (lines_of c.args.text.now) c.first_frame.result c.first_frame.ensures)
+    IfOk-weaker c.first_frame.result _ _ (λ rows. one_count (lines_of c.args.text.now) rows)
+    (frames_stand view rest (lines_of c.args.text.now) c.first_frame.result c.first_frame.ensures)
 
 pub returns-clause-memory : goal.returns-clause-memory
 returns-clause-memory c = memory_stands view rest (lines_of c.args.text.now) c.first_frame.result c.first_frame.ensures

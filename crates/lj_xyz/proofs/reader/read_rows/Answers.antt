@@ -17,7 +17,8 @@ loop-preserved c =
     let row = c.in_ok-row.row in (
       front ++ row ∷ [],
       omega (arith, length-append front (row ∷ []), c.loop.invariant.1),
-      kept_more (λ rows. rows.items) c.loop.rows c.kept_with-rows.result front row c.kept_with-rows.ensures c.loop.invariant.2,
+      kept_more (λ rows. rows.items) c.loop.rows c.kept_with-rows.result front row
+          c.kept_with-rows.ensures c.loop.invariant.2,
       rows_go_on front c.args.atoms c.loop.counter (left_of c.loop.lines) (left_of c.read_row.new.lines) row
           (rows_in c.args.atoms (left_of c.args.lines.now)) c.loop-test.true c.in_ok-row.ensures c.loop.invariant.3,
     )
@@ -26,7 +27,8 @@ pub returns : goal.returns
 returns c =
     let front = c.loop.invariant.0 in (
       front,
-      rows_done front c.args.atoms c.loop.counter (left_of c.loop.lines) (rows_in c.args.atoms (left_of c.args.lines.now)) c.loop-test.false c.loop.invariant.3,
+      rows_done front c.args.atoms c.loop.counter (left_of c.loop.lines)
+          (rows_in c.args.atoms (left_of c.args.lines.now)) c.loop-test.false c.loop.invariant.3,
       omega (arith, c.loop.invariant.1, c.loop-test.false, c.loop.auto.counter-end),
       kept_all (λ rows. rows.items) c.loop.rows c.map.result front c.map.ensures.cases c.loop.invariant.2,
     )
