@@ -1,5 +1,6 @@
 -- What is saved in a session has as many atoms as the session.
-use Rattle.std.proofs.Common.{◌≡◌, ℕ, List, [], ◌∷◌, length, Option, Some, None, Result, Ok, Err, refl, sym, ap, ◌∙◌, subst}
+use Rattle.std.proofs.Common.{◌≡◌, ℕ, List, [], ◌∷◌, length, Option, Some, None, Result, Ok, Err, refl, sym, ap, ◌∙◌}
+use Rattle.std.proofs.Common.{subst}
 use Rattle.std.proofs.lemmas.Bool.{false≢true}
 use Rattle.std.specs.Prelude.{◌↔◌, IsOk, IsSome, IfSome, OnOk, OnErr}
 use Rattle.std.specs.List.{AllByRecursion}
@@ -15,20 +16,23 @@ use Rattle.lj_session.specs.States.{HasCount}
 use Rattle.lj_session.proofs.Entries.{by_test}
 
 module _ (count : ℕ) (name : List ℕ) where
-  pub counts-put : (saved : List (List ℕ × Simulation)) (sim : Simulation) → AllByRecursion (HasCount count) saved → length sim.cur ≡ count
+  pub counts-put : (saved : List (List ℕ × Simulation)) (sim : Simulation)
+      → AllByRecursion (HasCount count) saved → length sim.cur ≡ count
       → AllByRecursion (HasCount count) (put name sim saved)
   counts-put [] sim all same = (same, tt)
   counts-put (e ∷ es) sim all same = by_test (bytes_eq name e.0)
       (λ t. rw t (same, all.1))
       (λ t. rw t (all.0, counts-put es sim all.1 same))
 
-  pub counts-taken : (saved : List (List ℕ × Simulation)) → AllByRecursion (HasCount count) saved → AllByRecursion (HasCount count) (taken_out name saved)
+  pub counts-taken : (saved : List (List ℕ × Simulation)) → AllByRecursion (HasCount count) saved
+      → AllByRecursion (HasCount count) (taken_out name saved)
   counts-taken [] all = tt
   counts-taken (e ∷ es) all = by_test (bytes_eq name e.0)
       (λ t. rw t all.1)
       (λ t. rw t (all.0, counts-taken es all.1))
 
-  pub counts-named : (saved : List (List ℕ × Simulation)) (sim : Simulation) → AllByRecursion (HasCount count) saved → named name saved ≡ Some sim → length sim.cur ≡ count
+  pub counts-named : (saved : List (List ℕ × Simulation)) (sim : Simulation) → AllByRecursion (HasCount count) saved
+      → named name saved ≡ Some sim → length sim.cur ≡ count
   counts-named [] sim all found = absurd (none found)
     where
       none : ◌≡◌ {A = Option Simulation} None (Some sim) → ⊥
@@ -41,15 +45,20 @@ module _ (count : ℕ) (name : List ℕ) where
       same a b e = cc
 
   -- after a name is taken out, or is not there
-  pub counts-forgotten : (r : Result (Unit {0}) NoBranch) (old new : List (List ℕ × Simulation)) → OnOk r (new ≡ taken_out name old) → OnErr r (new ≡ old)
+  pub counts-forgotten : (r : Result (Unit {0}) NoBranch) (old new : List (List ℕ × Simulation))
+      → OnOk r (new ≡ taken_out name old) → OnErr r (new ≡ old)
       → AllByRecursion (HasCount count) old → AllByRecursion (HasCount count) new
-  counts-forgotten (Ok done) old new taken same all = subst (AllByRecursion (HasCount count)) (sym taken) (counts-taken old all)
+  counts-forgotten (Ok done) old new taken same all =
+      subst (AllByRecursion (HasCount count)) (sym taken) (counts-taken old all)
   counts-forgotten (Err fault) old new taken same all = subst (AllByRecursion (HasCount count)) (sym same) all
 
 -- a simulation put back to what is saved has as many atoms as before
-pub count-restored : (r : Result (Unit {0}) NoBranch) (o : Option Simulation) (old new : Live) → (IsOk r ↔ IsSome o) → OnOk r (IfSome o (λ sim. new ≡ closed old sim)) → OnErr r (new ≡ old)
-    → ((sim : Simulation) → o ≡ Some sim → length sim.cur ≡ length old.sim.cur) → length new.sim.cur ≡ length old.sim.cur
-count-restored (Ok done) (Some sim) old new found restored same counts = ap (λ (l : Live). length l.sim.cur) restored ∙ counts sim refl
+pub count-restored : (r : Result (Unit {0}) NoBranch) (o : Option Simulation) (old new : Live) → (IsOk r ↔ IsSome o)
+    → OnOk r (IfSome o (λ sim. new ≡ closed old sim)) → OnErr r (new ≡ old)
+    → ((sim : Simulation) → o ≡ Some sim → length sim.cur ≡ length old.sim.cur)
+    → length new.sim.cur ≡ length old.sim.cur
+count-restored (Ok done) (Some sim) old new found restored same counts =
+    ap (λ (l : Live). length l.sim.cur) restored ∙ counts sim refl
 count-restored (Ok done) None old new found restored same counts = absurd (false≢true (found.0 refl))
 count-restored (Err fault) o old new found restored same counts = ap (λ (l : Live). length l.sim.cur) same
 

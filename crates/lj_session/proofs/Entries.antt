@@ -1,5 +1,6 @@
 -- Values under names: a value put, set or taken out, and sums over them.
-use Rattle.std.proofs.Common.{◌≡◌, ◌≢◌, ◌∙◌, ℕ, suc, ◌+◌, Bool, true, false, List, [], ◌∷◌, ◌++◌, length, map, Some, None, refl, sym, ap, arith}
+use Rattle.std.proofs.Common.{◌≡◌, ◌≢◌, ◌∙◌, ℕ, suc, ◌+◌, Bool, true, false, List, [], ◌∷◌, ◌++◌, length, map, Some}
+use Rattle.std.proofs.Common.{None, refl, sym, ap, arith}
 use Rattle.std.specs.List.{sum_by}
 use Rattle.std.proofs.lemmas.List.Sums.{sum_by-cons}
 use Rattle.std.specs.Option.{option_map}
@@ -14,8 +15,10 @@ by_test true t f = t refl
 by_test false t f = f refl
 
 -- two names are not both one key
-not_both : (name other : List ℕ) → name ≢ other → (key : List ℕ) → bytes_eq name key ≡ true → bytes_eq other key ≡ true → ⊥
-not_both name other apart key its others = apart ((bytes_eq-Decides name key).0 its ∙ sym ((bytes_eq-Decides other key).0 others))
+not_both : (name other : List ℕ) → name ≢ other → (key : List ℕ) → bytes_eq name key ≡ true
+    → bytes_eq other key ≡ true → ⊥
+not_both name other apart key its others =
+    apart ((bytes_eq-Decides name key).0 its ∙ sym ((bytes_eq-Decides other key).0 others))
 
 module _ {A : Type 0} (name : List ℕ) where
   none-some : (x : A) → None ≡ Some x → ⊥
@@ -25,7 +28,8 @@ module _ {A : Type 0} (name : List ℕ) where
   same_Some x y e = cc
 
   -- a value set where its name stands is put under the name
-  pub set-put : (es : List (List ℕ × A)) (v w : A) → named name es ≡ Some v → set_value (bytes_eq name) es w ≡ put name w es
+  pub set-put : (es : List (List ℕ × A)) (v w : A) → named name es ≡ Some v
+      → set_value (bytes_eq name) es w ≡ put name w es
   set-put [] v w h = absurd (none-some v h)
   set-put (e ∷ es) v w h = by_test (bytes_eq name e.0)
       (λ t. rw t refl)
@@ -69,7 +73,8 @@ module _ {A : Type 0} (name : List ℕ) where
         (λ t. rw t (by_test (bytes_eq other e.0) (λ u. rw u refl) (λ u. rw u (named-taken_other es))))
 
   -- of two values put under it the second stays
-  pub put-put : (es : List (List ℕ × A)) (v first second : A) → named name es ≡ Some v → put name second (put name first es) ≡ put name second es
+  pub put-put : (es : List (List ℕ × A)) (v first second : A) → named name es ≡ Some v
+      → put name second (put name first es) ≡ put name second es
   put-put [] v first second h = absurd (none-some v h)
   put-put (e ∷ es) v first second h = by_test (bytes_eq name e.0)
       (λ t. rw (t, t) refl)
@@ -87,7 +92,8 @@ module _ {A : Type 0} (name : List ℕ) where
       (λ t. absurd (none-some e.1 (sym (rw t at h))))
       (λ t. let below = length-new es v (rw t at h) in rw t (omega (arith, below)))
 
-  pub length-taken : (es : List (List ℕ × A)) (v : A) → named name es ≡ Some v → length (taken_out name es) + 1 ≡ length es
+  pub length-taken : (es : List (List ℕ × A)) (v : A) → named name es ≡ Some v
+      → length (taken_out name es) + 1 ≡ length es
   length-taken [] v h = absurd (none-some v h)
   length-taken (e ∷ es) v h = by_test (bytes_eq name e.0)
       (λ t. rw t (omega arith))
@@ -146,10 +152,14 @@ module _ {A B : Type 0} (f : A → B) (name : List ℕ) where
   named-seen [] = refl
   named-seen (e ∷ es) = by_test (bytes_eq name e.0) (λ t. rw t refl) (λ t. rw t (named-seen es))
 
-  pub put-seen : (es : List (List ℕ × A)) (v : A) → put name (f v) (map (λ e. (e.0, f e.1)) es) ≡ map (λ e. (e.0, f e.1)) (put name v es)
+  pub put-seen : (es : List (List ℕ × A)) (v : A) → put name (f v) (map (λ e. (e.0, f e.1)) es)
+      ≡ map (λ e. (e.0, f e.1)) (put name v es)
   put-seen [] v = refl
-  put-seen (e ∷ es) v = by_test (bytes_eq name e.0) (λ t. rw t refl) (λ t. rw t (ap (λ l. (e.0, f e.1) ∷ l) (put-seen es v)))
+  put-seen (e ∷ es) v =
+      by_test (bytes_eq name e.0) (λ t. rw t refl) (λ t. rw t (ap (λ l. (e.0, f e.1) ∷ l) (put-seen es v)))
 
-  pub taken-seen : (es : List (List ℕ × A)) → taken_out name (map (λ e. (e.0, f e.1)) es) ≡ map (λ e. (e.0, f e.1)) (taken_out name es)
+  pub taken-seen : (es : List (List ℕ × A)) → taken_out name (map (λ e. (e.0, f e.1)) es)
+      ≡ map (λ e. (e.0, f e.1)) (taken_out name es)
   taken-seen [] = refl
-  taken-seen (e ∷ es) = by_test (bytes_eq name e.0) (λ t. rw t refl) (λ t. rw t (ap (λ l. (e.0, f e.1) ∷ l) (taken-seen es)))
+  taken-seen (e ∷ es) =
+      by_test (bytes_eq name e.0) (λ t. rw t refl) (λ t. rw t (ap (λ l. (e.0, f e.1) ∷ l) (taken-seen es)))

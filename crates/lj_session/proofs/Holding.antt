@@ -11,56 +11,78 @@ use Rattle.lj_session.specs.Totals.{owned_of}
 use Rattle.lj_session.proofs.Entries.{named-seen, put-seen, taken-seen, put-same}
 
 -- a session that is held is one of the user
-pub named-held : (owned : Owned) (name : List ℕ) (held : Held) → held_in owned name ≡ Some held → named name (user_of owned).sessions ≡ Some (as_session held)
+pub named-held : (owned : Owned) (name : List ℕ) (held : Held) → held_in owned name ≡ Some held
+    → named name (user_of owned).sessions ≡ Some (as_session held)
 named-held owned name held h = named-seen as_session name owned.sessions ∙ ap (option_map as_session) h
 
-pub named-absent : (owned : Owned) (name : List ℕ) → held_in owned name ≡ None → named name (user_of owned).sessions ≡ None
+pub named-absent : (owned : Owned) (name : List ℕ) → held_in owned name ≡ None
+    → named name (user_of owned).sessions ≡ None
 named-absent owned name h = named-seen as_session name owned.sessions ∙ ap (option_map as_session) h
 
 -- a session put among those that are held is put among those of the user
-pub user_of-put : (owned : Owned) (name : List ℕ) (held : Held) → user_of (with_held name held owned) ≡ with_session name (as_session held) (user_of owned)
-user_of-put owned name held = ap (λ (s : List (List ℕ × Session)). record { quota = owned.quota; sessions = s }) (sym (put-seen as_session name owned.sessions held))
+pub user_of-put : (owned : Owned) (name : List ℕ) (held : Held)
+    → user_of (with_held name held owned) ≡ with_session name (as_session held) (user_of owned)
+user_of-put owned name held =
+    ap (λ (s : List (List ℕ × Session)). record { quota = owned.quota; sessions = s })
+    (sym (put-seen as_session name owned.sessions held))
 
 pub user_of-taken : (owned : Owned) (name : List ℕ)
-    → user_of (record owned { sessions = taken_out name owned.sessions }) ≡ record (user_of owned) { sessions = taken_out name (user_of owned).sessions }
-user_of-taken owned name = ap (λ (s : List (List ℕ × Session)). record { quota = owned.quota; sessions = s }) (sym (taken-seen as_session name owned.sessions))
+    → user_of (record owned { sessions = taken_out name owned.sessions })
+    ≡ record (user_of owned) { sessions = taken_out name (user_of owned).sessions }
+user_of-taken owned name =
+    ap (λ (s : List (List ℕ × Session)). record { quota = owned.quota; sessions = s })
+    (sym (taken-seen as_session name owned.sessions))
 
 -- a change that leaves the session leaves the user
-pub user_of-changed : (owned : Owned) (name : List ℕ) (change : Held → Held) → ((held : Held) → as_session (change held) ≡ as_session held)
+pub user_of-changed : (owned : Owned) (name : List ℕ) (change : Held → Held)
+    → ((held : Held) → as_session (change held) ≡ as_session held)
     → user_of (changed name change owned) ≡ user_of owned
 user_of-changed owned name change same = by (held_in owned name) refl
   where
     by : (o : Option Held) → held_in owned name ≡ o → user_of (changed name change owned) ≡ user_of owned
     by None e = rw e refl
-    by (Some held) e = rw e (user_of-put owned name (change held) ∙ (rw (same held) (ap (λ (s : List (List ℕ × Session)). record { quota = owned.quota; sessions = s }) (put-same name (user_of owned).sessions (as_session held) (named-held owned name held e)))))
+    by (Some held) e =
+        rw e (user_of-put owned name (change held)
+        ∙ (rw (same held) (ap (λ (s : List (List ℕ × Session)). record { quota = owned.quota; sessions = s })
+        (put-same name (user_of owned).sessions (as_session held) (named-held owned name held e)))))
 
 -- a look-up by reference, and what is there
-pub present : (owned : Owned) (name : List ℕ) (o : Option (Bor Held)) → option_copied o ≡ held_in owned name → is_some (named name (user_of owned).sessions) ≡ is_some o
+pub present : (owned : Owned) (name : List ℕ) (o : Option (Bor Held)) → option_copied o ≡ held_in owned name
+    → is_some (named name (user_of owned).sessions) ≡ is_some o
 present owned name None h = ap is_some (named-absent owned name (sym h))
 present owned name (Some held) h = ap is_some (named-held owned name held.now (sym h))
 
 -- a session taken out of the map
-pub taken-of : (a : Inside) (old : Owned) → owned_of a ≡ old → (name : List ℕ) (entries : List (List ℕ × Held)) → entries ≡ taken_out name a.sessions.entries
+pub taken-of : (a : Inside) (old : Owned) → owned_of a ≡ old → (name : List ℕ) (entries : List (List ℕ × Held))
+    → entries ≡ taken_out name a.sessions.entries
     → record { quota = a.quota; sessions = entries } ≡ record old { sessions = taken_out name old.sessions }
 taken-of a old view name entries is =
-    ap (λ (es : List (List ℕ × Held)). record { quota = a.quota; sessions = es }) is ∙ ap (λ (o : Owned). record { quota = o.quota; sessions = taken_out name o.sessions }) view
+    ap (λ (es : List (List ℕ × Held)). record { quota = a.quota; sessions = es }) is
+    ∙ ap (λ (o : Owned). record { quota = o.quota; sessions = taken_out name o.sessions }) view
 
 -- a new session in the map
-pub inserted : (a : Inside) (old : Owned) → owned_of a ≡ old → (name copy : List ℕ) → copy ≡ name → (entries : List (List ℕ × Held)) (new made : Held) → new ≡ made
-    → entries ≡ put copy new a.sessions.entries → record { quota = a.quota; sessions = entries } ≡ with_held name made old
+pub inserted : (a : Inside) (old : Owned) → owned_of a ≡ old → (name copy : List ℕ) → copy ≡ name
+    → (entries : List (List ℕ × Held)) (new made : Held) → new ≡ made
+    → entries ≡ put copy new a.sessions.entries → record { quota = a.quota; sessions = entries }
+    ≡ with_held name made old
 inserted a old view name copy same entries new made is put_in =
-    ap (λ (es : List (List ℕ × Held)). record { quota = a.quota; sessions = es }) (put_in ∙ ap (λ n. put n new a.sessions.entries) same ∙ ap (λ (h : Held). put name h a.sessions.entries) is)
+    ap (λ (es : List (List ℕ × Held)). record { quota = a.quota; sessions = es })
+    (put_in ∙ ap (λ n. put n new a.sessions.entries) same ∙ ap (λ (h : Held). put name h a.sessions.entries) is)
     ∙ ap (with_held name made) view
 
 -- where there is no such session, nothing is changed
-pub changed-none : (owned : Owned) (name : List ℕ) (change : Held → Held) → held_in owned name ≡ None → changed name change owned ≡ owned
+pub changed-none : (owned : Owned) (name : List ℕ) (change : Held → Held) → held_in owned name ≡ None
+    → changed name change owned ≡ owned
 changed-none owned name change absent = rw absent refl
 
-pub changed-some : (owned : Owned) (name : List ℕ) (change : Held → Held) (held : Held) → held_in owned name ≡ Some held → changed name change owned ≡ with_held name (change held) owned
+pub changed-some : (owned : Owned) (name : List ℕ) (change : Held → Held) (held : Held) → held_in owned name ≡ Some held
+    → changed name change owned ≡ with_held name (change held) owned
 changed-some owned name change held found = rw found refl
 
 -- a session put that is the same session leaves the user
-pub user_of-kept : (owned : Owned) (name : List ℕ) (held new : Held) → held_in owned name ≡ Some held → as_session new ≡ as_session held → user_of (with_held name new owned) ≡ user_of owned
+pub user_of-kept : (owned : Owned) (name : List ℕ) (held new : Held) → held_in owned name ≡ Some held
+    → as_session new ≡ as_session held → user_of (with_held name new owned) ≡ user_of owned
 user_of-kept owned name held new found same =
     user_of-put owned name new ∙ ap (λ (s : Session). with_session name s (user_of owned)) same
-    ∙ ap (λ (s : List (List ℕ × Session)). record { quota = owned.quota; sessions = s }) (put-same name (user_of owned).sessions (as_session held) (named-held owned name held found))
+    ∙ ap (λ (s : List (List ℕ × Session)). record { quota = owned.quota; sessions = s })
+    (put-same name (user_of owned).sessions (as_session held) (named-held owned name held found))

@@ -30,33 +30,40 @@ module _ (a : Inside) (old : Owned) (view : owned_of a ≡ old) (counted : a.use
   before : a.used ≡ used_by old
   before = counted ∙ ap used_by view
 
-  pub sessions-over : a.quota.sessions < a.used.sessions + 1 → nat_lt (sessions_used (user_of old)) old.quota.sessions ≡ false
+  pub sessions-over : a.quota.sessions < a.used.sessions + 1
+      → nat_lt (sessions_used (user_of old)) old.quota.sessions ≡ false
   sessions-over = more-over (ap (λ (v : Used). v.sessions) before) (ap (λ (o : Owned). o.quota.sessions) view)
 
-  pub sessions-room : a.used.sessions + 1 ≤ a.quota.sessions → nat_lt (sessions_used (user_of old)) old.quota.sessions ≡ true
+  pub sessions-room : a.used.sessions + 1 ≤ a.quota.sessions
+      → nat_lt (sessions_used (user_of old)) old.quota.sessions ≡ true
   sessions-room = more-room (ap (λ (v : Used). v.sessions) before) (ap (λ (o : Owned). o.quota.sessions) view)
 
-  pub sessions-within : nat_lt (sessions_used (user_of old)) old.quota.sessions ≡ true → a.used.sessions + 1 ≤ a.quota.sessions
+  pub sessions-within : nat_lt (sessions_used (user_of old)) old.quota.sessions ≡ true
+      → a.used.sessions + 1 ≤ a.quota.sessions
   sessions-within room =
       let u = ap (λ (v : Used). v.sessions) before in
       let q = ap (λ (o : Owned). o.quota.sessions) view in
       let h = ltb-true (sessions_used (user_of old)) old.quota.sessions room in
       omega (arith, h, u, q)
 
-  pub branches-over : a.quota.branches < a.used.branches + 1 → nat_lt (branches_used (user_of old)) old.quota.branches ≡ false
+  pub branches-over : a.quota.branches < a.used.branches + 1
+      → nat_lt (branches_used (user_of old)) old.quota.branches ≡ false
   branches-over = more-over (ap (λ (v : Used). v.branches) before) (ap (λ (o : Owned). o.quota.branches) view)
 
-  pub branches-room : a.used.branches + 1 ≤ a.quota.branches → nat_lt (branches_used (user_of old)) old.quota.branches ≡ true
+  pub branches-room : a.used.branches + 1 ≤ a.quota.branches
+      → nat_lt (branches_used (user_of old)) old.quota.branches ≡ true
   branches-room = more-room (ap (λ (v : Used). v.branches) before) (ap (λ (o : Owned). o.quota.branches) view)
 
   module _ (atoms count : ℕ) (same : atoms ≡ count) where
-    pub atoms-over : a.quota.atoms < a.used.atoms + atoms → nat_le (atoms_used (user_of old) + count) old.quota.atoms ≡ false
+    pub atoms-over : a.quota.atoms < a.used.atoms + atoms
+        → nat_le (atoms_used (user_of old) + count) old.quota.atoms ≡ false
     atoms-over h =
         let u = ap (λ (v : Used). v.atoms) before in
         let q = ap (λ (o : Owned). o.quota.atoms) view in
         lt-leb (atoms_used (user_of old) + count) old.quota.atoms (omega (arith, h, u, q, same))
 
-    pub atoms-room : a.used.atoms + atoms ≤ a.quota.atoms → nat_le (atoms_used (user_of old) + count) old.quota.atoms ≡ true
+    pub atoms-room : a.used.atoms + atoms ≤ a.quota.atoms
+        → nat_le (atoms_used (user_of old) + count) old.quota.atoms ≡ true
     atoms-room h =
         let u = ap (λ (v : Used). v.atoms) before in
         let q = ap (λ (o : Owned). o.quota.atoms) view in

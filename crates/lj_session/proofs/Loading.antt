@@ -1,5 +1,6 @@
 -- LOAD, case by case.
-use Rattle.std.proofs.Common.{◌≡◌, ℕ, ◌+◌, Bool, true, false, List, length, Option, Some, None, Result, Ok, Err, nat_le, nat_lt, refl, sym, ap, ◌∙◌}
+use Rattle.std.proofs.Common.{◌≡◌, ℕ, ◌+◌, Bool, true, false, List, length, Option, Some, None, Result, Ok, Err, nat_le}
+use Rattle.std.proofs.Common.{nat_lt, refl, sym, ap, ◌∙◌}
 use Rattle.std.specs.Prelude.{is_some}
 use Rattle.std.specs.Option.{option_map}
 use Rattle.std.proofs.lemmas.Bool.{true≢false}
@@ -21,7 +22,8 @@ use Rattle.lj_session.specs.declared.refusal.Refusal.TheVariants.{Exists, QuotaS
 use Rattle.lj_session.specs.declared.reply.Reply.TheVariants as reply
 use Rattle.lj_branch.specs.Named.{named}
 use Rattle.lj_session.specs.Users.{Session, User, with_session, atoms_of, atoms_used, sessions_used}
-use Rattle.lj_session.specs.Loads.{admitted, body_held, scale_of_load, scale_refusal, reading_mode, place_in, session_from, session_of_frames}
+use Rattle.lj_session.specs.Loads.{admitted, body_held, scale_of_load, scale_refusal, reading_mode, place_in}
+use Rattle.lj_session.specs.Loads.{session_from, session_of_frames}
 use Rattle.lj_session.specs.Answers.{performed}
 use Rattle.lj_session.specs.Openings.{frames_of, last_of, held_from}
 use Rattle.lj_session.specs.Faults.{xyz_refusal}
@@ -32,7 +34,8 @@ use Rattle.lj_session.proofs.Others.{others-put}
 use Rattle.lj_session.proofs.Performing.{done, refused, starved}
 
 -- the session of the frames that were read
-pub session-frames : (units : Units) (first : List Row) (second : Option (List Row)) → session_of_frames units (frames_of first second) ≡ session_from units first (last_of first second)
+pub session-frames : (units : Units) (first : List Row) (second : Option (List Row))
+    → session_of_frames units (frames_of first second) ≡ session_from units first (last_of first second)
 session-frames units first None = refl
 session-frames units first (Some second) = refl
 
@@ -51,13 +54,15 @@ module _ (user : User) (load : Load) where
     admitted-over over = rw (new, over) refl
 
     module _ (room : nat_lt (sessions_used user) user.quota.sessions ≡ true) where
-      pub admitted-fault : (fault : ScaleFault) → scale_of_load load ≡ Err fault → admitted user load ≡ Err (scale_refusal fault)
+      pub admitted-fault : (fault : ScaleFault) → scale_of_load load ≡ Err fault
+          → admitted user load ≡ Err (scale_refusal fault)
       admitted-fault fault e = rw (new, room, e) refl
 
       pub admitted-scale : (units : Units) → scale_of_load load ≡ Ok units → admitted user load ≡ Ok units
       admitted-scale units e = rw (new, room, e) refl
 
-  pub load-refused : (mark : Bool) (refusal : Refusal) → admitted user load ≡ Err refusal → performed user (commands.Load load) mark ≡ Err refusal
+  pub load-refused : (mark : Bool) (refusal : Refusal) → admitted user load ≡ Err refusal
+      → performed user (commands.Load load) mark ≡ Err refusal
   unfolding performed
   load-refused mark refusal e = rw e refl
 
@@ -87,27 +92,33 @@ module _ (user : User) (load : Load) where
       unfolding performed
       load-fault fault read = rw (scale, held, read) refl
 
-      module _ (first : List Row) (second : Option (List Row)) (read : reading (reading_mode load.mode) (lines_of body) ≡ Ok (frames_of first second)) where
+      module _ (first : List Row) (second : Option (List Row))
+          (read : reading (reading_mode load.mode) (lines_of body) ≡ Ok (frames_of first second)) where
         abbrev session_loaded : Session
         session_loaded = session_from units first (last_of first second)
 
-        pub load-over : nat_le (atoms_used user + atoms_of session_loaded) user.quota.atoms ≡ false → performed user (commands.Load load) false ≡ Err QuotaAtoms
+        pub load-over : nat_le (atoms_used user + atoms_of session_loaded) user.quota.atoms ≡ false
+            → performed user (commands.Load load) false ≡ Err QuotaAtoms
         unfolding performed
         load-over over = rw (scale, held, read, session-frames units first second, over) refl
 
         pub load-done : nat_le (atoms_used user + atoms_of session_loaded) user.quota.atoms ≡ true
-            → performed user (commands.Load load) false ≡ Ok (reply.Loaded load.name (atoms_of session_loaded), with_session load.name session_loaded user)
+            → performed user (commands.Load load) false
+            ≡ Ok (reply.Loaded load.name (atoms_of session_loaded), with_session load.name session_loaded user)
         unfolding performed
         load-done room = rw (scale, held, read, session-frames units first second, room) refl
 
 -- how many atoms a session has that opens with frames of one count
-pub atoms-opened : (units : Units) (first last : List Row) → length last ≡ length first → atoms_of (session_from units first last) ≡ length first
+pub atoms-opened : (units : Units) (first last : List Row) → length last ≡ length first
+    → atoms_of (session_from units first last) ≡ length first
 atoms-opened units first last same = length-map last (place_in units.edge) ∙ same
 
 module _ (old new : Owned) (load : Load) (units : Units) (scale : admitted (user_of old) load ≡ Ok units) where
   -- the name is new among those that are held
   pub absent-admitted : held_in old load.name ≡ None
-  absent-admitted = none-held (held_in old load.name) (sym (ap is_some (named-seen as_session load.name old.sessions)) ∙ (new-admitted (user_of old) load units scale).0)
+  absent-admitted =
+      none-held (held_in old load.name) (sym (ap is_some (named-seen as_session load.name old.sessions))
+      ∙ (new-admitted (user_of old) load units scale).0)
     where
       none-held : (o : Option Held) → is_some (option_map as_session o) ≡ false → o ≡ None
       none-held None h = refl
@@ -120,25 +131,34 @@ module _ (old new : Owned) (load : Load) (units : Units) (scale : admitted (user
     -- a body that is not read is refused for its fault, or for want of memory
     pub not-read : (error : XyzError) → Fails error (reading (reading_mode load.mode) (lines_of body))
         → Performs old (commands.Load load) (Err (xyz_refusal error)) new
-    not-read (errors.Fault fault) read = refused old new _ _ (load-fault (user_of old) load units scale body held fault read)
+    not-read (errors.Fault fault) read =
+        refused old new _ _ (load-fault (user_of old) load units scale body held fault read)
     not-read errors.Memory read = load-starved
 
-    module _ (first : List Row) (second : Option (List Row)) (read : reading (reading_mode load.mode) (lines_of body) ≡ Ok (frames_of first second))
+    module _ (first : List Row) (second : Option (List Row))
+        (read : reading (reading_mode load.mode) (lines_of body) ≡ Ok (frames_of first second))
         (same : length (last_of first second) ≡ length first) where
       pub too-many : nat_le (atoms_used (user_of old) + length first) old.quota.atoms ≡ false
           → Performs old (commands.Load load) (Err QuotaAtoms) new
       too-many over = refused old new _ _ (load-over (user_of old) load units scale body held first second read
-          (ap (λ n. nat_le (atoms_used (user_of old) + n) old.quota.atoms) (atoms-opened units first (last_of first second) same) ∙ over))
+          (ap (λ n. nat_le (atoms_used (user_of old) + n) old.quota.atoms)
+          (atoms-opened units first (last_of first second) same) ∙ over))
 
-      pub loaded : (atoms : ℕ) → atoms ≡ length first → nat_le (atoms_used (user_of old) + length first) old.quota.atoms ≡ true
+      pub loaded : (atoms : ℕ) → atoms ≡ length first
+          → nat_le (atoms_used (user_of old) + length first) old.quota.atoms ≡ true
           → new ≡ with_held load.name (held_from units first (last_of first second)) old
           → Performs old (commands.Load load) (Ok (reply.Loaded load.name atoms)) new
       loaded atoms its room is = done old new _ _
           (load-done (user_of old) load units scale body held first second read
           (ap (λ n. nat_le (atoms_used (user_of old) + n) old.quota.atoms) count ∙ room)
-          ∙ (ap (λ n. Ok (reply.Loaded load.name n, with_session load.name (session_from units first (last_of first second)) (user_of old))) (count ∙ sym its)
-          ∙ ap (λ (u : User). Ok (reply.Loaded load.name atoms, u)) (sym (ap user_of is ∙ user_of-put old load.name (held_from units first (last_of first second))))))
-          (λ other apart. ap (λ (o : Owned). held_in o other) is ∙ others-put old load.name (held_from units first (last_of first second)) other apart)
+          ∙ (ap (λ n. Ok (
+            reply.Loaded load.name n,
+            with_session load.name (session_from units first (last_of first second)) (user_of old),
+          )) (count ∙ sym its)
+          ∙ ap (λ (u : User). Ok (reply.Loaded load.name atoms, u))
+          (sym (ap user_of is ∙ user_of-put old load.name (held_from units first (last_of first second))))))
+          (λ other apart. ap (λ (o : Owned). held_in o other) is
+          ∙ others-put old load.name (held_from units first (last_of first second)) other apart)
         where
           count : atoms_of (session_from units first (last_of first second)) ≡ length first
           count = atoms-opened units first (last_of first second) same

@@ -1,11 +1,15 @@
 -- What each command comes to, case by case.
 use Rattle.std.specs.Prelude.{is_some}
-use Rattle.std.proofs.Common.{◌≡◌, ℕ, Bool, true, false, ℤ, List, [], ◌∷◌, Option, Some, None, Result, Ok, Err, nat_lt, refl}
+use Rattle.std.proofs.Common.{◌≡◌, ℕ, Bool, true, false, ℤ, List, [], ◌∷◌, Option, Some, None, Result, Ok, Err, nat_lt}
+use Rattle.std.proofs.Common.{refl}
 use Rattle.lj_step.specs.Motion.{Simulation, place_at, steps, reversed, tugged, momentum, kinetic, potential}
 use Rattle.lj_session.specs.declared.command.Command.{Command}
-use Rattle.lj_session.specs.declared.command.Command.TheVariants.{Load, Advance, Reverse, Branch, Restore, Forget, Tug, Measure, Show, Dump, List as ListSessions, ListBranches, Unload, Bye}
+use Rattle.lj_session.specs.declared.command.Command.TheVariants.{Load, Advance, Reverse, Branch, Restore, Forget, Tug}
+use Rattle.lj_session.specs.declared.command.Command.TheVariants.{Measure, Show, Dump, List as ListSessions}
+use Rattle.lj_session.specs.declared.command.Command.TheVariants.{ListBranches, Unload, Bye}
 use Rattle.lj_session.specs.declared.refusal.Refusal.{Refusal}
-use Rattle.lj_session.specs.declared.refusal.Refusal.TheVariants.{NoSession, NoBranch, BranchExists, NoAtom, QuotaBranches, StepRange, Memory}
+use Rattle.lj_session.specs.declared.refusal.Refusal.TheVariants.{NoSession, NoBranch, BranchExists, NoAtom}
+use Rattle.lj_session.specs.declared.refusal.Refusal.TheVariants.{QuotaBranches, StepRange, Memory}
 use Rattle.lj_session.specs.declared.reply.Reply.{Reply}
 use Rattle.lj_session.specs.declared.reply.Reply.TheVariants as reply
 use Rattle.lj_branch.specs.Named.{named, put, taken_out}
@@ -15,7 +19,8 @@ use Rattle.lj_session.specs.States.{Owned, OthersKept, Performs, outcome, user_o
 
 -- a command that is done without the mark
 pub done : (old new : Owned) (command : Command) (reply : Reply)
-    → performed (user_of old) command false ≡ Ok (reply, user_of new) → OthersKept command old new → Performs old command (Ok reply) new
+    → performed (user_of old) command false ≡ Ok (reply, user_of new) → OthersKept command old new
+    → Performs old command (Ok reply) new
 done old new command reply h others = record { mark = false; performs = h; only_memory = λ marked. cc; others = others }
 
 -- a command that is refused without it
@@ -24,12 +29,14 @@ pub refused : (old new : Owned) (command : Command) (refusal : Refusal)
 refused old new command refusal h = record { mark = false; performs = h; only_memory = λ marked. cc; others = tt }
 
 -- a command that memory was refused to
-pub starved : (old new : Owned) (command : Command) → performed (user_of old) command true ≡ Err Memory → Performs old command (Err Memory) new
+pub starved : (old new : Owned) (command : Command) → performed (user_of old) command true ≡ Err Memory
+    → Performs old command (Err Memory) new
 starved old new command h = record { mark = true; performs = h; only_memory = λ marked. refl; others = tt }
 
 -- a command that only reads
 pub read : (owned : Owned) (command : Command) (result : Result Reply Refusal)
-    → ((mark : Bool) → performed (user_of owned) command mark ≡ outcome result (user_of owned)) → Performs owned command result owned
+    → ((mark : Bool) → performed (user_of owned) command mark ≡ outcome result (user_of owned))
+    → Performs owned command result owned
 read owned command (Ok reply) h = done owned owned command reply (h false) (λ other apart. refl)
 read owned command (Err refusal) h = refused owned owned command refusal (h false)
 
@@ -44,7 +51,8 @@ IsAbsent user (Load load) = ⊥
 IsAbsent user command = IsNone user (session_named command)
 
 -- every command of a session but LOAD is refused where there is none
-pub none : (user : User) (command : Command) (mark : Bool) → IsAbsent user command → performed user command mark ≡ Err NoSession
+pub none : (user : User) (command : Command) (mark : Bool) → IsAbsent user command
+    → performed user command mark ≡ Err NoSession
 unfolding performed
 none user (Load load) mark absent = absurd absent
 none user (Advance name n) mark absent = rw absent refl
@@ -68,62 +76,87 @@ module _ (user : User) (name : List ℕ) (mark : Bool) where
     advance-far n far = rw (found, far) refl
 
     pub advance-on : (n : ℕ) → can_advance session n ≡ true
-        → performed user (Advance name n) mark ≡ Ok (reply.Advanced name (steps session.units n session.sim).step, with_sim name session (steps session.units n session.sim) user)
+        → performed user (Advance name n) mark ≡ Ok (
+          reply.Advanced name (steps session.units n session.sim).step,
+          with_sim name session (steps session.units n session.sim) user,
+        )
     unfolding performed
     advance-on n near = rw (found, near) refl
 
-    pub reverse-done : performed user (Reverse name) mark ≡ Ok (reply.Reversed name (reversed session.sim).step, with_sim name session (reversed session.sim) user)
+    pub reverse-done : performed user (Reverse name) mark
+        ≡ Ok (reply.Reversed name (reversed session.sim).step, with_sim name session (reversed session.sim) user)
     unfolding performed
     reverse-done = rw found refl
 
-    pub restore-no_branch : (branch : List ℕ) → named branch session.saved ≡ None → performed user (Restore name branch) mark ≡ Err NoBranch
+    pub restore-no_branch : (branch : List ℕ) → named branch session.saved ≡ None
+        → performed user (Restore name branch) mark ≡ Err NoBranch
     unfolding performed
     restore-no_branch branch none = rw (found, none) refl
 
     pub restore-done : (branch : List ℕ) (sim : Simulation) → named branch session.saved ≡ Some sim
-        → performed user (Restore name branch) mark ≡ Ok (reply.Restored name branch sim.step, with_sim name session sim user)
+        → performed user (Restore name branch) mark
+        ≡ Ok (reply.Restored name branch sim.step, with_sim name session sim user)
     unfolding performed
     restore-done branch sim saved = rw (found, saved) refl
 
-    pub forget-no_branch : (branch : List ℕ) → named branch session.saved ≡ None → performed user (Forget name branch) mark ≡ Err NoBranch
+    pub forget-no_branch : (branch : List ℕ) → named branch session.saved ≡ None
+        → performed user (Forget name branch) mark ≡ Err NoBranch
     unfolding performed
     forget-no_branch branch none = rw (found, none) refl
 
     pub forget-done : (branch : List ℕ) (sim : Simulation) → named branch session.saved ≡ Some sim
-        → performed user (Forget name branch) mark ≡ Ok (reply.Forgotten name branch, with_session name (record session { saved = taken_out branch session.saved }) user)
+        → performed user (Forget name branch) mark
+        ≡ Ok (
+          reply.Forgotten name branch,
+          with_session name
+              (record session { saved = taken_out branch session.saved }) user,
+        )
     unfolding performed
     forget-done branch sim saved = rw (found, saved) refl
 
-    pub branch-exists : (branch : List ℕ) → is_some (named branch session.saved) ≡ true → performed user (Branch name branch) mark ≡ Err BranchExists
+    pub branch-exists : (branch : List ℕ) → is_some (named branch session.saved) ≡ true
+        → performed user (Branch name branch) mark ≡ Err BranchExists
     unfolding performed
     branch-exists branch taken = rw (found, taken) refl
 
-    pub branch-over : (branch : List ℕ) → is_some (named branch session.saved) ≡ false → nat_lt (branches_used user) user.quota.branches ≡ false
+    pub branch-over : (branch : List ℕ) → is_some (named branch session.saved) ≡ false
+        → nat_lt (branches_used user) user.quota.branches ≡ false
         → performed user (Branch name branch) mark ≡ Err QuotaBranches
     unfolding performed
     branch-over branch new over = rw (found, new, over) refl
 
-    pub tug-no_atom : (atom : ℕ) (x y z : ℤ) → nat_lt atom (atoms_of session) ≡ false → performed user (Tug name atom x y z) mark ≡ Err NoAtom
+    pub tug-no_atom : (atom : ℕ) (x y z : ℤ) → nat_lt atom (atoms_of session) ≡ false
+        → performed user (Tug name atom x y z) mark ≡ Err NoAtom
     unfolding performed
     tug-no_atom atom x y z past = rw (found, past) refl
 
     pub tug-done : (atom : ℕ) (x y z : ℤ) → nat_lt atom (atoms_of session) ≡ true
         → performed user (Tug name atom x y z) mark
-        ≡ Ok (reply.Tugged name atom session.sim.step, with_sim name session (tugged atom (record { x = x; y = y; z = z }) session.sim) user)
+        ≡ Ok (
+          reply.Tugged name atom session.sim.step,
+          with_sim name session (tugged atom (record { x = x; y = y; z = z }) session.sim) user,
+        )
     unfolding performed
     tug-done atom x y z there = rw (found, there) refl
 
     pub measure-done : performed user (Measure name) mark
-        ≡ Ok (reply.Measured name session.sim.step (atoms_of session) (let m = momentum session.sim in m.x ∷ m.y ∷ m.z ∷ []) (kinetic session.sim) (potential session.units session.sim.cur), user)
+        ≡ Ok (
+          reply.Measured name session.sim.step (atoms_of session)
+              (let m = momentum session.sim in m.x ∷ m.y ∷ m.z ∷ []) (kinetic session.sim)
+              (potential session.units session.sim.cur),
+          user,
+        )
     unfolding performed
     measure-done = rw found refl
 
-    pub show-no_atom : (atom : ℕ) → nat_lt atom (atoms_of session) ≡ false → performed user (Show name atom) mark ≡ Err NoAtom
+    pub show-no_atom : (atom : ℕ) → nat_lt atom (atoms_of session) ≡ false
+        → performed user (Show name atom) mark ≡ Err NoAtom
     unfolding performed
     show-no_atom atom past = rw (found, past) refl
 
     pub show-done : (atom : ℕ) → nat_lt atom (atoms_of session) ≡ true
-        → performed user (Show name atom) mark ≡ Ok (reply.Shown name session.sim.step atom (place_at session.sim.cur atom), user)
+        → performed user (Show name atom) mark ≡ Ok
+        (reply.Shown name session.sim.step atom (place_at session.sim.cur atom), user)
     unfolding performed
     show-done atom there = rw (found, there) refl
 
@@ -135,19 +168,25 @@ module _ (user : User) (name : List ℕ) (mark : Bool) where
     unfolding performed
     list_branches-done = rw found refl
 
-    pub unload-done : performed user (Unload name) mark ≡ Ok (reply.Unloaded name, record user { sessions = taken_out name user.sessions })
+    pub unload-done : performed user (Unload name) mark
+        ≡ Ok (reply.Unloaded name, record user { sessions = taken_out name user.sessions })
     unfolding performed
     unload-done = rw found refl
 
 -- a BRANCH that is refused for nothing else has memory, or not
-module _ (user : User) (name : List ℕ) (session : Session) (found : named name user.sessions ≡ Some session) (branch : List ℕ)
-    (new : is_some (named branch session.saved) ≡ false) (room : nat_lt (branches_used user) user.quota.branches ≡ true) where
+module _ (user : User) (name : List ℕ) (session : Session)
+    (found : named name user.sessions ≡ Some session) (branch : List ℕ)
+    (new : is_some (named branch session.saved) ≡ false)
+    (room : nat_lt (branches_used user) user.quota.branches ≡ true) where
   pub branch-memory : performed user (Branch name branch) true ≡ Err Memory
   unfolding performed
   branch-memory = rw (found, new, room) refl
 
   pub branch-done : performed user (Branch name branch) false
-      ≡ Ok (reply.Branched name branch session.sim.step, with_session name (record session { saved = put branch session.sim session.saved }) user)
+      ≡ Ok (
+        reply.Branched name branch session.sim.step,
+        with_session name (record session { saved = put branch session.sim session.saved }) user,
+      )
   unfolding performed
   branch-done = rw (found, new, room) refl
 

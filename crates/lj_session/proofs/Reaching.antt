@@ -16,10 +16,13 @@ full (command ∷ commands) [] = false ∷ full commands []
 full (command ∷ commands) (mark ∷ marks) = mark ∷ full commands marks
 
 after-one_more : (user : User) (commands : List Command) (marks : List Bool) (command : Command) (mark : Bool)
-    → user_after user (commands ++ command ∷ []) (full commands marks ++ mark ∷ []) ≡ (answer (user_after user commands marks) command mark).1
+    → user_after user (commands ++ command ∷ []) (full commands marks ++ mark ∷ [])
+    ≡ (answer (user_after user commands marks) command mark).1
 after-one_more user [] marks command mark = refl
-after-one_more user (first ∷ commands) [] command mark = after-one_more (answer user first false).1 commands [] command mark
-after-one_more user (first ∷ commands) (set ∷ marks) command mark = after-one_more (answer user first set).1 commands marks command mark
+after-one_more user (first ∷ commands) [] command mark =
+    after-one_more (answer user first false).1 commands [] command mark
+after-one_more user (first ∷ commands) (set ∷ marks) command mark =
+    after-one_more (answer user first set).1 commands marks command mark
 
 -- no command leads to no sessions
 pub reached-empty : (quota : Quota) → Reached (empty quota)
@@ -34,7 +37,8 @@ reached-answer old new before command mark quota next = record {
   leads = sym next
       ∙ ap (λ user. (answer user command mark).1) before.leads
       ∙ sym (after-one_more (fresh old.quota) before.commands before.marks command mark)
-      ∙ ap (λ quota. user_after (fresh quota) (before.commands ++ command ∷ []) (full before.commands before.marks ++ mark ∷ [])) (sym quota);
+      ∙ ap (λ quota. user_after (fresh quota) (before.commands ++ command ∷ [])
+      (full before.commands before.marks ++ mark ∷ [])) (sym quota);
 }
 
 -- the same user
@@ -42,12 +46,15 @@ pub reached-same : (old new : Owned) → Reached old → user_of new ≡ user_of
 reached-same old new before same = record {
   commands = before.commands;
   marks = before.marks;
-  leads = same ∙ before.leads ∙ ap (λ (user : User). user_after (fresh user.quota) before.commands before.marks) (sym same);
+  leads = same ∙ before.leads ∙ ap (λ (user : User). user_after (fresh user.quota) before.commands before.marks)
+      (sym same);
 }
 
 -- a command that is performed
-pub reached-performs : (old new : Owned) → Reached old → (command : Command) (result : Result Reply Refusal) → Performs old command result new
+pub reached-performs : (old new : Owned) → Reached old → (command : Command) (result : Result Reply Refusal)
+    → Performs old command result new
     → new.quota ≡ old.quota → OnErr result (new ≡ old) → Reached new
 reached-performs old new before command (Ok reply) performs quota stays =
     reached-answer old new before command performs.mark quota (ap (λ r. (settled (user_of old) r).1) performs.performs)
-reached-performs old new before command (Err refusal) performs quota stays = reached-same old new before (ap user_of stays)
+reached-performs old new before command (Err refusal) performs quota stays =
+    reached-same old new before (ap user_of stays)

@@ -1,5 +1,6 @@
 -- Results of calls, by their cases.
-use Rattle.std.proofs.Common.{◌≡◌, ℕ, Bool, true, false, List, length, Option, Some, None, Result, Ok, Err, refl, sym, ap, ◌∙◌, subst}
+use Rattle.std.proofs.Common.{◌≡◌, ℕ, Bool, true, false, List, length, Option, Some, None, Result, Ok, Err, refl, sym}
+use Rattle.std.proofs.Common.{ap, ◌∙◌, subst}
 use Rattle.std.specs.Option.{option_map}
 use Rattle.lj_step.specs.Motion.{Simulation}
 use Rattle.lj_branch.specs.Named.{named}
@@ -20,9 +21,11 @@ pub refused : {A : Type 0} (r : Result A Refusal) (refusal : Refusal) → IsErrA
 refused (Ok x) refusal h = absurd h
 refused (Err e) refusal h = ap Err h
 
-pub performs-refused : (old new : Owned) (command : Command) (r : Result Reply Refusal) (refusal : Refusal) → IsErrAnd r (λ e. e ≡ refusal)
+pub performs-refused : (old new : Owned) (command : Command) (r : Result Reply Refusal) (refusal : Refusal)
+    → IsErrAnd r (λ e. e ≡ refusal)
     → Performs old command (Err refusal) new → Performs old command r new
-performs-refused old new command r refusal h performs = subst (λ r. Performs old command r new) (sym (refused r refusal h)) performs
+performs-refused old new command r refusal h performs =
+    subst (λ r. Performs old command r new) (sym (refused r refusal h)) performs
 
 -- what holds anyway holds after an error
 pub on_err : {A : Type 0} {P : Type 0} (r : Result A Refusal) → P → OnErr r P
@@ -47,18 +50,24 @@ module _ {A : Type 0} where
   some-with P (Some x) h p = (x, refl, p)
 
 -- where the name is new, a simulation is not saved for want of memory alone
-pub not-saved : (fault : SaveFault) (taken : Bool) → (◌≡◌ {A = Result (Unit {0}) SaveFault} (Err fault) (Err save.Exists) → taken ≡ true) → taken ≡ false → save_refusal fault ≡ Memory
+pub not-saved : (fault : SaveFault) (taken : Bool)
+    → (◌≡◌ {A = Result (Unit {0}) SaveFault} (Err fault) (Err save.Exists) → taken ≡ true) → taken ≡ false
+    → save_refusal fault ≡ Memory
 not-saved save.Exists taken h new = absurd (true≢false (sym (h refl) ∙ new))
 not-saved save.Memory taken h new = refl
 
 -- a fault that is want of memory
-pub performs-starved : (old new : Owned) (command : Command) (fault : Refusal) → fault ≡ Memory → performed (user_of old) command true ≡ Err Memory → Performs old command (Err fault) new
-performs-starved old new command fault is h = record { mark = true; performs = h ∙ ap Err (sym is); only_memory = λ marked. ap Err is; others = tt }
+pub performs-starved : (old new : Owned) (command : Command) (fault : Refusal) → fault ≡ Memory
+    → performed (user_of old) command true ≡ Err Memory → Performs old command (Err fault) new
+performs-starved old new command fault is h =
+    record { mark = true; performs = h ∙ ap Err (sym is); only_memory = λ marked. ap Err is; others = tt }
 
 -- what is saved under a name is found by its count of atoms
 pub is_some-counted : (name : List ℕ) (saved seen : List (List ℕ × Simulation)) (count : Option ℕ) → seen ≡ saved
-    → count ≡ option_map (λ (s : Simulation). length s.cur) (named name seen) → is_some (named name saved) ≡ is_some count
-is_some-counted name saved seen count same is = ap (λ l. is_some (named name l)) (sym same) ∙ sym (ap is_some is ∙ mapped (named name seen))
+    → count ≡ option_map (λ (s : Simulation). length s.cur) (named name seen)
+    → is_some (named name saved) ≡ is_some count
+is_some-counted name saved seen count same is =
+    ap (λ l. is_some (named name l)) (sym same) ∙ sym (ap is_some is ∙ mapped (named name seen))
   where
     mapped : (o : Option Simulation) → is_some (option_map (λ (s : Simulation). length s.cur) o) ≡ is_some o
     mapped None = refl
@@ -74,6 +83,7 @@ module _ {A E : Type 0} where
   on_err-then (Err e) f p = f p
 
   -- what is seen alike of both outcomes
-  pub same-either : {B C : Type 0} (r : Result A E) (see : B → C) (new old taken : B) → OnOk r (new ≡ taken) → OnErr r (new ≡ old) → see taken ≡ see old → see new ≡ see old
+  pub same-either : {B C : Type 0} (r : Result A E) (see : B → C) (new old taken : B) → OnOk r (new ≡ taken)
+      → OnErr r (new ≡ old) → see taken ≡ see old → see new ≡ see old
   same-either (Ok x) see new old taken is same alike = ap see is ∙ alike
   same-either (Err e) see new old taken is same alike = ap see same

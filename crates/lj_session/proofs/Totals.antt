@@ -29,27 +29,39 @@ module _ (old : Owned) (name : List ℕ) (new : Held) where
     session = named-held old name held found
 
     pub sessions-changed : (used_by (with_held name new old)).sessions ≡ (used_by old).sessions
-    sessions-changed = ap (λ (u : Used). u.sessions) put_used ∙ length-put name (user_of old).sessions (as_session held) (as_session new) session
+    sessions-changed = ap (λ (u : Used). u.sessions) put_used
+        ∙ length-put name (user_of old).sessions (as_session held) (as_session new) session
 
-    pub atoms-changed : (used_by (with_held name new old)).atoms + length held.live.sim.cur ≡ (used_by old).atoms + length new.live.sim.cur
-    atoms-changed = ap (λ (u : Used). u.atoms + length held.live.sim.cur) put_used ∙ sum-put name atoms_of (user_of old).sessions (as_session held) (as_session new) session
+    pub atoms-changed : (used_by (with_held name new old)).atoms + length held.live.sim.cur
+        ≡ (used_by old).atoms + length new.live.sim.cur
+    atoms-changed = ap (λ (u : Used). u.atoms + length held.live.sim.cur) put_used
+        ∙ sum-put name atoms_of (user_of old).sessions (as_session held) (as_session new) session
 
-    pub branches-changed : (used_by (with_held name new old)).branches + length held.saved ≡ (used_by old).branches + length new.saved
-    branches-changed = ap (λ (u : Used). u.branches + length held.saved) put_used ∙ sum-put name saved_of (user_of old).sessions (as_session held) (as_session new) session
+    pub branches-changed : (used_by (with_held name new old)).branches + length held.saved
+        ≡ (used_by old).branches + length new.saved
+    branches-changed = ap (λ (u : Used). u.branches + length held.saved) put_used
+        ∙ sum-put name saved_of (user_of old).sessions (as_session held) (as_session new) session
 
     -- with as many atoms and as many saved simulations as before
-    pub used-same : length new.live.sim.cur ≡ length held.live.sim.cur → length new.saved ≡ length held.saved → used_by (with_held name new old) ≡ used_by old
+    pub used-same : length new.live.sim.cur ≡ length held.live.sim.cur → length new.saved ≡ length held.saved
+        → used_by (with_held name new old) ≡ used_by old
     used-same atoms saved = same_used (used_by (with_held name new old)) (used_by old) sessions-changed
         (let a = atoms-changed in omega (arith, a, atoms)) (let b = branches-changed in omega (arith, b, saved))
 
-    pub sessions-taken : (used_by (record old { sessions = taken_out name old.sessions })).sessions + 1 ≡ (used_by old).sessions
-    sessions-taken = ap (λ (u : User). sessions_used u + 1) (user_of-taken old name) ∙ length-taken name (user_of old).sessions (as_session held) session
+    pub sessions-taken : (used_by (record old { sessions = taken_out name old.sessions })).sessions + 1
+        ≡ (used_by old).sessions
+    sessions-taken = ap (λ (u : User). sessions_used u + 1) (user_of-taken old name)
+        ∙ length-taken name (user_of old).sessions (as_session held) session
 
-    pub atoms-taken : (used_by (record old { sessions = taken_out name old.sessions })).atoms + length held.live.sim.cur ≡ (used_by old).atoms
-    atoms-taken = ap (λ (u : User). atoms_used u + length held.live.sim.cur) (user_of-taken old name) ∙ sum-taken name atoms_of (user_of old).sessions (as_session held) session
+    pub atoms-taken : (used_by (record old { sessions = taken_out name old.sessions })).atoms + length held.live.sim.cur
+        ≡ (used_by old).atoms
+    atoms-taken = ap (λ (u : User). atoms_used u + length held.live.sim.cur) (user_of-taken old name)
+        ∙ sum-taken name atoms_of (user_of old).sessions (as_session held) session
 
-    pub branches-taken : (used_by (record old { sessions = taken_out name old.sessions })).branches + length held.saved ≡ (used_by old).branches
-    branches-taken = ap (λ (u : User). branches_used u + length held.saved) (user_of-taken old name) ∙ sum-taken name saved_of (user_of old).sessions (as_session held) session
+    pub branches-taken : (used_by (record old { sessions = taken_out name old.sessions })).branches + length held.saved
+        ≡ (used_by old).branches
+    branches-taken = ap (λ (u : User). branches_used u + length held.saved) (user_of-taken old name)
+        ∙ sum-taken name saved_of (user_of old).sessions (as_session held) session
 
   -- a new session
   module _ (absent : held_in old name ≡ None) where
@@ -63,24 +75,35 @@ module _ (old : Owned) (name : List ℕ) (new : Held) where
     atoms-new = ap (λ (u : Used). u.atoms) put_used ∙ sum-new name atoms_of (user_of old).sessions (as_session new) none
 
     pub branches-new : (used_by (with_held name new old)).branches ≡ (used_by old).branches + length new.saved
-    branches-new = ap (λ (u : Used). u.branches) put_used ∙ sum-new name saved_of (user_of old).sessions (as_session new) none
+    branches-new =
+        ap (λ (u : Used). u.branches) put_used ∙ sum-new name saved_of (user_of old).sessions (as_session new) none
 
 -- The running totals, where a session is taken out and what is held becomes `next`.
-module _ (a : Inside) (old : Owned) (view : owned_of a ≡ old) (counted : a.used ≡ used_by (owned_of a)) (name : List ℕ) (held : Held)
+module _ (a : Inside) (old : Owned) (view : owned_of a ≡ old) (counted : a.used ≡ used_by (owned_of a))
+    (name : List ℕ) (held : Held)
     (found : held_in old name ≡ Some held) (next : Owned) where
   used-old : a.used ≡ used_by old
   used-old = counted ∙ ap used_by view
 
   -- the session is taken out
   module _ (is : next ≡ record old { sessions = taken_out name old.sessions }) where
-    pub used-less : (sessions atoms branches : ℕ) → sessions ≡ 1 → atoms ≡ length held.live.sim.cur → branches ≡ length held.saved
-        → record { sessions = a.used.sessions - sessions; atoms = a.used.atoms - atoms; branches = a.used.branches - branches } ≡ used_by next
+    pub used-less : (sessions atoms branches : ℕ) → sessions ≡ 1 → atoms ≡ length held.live.sim.cur
+        → branches ≡ length held.saved
+        → record {
+          sessions = a.used.sessions - sessions;
+          atoms = a.used.atoms - atoms;
+          branches = a.used.branches - branches;
+        } ≡ used_by next
     used-less sessions atoms branches one its saved =
         let s = sessions-taken old name held held found in
         let t = atoms-taken old name held held found in
         let u = branches-taken old name held held found in
         let before = used-old in
-        same_used (record { sessions = a.used.sessions - sessions; atoms = a.used.atoms - atoms; branches = a.used.branches - branches }) (used_by (record old { sessions = taken_out name old.sessions }))
+        same_used (record {
+          sessions = a.used.sessions - sessions;
+          atoms = a.used.atoms - atoms;
+          branches = a.used.branches - branches;
+        }) (used_by (record old { sessions = taken_out name old.sessions }))
         (let b = ap (λ (v : Used). v.sessions) before in omega (arith, b, s, one))
         (let b = ap (λ (v : Used). v.atoms) before in omega (arith, b, t, its))
         (let b = ap (λ (v : Used). v.branches) before in omega (arith, b, u, saved))
@@ -99,15 +122,18 @@ module _ (a : Inside) (old : Owned) (view : owned_of a ≡ old) (counted : a.use
       omega (arith, b, u)
 
 -- a session is new
-pub used-more : (a : Inside) (old : Owned) → owned_of a ≡ old → a.used ≡ used_by (owned_of a) → (name : List ℕ) → held_in old name ≡ None
-    → (next : Owned) (new : Held) → next ≡ with_held name new old → (atoms : ℕ) → atoms ≡ length new.live.sim.cur → length new.saved ≡ 0
+pub used-more : (a : Inside) (old : Owned) → owned_of a ≡ old → a.used ≡ used_by (owned_of a)
+    → (name : List ℕ) → held_in old name ≡ None
+    → (next : Owned) (new : Held) → next ≡ with_held name new old → (atoms : ℕ)
+    → atoms ≡ length new.live.sim.cur → length new.saved ≡ 0
     → record { sessions = a.used.sessions + 1; atoms = a.used.atoms + atoms; branches = a.used.branches } ≡ used_by next
 used-more a old view counted name absent next new is atoms its none =
     let before : a.used ≡ used_by old = counted ∙ ap used_by view in
     let s = sessions-new old name new absent in
     let t = atoms-new old name new absent in
     let u = branches-new old name new absent in
-    same_used (record { sessions = a.used.sessions + 1; atoms = a.used.atoms + atoms; branches = a.used.branches }) (used_by (with_held name new old))
+    same_used (record { sessions = a.used.sessions + 1; atoms = a.used.atoms + atoms; branches = a.used.branches })
+    (used_by (with_held name new old))
     (let b = ap (λ (v : Used). v.sessions) before in omega (arith, b, s))
     (let b = ap (λ (v : Used). v.atoms) before in omega (arith, b, t, its))
     (let b = ap (λ (v : Used). v.branches) before in omega (arith, b, u, none))

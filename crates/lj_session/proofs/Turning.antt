@@ -1,9 +1,12 @@
 -- How many turns ADVANCE and MEASURE take, case by case.
-use Rattle.std.proofs.Common.{◌≡◌, ℕ, ◌≤◌, ◌^◌, true, false, pos, ◌+ℤ◌, ◌*ℤ◌, unsigned_abs, List, Option, Some, None, refl, arith}
+use Rattle.std.proofs.Common.{◌≡◌, ℕ, ◌≤◌, ◌^◌, true, false, pos, ◌+ℤ◌, ◌*ℤ◌, unsigned_abs, List, Option, Some, None}
+use Rattle.std.proofs.Common.{refl, arith}
 use Rattle.std.proofs.lemmas.Int.{ints}
 use Rattle.std.proofs.lemmas.Bool.{le-leb}
 use Rattle.lj_session.specs.declared.command.Command.{Command}
-use Rattle.lj_session.specs.declared.command.Command.TheVariants.{Load, Advance, Reverse, Branch, Restore, Forget, Tug, Measure, Show, Dump, List as ListSessions, ListBranches, Unload, Bye}
+use Rattle.lj_session.specs.declared.command.Command.TheVariants.{Load, Advance, Reverse, Branch, Restore, Forget, Tug}
+use Rattle.lj_session.specs.declared.command.Command.TheVariants.{Measure, Show, Dump, List as ListSessions}
+use Rattle.lj_session.specs.declared.command.Command.TheVariants.{ListBranches, Unload, Bye}
 use Rattle.lj_branch.specs.Named.{named}
 use Rattle.lj_session.specs.Users.{Session, User}
 use Rattle.lj_session.specs.Answers.{can_advance}
@@ -14,11 +17,13 @@ module _ (user : User) (name : List ℕ) where
   unfolding turns
   advance-turns-none n absent = rw absent refl
 
-  pub advance-turns-far : (n : ℕ) (session : Session) → named name user.sessions ≡ Some session → can_advance session n ≡ false → turns user (Advance name n) ≡ 0
+  pub advance-turns-far : (n : ℕ) (session : Session) → named name user.sessions ≡ Some session
+      → can_advance session n ≡ false → turns user (Advance name n) ≡ 0
   unfolding turns
   advance-turns-far n session found far = rw (found, far) refl
 
-  pub advance-turns-near : (n : ℕ) (session : Session) → named name user.sessions ≡ Some session → can_advance session n ≡ true → turns user (Advance name n) ≡ n
+  pub advance-turns-near : (n : ℕ) (session : Session) → named name user.sessions ≡ Some session
+      → can_advance session n ≡ true → turns user (Advance name n) ≡ n
   unfolding turns
   advance-turns-near n session found near = rw (found, near) refl
 
@@ -45,7 +50,8 @@ near-nothing session most =
     le-leb (unsigned_abs (session.sim.step +ℤ session.sim.dir *ℤ pos 0)) (10 ^ 12) (rw same most)
 
 -- every other command takes no turn
-pub no-turns : (user : User) (command : Command) → ((name : List ℕ) (n : ℕ) → command ≡ Advance name n → ⊥) → ((name : List ℕ) → command ≡ Measure name → ⊥) → 0 ≡ turns user command
+pub no-turns : (user : User) (command : Command) → ((name : List ℕ) (n : ℕ) → command ≡ Advance name n → ⊥)
+    → ((name : List ℕ) → command ≡ Measure name → ⊥) → 0 ≡ turns user command
 unfolding turns
 no-turns user (Load load) a m = refl
 no-turns user (Advance name n) a m = absurd (a name n refl)

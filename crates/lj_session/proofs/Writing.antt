@@ -14,7 +14,8 @@ use Rattle.lj_session.proofs.Holding.{named-held, named-absent, changed-some, us
 use Rattle.lj_session.proofs.Totals.{same_used, used-same, sessions-changed, atoms-changed, branches-changed}
 
 -- in the map a name is looked up as among what is held
-pub looked_up : (a : Inside) (old : Owned) → owned_of a ≡ old → (name : List ℕ) (found : Option Held) → found ≡ named name a.sessions.entries → held_in old name ≡ found
+pub looked_up : (a : Inside) (old : Owned) → owned_of a ≡ old → (name : List ℕ) (found : Option Held)
+    → found ≡ named name a.sessions.entries → held_in old name ≡ found
 looked_up a old view name found h = ap (λ (owned : Owned). held_in owned name) (sym view) ∙ sym h
 
 -- what is not in the map is no session of the user
@@ -23,7 +24,8 @@ pub not_there : (a : Inside) (old : Owned) → owned_of a ≡ old → (name : Li
 not_there a old view name h = named-absent old name (looked_up a old view name None h)
 
 -- what is in the map is one
-pub is_there : (a : Inside) (old : Owned) → owned_of a ≡ old → (name : List ℕ) (held : Held) → Some held ≡ named name a.sessions.entries
+pub is_there : (a : Inside) (old : Owned) → owned_of a ≡ old → (name : List ℕ) (held : Held)
+    → Some held ≡ named name a.sessions.entries
     → named name (user_of old).sessions ≡ Some (as_session held)
 is_there a old view name held h = named-held old name held (looked_up a old view name (Some held) h)
 
@@ -33,40 +35,50 @@ pub record Writes (a : Inside) (old : Owned) (name : List ℕ) (held new : Held)
   pub is : next ≡ with_held name new old
   pub counted : a.used ≡ used_by old
 
-pub writes : (a : Inside) (old : Owned) → owned_of a ≡ old → a.used ≡ used_by (owned_of a) → (name : List ℕ) (held : Held)
+pub writes : (a : Inside) (old : Owned) → owned_of a ≡ old → a.used ≡ used_by (owned_of a)
+    → (name : List ℕ) (held : Held)
     → Some held ≡ named name a.sessions.entries → (entries : List (List ℕ × Held)) (new : Held)
-    → entries ≡ set_value (bytes_eq name) a.sessions.entries new → Writes a old name held new (record { quota = a.quota; sessions = entries })
+    → entries ≡ set_value (bytes_eq name) a.sessions.entries new
+    → Writes a old name held new (record { quota = a.quota; sessions = entries })
 writes a old view counted name held found entries new set = record {
   found = looked_up a old view name (Some held) found;
-  is = ap (λ (es : List (List ℕ × Held)). record { quota = a.quota; sessions = es }) (set ∙ set-put name a.sessions.entries held new (sym found))
+  is = ap (λ (es : List (List ℕ × Held)). record { quota = a.quota; sessions = es })
+      (set ∙ set-put name a.sessions.entries held new (sym found))
       ∙ ap (with_held name new) view;
   counted = counted ∙ ap used_by view;
 }
 
-module _ {a : Inside} {old : Owned} {name : List ℕ} {held new : Held} {next : Owned} (w : Writes a old name held new next) where
+module _ {a : Inside} {old : Owned} {name : List ℕ} {held new : Held} {next : Owned}
+    (w : Writes a old name held new next) where
   -- the same session, written once more
   pub unchanged : new ≡ held → next ≡ old
   unchanged same = w.is ∙ ap (λ (h : Held). with_held name h old) same
-      ∙ ap (λ (es : List (List ℕ × Held)). record { quota = old.quota; sessions = es }) (put-same name old.sessions held w.found)
+      ∙ ap (λ (es : List (List ℕ × Held)). record { quota = old.quota; sessions = es })
+      (put-same name old.sessions held w.found)
 
   pub changed_by : (change : Held → Held) → new ≡ change held → next ≡ changed name change old
-  changed_by change same = w.is ∙ ap (λ (h : Held). with_held name h old) same ∙ sym (changed-some old name change held w.found)
+  changed_by change same =
+      w.is ∙ ap (λ (h : Held). with_held name h old) same ∙ sym (changed-some old name change held w.found)
 
   pub user_kept : as_session new ≡ as_session held → user_of next ≡ user_of old
   user_kept same = ap user_of w.is ∙ user_of-kept old name held new w.found same
 
   -- a command that is done so
-  pub done_as : (command : Command) (reply : Reply) (other : Held) → Performs old command (Ok reply) (with_held name other old) → new ≡ other
+  pub done_as : (command : Command) (reply : Reply) (other : Held)
+      → Performs old command (Ok reply) (with_held name other old) → new ≡ other
       → Performs old command (Ok reply) next
   done_as command reply other performs same = rw (w.is, same) performs
 
   -- one whose reply names a step number, as the code reads it
-  pub done_at : (command : Command) (made : ℤ → Reply) (step read : ℤ) (other : Held) → Performs old command (Ok (made step)) (with_held name other old)
+  pub done_at : (command : Command) (made : ℤ → Reply) (step read : ℤ) (other : Held)
+      → Performs old command (Ok (made step)) (with_held name other old)
       → read ≡ step → new ≡ other → Performs old command (Ok (made read)) next
-  done_at command made step read other performs same_step same = done_as command (made read) other (rw same_step performs) same
+  done_at command made step read other performs same_step same =
+      done_as command (made read) other (rw same_step performs) same
 
   -- the totals, where the session has as many atoms and as many saved simulations as before
-  pub totals_kept : length new.live.sim.cur ≡ length held.live.sim.cur → length new.saved ≡ length held.saved → a.used ≡ used_by next
+  pub totals_kept : length new.live.sim.cur ≡ length held.live.sim.cur
+      → length new.saved ≡ length held.saved → a.used ≡ used_by next
   totals_kept atoms saved = w.counted ∙ sym (used-same old name new held w.found atoms saved) ∙ ap used_by (sym w.is)
 
   pub totals_unchanged : new ≡ held → a.used ≡ used_by next
@@ -80,7 +92,8 @@ module _ {a : Inside} {old : Owned} {name : List ℕ} {held new : Held} {next : 
         let s = sessions-changed old name new held w.found in
         let t = atoms-changed old name new held w.found in
         let u = branches-changed old name new held w.found in
-        same_used (record { sessions = a.used.sessions; atoms = a.used.atoms; branches = branches }) (used_by (with_held name new old))
+        same_used (record { sessions = a.used.sessions; atoms = a.used.atoms; branches = branches })
+        (used_by (with_held name new old))
         (ap (λ (v : Used). v.sessions) w.counted ∙ sym s)
         (let b = ap (λ (v : Used). v.atoms) w.counted in omega (arith, b, t, atoms))
         (let b = ap (λ (v : Used). v.branches) w.counted in omega (arith, b, u, saved))
@@ -99,4 +112,5 @@ module _ {a : Inside} {old : Owned} {name : List ℕ} {held new : Held} {next : 
 
     pub totals_forgotten : length new.saved + 1 ≡ length held.saved
         → record { sessions = a.used.sessions; atoms = a.used.atoms; branches = a.used.branches - 1 } ≡ used_by next
-    totals_forgotten saved = let some = one_saved saved in totals_with (a.used.branches - 1) (omega (arith, saved, some))
+    totals_forgotten saved =
+        let some = one_saved saved in totals_with (a.used.branches - 1) (omega (arith, saved, some))

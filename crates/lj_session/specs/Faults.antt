@@ -6,7 +6,8 @@ use Rattle.lj_branch.specs.declared.faults.SaveFault.TheVariants as save
 use Rattle.lj_quota.specs.declared.Over.{Over}
 use Rattle.lj_quota.specs.declared.Over.TheVariants as over
 use Rattle.lj_session.specs.declared.refusal.Refusal.{Refusal}
-use Rattle.lj_session.specs.declared.refusal.Refusal.TheVariants.{Xyz, Memory, BranchExists, QuotaSessions, QuotaAtoms, QuotaBranches}
+use Rattle.lj_session.specs.declared.refusal.Refusal.TheVariants.{Xyz, Memory, BranchExists, QuotaSessions, QuotaAtoms}
+use Rattle.lj_session.specs.declared.refusal.Refusal.TheVariants.{QuotaBranches}
 
 -- of a body
 abbrev pub xyz_refusal : XyzError → Refusal

@@ -1,5 +1,6 @@
 -- LOAD: what it is refused, and the session that it gives.
-use Rattle.std.specs.Prelude.{ℕ, ◌+◌, Bool, true, false, not, nat_le, nat_lt, is_some, ℤ, pos, List, [], ◌∷◌, map, Option, Result, Ok, Err}
+use Rattle.std.specs.Prelude.{ℕ, ◌+◌, Bool, true, false, not, nat_le, nat_lt, is_some, ℤ, pos, List, [], ◌∷◌, map}
+use Rattle.std.specs.Prelude.{Option, Result, Ok, Err}
 use Rattle.std.specs.Option.{unwrap_or}
 use Rattle.lj_ring.specs.declared.coordinates.Place.{Place}
 use Rattle.lj_ring.specs.declared.units.ScaleFault.{ScaleFault}
@@ -19,7 +20,8 @@ use Rattle.lj_session.specs.declared.command.Load.{Load}
 use Rattle.lj_session.specs.declared.command.Mode.{Mode}
 use Rattle.lj_session.specs.declared.command.Mode.TheVariants.{Rest, Pair}
 use Rattle.lj_session.specs.declared.refusal.Refusal.{Refusal}
-use Rattle.lj_session.specs.declared.refusal.Refusal.TheVariants.{Exists, QuotaSessions, QuotaAtoms, Xyz, Edge, Sigma, StepFactor, Memory}
+use Rattle.lj_session.specs.declared.refusal.Refusal.TheVariants.{Exists, QuotaSessions, QuotaAtoms, Xyz, Edge, Sigma}
+use Rattle.lj_session.specs.declared.refusal.Refusal.TheVariants.{StepFactor, Memory}
 use Rattle.lj_branch.specs.Named.{named}
 use Rattle.lj_session.specs.Users.{Session, User, atoms_of, atoms_used, sessions_used}
 

@@ -4,7 +4,10 @@ use Rattle.std.specs.Fmt.{decimal}
 use Rattle.lj_xyz.specs.declared.fault.XyzKind.{XyzKind}
 use Rattle.lj_xyz.specs.declared.fault.XyzKind.TheVariants as kind
 use Rattle.lj_session.specs.declared.refusal.Refusal.{Refusal}
-use Rattle.lj_session.specs.declared.refusal.Refusal.TheVariants.{Denied, Line, Syntax, Body, Long, Command, Enough, NoSession, Exists, NoBranch, BranchExists, NoAtom, QuotaSessions, QuotaAtoms, QuotaBranches, StepRange, Xyz, Edge, Sigma, StepFactor, Memory}
+use Rattle.lj_session.specs.declared.refusal.Refusal.TheVariants.{Denied, Line, Syntax, Body, Long, Command, Enough}
+use Rattle.lj_session.specs.declared.refusal.Refusal.TheVariants.{NoSession, Exists, NoBranch, BranchExists, NoAtom}
+use Rattle.lj_session.specs.declared.refusal.Refusal.TheVariants.{QuotaSessions, QuotaAtoms, QuotaBranches, StepRange}
+use Rattle.lj_session.specs.declared.refusal.Refusal.TheVariants.{Xyz, Edge, Sigma, StepFactor, Memory}
 
 -- the number of a fault of a body
 abbrev pub xyz_number : XyzKind → ℕ

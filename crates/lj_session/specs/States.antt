@@ -1,5 +1,6 @@
 -- What the code holds of a user, open steps and all, and the user of the definition that it stands for.
-use Rattle.std.specs.Prelude.{◌≡◌, ◌≢◌, OnOk, IsSomeAnd, ℕ, ◌+◌, ◌-◌, ◌≤◌, unsigned_abs, Bool, true, false, List, [], ◌∷◌, length, map, slice_get, Option, Some, None, Result, Ok, Err}
+use Rattle.std.specs.Prelude.{◌≡◌, ◌≢◌, OnOk, IsSomeAnd, ℕ, ◌+◌, ◌-◌, ◌≤◌, unsigned_abs, Bool, true, false, List, []}
+use Rattle.std.specs.Prelude.{◌∷◌, length, map, slice_get, Option, Some, None, Result, Ok, Err}
 use Rattle.std.specs.Option.{ForSome, option_map, option_and_then}
 use Rattle.std.specs.List.{find, range_with_len}
 use Rattle.lj_tile.specs.declared.names.Label.{Label}
@@ -8,7 +9,8 @@ use Rattle.lj_tile.specs.declared.names.Kind.TheVariants.{Force}
 use Rattle.lj_tile.specs.Tasks.{Work}
 use Rattle.lj_step.specs.Motion.{Simulation, stepped}
 use Rattle.lj_step.specs.Live.{Live}
-use Rattle.lj_step.specs.OpenSteps.{opened, closed, task_at, awaits_tile, tiles_of, with_tile, kind_of, is_whole, IsAwaitedTask}
+use Rattle.lj_step.specs.OpenSteps.{opened, closed, task_at, awaits_tile, tiles_of, with_tile, kind_of, is_whole}
+use Rattle.lj_step.specs.OpenSteps.{IsAwaitedTask}
 use Rattle.lj_quota.specs.declared.Quota.{Quota}
 use Rattle.lj_quota.specs.declared.Used.{Used}
 use Rattle.lj_session.specs.declared.command.Command.{Command}

@@ -1,5 +1,6 @@
 //! A session as it is held.
-ghost use Rattle.std.specs.Prelude.{◌≡◌, ◌↔◌, ◌<◌, ◌+◌, ◌^◌, [], length, slice_get, Some, IsOk, IsSome, IsErrOf, IfErr, IfSome, OnOk, OnErr, ◌≤◌, unsigned_abs, IsTrue, IfOk};
+ghost use Rattle.std.specs.Prelude.{◌≡◌, ◌↔◌, ◌<◌, ◌+◌, ◌^◌, [], length, slice_get, Some, IsOk, IsSome, IsErrOf, IfErr};
+ghost use Rattle.std.specs.Prelude.{IfSome, OnOk, OnErr, ◌≤◌, unsigned_abs, IsTrue, IfOk};
 ghost use Rattle.lj_tile.specs.declared.names.Kind.TheVariants.{Energy};
 ghost use Rattle.lj_branch.specs.declared.faults.SaveFault.TheVariants.{Exists};
 ghost use Rattle.lj_step.specs.Motion as motion;

@@ -1,5 +1,6 @@
 //! The state of a user, which every command goes through.
-ghost use Rattle.std.specs.Prelude.{◌≡◌, ◌↔◌, ◌<◌, ℕ, Bool, IsTrue, true, Some, Ok, length, slice_get, position, option_map, IsOk, IsSome, IfSome, IfErr, OnOk, OnErr};
+ghost use Rattle.std.specs.Prelude.{◌≡◌, ◌↔◌, ◌<◌, ℕ, Bool, IsTrue, true, Some, Ok, length, slice_get, position};
+ghost use Rattle.std.specs.Prelude.{option_map, IsOk, IsSome, IfSome, IfErr, OnOk, OnErr};
 ghost use Rattle.std.specs.List.{IsDistinct};
 ghost use Rattle.std.specs.Option.{ForSome};
 ghost use Rattle.std.specs.Str.{bytes_eq};
@@ -8,7 +9,9 @@ ghost use Rattle.lj_step.specs.OpenSteps.{tile_number_of};
 ghost use Rattle.lj_session.specs.declared.command.Command.TheVariants.{Advance, Measure};
 ghost use Rattle.lj_session.specs.Turns.{turns, turned};
 ghost use Rattle.lj_session.specs.States as states;
-ghost use Rattle.lj_session.specs.States.{Reached, IsHere, Performs, Reads, CanTurn, IsWhole, IsAwaited, empty, user_of, used_by, names, held_in, held_at, changed, with_step, with_posted, with_tile_in, turned_on, is_whole_in};
+ghost use Rattle.lj_session.specs.States.{Reached, IsHere, Performs, Reads, CanTurn, IsWhole, IsAwaited, empty};
+ghost use Rattle.lj_session.specs.States.{user_of, used_by, names, held_in, held_at, changed, with_step, with_posted};
+ghost use Rattle.lj_session.specs.States.{with_tile_in, turned_on, is_whole_in};
 
 use crate::command::Command;
 use crate::refusal::Refusal;

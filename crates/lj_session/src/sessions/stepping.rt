@@ -4,7 +4,8 @@ ghost use Rattle.std.specs.Option.{ForSome};
 ghost use Rattle.lj_step.specs.OpenSteps.{tile_number_of};
 ghost use Rattle.lj_session.specs.declared.command.Command.TheVariants.{Advance};
 ghost use Rattle.lj_session.specs.Turns.{turned};
-ghost use Rattle.lj_session.specs.States.{CanTurn, IsAwaited, user_of, held_in, changed, with_step, with_posted, with_tile_in, turned_on, is_whole_in};
+ghost use Rattle.lj_session.specs.States.{CanTurn, IsAwaited, user_of, held_in, changed, with_step, with_posted};
+ghost use Rattle.lj_session.specs.States.{with_tile_in, turned_on, is_whole_in};
 ghost use Rattle.lj_session.specs.States as states;
 
 use crate::sessions::Sessions;

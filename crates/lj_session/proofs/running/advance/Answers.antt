@@ -16,14 +16,17 @@ advanced-requires c =
     let old = c.args.state.now in
     let r = c.requires.runs in
     subst (λ (owned : Owned). IsSome (held_in owned c.args.name)) (sym c.turn.ensures.turned)
-    (is_there (changed c.args.name turned_on old) c.args.name (turned_on r.held) (held_in-changed old c.args.name turned_on r.held r.there))
+    (is_there (changed c.args.name turned_on old) c.args.name (turned_on r.held)
+    (held_in-changed old c.args.name turned_on r.held r.there))
 
 pub returns-then-steps-eq1-clause-last : goal.returns-then-steps-eq1-clause-last
-returns-then-steps-eq1-clause-last c = takes c.args.state.now (Advance c.args.name c.args.steps) c.requires.runs ∙ c.if-steps-eq1.true
+returns-then-steps-eq1-clause-last c =
+    takes c.args.state.now (Advance c.args.name c.args.steps) c.requires.runs ∙ c.if-steps-eq1.true
 
 pub returns-then-steps-eq1-clause-replied : goal.returns-then-steps-eq1-clause-replied
 returns-then-steps-eq1-clause-replied c mark =
-    advance_replied c.args.state.now c.args.name c.args.steps c.requires.runs c.if-steps-eq1.true c.advanced.result (user_of c.turn.new.self) mark
+    advance_replied c.args.state.now c.args.name c.args.steps c.requires.runs c.if-steps-eq1.true c.advanced.result
+    (user_of c.turn.new.self) mark
     (c.turn.ensures.user c.args.steps) (c.advanced.ensures mark)
 
 -- what is left runs on
@@ -31,9 +34,12 @@ goes_on : (c : goal.After-open_step) → Runs c.open_step.new.self (Advance c.ar
 goes_on c =
     let name = c.args.name in
     let n = c.args.steps in
-    let opened = c.open_step.ensures.opened ∙ ap (λ (owned : Owned). changed name (with_step Force) owned) c.turn.ensures.turned in
+    let opened =
+    c.open_step.ensures.opened ∙ ap (λ (owned : Owned). changed name (with_step Force) owned)
+    c.turn.ensures.turned in
     let more : n ≢ 1 = c.if-steps-eq1.false in
-    subst (λ (owned : Owned). Runs owned (Advance name (n - 1))) (sym opened) (runs_next c.args.state.now name n c.requires.runs more)
+    subst (λ (owned : Owned). Runs owned (Advance name (n - 1))) (sym opened)
+    (runs_next c.args.state.now name n c.requires.runs more)
 
 pub returns-clause-more : goal.returns-clause-more
 returns-clause-more c = let some = c.requires.runs.able.some in omega (arith, some)
@@ -52,7 +58,8 @@ returns-clause-runs c = goes_on c
 
 pub returns-then-steps-eq1-clause-others : goal.returns-then-steps-eq1-clause-others
 returns-then-steps-eq1-clause-others c = λ other apart.
-    ap (λ (owned : Owned). held_in owned other) c.turn.ensures.turned ∙ others-changed c.args.state.now c.args.name turned_on other apart
+    ap (λ (owned : Owned). held_in owned other) c.turn.ensures.turned
+    ∙ others-changed c.args.state.now c.args.name turned_on other apart
 
 pub returns-clause-others : goal.returns-clause-others
 returns-clause-others c = λ other apart.

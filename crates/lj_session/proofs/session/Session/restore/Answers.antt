@@ -6,12 +6,16 @@ use Rattle.lj_session.proofs.Counts.{counts-named, count-restored}
 use Rattle.lj_session.proofs.session.Session.restore.Goals as goal
 
 pub restore_into-requires : goal.restore_into-requires
-restore_into-requires c = λ sim saved. counts-named (length c.self.inside.sim.sim.cur) c.args.branch.now c.self.inside.branches sim c.self.invariant.saved saved
+restore_into-requires c =
+    λ sim saved. counts-named (length c.self.inside.sim.sim.cur)
+    c.args.branch.now c.self.inside.branches sim c.self.invariant.saved saved
 
 pub invariant_of-self : goal.invariant_of-self
 invariant_of-self c =
     let n = length c.self.inside.sim.sim.cur in
-    let same = count-restored c.restore_into.result (named c.args.branch.now c.self.inside.branches) c.self.inside.sim c.restore_into.new.sim
+    let same =
+    count-restored c.restore_into.result (named c.args.branch.now c.self.inside.branches)
+    c.self.inside.sim c.restore_into.new.sim
     c.restore_into.ensures.found c.restore_into.ensures.restored c.restore_into.ensures.unchanged
     (λ sim saved. counts-named n c.args.branch.now c.self.inside.branches sim c.self.invariant.saved saved) in
     record {
@@ -21,7 +25,10 @@ invariant_of-self c =
 
 pub returns-clause-count : goal.returns-clause-count
 returns-clause-count c =
-    let same = count-restored c.restore_into.result (named c.args.branch.now c.self.inside.branches) c.self.inside.sim c.restore_into.new.sim
+    let same =
+    count-restored c.restore_into.result (named c.args.branch.now c.self.inside.branches)
+    c.self.inside.sim c.restore_into.new.sim
     c.restore_into.ensures.found c.restore_into.ensures.restored c.restore_into.ensures.unchanged
-    (λ sim saved. counts-named (length c.self.inside.sim.sim.cur) c.args.branch.now c.self.inside.branches sim c.self.invariant.saved saved) in
+    (λ sim saved. counts-named (length c.self.inside.sim.sim.cur)
+    c.args.branch.now c.self.inside.branches sim c.self.invariant.saved saved) in
     same ∙ ap (λ (h : Held). length h.live.sim.cur) c.self.view_is

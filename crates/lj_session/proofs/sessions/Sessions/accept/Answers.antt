@@ -7,21 +7,33 @@ use Rattle.lj_session.proofs.sessions.Sessions.accept.Goals as goal
 
 pub invariant_of-self-2 : goal.invariant_of-self-2
 invariant_of-self-2 c =
-    let kept = same-either {C = ℕ × ℕ} c.accept.result (λ (h : Held). (length h.live.sim.cur, length h.saved)) c.accept.new.self c.in-Some.session.now
-    (with_tile_in (tile_number_of c.args.done) c.in-Some.session.now) c.accept.ensures.taken c.accept.ensures.unchanged refl in
-    totals_kept (writes c.self.inside c.args.self.now c.self.view_is c.self.invariant c.args.label.now.session _ c.in-Some.ensures.value _ c.accept.new.self (c.get_mut.follows.holds c.accept.new.self).0)
+    let kept =
+    same-either {C = ℕ × ℕ} c.accept.result (λ (h : Held). (length h.live.sim.cur, length h.saved))
+    c.accept.new.self c.in-Some.session.now
+    (with_tile_in (tile_number_of c.args.done) c.in-Some.session.now)
+    c.accept.ensures.taken c.accept.ensures.unchanged refl in
+    totals_kept (writes c.self.inside c.args.self.now c.self.view_is c.self.invariant c.args.label.now.session _
+    c.in-Some.ensures.value _ c.accept.new.self (c.get_mut.follows.holds c.accept.new.self).0)
     (ap (λ p. p.0) kept) (ap (λ p. p.1) kept)
 
 pub returns-clause-taken : goal.returns-clause-taken
 returns-clause-taken c = on_ok-then c.accept.result
-    (changed_by (writes c.self.inside c.args.self.now c.self.view_is c.self.invariant c.args.label.now.session _ c.in-Some.ensures.value _ c.accept.new.self (c.get_mut.follows.holds c.accept.new.self).0) (with_tile_in (tile_number_of c.args.done)))
+    (changed_by (writes c.self.inside c.args.self.now c.self.view_is c.self.invariant c.args.label.now.session _
+    c.in-Some.ensures.value _ c.accept.new.self (c.get_mut.follows.holds c.accept.new.self).0)
+    (with_tile_in (tile_number_of c.args.done)))
     c.accept.ensures.taken
 
 pub returns-clause-user : goal.returns-clause-user
-returns-clause-user c = user_kept (writes c.self.inside c.args.self.now c.self.view_is c.self.invariant c.args.label.now.session _ c.in-Some.ensures.value _ c.accept.new.self (c.get_mut.follows.holds c.accept.new.self).0)
-    (same-either c.accept.result as_session c.accept.new.self c.in-Some.session.now (with_tile_in (tile_number_of c.args.done) c.in-Some.session.now)
+returns-clause-user c =
+    user_kept (writes c.self.inside c.args.self.now c.self.view_is c.self.invariant c.args.label.now.session _
+    c.in-Some.ensures.value _ c.accept.new.self (c.get_mut.follows.holds c.accept.new.self).0)
+    (same-either c.accept.result as_session c.accept.new.self c.in-Some.session.now
+    (with_tile_in (tile_number_of c.args.done) c.in-Some.session.now)
     c.accept.ensures.taken c.accept.ensures.unchanged refl)
 
 pub returns-clause-unchanged : goal.returns-clause-unchanged
-returns-clause-unchanged c = on_err-then c.accept.result (unchanged (writes c.self.inside c.args.self.now c.self.view_is c.self.invariant c.args.label.now.session _ c.in-Some.ensures.value _ c.accept.new.self (c.get_mut.follows.holds c.accept.new.self).0))
+returns-clause-unchanged c =
+    on_err-then c.accept.result (unchanged (writes c.self.inside c.args.self.now c.self.view_is c.self.invariant
+    c.args.label.now.session _ c.in-Some.ensures.value _ c.accept.new.self
+    (c.get_mut.follows.holds c.accept.new.self).0))
     c.accept.ensures.unchanged

@@ -18,7 +18,8 @@ returns-then-has c =
 pub returns-in_err-may_session : goal.returns-in_err-may_session
 returns-in_err-may_session c =
     let old = c.args.self.now in
-    let over = over-limit (c.self.inside.used.sessions + 1) c.self.inside.quota.sessions c.in_err-may_session.ensures.may.1 in
+    let over =
+    over-limit (c.self.inside.used.sessions + 1) c.self.inside.quota.sessions c.in_err-may_session.ensures.may.1 in
     let which = same_over c.in_err-may_session.field-0.0 Sessions (c.in_err-may_session.ensures.over.1 over) in
     refused c.from_residual.result (quota_refusal c.in_err-may_session.field-0.0) c.from_residual.ensures.1
     ∙ (ap (λ (o : Over). Err (quota_refusal o)) which
@@ -29,7 +30,8 @@ returns-in_err-may_session c =
 pub returns-in_err-scale_of : goal.returns-in_err-scale_of
 returns-in_err-scale_of c =
     let old = c.args.self.now in
-    refused c.from_residual-in_err-scale_of.result (scale_refusal c.in_err-scale_of.field-0.0) c.from_residual-in_err-scale_of.ensures.1
+    refused c.from_residual-in_err-scale_of.result (scale_refusal c.in_err-scale_of.field-0.0)
+    c.from_residual-in_err-scale_of.ensures.1
     ∙ sym (loading.admitted-fault (user_of old) c.args.load.now
     (sym c.has.ensures ∙ c.if-has.false)
     (sessions-room c.self.inside old c.self.view_is c.self.invariant (c.in_ok-may_session.ensures.may.0 refl))

@@ -16,13 +16,16 @@ pub returns-then-not-can_advance : goal.returns-then-not-can_advance
 returns-then-not-can_advance c = λ mark.
     let old = c.args.self.now in
     let held = c.in-Some.session.now in
-    performing.advance-far (user_of old) c.args.name mark (as_session held) (named-held old c.args.name held (sym c.in-Some.ensures)) c.args.steps
+    performing.advance-far (user_of old) c.args.name mark (as_session held)
+    (named-held old c.args.name held (sym c.in-Some.ensures)) c.args.steps
     (sym c.can_advance.ensures.value ∙ c.if-not-can_advance.true)
 
 pub returns : goal.returns
 returns c = λ mark.
     let old = c.args.self.now in
     let held = c.in-Some.session.now in
-    let none = sym (advance-turns-near (user_of old) c.args.name c.args.steps (as_session held) (named-held old c.args.name held (sym c.in-Some.ensures))
+    let none =
+    sym (advance-turns-near (user_of old) c.args.name c.args.steps (as_session held)
+    (named-held old c.args.name held (sym c.in-Some.ensures))
     (sym c.can_advance.ensures.value ∙ c.if-not-can_advance.false)) ∙ c.requires in
     ap (λ n. performed (user_of old) (Advance c.args.name n) mark) none ∙ c.advanced.ensures mark

@@ -7,16 +7,21 @@ use Rattle.lj_session.proofs.sessions.Sessions.advance_turns.Goals as goal
 pub returns-in_default-clause-value : goal.returns-in_default-clause-value
 returns-in_default-clause-value c =
     let old = c.args.self.now in
-    sym (advance-turns-none (user_of old) c.args.name.now c.args.steps (named-absent old c.args.name.now (sym c.in_default.ensures)))
+    sym (advance-turns-none (user_of old) c.args.name.now c.args.steps
+    (named-absent old c.args.name.now (sym c.in_default.ensures)))
 
 pub returns-then-not-can_advance-clause-value : goal.returns-then-not-can_advance-clause-value
 returns-then-not-can_advance-clause-value c =
     let old = c.args.self.now in
     let held = c.in-Some.session.now in
-    sym (advance-turns-far (user_of old) c.args.name.now c.args.steps (as_session held) (named-held old c.args.name.now held (sym c.in-Some.ensures)) (sym c.can_advance.ensures.value ∙ c.if-not-can_advance.true))
+    sym (advance-turns-far (user_of old) c.args.name.now c.args.steps (as_session held)
+    (named-held old c.args.name.now held (sym c.in-Some.ensures))
+    (sym c.can_advance.ensures.value ∙ c.if-not-can_advance.true))
 
 pub returns-clause-value : goal.returns-clause-value
 returns-clause-value c =
     let old = c.args.self.now in
     let held = c.in-Some.session.now in
-    sym (advance-turns-near (user_of old) c.args.name.now c.args.steps (as_session held) (named-held old c.args.name.now held (sym c.in-Some.ensures)) (sym c.can_advance.ensures.value ∙ c.if-not-can_advance.false))
+    sym (advance-turns-near (user_of old) c.args.name.now c.args.steps (as_session held)
+    (named-held old c.args.name.now held (sym c.in-Some.ensures))
+    (sym c.can_advance.ensures.value ∙ c.if-not-can_advance.false))

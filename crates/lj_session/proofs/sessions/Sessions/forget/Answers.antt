@@ -5,13 +5,17 @@ use Rattle.lj_session.proofs.Entries.{length-taken}
 use Rattle.lj_session.proofs.Performing as performing
 use Rattle.lj_session.proofs.Outcomes as outcomes
 use Rattle.lj_session.proofs.Results.{performs-refused, on_err, none-if, some-of}
-use Rattle.lj_session.proofs.Writing.{Writes, not_there, writes, is_there, unchanged, totals_unchanged, totals_forgotten, one_saved, done_as}
+use Rattle.lj_session.proofs.Writing.{Writes, not_there, writes, is_there, unchanged, totals_unchanged}
+use Rattle.lj_session.proofs.Writing.{totals_forgotten, one_saved, done_as}
 use Rattle.lj_session.proofs.sessions.Sessions.forget.Goals.{After-forget}
 use Rattle.lj_session.proofs.sessions.Sessions.forget.Goals as goal
 
 -- what is written in the session
-written : (c : After-forget) → Writes c.self.inside c.args.self.now c.args.name c.in-Some.session.now c.forget.new.self (record { quota = c.self.inside.quota; sessions = (c.get_mut.follows.lender c.forget.new.self).entries })
-written c = writes c.self.inside c.args.self.now c.self.view_is c.self.invariant c.args.name _ c.in-Some.ensures.value _ c.forget.new.self (c.get_mut.follows.holds c.forget.new.self).0
+written : (c : After-forget) → Writes c.self.inside c.args.self.now c.args.name c.in-Some.session.now c.forget.new.self
+    (record { quota = c.self.inside.quota; sessions = (c.get_mut.follows.lender c.forget.new.self).entries })
+written c =
+    writes c.self.inside c.args.self.now c.self.view_is c.self.invariant c.args.name _ c.in-Some.ensures.value _
+    c.forget.new.self (c.get_mut.follows.holds c.forget.new.self).0
 
 pub returns-in_default-clause-performs : goal.returns-in_default-clause-performs
 returns-in_default-clause-performs c =
@@ -26,12 +30,14 @@ pub returns-in_err-forget-clause-performs : goal.returns-in_err-forget-clause-pe
 returns-in_err-forget-clause-performs c =
     let held = c.in-Some.session.now in
     performs-refused c.args.self.now _ _ c.from_residual.result _ c.from_residual.ensures.1
-    (performing.refused c.args.self.now _ _ _ (performing.forget-no_branch (user_of c.args.self.now) c.args.name false (as_session held)
+    (performing.refused c.args.self.now _ _ _ (performing.forget-no_branch (user_of c.args.self.now)
+    c.args.name false (as_session held)
     (is_there c.self.inside c.args.self.now c.self.view_is c.args.name held c.in-Some.ensures.value)
     c.args.branch (none-if (named c.args.branch held.saved) c.in_err-forget.ensures.found.1)))
 
 pub returns-in_err-forget-clause-unchanged : goal.returns-in_err-forget-clause-unchanged
-returns-in_err-forget-clause-unchanged c = on_err c.from_residual.result (unchanged (written (goal.at.returns-in_err-forget-clause-unchanged c).After-forget)
+returns-in_err-forget-clause-unchanged c =
+    on_err c.from_residual.result (unchanged (written (goal.at.returns-in_err-forget-clause-unchanged c).After-forget)
     c.in_err-forget.ensures.unchanged)
 
 pub overflow_sub-self : goal.overflow_sub-self
@@ -40,7 +46,8 @@ overflow_sub-self c =
     let saved = some-of (named c.args.branch held.saved) (c.in_ok-forget.ensures.found.0 refl) in
     one_saved (written (goal.at.overflow_sub-self c).After-forget)
     (ap (λ (h : Held). length h.live.sim.cur) c.in_ok-forget.ensures.taken)
-    (ap (λ (h : Held). length h.saved + 1) c.in_ok-forget.ensures.taken ∙ length-taken c.args.branch held.saved saved.0 saved.1)
+    (ap (λ (h : Held). length h.saved + 1) c.in_ok-forget.ensures.taken
+    ∙ length-taken c.args.branch held.saved saved.0 saved.1)
 
 pub invariant_of-self-2 : goal.invariant_of-self-2
 invariant_of-self-2 c =
@@ -48,11 +55,13 @@ invariant_of-self-2 c =
     let saved = some-of (named c.args.branch held.saved) (c.in_ok-forget.ensures.found.0 refl) in
     totals_forgotten (written (goal.at.invariant_of-self-2 c).After-forget)
     (ap (λ (h : Held). length h.live.sim.cur) c.in_ok-forget.ensures.taken)
-    (ap (λ (h : Held). length h.saved + 1) c.in_ok-forget.ensures.taken ∙ length-taken c.args.branch held.saved saved.0 saved.1)
+    (ap (λ (h : Held). length h.saved + 1) c.in_ok-forget.ensures.taken
+    ∙ length-taken c.args.branch held.saved saved.0 saved.1)
 
 pub returns-clause-performs : goal.returns-clause-performs
 returns-clause-performs c =
     let held = c.in-Some.session.now in
     let wrote = written (goal.at.returns-clause-performs c).After-forget in
     let saved = some-of (named c.args.branch held.saved) (c.in_ok-forget.ensures.found.0 refl) in
-    done_as wrote _ _ _ (outcomes.forget c.args.self.now c.args.name held wrote.found c.args.branch saved.0 saved.1) c.in_ok-forget.ensures.taken
+    done_as wrote _ _ _ (outcomes.forget c.args.self.now c.args.name held wrote.found c.args.branch saved.0 saved.1)
+    c.in_ok-forget.ensures.taken

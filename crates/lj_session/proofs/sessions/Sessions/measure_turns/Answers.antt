@@ -8,7 +8,8 @@ use Rattle.lj_session.proofs.sessions.Sessions.measure_turns.Goals as goal
 pub returns-then-not-has : goal.returns-then-not-has
 returns-then-not-has c =
     let user = user_of c.args.self.now in
-    sym (measure-turns-none user c.args.name.now (none-of (named c.args.name.now user.sessions) (sym c.has.ensures ∙ c.if-not-has.true)))
+    sym (measure-turns-none user c.args.name.now (none-of (named c.args.name.now user.sessions)
+    (sym c.has.ensures ∙ c.if-not-has.true)))
 
 pub returns : goal.returns
 returns c =

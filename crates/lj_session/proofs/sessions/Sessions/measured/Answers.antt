@@ -12,10 +12,12 @@ returns c = λ mark.
     let old = c.args.self.now in
     let held = c.session.result.now in
     let live = c.sim-sim.ensures in
-    performing.measure-done (user_of old) c.args.name mark (as_session held) (named-held old c.args.name held c.session.ensures)
+    performing.measure-done (user_of old) c.args.name mark (as_session held)
+    (named-held old c.args.name held c.session.ensures)
     ∙ measured (user_of old) c.args.name _ _ _ _ _ _ _ _ _ _
     (read-step c.step.result c.step.ensures.most ∙ (c.step.ensures.value ∙ ap (λ (l : Live). l.sim.step) live))
     (c.count.ensures.value ∙ ap (λ (l : Live). length l.sim.cur) live)
     (c.momentum.ensures ∙ ap (λ (l : Live). let m = momentum l.sim in m.x ∷ m.y ∷ m.z ∷ []) live)
     (c.kinetic.ensures ∙ ap (λ (l : Live). kinetic l.sim) live)
-    (read-potential c.potential.result (record { sfits = c.potential.type_inv }) ∙ (c.potential.ensures ∙ ap (λ (l : Live). potential l.units l.sim.cur) live))
+    (read-potential c.potential.result (record { sfits = c.potential.type_inv })
+    ∙ (c.potential.ensures ∙ ap (λ (l : Live). potential l.units l.sim.cur) live))

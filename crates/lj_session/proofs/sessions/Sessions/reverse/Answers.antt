@@ -10,8 +10,14 @@ use Rattle.lj_session.proofs.sessions.Sessions.reverse.Goals.{After-reverse}
 use Rattle.lj_session.proofs.sessions.Sessions.reverse.Goals as goal
 
 -- what is written in the session
-written : (c : After-reverse) → Writes c.self.inside c.args.self.now c.args.name c.in-Some.session.now c.reverse.new.self (record { quota = c.self.inside.quota; sessions = (c.get_mut.follows.lender c.reverse.new.self).entries })
-written c = writes c.self.inside c.args.self.now c.self.view_is c.self.invariant c.args.name _ c.in-Some.ensures.value _ c.reverse.new.self (c.get_mut.follows.holds c.reverse.new.self).0
+written : (c : After-reverse) → Writes c.self.inside c.args.self.now c.args.name c.in-Some.session.now
+    c.reverse.new.self (record {
+      quota = c.self.inside.quota;
+      sessions = (c.get_mut.follows.lender c.reverse.new.self).entries;
+    })
+written c =
+    writes c.self.inside c.args.self.now c.self.view_is c.self.invariant c.args.name _ c.in-Some.ensures.value _
+    c.reverse.new.self (c.get_mut.follows.holds c.reverse.new.self).0
 
 pub returns-in_default-clause-performs : goal.returns-in_default-clause-performs
 returns-in_default-clause-performs c =
@@ -25,5 +31,8 @@ invariant_of-self-2 c = totals_kept (written (goal.at.invariant_of-self-2 c).Aft
 pub returns-clause-performs : goal.returns-clause-performs
 returns-clause-performs c =
     let wrote = written (goal.at.returns-clause-performs c).After-reverse in
-    done_at wrote _ (reply.Reversed c.args.name) _ _ _ (outcomes.reverse c.args.self.now c.args.name c.in-Some.session.now wrote.found)
-    (read-step c.step-step.result c.step-step.ensures.most ∙ (c.step-step.ensures.value ∙ ap (λ (l : Live). l.sim.step) c.sim.ensures ∙ ap (λ (h : Held). h.live.sim.step) c.reverse.ensures.value)) c.reverse.ensures.value
+    done_at wrote _ (reply.Reversed c.args.name) _ _ _
+    (outcomes.reverse c.args.self.now c.args.name c.in-Some.session.now wrote.found)
+    (read-step c.step-step.result c.step-step.ensures.most
+    ∙ (c.step-step.ensures.value ∙ ap (λ (l : Live). l.sim.step) c.sim.ensures
+    ∙ ap (λ (h : Held). h.live.sim.step) c.reverse.ensures.value)) c.reverse.ensures.value

@@ -17,15 +17,22 @@ pub returns-then-atom-count : goal.returns-then-atom-count
 returns-then-atom-count c = λ mark.
     let old = c.args.self.now in
     let held = c.in-Some.session.now in
-    performing.show-no_atom (user_of old) c.args.name mark (as_session held) (named-held old c.args.name held (sym c.in-Some.ensures)) c.args.atom
-    (outcomes.past c.args.atom (length held.live.sim.cur) (let n = c.count.ensures.value ∙ ap (λ (l : Live). length l.sim.cur) c.sim-sim.ensures in let t = c.if-atom-count.true in omega (arith, n, t)))
+    performing.show-no_atom (user_of old) c.args.name mark (as_session held)
+    (named-held old c.args.name held (sym c.in-Some.ensures)) c.args.atom
+    (outcomes.past c.args.atom (length held.live.sim.cur)
+    (let n = c.count.ensures.value ∙ ap (λ (l : Live). length l.sim.cur)
+    c.sim-sim.ensures in let t = c.if-atom-count.true in omega (arith, n, t)))
 
 pub returns : goal.returns
 returns c = λ mark.
     let old = c.args.self.now in
     let held = c.in-Some.session.now in
-    performing.show-done (user_of old) c.args.name mark (as_session held) (named-held old c.args.name held (sym c.in-Some.ensures)) c.args.atom
-    (outcomes.there c.args.atom (length held.live.sim.cur) (let n = c.count.ensures.value ∙ ap (λ (l : Live). length l.sim.cur) c.sim-sim.ensures in let t = c.if-atom-count.false in omega (arith, n, t)))
+    performing.show-done (user_of old) c.args.name mark (as_session held)
+    (named-held old c.args.name held (sym c.in-Some.ensures)) c.args.atom
+    (outcomes.there c.args.atom (length held.live.sim.cur)
+    (let n = c.count.ensures.value ∙ ap (λ (l : Live). length l.sim.cur)
+    c.sim-sim.ensures in let t = c.if-atom-count.false in omega (arith, n, t)))
     ∙ shown (user_of old) c.args.name c.args.atom _ _ _ _
-    (read-step c.step.result c.step.ensures.most ∙ (c.step.ensures.value ∙ ap (λ (l : Live). l.sim.step) c.sim-sim.ensures))
+    (read-step c.step.result c.step.ensures.most ∙ (c.step.ensures.value
+    ∙ ap (λ (l : Live). l.sim.step) c.sim-sim.ensures))
     (c.place.ensures ∙ ap (λ (l : Live). place_at l.sim.cur c.args.atom) c.sim-sim.ensures)

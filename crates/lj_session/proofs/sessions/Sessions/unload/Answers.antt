@@ -12,12 +12,14 @@ use Rattle.lj_session.proofs.sessions.Sessions.unload.Goals as goal
 
 -- the session that is taken out was held
 found : (c : In-Some) → held_in c.args.self.now c.args.name ≡ Some c.in-Some.session
-found c = looked_up c.self.inside c.args.self.now c.self.view_is c.args.name (Some c.in-Some.session) c.in-Some.ensures.value
+found c =
+    looked_up c.self.inside c.args.self.now c.self.view_is c.args.name (Some c.in-Some.session) c.in-Some.ensures.value
 
 pub returns-in_default-clause-performs : goal.returns-in_default-clause-performs
 returns-in_default-clause-performs c =
     let old = c.args.self.now in
-    performing.refused old _ _ _ (performing.none (user_of old) _ false (not_there c.self.inside old c.self.view_is c.args.name c.in_default.ensures.value))
+    performing.refused old _ _ _ (performing.none (user_of old) _ false
+    (not_there c.self.inside old c.self.view_is c.args.name c.in_default.ensures.value))
 
 pub overflow_sub-self-2 : goal.overflow_sub-self-2
 overflow_sub-self-2 c =
@@ -43,12 +45,15 @@ invariant_of-self-2 c =
     let held = c.in-Some.session in
     let there = found (goal.at.invariant_of-self-2 c).In-Some in
     used-less c.self.inside old c.self.view_is c.self.invariant c.args.name held there _
-    (taken-of c.self.inside old c.self.view_is c.args.name _ c.in-Some.ensures.entries) 1 c.count.result c.len.result refl
-    (c.count.ensures.value ∙ ap (λ (l : Live). length l.sim.cur) c.sim.ensures) (c.len.ensures.value ∙ ap length c.branches.ensures)
+    (taken-of c.self.inside old c.self.view_is c.args.name _ c.in-Some.ensures.entries)
+    1 c.count.result c.len.result refl
+    (c.count.ensures.value ∙ ap (λ (l : Live). length l.sim.cur) c.sim.ensures)
+    (c.len.ensures.value ∙ ap length c.branches.ensures)
 
 pub returns-clause-performs : goal.returns-clause-performs
 returns-clause-performs c =
     let old = c.args.self.now in
     let held = c.in-Some.session in
     let there = found (goal.at.returns-clause-performs c).In-Some in
-    written-to old _ _ _ _ (outcomes.unload old c.args.name held there) (taken-of c.self.inside old c.self.view_is c.args.name _ c.in-Some.ensures.entries)
+    written-to old _ _ _ _ (outcomes.unload old c.args.name held there)
+    (taken-of c.self.inside old c.self.view_is c.args.name _ c.in-Some.ensures.entries)
