@@ -1,5 +1,6 @@
 -- The count that a word says, and the last of some words.
-use Rattle.std.proofs.Common.{◌≡◌, ℕ, ◌≤◌, Bool, true, false, List, [], ◌∷◌, length, map, Option, Some, None, cond, nat_le, ◌&&◌, unwrap_or, ap, ◌∙◌, Bor, refl, arith}
+use Rattle.std.proofs.Common.{◌≡◌, ℕ, ◌≤◌, Bool, true, false, List, [], ◌∷◌, length, map, Option, Some, None, cond}
+use Rattle.std.proofs.Common.{nat_le, ◌&&◌, unwrap_or, ap, ◌∙◌, Bor, refl, arith}
 use Rattle.std.specs.List.{last_or}
 use Rattle.std.specs.Option.{option_map}
 use Rattle.std.specs.Iterator.{Drains, YieldsFirstRef}
@@ -22,7 +23,8 @@ unfolding count_of
 count_of-most word = by_number (number_of word)
   where
     by_number : (number : Option ℕ)
-        → unwrap_or (number >>= λ count. cond (nat_le (length word) 7 && nat_le count 1048576) (Some count) None) 0 ≤ 1048576
+        → unwrap_or (number >>= λ count. cond (nat_le (length word) 7 && nat_le count 1048576) (Some count) None) 0
+        ≤ 1048576
     by_number None = omega arith
     by_number (Some count) = limited (nat_le (length word) 7) count
 
@@ -50,7 +52,8 @@ announced-most line = by_test (is_over line)
     by_test false = body_len-most (words_in line)
 
 -- the words that an iterator yields to its end are those that it has left
-words-drained : (words : Words) (items : List (Bor (List ℕ))) → Drains (YieldsFirstRef (λ (w : Words). w)) words items → words ≡ map (λ item. item.now) items
+words-drained : (words : Words) (items : List (Bor (List ℕ))) → Drains (YieldsFirstRef (λ (w : Words). w)) words items
+    → words ≡ map (λ item. item.now) items
 words-drained words [] d =
     let stays : words ≡ d.1.0 = d.1.1 in
     stays ∙ d.1.2.0
@@ -59,7 +62,8 @@ words-drained words (item ∷ items) d =
     next.1 ∙ ap (λ (ws : Words). item.now ∷ ws) (words-drained next.0 items (d.0, (d.1.0, next.2, d.1.2)))
 
 last_or-map : (first : Option (Bor (List ℕ))) (items : List (Bor (List ℕ)))
-    → last_or (option_map (λ item. item.now) first) (map (λ item. item.now) items) ≡ option_map (λ item. item.now) (last_or first items)
+    → last_or (option_map (λ item. item.now) first) (map (λ item. item.now) items)
+    ≡ option_map (λ item. item.now) (last_or first items)
 last_or-map first [] = refl
 last_or-map first (item ∷ items) = last_or-map (Some item) items
 

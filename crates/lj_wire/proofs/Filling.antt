@@ -16,13 +16,17 @@ use Rattle.lj_wire.specs.declared.verb.Verb.TheVariants as verb
 use Rattle.lj_wire.specs.Items.{with_body}
 use Rattle.lj_wire.specs.Displacements.{displacement_of}
 use Rattle.lj_wire.specs.Verbs.{is_load, verb_of}
-use Rattle.lj_wire.specs.Commands.{◌>>=◌, Words, one_name, two_names, name_and_number, bare_command, session_command, branch_command, number_command, tug_command, list_command, verb_command, load_of, load_command, or_syntax, last_count, counted_item, verb_item, item_of_words, is_over, over_item, words_in, item_with}
+use Rattle.lj_wire.specs.Commands.{◌>>=◌, Words, one_name, two_names, name_and_number, bare_command, session_command}
+use Rattle.lj_wire.specs.Commands.{branch_command, number_command, tug_command, list_command, verb_command, load_of}
+use Rattle.lj_wire.specs.Commands.{load_command, or_syntax, last_count, counted_item, verb_item, item_of_words, is_over}
+use Rattle.lj_wire.specs.Commands.{over_item, words_in, item_with}
 
 -- what is no LOAD stays as it is
 abbrev Stays : Option Command → Type 0
 Stays command = (body : LoadBody) → with_body (or_syntax command) body ≡ or_syntax command
 
-mapped : {A : Type 0} (command : A → Command) (o : Option A) → ((a : A) → Stays (Some (command a))) → Stays (option_map command o)
+mapped : {A : Type 0} (command : A → Command) (o : Option A) → ((a : A) → Stays (Some (command a)))
+    → Stays (option_map command o)
 mapped command None stays body = refl
 mapped command (Some a) stays body = stays a body
 
@@ -32,7 +36,8 @@ bound (Some a) next stays body = stays a body
 
 tug_stays : (words : Words) → Stays (tug_command words)
 tug_stays (s ∷ n ∷ dx ∷ dy ∷ dz ∷ []) body =
-    bound (name_of s) _ (λ name. bound (number_of n) _ (λ atom. bound (displacement_of dx) _ (λ x. bound (displacement_of dy) _ (λ y.
+    bound (name_of s) _ (λ name. bound (number_of n) _
+    (λ atom. bound (displacement_of dx) _ (λ x. bound (displacement_of dy) _ (λ y.
     bound (displacement_of dz) _ (λ z body. refl))))) body
 tug_stays [] body = refl
 tug_stays (s ∷ []) body = refl
@@ -50,10 +55,12 @@ bye_stays [] body = refl
 bye_stays (word ∷ words) body = refl
 
 -- a command on a session is no LOAD
-session_stays : (command : List ℕ → Command) → ((name : List ℕ) → Stays (Some (command name))) → (words : Words) → Stays (session_command command words)
+session_stays : (command : List ℕ → Command) → ((name : List ℕ) → Stays (Some (command name))) → (words : Words)
+    → Stays (session_command command words)
 session_stays command stays words = mapped command (one_name words) stays
 
-branch_stays : (command : List ℕ → List ℕ → Command) → ((p : List ℕ × List ℕ) → Stays (Some (command p.0 p.1))) → (words : Words)
+branch_stays : (command : List ℕ → List ℕ → Command)
+    → ((p : List ℕ × List ℕ) → Stays (Some (command p.0 p.1))) → (words : Words)
     → Stays (branch_command command words)
 branch_stays command stays words = mapped (λ p. command p.0 p.1) (two_names words) stays
 
@@ -76,7 +83,8 @@ verb_stays verb.List = list_stays
 verb_stays verb.Unload = session_stays command.Unload (λ name body. refl)
 verb_stays verb.Bye = bye_stays
 
-other_stays : (verb : Option Verb) (words : Words) (body : LoadBody) → with_body (verb_item verb words) body ≡ verb_item verb words
+other_stays : (verb : Option Verb) (words : Words) (body : LoadBody)
+    → with_body (verb_item verb words) body ≡ verb_item verb words
 other_stays None words body = refl
 other_stays (Some verb) words body = verb_stays verb words body
 
@@ -91,18 +99,21 @@ counted_filled : (count : Option ℕ) (words : Words) (body : LoadBody)
 counted_filled None words body = refl
 counted_filled (Some count) words body = load_filled (load_of words) body
 
-words_filled : (words : Words) (body : LoadBody) → with_body (item_of_words words Unread) body ≡ item_of_words words body
+words_filled : (words : Words) (body : LoadBody) → with_body (item_of_words words Unread) body
+    ≡ item_of_words words body
 unfolding item_of_words
 words_filled [] body = refl
 words_filled (word ∷ words) body = by_test (is_load word)
   where
     by_test : (load : Bool)
-        → with_body (cond load (counted_item (last_count words) (load_command Unread words)) (verb_item (verb_of word) words)) body
+        → with_body (cond load (counted_item (last_count words) (load_command Unread words))
+        (verb_item (verb_of word) words)) body
         ≡ cond load (counted_item (last_count words) (load_command body words)) (verb_item (verb_of word) words)
     by_test true = counted_filled (last_count words) words body
     by_test false = other_stays (verb_of word) words body
 
-over_stays : (short : Bool) (body : LoadBody) → with_body (cond short (Bad Line) (Last Long)) body ≡ cond short (Bad Line) (Last Long)
+over_stays : (short : Bool) (body : LoadBody) → with_body (cond short (Bad Line) (Last Long)) body
+    ≡ cond short (Bad Line) (Last Long)
 over_stays true body = refl
 over_stays false body = refl
 

@@ -1,5 +1,6 @@
 -- Items that are handed out one after the other are those of the stream.
-use Rattle.std.proofs.Common.{◌≡◌, ℕ, Bool, true, false, cond, List, [], ◌∷◌, ◌++◌, Option, Some, None, inl, inr, refl, sym, ap, ◌∙◌, subst}
+use Rattle.std.proofs.Common.{◌≡◌, ℕ, Bool, true, false, cond, List, [], ◌∷◌, ◌++◌, Option, Some, None, inl, inr, refl}
+use Rattle.std.proofs.Common.{sym, ap, ◌∙◌, subst}
 use Rattle.std.proofs.lemmas.List.{append-nil}
 use Rattle.std.specs.Io.KnownBytes.{Consumes, IsAtEnd}
 use Rattle.lj_session.specs.Answers.{performed}
@@ -13,7 +14,8 @@ use Rattle.lj_wire.specs.Told.{answered}
 use Rattle.lj_wire.proofs.Splitting.{same_item, no_part}
 
 -- a LOAD whose body is lost
-pub lost_answered : (user : User) (found item : Item) (mark : Bool) → IsLost found item → answered user item mark ≡ answered user found true
+pub lost_answered : (user : User) (found item : Item) (mark : Bool) → IsLost found item
+    → answered user item mark ≡ answered user found true
 unfolding performed
 lost_answered user found item mark l =
     ap (λ i. answered user i mark) l.item_is ∙ ap (λ i. answered user i true) (sym l.found_is)
@@ -23,7 +25,8 @@ pub known : (bytes front : List ℕ) (old new : Option (List ℕ)) → old ≡ S
     → (behind : List ℕ) × (new ≡ Some behind) × (bytes ≡ front ++ behind)
 known bytes front old new is c = by_new new (subst (λ (o : Option (List ℕ)). Consumes o new front) is c)
   where
-    by_new : (after : Option (List ℕ)) → Consumes (Some bytes) after front → (behind : List ℕ) × (after ≡ Some behind) × (bytes ≡ front ++ behind)
+    by_new : (after : Option (List ℕ)) → Consumes (Some bytes) after front
+        → (behind : List ℕ) × (after ≡ Some behind) × (bytes ≡ front ++ behind)
     by_new None c = absurd c
     by_new (Some behind) c = (behind, refl, c)
 
@@ -38,9 +41,11 @@ none_after old new [] over h = refl
 none_after old new (item ∷ handed) over h = let differ : Open ≡ Over = sym h.1.was_open ∙ over in cc
 
 abbrev pub First : List Item → List Item → Type 0
-First items handed = (founds : List Item) × (others : List Item) × (items ≡ founds ++ others) × AreHandedOut founds handed
+First items handed =
+    (founds : List Item) × (others : List Item) × (items ≡ founds ++ others) × AreHandedOut founds handed
 
-pub come_first : (old new : Standing) (bytes rest : List ℕ) (handed items : List Item) → old.left ≡ Some bytes → HandsAll old handed new
+pub come_first : (old new : Standing) (bytes rest : List ℕ) (handed items : List Item)
+    → old.left ≡ Some bytes → HandsAll old handed new
     → Splits old.items bytes items rest → First items handed
 come_first old new bytes rest [] items is h s = ([], items, refl, tt)
 come_first old new bytes rest (item ∷ handed) [] is h s =
@@ -65,7 +70,8 @@ come_first old new bytes rest (item ∷ handed) (next ∷ items) is h s =
         (next ∷ more.0, more.1, ap (λ l. next ∷ l) more.2, (is_handed, more.3))
 
 -- less than an item is left at the end of the input, so that all items were handed out
-pub are_all : (old last new : Standing) (bytes rest : List ℕ) (handed items : List Item) → old.left ≡ Some bytes → HandsAll old handed last
+pub are_all : (old last new : Standing) (bytes rest : List ℕ) (handed items : List Item)
+    → old.left ≡ Some bytes → HandsAll old handed last
     → Ceases last new → Splits old.items bytes items rest → AreHandedOut items handed
 are_all old last new bytes rest [] [] is h c s = tt
 are_all old last new bytes rest [] (next ∷ items) is h c s =
@@ -73,7 +79,8 @@ are_all old last new bytes rest [] (next ∷ items) is h c s =
     let k = known bytes c.part last.left new.left left c.taken in
     let end = ended k.0 new.left k.1 c.at_end in
     let whole : s.0 ++ s.1 ≡ c.part = sym s.2 ∙ k.2 ∙ ap (λ (l : List ℕ). c.part ++ l) end ∙ append-nil c.part in
-    absurd (no_part old.items s.0 s.1 c.part next whole s.3 (subst (λ n. IsPart n c.part) (ap (λ a. a.items) h) c.is_part))
+    absurd (no_part old.items s.0 s.1 c.part next whole s.3
+    (subst (λ n. IsPart n c.part) (ap (λ a. a.items) h) c.is_part))
   where
     ended : (behind : List ℕ) (after : Option (List ℕ)) → after ≡ Some behind → IsAtEnd after → behind ≡ []
     ended behind None e end = cc

@@ -8,4 +8,5 @@ use lib.Seq.{take-add}
 pub appends_front : (a b c : Option (List ℕ)) (bytes : List ℕ) (at n : ℕ) (rest : List ℕ)
     → Appends a b (take at bytes) → rest ≡ drop at bytes → Appends b c (take n rest) → Appends a c (take (at + n) bytes)
 appends_front a b c bytes at n rest first is second =
-    subst (Appends a c) (ap (λ (xs : List ℕ). take at bytes ++ take n xs) is ∙ sym (take-add at n bytes)) (Appends-trans a b c _ _ first second)
+    subst (Appends a c) (ap (λ (xs : List ℕ). take at bytes ++ take n xs) is ∙ sym (take-add at n bytes))
+    (Appends-trans a b c _ _ first second)

@@ -1,5 +1,6 @@
 -- The mark of an answer, read off its text.
-use Rattle.std.proofs.Common.{◌≡◌, ℕ, ◌+◌, Bool, true, false, not, List, Result, Ok, Err, ◌⊎◌, inl, inr, refl, sym, ◌∙◌, ap}
+use Rattle.std.proofs.Common.{◌≡◌, ℕ, ◌+◌, Bool, true, false, not, List, Result, Ok, Err, ◌⊎◌, inl, inr, refl, sym, ◌∙◌}
+use Rattle.std.proofs.Common.{ap}
 use Rattle.std.specs.Fmt.{digits}
 use Rattle.std.specs.Prelude.{is_some, nat_lt, nat_le}
 use Rattle.lj_ring.specs.Scales.{Units}
@@ -14,14 +15,17 @@ use Rattle.lj_session.specs.declared.body.LoadBody.{LoadBody}
 use Rattle.lj_session.specs.declared.body.LoadBody.TheVariants.{Unread, Lost, Read}
 use Rattle.lj_session.specs.declared.command.Mode.{Mode}
 use Rattle.lj_session.specs.declared.command.Command.{Command}
-use Rattle.lj_session.specs.declared.command.Command.TheVariants.{Load, Advance, Reverse, Branch, Restore, Forget, Tug, Measure, Show, Dump, List as ListSessions, ListBranches, Unload, Bye}
+use Rattle.lj_session.specs.declared.command.Command.TheVariants.{Load, Advance, Reverse, Branch, Restore, Forget, Tug}
+use Rattle.lj_session.specs.declared.command.Command.TheVariants.{Measure, Show, Dump, List as ListSessions}
+use Rattle.lj_session.specs.declared.command.Command.TheVariants.{ListBranches, Unload, Bye}
 use Rattle.lj_session.specs.declared.refusal.Refusal.{Refusal}
 use Rattle.lj_session.specs.declared.refusal.Refusal.TheVariants.{BranchExists, QuotaAtoms, QuotaBranches, Xyz, Memory}
 use Rattle.lj_session.specs.declared.reply.Reply.{Reply}
 use Rattle.lj_session.specs.declared.reply.Reply.TheVariants as reply
 use Rattle.lj_session.specs.Users.{Session, User, with_session, atoms_of, atoms_used, branches_used}
 use Rattle.lj_branch.specs.Named.{named, put}
-use Rattle.lj_session.specs.Loads.{unless, admitted, body_held, session_of_frames, frames_or_refusal, reading_mode, within_quota, session_read}
+use Rattle.lj_session.specs.Loads.{unless, admitted, body_held, session_of_frames, frames_or_refusal, reading_mode}
+use Rattle.lj_session.specs.Loads.{within_quota, session_read}
 use Rattle.lj_session.specs.Answers.{session_of, performed, settled}
 use Rattle.lj_wire.specs.declared.item.Item.{Item}
 use Rattle.lj_wire.specs.declared.item.Item.TheVariants as items
@@ -55,7 +59,8 @@ marked_by user outcome (inr differs) true =
     sym (ap (λ m. outcome_told user (outcome m)) read)
 marked_by user outcome (inr differs) false = sym (ap (λ m. outcome_told user (outcome m)) differs.1)
 
-kind_told : (user : User) (k : XyzKind) (line : ℕ) → is_memory (outcome_told user (Err (Xyz (record { kind = k; line = line })))).0 ≡ false
+kind_told : (user : User) (k : XyzKind) (line : ℕ)
+    → is_memory (outcome_told user (Err (Xyz (record { kind = k; line = line })))).0 ≡ false
 unfolding text digits
 kind_told user kind.Count line = refl
 kind_told user kind.Short line = refl
@@ -75,26 +80,33 @@ within_told user name session true = refl
 within_told user name session false = refl
 
 read_told : (user : User) (name : List ℕ) (units : Units) (read : Result (List (List Row)) XyzFault)
-    → is_memory (outcome_told user ((frames_or_refusal read >>= λ frames. within_quota user (session_of_frames units frames)) >>= loaded user name)).0 ≡ false
+    → is_memory (outcome_told user ((frames_or_refusal read
+    >>= λ frames. within_quota user (session_of_frames units frames)) >>= loaded user name)).0 ≡ false
 read_told user name units (Ok frames) =
     let session = session_of_frames units frames in
     within_told user name session (nat_le (atoms_used user + atoms_of session) user.quota.atoms)
 read_told user name units (Err fault) = kind_told user fault.kind fault.line
 
 load_tells : (user : User) (name : List ℕ) (mode : Mode) (body : LoadBody) (scale : Result Units Refusal)
-    → Tells user (λ mark. scale >>= λ units. body_held body mark >>= λ bytes. session_read user units mode bytes >>= loaded user name)
+    → Tells user (λ mark. scale >>= λ units. body_held body mark
+    >>= λ bytes. session_read user units mode bytes >>= loaded user name)
 load_tells user name mode body (Err refusal) = inl (λ mark. refl)
 load_tells user name mode Unread (Ok units) = inl (λ mark. refl)
 load_tells user name mode Lost (Ok units) = inl (λ mark. refl)
-load_tells user name mode (Read bytes) (Ok units) = inr (refl, read_told user name units (reading (reading_mode mode) (lines_of bytes)))
+load_tells user name mode (Read bytes) (Ok units) =
+    inr (refl, read_told user name units (reading (reading_mode mode) (lines_of bytes)))
 
 -- what a BRANCH does with its session
 abbrev branched : User → List ℕ → List ℕ → Session → Outcome
 branched user name branch session =
-    Ok (reply.Branched name branch session.sim.step, with_session name (record session { saved = put branch session.sim session.saved }) user)
+    Ok (
+      reply.Branched name branch session.sim.step,
+      with_session name (record session { saved = put branch session.sim session.saved }) user,
+    )
 
 room_tells : (user : User) (name branch : List ℕ) (session : Session) (new room : Bool)
-    → Tells user (λ mark. unless new BranchExists >>= λ n. unless room QuotaBranches >>= λ r. unless (not mark) Memory >>= λ h. branched user name branch session)
+    → Tells user (λ mark. unless new BranchExists >>= λ n. unless room QuotaBranches >>= λ r. unless (not mark) Memory
+    >>= λ h. branched user name branch session)
 unfolding text digits
 room_tells user name branch session true true = inr (refl, refl)
 room_tells user name branch session true false = inl (λ mark. refl)
@@ -106,7 +118,8 @@ branch_tells : (user : User) (name branch : List ℕ) (found : Result Session Re
     unless (not mark) Memory >>= λ h. branched user name branch session)
 branch_tells user name branch (Err refusal) = inl (λ mark. refl)
 branch_tells user name branch (Ok session) =
-    room_tells user name branch session (not (is_some (named branch session.saved))) (nat_lt (branches_used user) user.quota.branches)
+    room_tells user name branch session (not (is_some (named branch session.saved)))
+    (nat_lt (branches_used user) user.quota.branches)
 
 command_tells : (user : User) (command : Command) → Tells user (λ mark. performed user command mark)
 unfolding performed
@@ -125,7 +138,9 @@ command_tells user (ListBranches name) = inl (λ mark. refl)
 command_tells user (Unload name) = inl (λ mark. refl)
 command_tells user Bye = inl (λ mark. refl)
 
-pub marked : (user : User) (item : Item) (mark : Bool) → told user item mark ≡ told user item (is_memory (told user item mark).0)
-marked user (items.Command command) mark = marked_by user (λ m. performed user command m) (command_tells user command) mark
+pub marked : (user : User) (item : Item) (mark : Bool) → told user item mark
+    ≡ told user item (is_memory (told user item mark).0)
+marked user (items.Command command) mark =
+    marked_by user (λ m. performed user command m) (command_tells user command) mark
 marked user (items.Bad fault) mark = refl
 marked user (items.Last fault) mark = refl

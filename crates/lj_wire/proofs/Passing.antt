@@ -1,5 +1,6 @@
 -- A long line that is passed over: its bytes so far are taken, and only counted.
-use Rattle.std.proofs.Common.{◌≡◌, ℕ, ◌+◌, ◌-◌, ◌<◌, ◌≤◌, min, List, [], ◌∷◌, ◌++◌, ◌⊎◌, inl, inr, length, take, drop, sym, ap, ◌∙◌, subst, arith, append_assoc}
+use Rattle.std.proofs.Common.{◌≡◌, ℕ, ◌+◌, ◌-◌, ◌<◌, ◌≤◌, min, List, [], ◌∷◌, ◌++◌, ◌⊎◌, inl, inr, length, take, drop}
+use Rattle.std.proofs.Common.{sym, ap, ◌∙◌, subst, arith, append_assoc}
 use Rattle.std.proofs.lemmas.List.{take-append-drop, drop_at, drop_all, length-append, length-take-le}
 use Rattle.lj_wire.specs.declared.limits.TheConstants.{MAX_LINE_BYTES, LONG_LINE_BYTES}
 use Rattle.lj_wire.specs.Ahead.{Ahead, Takes, Grows}
@@ -20,14 +21,18 @@ pub record Passing (old new : Ahead) (seen : ℕ) : Type 0 where
   pub errors : new.errors ≡ old.errors
 
 -- a front of what is held is taken after what was taken before
-pub taken_more : (old mid grown new : Ahead) (bytes front behind : List ℕ) (count : ℕ) → Takes old mid bytes → Grows mid grown count
+pub taken_more : (old mid grown new : Ahead) (bytes front behind : List ℕ) (count : ℕ)
+    → Takes old mid bytes → Grows mid grown count
     → grown.held ≡ front ++ behind → new.held ≡ behind → new.unread ≡ grown.unread → Takes old new (bytes ++ front)
 taken_more old mid grown new bytes front behind count t g e is same =
-    Takes-trans old grown new bytes front (Takes-kept old mid grown bytes t g.kept) (Takes-held grown new front behind e is same)
+    Takes-trans old grown new bytes front (Takes-kept old mid grown bytes t g.kept)
+    (Takes-held grown new front behind e is same)
 
 -- the line feed comes
-pub passing_feed : (old mid grown new : Ahead) (seen count wanted : ℕ) (line behind : List ℕ) → Passing old mid seen → Grows mid grown count
-    → wanted ≤ LONG_LINE_BYTES - seen → wanted ≤ length grown.held → take wanted grown.held ≡ line ++ 10 ∷ behind → LacksLineFeed line
+pub passing_feed : (old mid grown new : Ahead) (seen count wanted : ℕ) (line behind : List ℕ)
+    → Passing old mid seen → Grows mid grown count
+    → wanted ≤ LONG_LINE_BYTES - seen → wanted ≤ length grown.held
+    → take wanted grown.held ≡ line ++ 10 ∷ behind → LacksLineFeed line
     → new ≡ record grown { held = drop (length line + 1) grown.held } → TakesLongLine old new
 passing_feed old mid grown new seen count wanted line behind p g low within e one taken =
     let is = ap (λ a. a.held) taken in
@@ -37,13 +42,18 @@ passing_feed old mid grown new seen count wanted line behind p g low within e on
     sym (take-append-drop wanted grown.held) ∙ ap (λ (l : List ℕ). l ++ drop wanted grown.held) e
     ∙ append_assoc line (10 ∷ behind) (drop wanted grown.held) ∙ sym (append_assoc line (10 ∷ []) rest) in
     let count_is : length (line ++ 10 ∷ []) ≡ length line + 1 = length-append line (10 ∷ []) in
-    let left : new.held ≡ rest = is ∙ ap (drop (length line + 1)) cut ∙ drop_at (line ++ 10 ∷ []) rest (length line + 1) count_is in
+    let left : new.held ≡ rest =
+    is ∙ ap (drop (length line + 1)) cut ∙ drop_at (line ++ 10 ∷ []) rest (length line + 1) count_is in
     let sizes = length-append line (10 ∷ behind) in
     let shorter = length-take-le wanted grown.held within in
     record {
       line = p.bytes ++ line;
-      taken = subst (Takes old new) (sym (append_assoc p.bytes line (10 ∷ []))) (taken_more old mid grown new p.bytes (line ++ 10 ∷ []) rest count p.taken g cut left same);
-      is_line = (lacks_both p.bytes line p.one_line one, omega (arith, length-append p.bytes line, p.counted, ap length e, sizes, shorter));
+      taken = subst (Takes old new) (sym (append_assoc p.bytes line (10 ∷ [])))
+          (taken_more old mid grown new p.bytes (line ++ 10 ∷ []) rest count p.taken g cut left same);
+      is_line = (
+        lacks_both p.bytes line p.one_line one,
+        omega (arith, length-append p.bytes line, p.counted, ap length e, sizes, shorter),
+      );
       long = omega (arith, length-append p.bytes line, p.counted, p.long);
       beyond = omega (arith, length-append p.bytes line, p.counted, p.begun);
     }
@@ -115,7 +125,8 @@ pub counting_more : (old mid grown new : Ahead) (count left read some : ℕ) →
     → Grows mid grown read → grown.errors ≡ mid.errors → some ≡ min (length grown.held) left
     → new ≡ record grown { held = drop some grown.held } → 0 < left → Counting old new count (left - some)
 counting_more old mid grown new count left read some p g errors is taken more_left =
-    let front = takes_front old grown new p.bytes some (Takes-kept old mid grown p.bytes p.taken g.kept) (omega arith) taken in
+    let front =
+    takes_front old grown new p.bytes some (Takes-kept old mid grown p.bytes p.taken g.kept) (omega arith) taken in
     record {
       bytes = p.bytes ++ take some grown.held;
       taken = front.taken;
@@ -130,9 +141,15 @@ abbrev pub Searched : Ahead → Ahead → Type 0
 Searched old new = (new ≡ old) ⊎ LacksLineFeed old.held × (more : List ℕ) × (new.held ≡ old.held ++ more)
 
 -- more is read, since what is held has no line feed
-pub searched_more : (old mid new : Ahead) (count : ℕ) → Searched old mid → LacksLineFeed mid.held → Grows mid new count → Searched old new
+pub searched_more : (old mid new : Ahead) (count : ℕ) → Searched old mid → LacksLineFeed mid.held
+    → Grows mid new count → Searched old new
 searched_more old mid new count (inl same) lacks g =
-    inr (subst LacksLineFeed (ap (λ a. a.held) same) lacks, g.more, g.held ∙ ap (λ (h : List ℕ). h ++ g.more) (ap (λ a. a.held) same))
+    inr (
+      subst LacksLineFeed (ap (λ a. a.held) same) lacks,
+      g.more,
+      g.held
+          ∙ ap (λ (h : List ℕ). h ++ g.more) (ap (λ a. a.held) same),
+    )
 searched_more old mid new count (inr s) lacks g =
     inr (s.0, s.1 ++ g.more, g.held ∙ ap (λ (h : List ℕ). h ++ g.more) s.2 ∙ append_assoc old.held s.1 g.more)
 
@@ -140,7 +157,8 @@ searched_more old mid new count (inr s) lacks g =
 pub searched_line : (old new : Ahead) (line behind : List ℕ) → Searched old new → new.held ≡ line ++ 10 ∷ behind
     → length line < length old.held → new ≡ old
 searched_line old new line behind (inl same) e less = same
-searched_line old new line behind (inr s) e less = absurd (no_feed_beyond line behind old.held s.1 (sym e ∙ s.2) s.0 less)
+searched_line old new line behind (inr s) e less =
+    absurd (no_feed_beyond line behind old.held s.1 (sym e ∙ s.2) s.0 less)
 
 pub searched_long : (old new : Ahead) → Searched old new → length old.held ≤ length new.held
 searched_long old new (inl same) = omega (arith, ap (λ a. length a.held) same)

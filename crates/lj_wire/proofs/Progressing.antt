@@ -1,5 +1,6 @@
 -- From item to item of a dialogue, and to its end. A loop over a stream keeps `Progress`, and cites these.
-use Rattle.std.proofs.Common.{◌≡◌, ℕ, suc, ◌+◌, Bool, true, false, List, [], ◌∷◌, ◌++◌, length, refl, sym, ◌∙◌, ap, subst, arith}
+use Rattle.std.proofs.Common.{◌≡◌, ℕ, suc, ◌+◌, Bool, true, false, List, [], ◌∷◌, ◌++◌, length, refl, sym, ◌∙◌, ap}
+use Rattle.std.proofs.Common.{subst, arith}
 use Rattle.std.specs.List.{concat}
 use Rattle.std.proofs.lemmas.List.{append-nil, length-append}
 use Rattle.std.proofs.lemmas.List.Folds.{concat-append}
@@ -17,10 +18,18 @@ pub Takes-more : (n : ℕ) (bytes : List ℕ) (items : List Item) (left front be
 Takes-more n bytes [] left front behind item t e i goes =
     (front, behind, t ∙ e, subst (λ m. IsItem m front item) (let s : n + 0 ≡ n = omega arith in s) i, goes, refl)
 Takes-more n bytes (first ∷ items) left front behind item t e i goes =
-    let s : n + suc (length items) ≡ n + 1 + length items = omega arith in
-    (t.0, t.1, t.2, t.3, t.4, Takes-more (n + 1) t.1 items left front behind item t.5 e (subst (λ m. IsItem m front item) s i) goes)
+    let s : n + suc (length items) ≡ n + 1 + length items = omega arith in (
+      t.0,
+      t.1,
+      t.2,
+      t.3,
+      t.4,
+      Takes-more (n + 1) t.1 items left front behind item t.5 e
+          (subst (λ m. IsItem m front item) s i) goes,
+    )
 
-pub Splits-part : (n : ℕ) (bytes : List ℕ) (items : List Item) (left : List ℕ) → Takes n bytes items left → IsPart (n + length items) left
+pub Splits-part : (n : ℕ) (bytes : List ℕ) (items : List Item) (left : List ℕ) → Takes n bytes items left
+    → IsPart (n + length items) left
     → Splits n bytes items left
 Splits-part n bytes [] left t p = (t, subst (λ m. IsPart m left) (let s : n + 0 ≡ n = omega arith in s) p)
 Splits-part n bytes (first ∷ items) left t p =
@@ -45,53 +54,69 @@ Splits-end n bytes (first ∷ items) left front behind item t e i end =
     (t.0, t.1, t.2, t.3, (λ h. let differ : true ≡ false = sym h ∙ t.4 in cc), (λ h. next))
 
 -- marks of texts are as many as the texts
-pub marks-length : (marks : List Bool) (answers : List (List ℕ)) → AreMarks marks answers → length marks ≡ length answers
+pub marks-length : (marks : List Bool) (answers : List (List ℕ)) → AreMarks marks answers
+    → length marks ≡ length answers
 marks-length [] [] h = refl
 marks-length [] (text ∷ answers) h = absurd h
 marks-length (mark ∷ marks) [] h = absurd h
 marks-length (mark ∷ marks) (text ∷ answers) h = ap suc (marks-length marks answers h.1)
 
-pub texts-length : (user : User) (items : List Item) (marks : List Bool) → length (texts user items marks) ≡ length items
+pub texts-length : (user : User) (items : List Item) (marks : List Bool)
+    → length (texts user items marks) ≡ length items
 texts-length user [] marks = refl
-texts-length user (item ∷ items) marks = ap suc (texts-length (told user item (first_mark marks)).1 items (other_marks marks))
+texts-length user (item ∷ items) marks =
+    ap suc (texts-length (told user item (first_mark marks)).1 items (other_marks marks))
 
-AreMarks-more : (marks : List Bool) (answers : List (List ℕ)) (mark : Bool) (text : List ℕ) → AreMarks marks answers → (mark ≡ true → is_memory text ≡ true)
+AreMarks-more : (marks : List Bool) (answers : List (List ℕ)) (mark : Bool) (text : List ℕ) → AreMarks marks answers
+    → (mark ≡ true → is_memory text ≡ true)
     → AreMarks (marks ++ mark ∷ []) (answers ++ text ∷ [])
 AreMarks-more [] [] mark text h only = (only, tt)
 AreMarks-more [] (next ∷ answers) mark text h only = absurd h
 AreMarks-more (next ∷ marks) [] mark text h only = absurd h
 AreMarks-more (next ∷ marks) (first ∷ answers) mark text h only = (h.0, AreMarks-more marks answers mark text h.1 only)
 
-texts-more : (user : User) (items : List Item) (marks : List Bool) (item : Item) (mark : Bool) → length marks ≡ length items
-    → texts user (items ++ item ∷ []) (marks ++ mark ∷ []) ≡ texts user items marks ++ (told (last_user user items marks) item mark).0 ∷ []
+texts-more : (user : User) (items : List Item) (marks : List Bool) (item : Item) (mark : Bool)
+    → length marks ≡ length items
+    → texts user (items ++ item ∷ []) (marks ++ mark ∷ []) ≡ texts user items marks
+    ++ (told (last_user user items marks) item mark).0 ∷ []
 texts-more user [] [] item mark h = refl
 texts-more user [] (next ∷ marks) item mark h = absurd (omega (arith, h))
 texts-more user (first ∷ items) [] item mark h = absurd (omega (arith, h))
 texts-more user (first ∷ items) (next ∷ marks) item mark h =
-    ap (λ others. (told user first next).0 ∷ others) (texts-more (told user first next).1 items marks item mark (omega (arith, h)))
+    ap (λ others. (told user first next).0 ∷ others)
+    (texts-more (told user first next).1 items marks item mark (omega (arith, h)))
 
-last_user-more : (user : User) (items : List Item) (marks : List Bool) (item : Item) (mark : Bool) → length marks ≡ length items
+last_user-more : (user : User) (items : List Item) (marks : List Bool) (item : Item) (mark : Bool)
+    → length marks ≡ length items
     → last_user user (items ++ item ∷ []) (marks ++ mark ∷ []) ≡ (told (last_user user items marks) item mark).1
 last_user-more user [] [] item mark h = refl
 last_user-more user [] (next ∷ marks) item mark h = absurd (omega (arith, h))
 last_user-more user (first ∷ items) [] item mark h = absurd (omega (arith, h))
-last_user-more user (first ∷ items) (next ∷ marks) item mark h = last_user-more (told user first next).1 items marks item mark (omega (arith, h))
+last_user-more user (first ∷ items) (next ∷ marks) item mark h =
+    last_user-more (told user first next).1 items marks item mark (omega (arith, h))
 
 -- what one item more adds to the marks, the texts and the user
 pub record Added (user : User) (items : List Item) (marks : List Bool) (item : Item) (mark : Bool) : Type 0 where
   pub are_marks : AreMarks (marks ++ mark ∷ []) (texts user (items ++ item ∷ []) (marks ++ mark ∷ []))
-  pub written_is : concat (texts user items marks) ++ (told (last_user user items marks) item mark).0 ≡ concat (texts user (items ++ item ∷ []) (marks ++ mark ∷ []))
-  pub next_is : (told (last_user user items marks) item mark).1 ≡ last_user user (items ++ item ∷ []) (marks ++ mark ∷ [])
+  pub written_is : concat (texts user items marks) ++ (told (last_user user items marks) item mark).0
+      ≡ concat (texts user (items ++ item ∷ []) (marks ++ mark ∷ []))
+  pub next_is : (told (last_user user items marks) item mark).1
+      ≡ last_user user (items ++ item ∷ []) (marks ++ mark ∷ [])
 
-pub added : (user : User) (items : List Item) (marks : List Bool) (item : Item) (mark : Bool) → AreMarks marks (texts user items marks)
-    → (mark ≡ true → is_memory (told (last_user user items marks) item mark).0 ≡ true) → Added user items marks item mark
+pub added : (user : User) (items : List Item) (marks : List Bool) (item : Item) (mark : Bool)
+    → AreMarks marks (texts user items marks)
+    → (mark ≡ true → is_memory (told (last_user user items marks) item mark).0 ≡ true)
+    → Added user items marks item mark
 added user items marks item mark are only =
     let text = (told (last_user user items marks) item mark).0 in
     let same = marks-length marks (texts user items marks) are ∙ texts-length user items marks in
     let more = texts-more user items marks item mark same in
     record {
-      are_marks = subst (AreMarks (marks ++ mark ∷ [])) (sym more) (AreMarks-more marks (texts user items marks) mark text are only);
-      written_is = ap (λ x. concat (texts user items marks) ++ x) (sym (append-nil text)) ∙ sym (concat-append (texts user items marks) (text ∷ [])) ∙ ap concat (sym more);
+      are_marks =
+          subst (AreMarks (marks ++ mark ∷ [])) (sym more)
+          (AreMarks-more marks (texts user items marks) mark text are only);
+      written_is = ap (λ x. concat (texts user items marks) ++ x) (sym (append-nil text))
+          ∙ sym (concat-append (texts user items marks) (text ∷ [])) ∙ ap concat (sym more);
       next_is = sym (last_user-more user items marks item mark same);
     }
 
@@ -108,49 +133,60 @@ Progress-start user bytes = record {
 }
 
 -- one item more, which does not end the connection
-pub Progress-more : (user : User) (bytes : List ℕ) (count : ℕ) (written left : List ℕ) (next : User) (front behind : List ℕ) (item : Item) (mark : Bool)
+pub Progress-more : (user : User) (bytes : List ℕ) (count : ℕ) (written left : List ℕ) (next : User)
+    (front behind : List ℕ) (item : Item) (mark : Bool)
     → Progress user bytes count written left next → left ≡ front ++ behind → IsItem count front item → ends item ≡ false
     → (mark ≡ true → is_memory (told next item mark).0 ≡ true)
     → Progress user bytes (count + 1) (written ++ (told next item mark).0) behind (told next item mark).1
 Progress-more user bytes count written left next front behind item mark p e i goes only =
     let last = last_user user p.items p.marks in
-    let a = added user p.items p.marks item mark p.are_marks (subst (λ u. mark ≡ true → is_memory (told u item mark).0 ≡ true) p.next_is only) in
+    let a = added user p.items p.marks item mark p.are_marks
+    (subst (λ u. mark ≡ true → is_memory (told u item mark).0 ≡ true) p.next_is only) in
     record {
       items = p.items ++ item ∷ [];
       marks = p.marks ++ mark ∷ [];
-      takes = Takes-more 0 bytes p.items left front behind item p.takes e (subst (λ m. IsItem m front item) (let s : count ≡ 0 + length p.items = omega (arith, p.counted) in s) i) goes;
+      takes = Takes-more 0 bytes p.items left front behind item p.takes e
+          (subst (λ m. IsItem m front item) (let s : count ≡ 0 + length p.items = omega (arith, p.counted) in s) i)
+          goes;
       counted = length-append p.items (item ∷ []) ∙ omega (arith, p.counted);
       are_marks = a.are_marks;
-      written_is = ap (λ w. w ++ (told next item mark).0) p.written_is ∙ ap (λ u. concat (texts user p.items p.marks) ++ (told u item mark).0) p.next_is ∙ a.written_is;
+      written_is = ap (λ w. w ++ (told next item mark).0) p.written_is
+          ∙ ap (λ u. concat (texts user p.items p.marks) ++ (told u item mark).0) p.next_is ∙ a.written_is;
       next_is = ap (λ u. (told u item mark).1) p.next_is ∙ a.next_is;
     }
 
 -- less than an item is left, and the dialogue is at its end
-pub Dialogue-part : (user : User) (bytes : List ℕ) (count : ℕ) (written left : List ℕ) (next : User) → Progress user bytes count written left next
+pub Dialogue-part : (user : User) (bytes : List ℕ) (count : ℕ) (written left : List ℕ) (next : User)
+    → Progress user bytes count written left next
     → IsPart count left → Dialogue user bytes written next
 Dialogue-part user bytes count written left next p part = record {
   items = p.items;
   rest = left;
   marks = p.marks;
-  splits = Splits-part 0 bytes p.items left p.takes (subst (λ m. IsPart m left) (let s : count ≡ 0 + length p.items = omega (arith, p.counted) in s) part);
+  splits = Splits-part 0 bytes p.items left p.takes
+      (subst (λ m. IsPart m left) (let s : count ≡ 0 + length p.items = omega (arith, p.counted) in s) part);
   are_marks = p.are_marks;
   written_is = p.written_is;
   next_is = p.next_is;
 }
 
 -- an item that ends the connection, and with it the dialogue
-pub Dialogue-end : (user : User) (bytes : List ℕ) (count : ℕ) (written left : List ℕ) (next : User) (front behind : List ℕ) (item : Item) (mark : Bool)
+pub Dialogue-end : (user : User) (bytes : List ℕ) (count : ℕ) (written left : List ℕ) (next : User)
+    (front behind : List ℕ) (item : Item) (mark : Bool)
     → Progress user bytes count written left next → left ≡ front ++ behind → IsItem count front item → ends item ≡ true
     → (mark ≡ true → is_memory (told next item mark).0 ≡ true)
     → Dialogue user bytes (written ++ (told next item mark).0) (told next item mark).1
 Dialogue-end user bytes count written left next front behind item mark p e i end only =
-    let a = added user p.items p.marks item mark p.are_marks (subst (λ u. mark ≡ true → is_memory (told u item mark).0 ≡ true) p.next_is only) in
+    let a = added user p.items p.marks item mark p.are_marks
+    (subst (λ u. mark ≡ true → is_memory (told u item mark).0 ≡ true) p.next_is only) in
     record {
       items = p.items ++ item ∷ [];
       rest = behind;
       marks = p.marks ++ mark ∷ [];
-      splits = Splits-end 0 bytes p.items left front behind item p.takes e (subst (λ m. IsItem m front item) (let s : count ≡ 0 + length p.items = omega (arith, p.counted) in s) i) end;
+      splits = Splits-end 0 bytes p.items left front behind item p.takes e
+          (subst (λ m. IsItem m front item) (let s : count ≡ 0 + length p.items = omega (arith, p.counted) in s) i) end;
       are_marks = a.are_marks;
-      written_is = ap (λ w. w ++ (told next item mark).0) p.written_is ∙ ap (λ u. concat (texts user p.items p.marks) ++ (told u item mark).0) p.next_is ∙ a.written_is;
+      written_is = ap (λ w. w ++ (told next item mark).0) p.written_is
+          ∙ ap (λ u. concat (texts user p.items p.marks) ++ (told u item mark).0) p.next_is ∙ a.written_is;
       next_is = ap (λ u. (told u item mark).1) p.next_is ∙ a.next_is;
     }

@@ -1,6 +1,8 @@
 -- The lines of replies: of sessions in a list, of what is saved, and of atoms in a frame.
 use Rattle.std.proofs.lemmas.Grind.{flat_map-append}
-use Rattle.std.proofs.Common.{append_assoc, append-nil, Bool, true, false, not, cond, nat_lt, one-add, ◌≡◌, ℕ, zero, suc, ◌+◌, ◌-◌, ◌<◌, ◌≤◌, List, [], ◌∷◌, ◌++◌, length, map, Option, Some, None, refl, sym, ap, ◌∙◌, subst, arith, rules, slice_get, slice_index_or, IfSome}
+use Rattle.std.proofs.Common.{append_assoc, append-nil, Bool, true, false, not, cond, nat_lt, one-add, ◌≡◌, ℕ, zero}
+use Rattle.std.proofs.Common.{suc, ◌+◌, ◌-◌, ◌<◌, ◌≤◌, List, [], ◌∷◌, ◌++◌, length, map, Option, Some, None, refl, sym}
+use Rattle.std.proofs.Common.{ap, ◌∙◌, subst, arith, rules, slice_get, slice_index_or, IfSome}
 use Rattle.std.specs.Fmt.{decimal, signed_decimal}
 use Rattle.std.specs.List.{join_with_byte, flat_map, position, position_or_len}
 use Rattle.std.specs.Map.{lookup}
@@ -49,11 +51,13 @@ session_line_at owned i name live saved named is_live is_saved =
 -- atom t's line in a frame
 pub atom_lines-get : (edge : ℕ) (symbols : List (List ℕ)) (places : List Place) (t : ℕ) (symbol : List ℕ)
     → slice_get symbols t ≡ Some symbol → t < length places
-    → Some (atom_line edge symbol (slice_index_or places t (record { x = 0; y = 0; z = 0 }))) ≡ slice_get (atom_lines edge symbols places) t
+    → Some (atom_line edge symbol (slice_index_or places t (record { x = 0; y = 0; z = 0 })))
+    ≡ slice_get (atom_lines edge symbols places) t
 atom_lines-get edge [] places t symbol there within = cc
 atom_lines-get edge (s ∷ symbols) [] t symbol there within = absurd (omega arith)
 atom_lines-get edge (s ∷ symbols) (p ∷ places) zero symbol there within = let e : s ≡ symbol = cc in rw (← e) refl
-atom_lines-get edge (s ∷ symbols) (p ∷ places) (suc t) symbol there within = atom_lines-get edge symbols places t symbol there (omega arith)
+atom_lines-get edge (s ∷ symbols) (p ∷ places) (suc t) symbol there within =
+    atom_lines-get edge symbols places t symbol there (omega arith)
 
 -- there is none past the last atom
 pub atom_lines-past : (edge : ℕ) (symbols : List (List ℕ)) (places : List Place) (t : ℕ)
@@ -64,7 +68,8 @@ atom_lines-past edge (s ∷ symbols) (p ∷ places) zero past = absurd (omega ar
 atom_lines-past edge (s ∷ symbols) (p ∷ places) (suc t) past = atom_lines-past edge symbols places t (omega arith)
 
 -- words with a blank between each two are the first word, and then each other one after a blank
-pub join-after : (word : List ℕ) (words : List (List ℕ)) → join_with_byte 32 (word ∷ words) ≡ word ++ flat_map blank_and words
+pub join-after : (word : List ℕ) (words : List (List ℕ))
+    → join_with_byte 32 (word ∷ words) ≡ word ++ flat_map blank_and words
 join-after word [] = search rules
 join-after word (next ∷ words) = ap (λ t. word ++ (32 ∷ t)) (join-after next words)
 
@@ -80,8 +85,10 @@ held_atom_line None edge t live symbol line is_edge is_live is_symbol within is_
 held_atom_line (Some held) edge t live symbol line is_edge is_live is_symbol within is_line =
     let e : held.live.units.edge ≡ edge = cc in
     let l : held.live ≡ live = cc in
-    let text : line ≡ atom_line held.live.units.edge symbol (slice_index_or held.live.sim.cur t (record { x = 0; y = 0; z = 0 })) = rw (e, l) is_line in
-    ap Some text ∙ atom_lines-get held.live.units.edge held.symbols held.live.sim.cur t symbol is_symbol (within held refl)
+    let text : line ≡ atom_line held.live.units.edge symbol
+    (slice_index_or held.live.sim.cur t (record { x = 0; y = 0; z = 0 })) = rw (e, l) is_line in
+    ap Some text ∙ atom_lines-get held.live.units.edge held.symbols held.live.sim.cur t
+    symbol is_symbol (within held refl)
 
 -- parts of a line, grouped another way
 regrouped : (a b c d e f g h last : List ℕ)
@@ -90,7 +97,8 @@ regrouped a b c d e f g h last = simp append_assoc
 
 -- words after words, and some more after them
 pub words_text : (first verb name step atoms : List ℕ) (momentum : List (List ℕ)) (kinetic potential : List ℕ)
-    → ((((first ++ blank_and verb ++ blank_and name ++ blank_and step ++ blank_and atoms) ++ flat_map blank_and momentum)
+    → ((((first ++ blank_and verb ++ blank_and name ++ blank_and step ++ blank_and atoms)
+    ++ flat_map blank_and momentum)
     ++ blank_and kinetic) ++ blank_and potential) ++ 10 ∷ []
     ≡ line_of (first ∷ verb ∷ name ∷ step ∷ atoms ∷ (momentum ++ kinetic ∷ potential ∷ []))
 words_text first verb name step atoms momentum kinetic potential =
@@ -98,8 +106,10 @@ words_text first verb name step atoms momentum kinetic potential =
     let split : flat_map blank_and words ≡ blank_and verb ++ (blank_and name ++ (blank_and step
     ++ (blank_and atoms ++ (flat_map blank_and momentum ++ (blank_and kinetic ++ blank_and potential))))) =
     ap (λ t. blank_and verb ++ (blank_and name ++ (blank_and step ++ (blank_and atoms ++ t))))
-    (flat_map-append blank_and momentum (kinetic ∷ potential ∷ []) ∙ ap (λ t. flat_map blank_and momentum ++ (blank_and kinetic ++ t)) (append-nil (blank_and potential))) in
-    regrouped first (blank_and verb) (blank_and name) (blank_and step) (blank_and atoms) (flat_map blank_and momentum) (blank_and kinetic) (blank_and potential) (10 ∷ [])
+    (flat_map-append blank_and momentum (kinetic ∷ potential ∷ [])
+    ∙ ap (λ t. flat_map blank_and momentum ++ (blank_and kinetic ++ t)) (append-nil (blank_and potential))) in
+    regrouped first (blank_and verb) (blank_and name) (blank_and step) (blank_and atoms) (flat_map blank_and momentum)
+    (blank_and kinetic) (blank_and potential) (10 ∷ [])
     ∙ ap (λ t. (first ++ t) ++ 10 ∷ []) (sym split) ∙ ap (λ t. t ++ 10 ∷ []) (sym (join-after first words))
 
 -- what stands under a name stands at its first place
@@ -108,11 +118,13 @@ lookup-position : {K X : Type 0} (test : K → Bool) (entries : List (K × X))
 lookup-position test [] = refl
 lookup-position {K} {X} test (e ∷ entries) =
     let n = position_or_len test (map (λ e. e.0) entries) in
-    elim (test e.0) as (λ b. cond b (Some e.1) (lookup test entries) ≡ option_map {T = K × X} {U = X} (λ e. e.1) (slice_get (e ∷ entries) (cond (not b) (1 + n) 0)))
+    elim (test e.0) as (λ b. cond b (Some e.1) (lookup test entries)
+    ≡ option_map {T = K × X} {U = X} (λ e. e.1) (slice_get (e ∷ entries) (cond (not b) (1 + n) 0)))
     [ true ↦ refl | false ↦ rw one-add (lookup-position test entries) ]
 
 -- the session of a name is the one at the place of the name
-held_under : (owned : Owned) (name : List ℕ) → named name owned.sessions ≡ option_and_then (held_at owned) (position (bytes_eq name) (names owned))
+held_under : (owned : Owned) (name : List ℕ) → named name owned.sessions
+    ≡ option_and_then (held_at owned) (position (bytes_eq name) (names owned))
 held_under owned name =
     let n = position_or_len (bytes_eq name) (names owned) in
     let found = lookup-position (bytes_eq name) owned.sessions in
@@ -120,7 +132,8 @@ held_under owned name =
   where
     at : (b : Bool) → nat_lt (position_or_len (bytes_eq name) (names owned)) (length (names owned)) ≡ b
         → named name owned.sessions ≡ held_at owned (position_or_len (bytes_eq name) (names owned))
-        → named name owned.sessions ≡ option_and_then (held_at owned) (cond b (Some (position_or_len (bytes_eq name) (names owned))) None)
+        → named name owned.sessions ≡ option_and_then (held_at owned)
+        (cond b (Some (position_or_len (bytes_eq name) (names owned))) None)
     at true within found = found
     at false past found =
         let beyond : length owned.sessions ≤ position_or_len (bytes_eq name) (names owned) =
@@ -131,43 +144,57 @@ held_under owned name =
 pub named-index : (owned : Owned) (name : List ℕ) (index : Option ℕ) → index ≡ position (bytes_eq name) (names owned)
     → named name (user_of owned).sessions ≡ option_map as_session (option_and_then (held_at owned) index)
 named-index owned name index is_index =
-    lookup-map_values as_session (bytes_eq name) owned.sessions ∙ ap (option_map as_session) (rw is_index (held_under owned name))
+    lookup-map_values as_session (bytes_eq name) owned.sessions
+    ∙ ap (option_map as_session) (rw is_index (held_under owned name))
 
 -- the place of a name is one of a session
-pub index_within : (owned : Owned) (name : List ℕ) (i : ℕ) → Some i ≡ position (bytes_eq name) (names owned) → i < length owned.sessions
+pub index_within : (owned : Owned) (name : List ℕ) (i : ℕ) → Some i ≡ position (bytes_eq name) (names owned)
+    → i < length owned.sessions
 index_within owned name i found =
-    omega (arith, (position-Some (bytes_eq name) (names owned) i [] (sym found)).0, length-map owned.sessions (λ e. e.0))
+    omega (
+      arith,
+      (position-Some (bytes_eq name) (names owned) i [] (sym found)).0,
+      length-map owned.sessions (λ e. e.0),
+    )
 
 -- what is true of the session at the place of a name is true of the session of that name
-pub under_name : (owned : Owned) (name : List ℕ) (i : ℕ) (P : Option Session → Type 0) → Some i ≡ position (bytes_eq name) (names owned)
+pub under_name : (owned : Owned) (name : List ℕ) (i : ℕ) (P : Option Session → Type 0)
+    → Some i ≡ position (bytes_eq name) (names owned)
     → IfSome (held_at owned i) (λ held. P (Some (as_session held))) → P (named name (user_of owned).sessions)
 under_name owned name i P found holds =
     let within : i < length owned.sessions = index_within owned name i found in
     let is_named = named-index owned name (Some i) found in
     there (held_at owned i) refl is_named holds within
   where
-    there : (entry : Option Held) → held_at owned i ≡ entry → named name (user_of owned).sessions ≡ option_map as_session entry
-        → IfSome entry (λ held. P (Some (as_session held))) → i < length owned.sessions → P (named name (user_of owned).sessions)
+    there : (entry : Option Held) → held_at owned i ≡ entry
+        → named name (user_of owned).sessions ≡ option_map as_session entry
+        → IfSome entry (λ held. P (Some (as_session held))) → i < length owned.sessions
+        → P (named name (user_of owned).sessions)
     there None gone is_named holds within =
-        let past : slice_get (names owned) i ≡ None = slice_get-map (λ e. e.0) owned.sessions i ∙ lost (slice_get owned.sessions i) gone in
+        let past : slice_get (names owned) i ≡ None =
+        slice_get-map (λ e. e.0) owned.sessions i ∙ lost (slice_get owned.sessions i) gone in
         let here = slice_get-get_or (names owned) i [] (omega (arith, length-map owned.sessions (λ e. e.0))) in
         cc
       where
-        lost : (entry : Option (List ℕ × Held)) → option_map (λ e. e.1) entry ≡ None → option_map (λ e. e.0) entry ≡ None
+        lost : (entry : Option (List ℕ × Held)) → option_map (λ e. e.1) entry ≡ None
+            → option_map (λ e. e.0) entry ≡ None
         lost None h = refl
         lost (Some e) h = cc
     there (Some held) is_held is_named holds within = subst P (sym is_named) holds
 
 -- where a name has no place, no session has it
-pub no_name : (owned : Owned) (name : List ℕ) → None ≡ position (bytes_eq name) (names owned) → named name (user_of owned).sessions ≡ None
+pub no_name : (owned : Owned) (name : List ℕ) → None ≡ position (bytes_eq name) (names owned)
+    → named name (user_of owned).sessions ≡ None
 no_name owned name lost = named-index owned name None lost
 
 -- a line after the first
-after_first_line : (line : List ℕ) (lines : List (List ℕ)) (k : ℕ) → 1 ≤ k → slice_get (line ∷ lines) k ≡ slice_get lines (k - 1)
+after_first_line : (line : List ℕ) (lines : List (List ℕ)) (k : ℕ) → 1 ≤ k
+    → slice_get (line ∷ lines) k ≡ slice_get lines (k - 1)
 after_first_line line lines zero some = absurd (omega arith)
 after_first_line line lines (suc k) some = ap (slice_get lines) (omega arith)
 
-after_third_line : (a b c : List ℕ) (lines : List (List ℕ)) (k : ℕ) → 3 ≤ k → slice_get (a ∷ b ∷ c ∷ lines) k ≡ slice_get lines (k - 3)
+after_third_line : (a b c : List ℕ) (lines : List (List ℕ)) (k : ℕ) → 3 ≤ k
+    → slice_get (a ∷ b ∷ c ∷ lines) k ≡ slice_get lines (k - 3)
 after_third_line a b c lines zero some = absurd (omega arith)
 after_third_line a b c lines (suc zero) some = absurd (omega arith)
 after_third_line a b c lines (suc (suc zero)) some = absurd (omega arith)
@@ -178,10 +205,12 @@ pub listed_line : (owned : Owned) (k : ℕ) (head line : List ℕ) → 1 ≤ k
     → Some line ≡ option_map session_line (slice_get (user_of owned).sessions (k - 1))
     → Some line ≡ slice_get (head ∷ map session_line (user_of owned).sessions) k
 listed_line owned k head line some is_line =
-    is_line ∙ sym (slice_get-map session_line (user_of owned).sessions (k - 1)) ∙ sym (after_first_line head (map session_line (user_of owned).sessions) k some)
+    is_line ∙ sym (slice_get-map session_line (user_of owned).sessions (k - 1))
+    ∙ sym (after_first_line head (map session_line (user_of owned).sessions) k some)
 
 -- a line in the list of what is saved in a session
-pub saved_line : (entry : Option Held) (saved : List (List ℕ × Simulation)) (k : ℕ) (head : Held → List ℕ) (line : List ℕ) → 1 ≤ k
+pub saved_line : (entry : Option Held) (saved : List (List ℕ × Simulation)) (k : ℕ)
+    (head : Held → List ℕ) (line : List ℕ) → 1 ≤ k
     → option_map (λ held. held.saved) entry ≡ Some saved
     → Some line ≡ option_map branch_line (slice_get saved (k - 1))
     → IfSome entry (λ held. Some line ≡ slice_get (head held ∷ map branch_line held.saved) k)
@@ -189,18 +218,22 @@ saved_line None saved k head line some is_saved is_line = tt
 saved_line (Some held) saved k head line some is_saved is_line =
     let e : held.saved ≡ saved = cc in
     subst (λ (v : List (List ℕ × Simulation)). Some line ≡ slice_get (head held ∷ map branch_line v) k) (sym e)
-    (is_line ∙ sym (slice_get-map branch_line saved (k - 1)) ∙ sym (after_first_line (head held) (map branch_line saved) k some))
+    (is_line ∙ sym (slice_get-map branch_line saved (k - 1))
+    ∙ sym (after_first_line (head held) (map branch_line saved) k some))
 
 -- a line of an atom in a frame
 pub dumped_atom : (entry : Option Held) (k : ℕ) (a b c : Held → List ℕ) (line : Option (List ℕ)) → 3 ≤ k
     → IfSome entry (λ held. line ≡ slice_get (atom_lines held.live.units.edge held.symbols held.live.sim.cur) (k - 3))
-    → IfSome entry (λ held. line ≡ slice_get (a held ∷ b held ∷ c held ∷ atom_lines held.live.units.edge held.symbols held.live.sim.cur) k)
+    → IfSome entry (λ held. line ≡ slice_get (a held ∷ b held ∷ c held
+    ∷ atom_lines held.live.units.edge held.symbols held.live.sim.cur) k)
 dumped_atom None k a b c line some is_line = tt
 dumped_atom (Some held) k a b c line some is_line =
-    is_line ∙ sym (after_third_line (a held) (b held) (c held) (atom_lines held.live.units.edge held.symbols held.live.sim.cur) k some)
+    is_line ∙ sym (after_third_line (a held) (b held) (c held)
+    (atom_lines held.live.units.edge held.symbols held.live.sim.cur) k some)
 
 -- past the last atom of a session there is none
-pub past_last_atom : (entry : Option Held) (live : Live) (t : ℕ) → option_map (λ held. held.live) entry ≡ Some live → length live.sim.cur ≤ t
+pub past_last_atom : (entry : Option Held) (live : Live) (t : ℕ) → option_map (λ held. held.live) entry ≡ Some live
+    → length live.sim.cur ≤ t
     → IfSome entry (λ held. None ≡ slice_get (atom_lines held.live.units.edge held.symbols held.live.sim.cur) t)
 past_last_atom None live t is_live past = tt
 past_last_atom (Some held) live t is_live past =

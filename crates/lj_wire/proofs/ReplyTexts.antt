@@ -2,7 +2,9 @@
 use Rattle.std.proofs.Common.{◌≡◌, ℕ, List, [], ◌∷◌, refl, sym, append-nil}
 use Rattle.std.specs.List.{concat}
 use Rattle.lj_session.specs.declared.reply.Reply.{Reply}
-use Rattle.lj_session.specs.declared.reply.Reply.TheVariants.{Loaded, Advanced, Reversed, Branched, Restored, Forgotten, Tugged, Measured, Shown, Dumped, Listed, ListedBranches, Unloaded, Bye, Refused}
+use Rattle.lj_session.specs.declared.reply.Reply.TheVariants.{Loaded, Advanced, Reversed, Branched, Restored, Forgotten}
+use Rattle.lj_session.specs.declared.reply.Reply.TheVariants.{Tugged, Measured, Shown, Dumped, Listed, ListedBranches}
+use Rattle.lj_session.specs.declared.reply.Reply.TheVariants.{Unloaded, Bye, Refused}
 use Rattle.lj_session.specs.Users.{User}
 use Rattle.lj_wire.specs.Texts.{text, reply_lines}
 

@@ -13,7 +13,8 @@ use Rattle.lj_wire.specs.Streams.{LacksLineFeed}
 pub Takes-none : (a : Ahead) → Takes a a []
 Takes-none a = Consumes-nil (untaken a)
 
-pub Takes-trans : (a b c : Ahead) (first second : List ℕ) → Takes a b first → Takes b c second → Takes a c (first ++ second)
+pub Takes-trans : (a b c : Ahead) (first second : List ℕ) → Takes a b first → Takes b c second
+    → Takes a c (first ++ second)
 Takes-trans a b c first second p q = Consumes-trans (untaken a) (untaken b) (untaken c) first second p q
 
 -- what is only read is not yet taken
@@ -36,14 +37,17 @@ Kept-takes a b c bytes p q = consumed (untaken a) (untaken b) (untaken c) p q
     consumed (Some x) (Some y) (Some z) p q = sym p ∙ q
 
 -- a front of what is held is taken
-pub Takes-front : (front behind : List ℕ) (unread : Option (List ℕ)) → Consumes (prepend_known (front ++ behind) unread) (prepend_known behind unread) front
+pub Takes-front : (front behind : List ℕ) (unread : Option (List ℕ))
+    → Consumes (prepend_known (front ++ behind) unread) (prepend_known behind unread) front
 Takes-front front behind None = tt
 Takes-front front behind (Some bytes) = append_assoc front behind bytes
 
-pub Takes-held : (a b : Ahead) (front behind : List ℕ) → a.held ≡ front ++ behind → b.held ≡ behind → b.unread ≡ a.unread → Takes a b front
+pub Takes-held : (a b : Ahead) (front behind : List ℕ) → a.held ≡ front ++ behind → b.held ≡ behind
+    → b.unread ≡ a.unread → Takes a b front
 Takes-held a b front behind e is same =
     subst (λ x. Consumes x (untaken b) front) (ap (λ h. prepend_known h a.unread) (sym e))
-    (subst (λ x. Consumes (prepend_known (front ++ behind) a.unread) x front) (ap (λ h. prepend_known h a.unread) (sym is) ∙ ap (λ u. prepend_known b.held u) (sym same))
+    (subst (λ x. Consumes (prepend_known (front ++ behind) a.unread) x front)
+    (ap (λ h. prepend_known h a.unread) (sym is) ∙ ap (λ u. prepend_known b.held u) (sym same))
     (Takes-front front behind a.unread))
 
 -- all that is held is taken
@@ -60,4 +64,5 @@ at_end a e end = ended a.unread end
 
 -- bytes without a line feed, one after the other
 pub lacks_both : (first second : List ℕ) → LacksLineFeed first → LacksLineFeed second → LacksLineFeed (first ++ second)
-lacks_both first second h k = list_any-append is_line_feed first second ∙ ap (λ b. b || list_any is_line_feed second) h ∙ k
+lacks_both first second h k =
+    list_any-append is_line_feed first second ∙ ap (λ b. b || list_any is_line_feed second) h ∙ k

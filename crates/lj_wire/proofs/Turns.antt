@@ -1,7 +1,9 @@
 -- The turns of what runs.
 use Rattle.std.proofs.Common.{◌≡◌, ◌+◌, ◌<◌, Bool, false, refl, ap, arith}
 use Rattle.lj_session.specs.declared.command.Command.{Command}
-use Rattle.lj_session.specs.declared.command.Command.TheVariants.{Load, Advance, Reverse, Branch, Restore, Forget, Tug, Measure, Show, Dump, List as ListSessions, ListBranches, Unload, Bye}
+use Rattle.lj_session.specs.declared.command.Command.TheVariants.{Load, Advance, Reverse, Branch, Restore, Forget, Tug}
+use Rattle.lj_session.specs.declared.command.Command.TheVariants.{Measure, Show, Dump, List as ListSessions}
+use Rattle.lj_session.specs.declared.command.Command.TheVariants.{ListBranches, Unload, Bye}
 use Rattle.lj_session.specs.Users.{User}
 use Rattle.lj_session.specs.Turns.{turns, rest_of}
 use Rattle.lj_session.proofs.Advancing.{command_keeps, command_lowers}
@@ -30,17 +32,20 @@ command_goes_on user ListSessions h = (refl, refl)
 command_goes_on user (ListBranches name) h = (refl, refl)
 command_goes_on user (Unload name) h = (refl, refl)
 
-pub steps_on : (user : User) (item : Item) (mark : Bool) → 1 < item_turns user item → told (user_turned user item) (item_left item) mark ≡ told user item mark
+pub steps_on : (user : User) (item : Item) (mark : Bool) → 1 < item_turns user item
+    → told (user_turned user item) (item_left item) mark ≡ told user item mark
 steps_on user (items.Command command) mark h = ap (λ a. (text a.1 a.0, a.1)) (command_keeps user command mark h)
 steps_on user (items.Bad fault) mark h = refl
 steps_on user (items.Last fault) mark h = refl
 
-pub one_less : (user : User) (item : Item) → 1 < item_turns user item → item_turns (user_turned user item) (item_left item) + 1 ≡ item_turns user item
+pub one_less : (user : User) (item : Item) → 1 < item_turns user item
+    → item_turns (user_turned user item) (item_left item) + 1 ≡ item_turns user item
 one_less user (items.Command command) h = command_lowers user command h
 one_less user (items.Bad fault) h = absurd (omega (arith, h))
 one_less user (items.Last fault) h = absurd (omega (arith, h))
 
-pub runs_on : (user : User) (item : Item) → 0 < item_turns user item → (ends item ≡ false) × (ends (item_left item) ≡ false)
+pub runs_on : (user : User) (item : Item) → 0 < item_turns user item
+    → (ends item ≡ false) × (ends (item_left item) ≡ false)
 runs_on user (items.Command command) h = command_goes_on user command h
 runs_on user (items.Bad fault) h = (refl, refl)
 runs_on user (items.Last fault) h = absurd (omega (arith, h))

@@ -1,12 +1,15 @@
 -- Items read whole, and parts of items.
-use Rattle.std.proofs.Common.{◌<◌, ◌≡◌, ℕ, ◌+◌, ◌≤◌, true, cond, List, [], ◌∷◌, ◌++◌, length, take, drop, Option, Some, None, inl, inr, refl, sym, ap, ◌∙◌, subst, arith, append_assoc}
+use Rattle.std.proofs.Common.{◌<◌, ◌≡◌, ℕ, ◌+◌, ◌≤◌, true, cond, List, [], ◌∷◌, ◌++◌, length, take, drop, Option, Some}
+use Rattle.std.proofs.Common.{None, inl, inr, refl, sym, ap, ◌∙◌, subst, arith, append_assoc}
 use Rattle.std.proofs.lemmas.Bool.{lt-ltb}
 use Rattle.std.proofs.lemmas.List.{drop_at, take_at, length-append, length-drop}
 use Rattle.std.proofs.KnownBytes.{Consumes-nil}
 use Rattle.std.specs.Io.KnownBytes.{Keeps, Consumes}
 use Rattle.lj_session.specs.declared.body.LoadBody.{LoadBody}
 use Rattle.lj_session.specs.declared.body.LoadBody.TheVariants.{Unread, Lost, Read}
-use Rattle.lj_session.specs.declared.command.Command.TheVariants.{Load, Advance, Reverse, Branch, Restore, Forget, Tug, Measure, Show, Dump, List as ListSessions, ListBranches, Unload, Bye}
+use Rattle.lj_session.specs.declared.command.Command.TheVariants.{Load, Advance, Reverse, Branch, Restore, Forget, Tug}
+use Rattle.lj_session.specs.declared.command.Command.TheVariants.{Measure, Show, Dump, List as ListSessions}
+use Rattle.lj_session.specs.declared.command.Command.TheVariants.{ListBranches, Unload, Bye}
 use Rattle.lj_wire.specs.declared.limits.TheConstants.{MAX_LINE_BYTES, LONG_LINE_BYTES, MAX_ITEMS}
 use Rattle.lj_wire.specs.declared.reader.buffer.TheConstants.{MAX_HELD_BYTES}
 use Rattle.lj_wire.specs.declared.item.Fault.TheVariants.{Line, Long, Enough}
@@ -17,13 +20,15 @@ use Rattle.lj_wire.specs.Commands.{announced, is_over, over_item, body_len, word
 use Rattle.lj_wire.specs.Items.{with_body}
 use Rattle.lj_wire.specs.declared.reader.phase.Phase.TheVariants.{Open, Over}
 use Rattle.lj_wire.specs.Standings.{Standing, IsLost, IsHandedOut, HandsOut}
-use Rattle.lj_wire.specs.Steps.{TakesLongLine, TakesLong, TakesFewer, ReadsBody, TakesRest, Finishes, TakesNoItem, ReadsItem, takes_body}
+use Rattle.lj_wire.specs.Steps.{TakesLongLine, TakesLong, TakesFewer, ReadsBody, TakesRest, Finishes, TakesNoItem}
+use Rattle.lj_wire.specs.Steps.{ReadsItem, takes_body}
 use Rattle.lj_wire.specs.Streams.{IsLine}
 use Rattle.lj_wire.proofs.Filling.{line_filled}
 use Rattle.lj_wire.proofs.Taking.{Takes-trans, Takes-held, Kept-takes}
 
 -- a LOAD whose body is lost
-lost : (item : Item) (body : List ℕ) (handed : Item) → takes_body item ≡ true → handed ≡ with_body item Lost → IsLost (with_body item (Read body)) handed
+lost : (item : Item) (body : List ℕ) (handed : Item) → takes_body item ≡ true → handed ≡ with_body item Lost
+    → IsLost (with_body item (Read body)) handed
 lost (Command (Load load)) body handed can is = record { load = load; body = body; found_is = refl; item_is = is }
 lost (Command (Advance name steps)) body handed can is = cc
 lost (Command (Reverse name)) body handed can is = cc
@@ -44,9 +49,15 @@ lost (Last fault) body handed can is = cc
 -- the body of a LOAD was read, or passed over for want of memory
 pub rest_taken : (old new : Ahead) (item : Item) (count : ℕ) (body : LoadBody) (handed : Item) → takes_body item ≡ true
     → ReadsBody old (Some body) count new → handed ≡ with_body item body → TakesRest old new item count handed
-rest_taken old new item count (Read body) handed can read is = record { body = body; taken = read.0; counted = read.1; is_handed = inl is }
+rest_taken old new item count (Read body) handed can read is =
+    record { body = body; taken = read.0; counted = read.1; is_handed = inl is }
 rest_taken old new item count Lost handed can passed is =
-    record { body = passed.bytes; taken = passed.taken; counted = passed.counted; is_handed = inr (lost item passed.bytes handed can is) }
+    record {
+      body = passed.bytes;
+      taken = passed.taken;
+      counted = passed.counted;
+      is_handed = inr (lost item passed.bytes handed can is);
+    }
 rest_taken old new item count Unread handed can none is = absurd none
 
 -- the line of an item was taken, with its line feed
@@ -54,8 +65,10 @@ pub record LineTaken (old new : Ahead) (line : List ℕ) : Type 0 where
   pub taken : Takes old new (line ++ 10 ∷ [])
   pub is_line : IsLine line
 
-pub line_taken : (old mid new : Ahead) (count : ℕ) (line : List ℕ) → Keeps (untaken old) (untaken mid) → HoldsLine mid count
-    → line ≡ take count mid.held → length mid.held ≤ MAX_HELD_BYTES → new ≡ record mid { held = drop (count + 1) mid.held }
+pub line_taken : (old mid new : Ahead) (count : ℕ) (line : List ℕ)
+    → Keeps (untaken old) (untaken mid) → HoldsLine mid count
+    → line ≡ take count mid.held → length mid.held ≤ MAX_HELD_BYTES
+    → new ≡ record mid { held = drop (count + 1) mid.held }
     → LineTaken old new line
 line_taken old mid new count line kept h is bounded after =
     let held = ap (λ a. a.held) after in
@@ -74,19 +87,29 @@ line_taken old mid new count line kept h is bounded after =
     }
 
 -- less than the body was taken
-pub open_body : (old mid new : Ahead) (line : List ℕ) (count : ℕ) → LineTaken old mid line → count ≡ announced line → TakesFewer mid new count
+pub open_body : (old mid new : Ahead) (line : List ℕ) (count : ℕ) → LineTaken old mid line
+    → count ≡ announced line → TakesFewer mid new count
     → TakesNoItem old new
 open_body old mid new line count t n f = record {
   part = line ++ 10 ∷ f.part;
-  taken = subst (Takes old new) (append_assoc line (10 ∷ []) f.part) (Takes-trans old mid new (line ++ 10 ∷ []) f.part t.taken f.taken);
-  is_part = inr (record { line = line; body = f.part; whole = refl; is_line = t.is_line; announces = omega (arith, n, f.fewer) });
+  taken = subst (Takes old new) (append_assoc line (10 ∷ []) f.part)
+      (Takes-trans old mid new (line ++ 10 ∷ []) f.part t.taken f.taken);
+  is_part =
+      inr (record {
+        line = line;
+        body = f.part;
+        whole = refl;
+        is_line = t.is_line;
+        announces = omega (arith, n, f.fewer);
+      });
 }
 
 -- nothing is read for a line and so many bytes after it where they are held
 abbrev pub Onward : Ahead → Ahead → Ahead → List ℕ → ℕ → Type 0
 Onward old mid new line count = length line + 1 + count ≤ length old.held → new.unread ≡ old.unread
 
-pub goes_onward : (old found mid new : Ahead) (line : List ℕ) (at count : ℕ) → length line ≡ at → (at < length old.held → found ≡ old)
+pub goes_onward : (old found mid new : Ahead) (line : List ℕ) (at count : ℕ) → length line ≡ at
+    → (at < length old.held → found ≡ old)
     → mid ≡ record found { held = drop (at + 1) found.held } → ReadsFor mid new count → Onward old mid new line count
 goes_onward old found mid new line at count is searched taken reads held =
     let same = searched (omega (arith, is, held)) in
@@ -95,21 +118,35 @@ goes_onward old found mid new line at count is searched taken reads held =
     reads enough ∙ ap (λ a. a.unread) taken ∙ ap (λ a. a.unread) same
 
 -- the rest of the item was taken after its line
-pub finished : (old mid new : Ahead) (line : List ℕ) (item : Item) (count : ℕ) (handed : Option Item) → LineTaken old mid line
+pub finished : (old mid new : Ahead) (line : List ℕ) (item : Item) (count : ℕ) (handed : Option Item)
+    → LineTaken old mid line
     → Onward old mid new line count
-    → item ≡ item_with line Unread → count ≡ announced line → Finishes mid item count handed new → ReadsItem old handed new
+    → item ≡ item_with line Unread → count ≡ announced line → Finishes mid item count handed new
+    → ReadsItem old handed new
 finished old mid new line item count (Some handed) t on is n f = record {
   front = line ++ 10 ∷ f.body;
   found = item_of line f.body;
-  taken = subst (Takes old new) (append_assoc line (10 ∷ []) f.body) (Takes-trans old mid new (line ++ 10 ∷ []) f.body t.taken f.taken);
-  is_item = inl (record { line = line; body = f.body; whole = refl; is_line = t.is_line; announces = f.counted ∙ n; means = refl });
-  is_handed = subst (λ found. IsHandedOut found handed) (ap (λ i. with_body i (Read f.body)) is ∙ line_filled line (Read f.body)) f.is_handed;
+  taken = subst (Takes old new) (append_assoc line (10 ∷ []) f.body)
+      (Takes-trans old mid new (line ++ 10 ∷ []) f.body t.taken f.taken);
+  is_item =
+      inl (record {
+        line = line;
+        body = f.body;
+        whole = refl;
+        is_line = t.is_line;
+        announces = f.counted ∙ n;
+        means = refl;
+      });
+  is_handed =
+      subst (λ found. IsHandedOut found handed) (ap (λ i. with_body i (Read f.body)) is
+      ∙ line_filled line (Read f.body)) f.is_handed;
   reads_for = λ held. on (omega (arith, held, length-append line (10 ∷ f.body), f.counted));
 }
 finished old mid new line item count None t on is n f = (open_body old mid new line count t n f.0, f.1)
 
 -- a line of more than 256 bytes is an item without a body
-pub long_line : (old mid new : Ahead) → Keeps (untaken old) (untaken mid) → length old.held ≤ length mid.held → TakesLongLine mid new → ReadsItem old (Some (Bad Line)) new
+pub long_line : (old mid new : Ahead) → Keeps (untaken old) (untaken mid) → length old.held ≤ length mid.held
+    → TakesLongLine mid new → ReadsItem old (Some (Bad Line)) new
 long_line old mid new kept more t =
     let over : is_over t.line ≡ true = lt-ltb MAX_LINE_BYTES (length t.line) t.long in
     let less = lt-ltb (length t.line) LONG_LINE_BYTES t.is_line.1 in
@@ -123,14 +160,16 @@ long_line old mid new kept more t =
         whole = refl;
         is_line = t.is_line;
         announces = ap (λ b. cond b 0 (body_len (words_in t.line))) (sym over);
-        means = ap (λ b. cond b (Bad Line) (Last Long)) (sym less) ∙ ap (λ b. cond b (over_item t.line) (item_of_words (words_in t.line) (Read []))) (sym over);
+        means = ap (λ b. cond b (Bad Line) (Last Long)) (sym less)
+            ∙ ap (λ b. cond b (over_item t.line) (item_of_words (words_in t.line) (Read []))) (sym over);
       });
       is_handed = inl refl;
       reads_for = λ held. absurd (omega (arith, held, more, t.beyond, length-append t.line (10 ∷ [])));
     }
 
 -- what is too long for a line ends the connection
-pub too_long : (old mid new : Ahead) → Keeps (untaken old) (untaken mid) → length old.held ≤ length mid.held → length mid.held ≤ MAX_HELD_BYTES → TakesLong mid new → ReadsItem old (Some (Last Long)) new
+pub too_long : (old mid new : Ahead) → Keeps (untaken old) (untaken mid) → length old.held ≤ length mid.held
+    → length mid.held ≤ MAX_HELD_BYTES → TakesLong mid new → ReadsItem old (Some (Last Long)) new
 too_long old mid new kept more bounded t = record {
   front = t.bytes;
   found = Last Long;
@@ -149,7 +188,8 @@ open_line old mid new kept t = record {
 }
 
 -- after a million items the last fault is handed out, for which nothing is taken
-pub enough : (old new : Standing) → old.phase ≡ Open → old.items ≡ MAX_ITEMS → old.left ≡ new.left → new.unread ≡ old.unread → new.items ≡ old.items + 1
+pub enough : (old new : Standing) → old.phase ≡ Open → old.items ≡ MAX_ITEMS → old.left ≡ new.left
+    → new.unread ≡ old.unread → new.items ≡ old.items + 1
     → new.errors ≡ old.errors → new.phase ≡ Over → HandsOut old new (Last Enough)
 enough old new is_open items left unread counted errors over = record {
   was_open = is_open;

@@ -1,5 +1,6 @@
 -- How a reader of lines stands, and what each call for the next item does to that.
-use Rattle.std.specs.Prelude.{◌≡◌, ℕ, ◌+◌, ◌≤◌, Bool, true, List, [], ◌∷◌, ◌++◌, length, Option, Some, ◌⊎◌, if◌then◌else◌}
+use Rattle.std.specs.Prelude.{◌≡◌, ℕ, ◌+◌, ◌≤◌, Bool, true, List, [], ◌∷◌, ◌++◌, length, Option, Some, ◌⊎◌}
+use Rattle.std.specs.Prelude.{if◌then◌else◌}
 use Rattle.std.specs.Io.KnownBytes.{Consumes, IsAtEnd}
 use Rattle.lj_session.specs.declared.body.LoadBody.TheVariants.{Lost, Read}
 use Rattle.lj_session.specs.declared.command.Load.{Load as LoadParts}
@@ -31,7 +32,8 @@ pub record IsLost (found item : Item) : Type 0 where
   pub found_is : found ≡ Command (Load (record load { body = Read body }))
   pub item_is : item ≡ Command (Load (record load { body = Lost }))
 
--- what is handed out for an item of the stream: that item, or where no memory was found for its body its LOAD with the mark
+-- what is handed out for an item of the stream: that item, or where no memory was found for its body its LOAD with the
+-- mark
 abbrev pub IsHandedOut : Item → Item → Type 0
 IsHandedOut found item = (item ≡ found) ⊎ IsLost found item
 

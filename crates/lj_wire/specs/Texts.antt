@@ -9,7 +9,9 @@ use Rattle.lj_step.specs.Motion.{Simulation}
 use Rattle.lj_xyz.specs.Texts.{count_text, comment_text, atom_text}
 use Rattle.lj_session.specs.declared.refusal.Refusal.TheVariants.{Memory}
 use Rattle.lj_session.specs.declared.reply.Reply.{Reply}
-use Rattle.lj_session.specs.declared.reply.Reply.TheVariants.{Loaded, Advanced, Reversed, Branched, Restored, Forgotten, Tugged, Measured, Shown, Dumped, Listed, ListedBranches, Unloaded, Bye, Refused}
+use Rattle.lj_session.specs.declared.reply.Reply.TheVariants.{Loaded, Advanced, Reversed, Branched, Restored, Forgotten}
+use Rattle.lj_session.specs.declared.reply.Reply.TheVariants.{Tugged, Measured, Shown, Dumped, Listed, ListedBranches}
+use Rattle.lj_session.specs.declared.reply.Reply.TheVariants.{Unloaded, Bye, Refused}
 use Rattle.lj_session.specs.Refusals.{refusal_text}
 use Rattle.lj_branch.specs.Named.{named}
 use Rattle.lj_session.specs.Users.{Session, User, atoms_of}
@@ -30,7 +32,8 @@ ok words = line_of (codes "OK" ∷ words)
 abbrev pub session_line : List ℕ × Session → List ℕ
 session_line entry =
     let session = entry.1 in
-    line_of (entry.0 ∷ signed_decimal session.sim.step ∷ decimal (atoms_of session) ∷ decimal (length session.saved) ∷ [])
+    line_of (entry.0 ∷ signed_decimal session.sim.step ∷ decimal (atoms_of session)
+    ∷ decimal (length session.saved) ∷ [])
 
 -- the line of what is saved: its name and its step
 abbrev pub branch_line : List ℕ × Simulation → List ℕ
@@ -38,7 +41,8 @@ branch_line entry = line_of (entry.0 ∷ signed_decimal entry.1.step ∷ [])
 
 -- the line of an atom, its place in millionths of a file unit
 abbrev pub atom_line : ℕ → List ℕ → Place → List ℕ
-atom_line edge symbol place = ended (atom_text symbol (micro_of edge place.x) (micro_of edge place.y) (micro_of edge place.z))
+atom_line edge symbol place =
+    ended (atom_text symbol (micro_of edge place.x) (micro_of edge place.y) (micro_of edge place.z))
 
 -- the lines of all atoms
 abbrev pub atom_lines : ℕ → List (List ℕ) → List Place → List (List ℕ)
@@ -55,7 +59,8 @@ frame_lines session =
 -- `OK DUMP`, and the frame
 abbrev pub dump_lines : List ℕ → Option Session → List (List ℕ)
 dump_lines name (Some session) =
-    ok (codes "DUMP" ∷ name ∷ signed_decimal session.sim.step ∷ decimal (atoms_of session + 2) ∷ []) ∷ frame_lines session
+    ok (codes "DUMP" ∷ name ∷ signed_decimal session.sim.step ∷ decimal (atoms_of session + 2) ∷ [])
+    ∷ frame_lines session
 dump_lines name None = []
 
 -- `OK LIST`, and a line for each session
@@ -78,9 +83,11 @@ text user (Restored name branch step) = ok (codes "RESTORE" ∷ name ∷ branch 
 text user (Forgotten name branch) = ok (codes "FORGET" ∷ name ∷ branch ∷ [])
 text user (Tugged name atom step) = ok (codes "TUG" ∷ name ∷ decimal atom ∷ signed_decimal step ∷ [])
 text user (Measured name step atoms momentum kinetic potential) =
-    ok (codes "MEASURE" ∷ name ∷ signed_decimal step ∷ decimal atoms ∷ (map signed_decimal momentum ++ decimal kinetic ∷ signed_decimal potential ∷ []))
+    ok (codes "MEASURE" ∷ name ∷ signed_decimal step ∷ decimal atoms
+    ∷ (map signed_decimal momentum ++ decimal kinetic ∷ signed_decimal potential ∷ []))
 text user (Shown name step atom place) =
-    ok (codes "SHOW" ∷ name ∷ signed_decimal step ∷ decimal atom ∷ decimal place.x ∷ decimal place.y ∷ decimal place.z ∷ [])
+    ok (codes "SHOW" ∷ name ∷ signed_decimal step ∷ decimal atom ∷ decimal place.x
+    ∷ decimal place.y ∷ decimal place.z ∷ [])
 text user (Dumped name) = concat (dump_lines name (named name user.sessions))
 text user Listed = concat (session_lines user)
 text user (ListedBranches name) = concat (branch_lines name (named name user.sessions))

@@ -1,5 +1,6 @@
 //! The lines of replies.
-ghost use Rattle.std.specs.Prelude.{◌≡◌, ◌<◌, ◌≤◌, ◌+◌, ◌++◌, [], ◌∷◌, ℕ, List, length, map, slice_get, codes, true, Some, IfSome};
+ghost use Rattle.std.specs.Prelude.{◌≡◌, ◌<◌, ◌≤◌, ◌+◌, ◌++◌, [], ◌∷◌, ℕ, List, length, map, slice_get, codes, true};
+ghost use Rattle.std.specs.Prelude.{Some, IfSome};
 ghost use Rattle.std.specs.List.{flat_map};
 ghost use Rattle.std.specs.Fmt.{decimal, signed_decimal};
 ghost use Rattle.std.specs.Option.{ForSome, option_map};
@@ -8,7 +9,8 @@ ghost use Rattle.lj_session.specs.Refusals.{refusal_text};
 ghost use Rattle.lj_branch.specs.Named.{named};
 ghost use Rattle.lj_session.specs.Users.{User};
 ghost use Rattle.lj_session.specs.States.{held_at, names, user_of, as_session};
-ghost use Rattle.lj_wire.specs.Texts.{ok, ended, text, reply_lines, line_of, session_line, session_lines, branch_line, branch_lines, dump_lines, atom_lines};
+ghost use Rattle.lj_wire.specs.Texts.{ok, ended, text, reply_lines, line_of, session_line, session_lines, branch_line};
+ghost use Rattle.lj_wire.specs.Texts.{branch_lines, dump_lines, atom_lines};
 ghost use Rattle.lj_wire.specs.Lines.{blank_and, is_one_line};
 
 use arrayvec::ArrayVec;

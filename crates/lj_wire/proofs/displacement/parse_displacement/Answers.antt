@@ -14,4 +14,5 @@ unfolding displacement_of
 returns c =
     let z = c.in_ok-parse_integer.field-0 in
     let fits : FitsSigned w128 z = search rules in
-    rw (sym c.in_ok-parse_integer.ensures) (c.ok.ensures.value ∙ displacement_read z c.try_from.result (rw (to_z-of_z w128 z fits) at c.try_from.ensures))
+    rw (sym c.in_ok-parse_integer.ensures) (c.ok.ensures.value
+    ∙ displacement_read z c.try_from.result (rw (to_z-of_z w128 z fits) at c.try_from.ensures))

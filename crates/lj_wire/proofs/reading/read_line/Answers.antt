@@ -7,12 +7,14 @@ use Rattle.lj_wire.proofs.reading.read_line.Goals as goal
 pub returns-in_default-clause-item : goal.returns-in_default-clause-item
 returns-in_default-clause-item c =
     rw c.without_body-in_default.ensures
-    (says_empty c.args.line.now Unread (sym c.is_over.ensures ∙ c.if-is_over.false) (sym c.words_in-words.ensures ∙ c.in_default.ensures.steps.0)).item_is
+    (says_empty c.args.line.now Unread (sym c.is_over.ensures ∙ c.if-is_over.false)
+    (sym c.words_in-words.ensures ∙ c.in_default.ensures.steps.0)).item_is
 
 pub returns-in_default-clause-body : goal.returns-in_default-clause-body
 returns-in_default-clause-body c =
     rw c.without_body-in_default.ensures
-    (says_empty c.args.line.now Unread (sym c.is_over.ensures ∙ c.if-is_over.false) (sym c.words_in-words.ensures ∙ c.in_default.ensures.steps.0)).len_is
+    (says_empty c.args.line.now Unread (sym c.is_over.ensures ∙ c.if-is_over.false)
+    (sym c.words_in-words.ensures ∙ c.in_default.ensures.steps.0)).len_is
 
 pub returns-then-is_load-clause-item : goal.returns-then-is_load-clause-item
 returns-then-is_load-clause-item c =
@@ -29,7 +31,8 @@ returns-then-is_load-clause-body c =
 pub returns-in-Some-parse-clause-item : goal.returns-in-Some-parse-clause-item
 returns-in-Some-parse-clause-item c =
     rw c.without_body-in-Some-parse.ensures
-    (c.or_syntax.ensures ∙ ap or_syntax c.parse_words.ensures ∙ ap (λ verb. verb_item verb c.next.new.self) c.in-Some-parse.ensures
+    (c.or_syntax.ensures ∙ ap or_syntax c.parse_words.ensures
+    ∙ ap (λ verb. verb_item verb c.next.new.self) c.in-Some-parse.ensures
     ∙ (says_verb c.args.line.now c.in-Some.word.now c.next.new.self Unread (sym c.is_over.ensures ∙ c.if-is_over.false)
     (sym c.words_in-words.ensures ∙ c.in-Some.ensures.steps) (sym c.is_load.ensures ∙ c.if-is_load.false)).item_is)
 

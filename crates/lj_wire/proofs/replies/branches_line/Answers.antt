@@ -5,5 +5,6 @@ use Rattle.lj_wire.proofs.replies.branches_line.Goals as goal
 
 pub returns : goal.returns
 returns c =
-    saved_line (held_at c.args.state.now c.args.i) c.branches_at-branches.result.now c.args.k _ c.branch_line.result.items (omega arith)
+    saved_line (held_at c.args.state.now c.args.i)
+    c.branches_at-branches.result.now c.args.k _ c.branch_line.result.items (omega arith)
     c.branches_at-branches.ensures c.branch_line.ensures

@@ -5,7 +5,8 @@ use Rattle.lj_wire.proofs.replies.dump_line.Goals as goal
 
 pub returns-in_default : goal.returns-in_default
 returns-in_default c =
-    dumped_atom (held_at c.args.state.now c.args.i) c.args.k _ _ _ (Some c.atom_line.result.items) (omega arith) c.atom_line.ensures
+    dumped_atom (held_at c.args.state.now c.args.i) c.args.k _ _ _ (Some c.atom_line.result.items)
+    (omega arith) c.atom_line.ensures
 
 pub returns-in_default-2 : goal.returns-in_default-2
 returns-in_default-2 c =

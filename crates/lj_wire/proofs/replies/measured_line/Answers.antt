@@ -18,5 +18,6 @@ returns c =
       step,
       potential,
     )
-    (words_text (codes "OK") (codes "MEASURE") c.args.name.now (signed_decimal c.args.step) (decimal c.args.atoms) (map signed_decimal c.args.momentum.now)
+    (words_text (codes "OK") (codes "MEASURE") c.args.name.now (signed_decimal c.args.step) (decimal c.args.atoms)
+    (map signed_decimal c.args.momentum.now)
     (decimal c.args.kinetic) (signed_decimal c.args.potential))

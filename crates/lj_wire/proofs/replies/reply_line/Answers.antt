@@ -10,7 +10,8 @@ unfolding reply_lines
 returns-in-Some c =
     rw c.in-Dumped.is
     (under_name c.args.state.now c.in-Dumped.name c.in-Some.i
-    (λ (session : Option Session). option_map (λ line. line.items) c.dump_line.result ≡ slice_get (dump_lines c.in-Dumped.name session) c.args.k)
+    (λ (session : Option Session). option_map (λ line. line.items) c.dump_line.result
+    ≡ slice_get (dump_lines c.in-Dumped.name session) c.args.k)
     c.in-Some.ensures c.dump_line.ensures)
 
 pub returns-in-None : goal.returns-in-None
@@ -22,9 +23,11 @@ unfolding reply_lines
 returns-in-Some-index_of c =
     rw c.in-ListedBranches.is
     (under_name c.args.state.now c.in-ListedBranches.name c.in-Some-index_of.i
-    (λ (session : Option Session). option_map (λ line. line.items) c.branches_line.result ≡ slice_get (branch_lines c.in-ListedBranches.name session) c.args.k)
+    (λ (session : Option Session). option_map (λ line. line.items) c.branches_line.result
+    ≡ slice_get (branch_lines c.in-ListedBranches.name session) c.args.k)
     c.in-Some-index_of.ensures c.branches_line.ensures)
 
 pub returns-in-None-index_of : goal.returns-in-None-index_of
 unfolding reply_lines
-returns-in-None-index_of c = rw (c.in-ListedBranches.is, no_name c.args.state.now c.in-ListedBranches.name c.in-None-index_of.ensures) refl
+returns-in-None-index_of c =
+    rw (c.in-ListedBranches.is, no_name c.args.state.now c.in-ListedBranches.name c.in-None-index_of.ensures) refl

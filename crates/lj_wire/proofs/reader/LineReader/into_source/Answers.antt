@@ -5,4 +5,5 @@ use Rattle.lj_wire.proofs.reader.LineReader.into_source.Goals as goal
 
 pub returns-clause-ahead : goal.returns-clause-ahead
 returns-clause-ahead g c =
-    sym (ap (λ (s : Standing). s.left) c.self.view_is) ∙ ap (λ (s : Standing). prepend_known s.held s.unread) c.self.view_is
+    sym (ap (λ (s : Standing). s.left) c.self.view_is)
+    ∙ ap (λ (s : Standing). prepend_known s.held s.unread) c.self.view_is

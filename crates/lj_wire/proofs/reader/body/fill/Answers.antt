@@ -14,7 +14,8 @@ loop-at-preserved g c =
     let fits = c.in_ok-count.ensures.bound in
     record {
       within = search rules;
-      taken = subst (Takes c.args.input.now c.read_into.new.self) (sym (filled_more room bytes at (length room - at) count i.within fits))
+      taken = subst (Takes c.args.input.now c.read_into.new.self)
+          (sym (filled_more room bytes at (length room - at) count i.within fits))
           (Takes-trans c.args.input.now c.loop-at.input c.read_into.new.self _ _ i.taken c.in_ok-count.ensures.taken);
       held = λ _. c.in_ok-count.ensures.held;
       errors = c.in_ok-count.ensures.counted ∙ i.errors;

@@ -12,8 +12,10 @@ use Rattle.lj_wire.proofs.reader.items.read_item.Goals as goal
 taken : (g : Over) (c : goal.After-finish g) → LineTaken c.args.input.now c.take.new.self c.split_at.result.0.now
 taken g c =
     let mid = c.find_line.new.self in
-    let found : Finds c.args.input.now (front.Line c.in-Line.count) mid = rw c.in-Line.is at c.in_ok-count.ensures.found in
-    let bounded : length mid.held ≤ MAX_HELD_BYTES = omega (arith, c.held.ensures.bounded, ap length c.held.ensures.value) in
+    let found : Finds c.args.input.now (front.Line c.in-Line.count) mid =
+    rw c.in-Line.is at c.in_ok-count.ensures.found in
+    let bounded : length mid.held ≤ MAX_HELD_BYTES =
+    omega (arith, c.held.ensures.bounded, ap length c.held.ensures.value) in
     line_taken c.args.input.now mid c.take.new.self c.in-Line.count c.split_at.result.0.now found.0 found.1
     (c.split_at.ensures.front ∙ ap (take c.in-Line.count) c.held.ensures.value) bounded c.take.ensures
 
@@ -21,24 +23,29 @@ pub returns-in-Line-clause-item : goal.returns-in-Line-clause-item
 returns-in-Line-clause-item g c =
     let mid = c.find_line.new.self in
     let line = c.split_at.result.0.now in
-    let searched : SearchesFor c.args.input.now (front.Line c.in-Line.count) mid = rw c.in-Line.is at c.in_ok-count.ensures.searched in
+    let searched : SearchesFor c.args.input.now (front.Line c.in-Line.count) mid =
+    rw c.in-Line.is at c.in_ok-count.ensures.searched in
     let counted : length line ≡ c.in-Line.count = c.split_at.ensures.front_len in
-    let on = goes_onward c.args.input.now mid c.take.new.self c.finish.new.input line c.in-Line.count _ counted searched c.take.ensures c.finish.ensures.reads_for in
+    let on = goes_onward c.args.input.now mid c.take.new.self c.finish.new.input line c.in-Line.count _ counted searched
+    c.take.ensures c.finish.ensures.reads_for in
     IfOk-weaker c.finish.result _ _
-    (λ handed f. finished c.args.input.now c.take.new.self c.finish.new.input line _ _ handed (taken g c) on c.read_line-reading.ensures.item c.read_line-reading.ensures.body f)
+    (λ handed f. finished c.args.input.now c.take.new.self c.finish.new.input line _ _ handed (taken g c)
+    on c.read_line-reading.ensures.item c.read_line-reading.ensures.body f)
     c.finish.ensures.item
 
 pub returns-in-Line-clause-part : goal.returns-in-Line-clause-part
 returns-in-Line-clause-part g c =
     IfErr-weaker c.finish.result _ _
-    (λ fault f. open_body c.args.input.now c.take.new.self c.finish.new.input c.split_at.result.0.now _ (taken g c) c.read_line-reading.ensures.body f)
+    (λ fault f. open_body c.args.input.now c.take.new.self c.finish.new.input c.split_at.result.0.now _ (taken g c)
+    c.read_line-reading.ensures.body f)
     c.finish.ensures.part
 
 pub returns-in-Line-2-clause-item : goal.returns-in-Line-2-clause-item
 returns-in-Line-2-clause-item g c =
     let mid = c.find_line.new.self in
     let found : Finds c.args.input.now front.Long mid = rw c.in-Long.is at c.in_ok-count.ensures.found in
-    let passes : Passes mid passed.Line c.pass_line.new.self = rw c.in-Line-2.is at c.in_ok-pass_line-in-Long.ensures.passed in
+    let passes : Passes mid passed.Line c.pass_line.new.self =
+    rw c.in-Line-2.is at c.in_ok-pass_line-in-Long.ensures.passed in
     let searched : SearchesFor c.args.input.now front.Long mid = rw c.in-Long.is at c.in_ok-count.ensures.searched in
     long_line c.args.input.now mid c.pass_line.new.self found.0 searched passes
 
@@ -46,6 +53,7 @@ pub returns-in-Long-2-clause-item : goal.returns-in-Long-2-clause-item
 returns-in-Long-2-clause-item g c =
     let mid = c.find_line.new.self in
     let found : Finds c.args.input.now front.Long mid = rw c.in-Long.is at c.in_ok-count.ensures.found in
-    let passes : Passes mid passed.Long c.pass_line.new.self = rw c.in-Long-2.is at c.in_ok-pass_line-in-Long.ensures.passed in
+    let passes : Passes mid passed.Long c.pass_line.new.self =
+    rw c.in-Long-2.is at c.in_ok-pass_line-in-Long.ensures.passed in
     let searched : SearchesFor c.args.input.now front.Long mid = rw c.in-Long.is at c.in_ok-count.ensures.searched in
     too_long c.args.input.now mid c.pass_line.new.self found.0 searched found.1.bounded passes

@@ -5,7 +5,8 @@ use Rattle.lj_wire.specs.Verbs.{verb_of}
 use Rattle.lj_wire.proofs.verb.Verb.parse.Goals as goal
 
 -- a word of these bytes is the first word that they are
-of_bytes : (word bytes : List ℕ) (verb : Verb) → length word ≡ length bytes → HasBytesAt word 0 bytes → Some verb ≡ verb_of bytes
+of_bytes : (word bytes : List ℕ) (verb : Verb) → length word ≡ length bytes
+    → HasBytesAt word 0 bytes → Some verb ≡ verb_of bytes
     → Some verb ≡ verb_of word
 of_bytes word bytes verb long has found = found ∙ ap verb_of (sym (text_from_reads word bytes long has))
 

@@ -13,7 +13,8 @@ returns-in-Some-clause-passed g c =
     let within : wanted ≤ length grown.held = omega (arith, c.min-wanted.ensures, held) in
     let front : take wanted grown.held ≡ c.in-Some.line.now ++ 10 ∷ c.in-Some.field-0-1.now =
     rw (← c.held-in-loop-seen.ensures.value, ← c.split_at.ensures.front) c.in-Some.ensures.0 in
-    passing_feed c.args.self.now c.loop-seen.self grown c.take.new.self c.loop-seen.seen _ wanted c.in-Some.line.now c.in-Some.field-0-1.now
+    passing_feed c.args.self.now c.loop-seen.self grown c.take.new.self c.loop-seen.seen _ wanted
+    c.in-Some.line.now c.in-Some.field-0-1.now
     c.loop-seen.invariant c.in_ok-read_more.ensures.grown low within front c.in-Some.ensures.1 c.take.ensures
 
 pub loop-seen-preserved : goal.loop-seen-preserved
@@ -25,4 +26,5 @@ loop-seen-preserved g c =
     let one : LacksLineFeed (take wanted grown.held) =
     rw (← c.held-in-loop-seen.ensures.value, ← c.split_at.ensures.front) c.in_default.ensures in
     passing_more c.args.self.now c.loop-seen.self grown c.take-in-loop-seen.new.self c.loop-seen.seen _ wanted
-    c.loop-seen.invariant c.in_ok-read_more.ensures.grown c.in_ok-read_more.ensures.counted c.loop-seen-test.true is one c.take-in-loop-seen.ensures
+    c.loop-seen.invariant c.in_ok-read_more.ensures.grown c.in_ok-read_more.ensures.counted c.loop-seen-test.true is
+    one c.take-in-loop-seen.ensures
