@@ -1,17 +1,19 @@
 -- What was read ahead of the items that are answered belongs to what was read.
-use Rattle.std.proofs.Common.{◌≡◌, ℕ, ◌+◌, Bool, true, false, List, [], ◌∷◌, ◌++◌, Option, Some, None, refl, sym, ap, ◌∙◌, subst}
+use Rattle.std.proofs.Common.{◌≡◌, ℕ, ◌+◌, true, false, List, [], ◌∷◌, ◌++◌, Option, Some, None, refl, sym, ap}
+use Rattle.std.proofs.Common.{◌∙◌, subst}
 use Rattle.std.specs.Io.KnownBytes.{prepend_known, Consumes, IsAtEnd}
 use Rattle.std.proofs.KnownBytes.{Consumes-trans}
 use Rattle.std.proofs.lemmas.List.{append_assoc, append-nil}
 use Rattle.lj_session.specs.Users.{User}
 use Rattle.lj_wire.specs.declared.item.Item.{Item}
 use Rattle.lj_wire.specs.Items.{ends}
-use Rattle.lj_wire.specs.Streams.{Splits, Dialogue}
-use Rattle.lj_wire.specs.Progress.{Progress}
+use Rattle.lj_wire.specs.Streams.{Splits}
 use Rattle.lj_pool.specs.declared.served.Served.{Served}
-use Rattle.lj_pool.specs.declared.served.Served.TheVariants.{End, Bye, Ended, ReadFault, WriteFault, PoolClosed, TooManyStrays}
+use Rattle.lj_pool.specs.declared.served.Served.TheVariants.{End, Bye, Ended, ReadFault, WriteFault, PoolClosed}
+use Rattle.lj_pool.specs.declared.served.Served.TheVariants.{TooManyStrays}
 use Rattle.lj_pool.specs.Seen.{Seen}
-use Rattle.lj_pool.specs.Served.{NoneEnds, EndsByBye, EndsByFault, AnswersAll, Reaches, BreaksOff, StopsShort, IsServed, Serves}
+use Rattle.lj_pool.specs.Served.{NoneEnds, EndsByBye, EndsByFault, AnswersAll, Reaches, StopsShort, IsServed}
+use Rattle.lj_pool.specs.Served.{Serves}
 use Rattle.lj_pool.proofs.Dialogues.{Takes-on}
 
 -- items of which the last ends the connection are so whatever comes after them
@@ -35,7 +37,8 @@ Splits-on n bytes (item ∷ earlier) last rest more over s = (
 )
 
 module _ (user : User) (read written : List ℕ) (old new : Seen) (held : List ℕ) where
-  reaches-on : (so_far : List ℕ) (between : User) (item : Item) → Reaches user read so_far between item → Reaches user (read ++ held) so_far between item
+  reaches-on : (so_far : List ℕ) (between : User) (item : Item) → Reaches user read so_far between item
+      → Reaches user (read ++ held) so_far between item
   reaches-on so_far between item r = record {
     count = r.count;
     left = r.left ++ held;
@@ -54,15 +57,18 @@ module _ (user : User) (read written : List ℕ) (old new : Seen) (held : List �
     is_item = r.is_item;
   }
 
-  ended-on : (Ending : List Item → Type 0) (next : User) (a : AnswersAll Ending user read written old new next) (earlier : List Item) (last : Item)
-      → a.dialogue.items ≡ earlier ++ last ∷ [] → ends last ≡ true → AnswersAll Ending user (read ++ held) written old new next
+  ended-on : (Ending : List Item → Type 0) (next : User) (a : AnswersAll Ending user read written old new next)
+      (earlier : List Item) (last : Item)
+      → a.dialogue.items ≡ earlier ++ last ∷ [] → ends last ≡ true
+      → AnswersAll Ending user (read ++ held) written old new next
   ended-on Ending next a earlier last items_are over = record {
     dialogue = record {
       items = a.dialogue.items;
       rest = a.dialogue.rest ++ held;
       marks = a.dialogue.marks;
       splits = subst (λ items. Splits 0 (read ++ held) items (a.dialogue.rest ++ held)) (sym items_are)
-          (Splits-on 0 read earlier last a.dialogue.rest held over (subst (λ items. Splits 0 read items a.dialogue.rest) items_are a.dialogue.splits));
+          (Splits-on 0 read earlier last a.dialogue.rest held over
+          (subst (λ items. Splits 0 read items a.dialogue.rest) items_are a.dialogue.splits));
       are_marks = a.dialogue.are_marks;
       written_is = a.dialogue.written_is;
       next_is = a.dialogue.next_is;
@@ -72,17 +78,25 @@ module _ (user : User) (read written : List ℕ) (old new : Seen) (held : List �
   }
 
   stops-on : StopsShort user read written → StopsShort user (read ++ held) written
-  stops-on s = record { between = s.between; item = s.item; reaches = reaches-on written s.between s.item s.reaches; runs = s.runs }
+  stops-on s =
+      record {
+        between = s.between;
+        item = s.item;
+        reaches = reaches-on written s.between s.item s.reaches;
+        runs = s.runs;
+      }
 
   same-read : held ≡ [] → read ≡ read ++ held
   same-read none = sym (ap (λ h. read ++ h) none ∙ append-nil read)
 
   served-on : (served : Served) (next : Option User) → (served ≡ End → held ≡ []) → (served ≡ ReadFault → held ≡ [])
       → IsServed served user read written old new next → IsServed served user (read ++ held) written old new next
-  served-on End (Some next) at_end at_fault s = subst (λ r. AnswersAll NoneEnds user r written old new next) (same-read (at_end refl)) s
+  served-on End (Some next) at_end at_fault s =
+      subst (λ r. AnswersAll NoneEnds user r written old new next) (same-read (at_end refl)) s
   served-on Bye (Some next) at_end at_fault s = ended-on EndsByBye next s s.ending.0 _ s.ending.1 refl
   served-on Ended (Some next) at_end at_fault s = ended-on EndsByFault next s s.ending.0 _ s.ending.2 refl
-  served-on ReadFault (Some next) at_end at_fault s = subst (λ r. AnswersAll NoneEnds user r written old new next) (same-read (at_fault refl)) s
+  served-on ReadFault (Some next) at_end at_fault s =
+      subst (λ r. AnswersAll NoneEnds user r written old new next) (same-read (at_fault refl)) s
   served-on WriteFault (Some next) at_end at_fault s = record {
     before = s.before;
     between = s.between;
@@ -125,7 +139,8 @@ module _ (served : Served) (user : User) (left was is : Option (List ℕ)) (old 
   serves-all rest (Some bytes) held ahead at_end at_fault s = record {
     read = s.read ++ held;
     written = s.written;
-    taken = Consumes-trans left (Some (held ++ bytes)) (Some bytes) s.read held (subst (λ r. Consumes left r s.read) ahead s.taken) refl;
+    taken = Consumes-trans left (Some (held ++ bytes)) (Some bytes) s.read held
+        (subst (λ r. Consumes left r s.read) ahead s.taken) refl;
     appends = s.appends;
     is_served = served-on user s.read s.written old new held served next
         (λ e. none_at_end held bytes (subst IsAtEnd ahead (at_end e)))
@@ -134,7 +149,9 @@ module _ (served : Served) (user : User) (left was is : Option (List ℕ)) (old 
   }
 
 -- where what is left is at its end, so is what the source has left
-pub at_end-unread : (rest unread : Option (List ℕ)) (held : List ℕ) → rest ≡ prepend_known held unread → IsAtEnd rest → IsAtEnd unread
+pub at_end-unread : (rest unread : Option (List ℕ)) (held : List ℕ) → rest ≡ prepend_known held unread
+    → IsAtEnd rest → IsAtEnd unread
 at_end-unread rest None held ahead ended = tt
 at_end-unread rest (Some bytes) held ahead ended =
-    let none : held ++ bytes ≡ [] = subst IsAtEnd ahead ended in let h = none_at_end held bytes none in subst (λ h. h ++ bytes ≡ []) h none
+    let none : held ++ bytes ≡ [] = subst IsAtEnd ahead ended in let h =
+    none_at_end held bytes none in subst (λ h. h ++ bytes ≡ []) h none

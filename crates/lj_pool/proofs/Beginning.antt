@@ -1,9 +1,11 @@
--- A command that begins over a pool, or goes on after a turn: its step is open, nothing is owed, and the tiles to come are counted.
-use Rattle.std.proofs.Common.{◌≡◌, ℕ, suc, ◌+◌, ◌*◌, ◌<◌, ◌≤◌, Bool, List, [], ◌∷◌, length, map, count_by, cond, Option, Some, None, refl, sym, ap, ◌∙◌, subst, arith}
+-- A command that begins over a pool, or goes on after a turn: its step is open, nothing is owed, and the tiles to come
+-- are counted.
+use Rattle.std.proofs.Common.{◌≡◌, ℕ, suc, ◌+◌, ◌*◌, ◌<◌, ◌≤◌, Bool, List, length, map, Option}
+use Rattle.std.proofs.Common.{Some, None, refl, sym, ap, ◌∙◌, subst, arith}
 use Rattle.std.specs.Prelude.{IfSome}
 use Rattle.std.specs.List.{range_with_len}
 use Rattle.std.specs.Option.{option_map_or, option_and_then}
-use Rattle.std.proofs.lemmas.List.Sums.{length-filter, sum_by-cons}
+use Rattle.std.proofs.lemmas.List.Sums.{length-filter}
 use Rattle.std.proofs.lemmas.Option.{none-some}
 use Rattle.lj_tile.specs.declared.names.Kind.{Kind}
 use Rattle.lj_tile.specs.declared.names.Kind.TheVariants.{Force, Energy}
@@ -15,7 +17,8 @@ use Rattle.lj_session.specs.Users.{User}
 use Rattle.lj_session.specs.Answers.{answer}
 use Rattle.lj_session.specs.Turns.{turns, turned, rest_of}
 use Rattle.lj_session.specs.States.{Held, user_of, held_in, with_step, turned_on}
-use Rattle.lj_session.specs.Owners.{Owning, user_in, step_of, begun, changed_in, opened_for, turns_left, turned_from, with_state}
+use Rattle.lj_session.specs.Owners.{Owning, user_in, step_of, begun, changed_in, opened_for, turns_left, turned_from}
+use Rattle.lj_session.specs.Owners.{with_state}
 use Rattle.lj_session.proofs.Holding.{user_of-changed, named-held, named-absent}
 use Rattle.lj_session.proofs.Owning.{held_in-changed}
 use Rattle.lj_pool.specs.Seen.{Seen}
@@ -90,7 +93,8 @@ module _ (command : Command) (owner : Owning) (some : 0 < turns (user_in owner) 
       step = s.step;
       held = with_step s.kind s.held;
       there = there_begun;
-      flags = map (is_tile s.kind (length s.held.live.sim.cur)) (range_with_len 0 (64 * blocks (length s.held.live.sim.cur)));
+      flags = map (is_tile s.kind (length s.held.live.sim.cur))
+          (range_with_len 0 (64 * blocks (length s.held.live.sim.cur)));
       is_open = refl;
       once = opened_once (is_tile s.kind (length s.held.live.sim.cur)) (64 * blocks (length s.held.live.sim.cur));
       owed_is = refl;
@@ -144,7 +148,8 @@ last_tiles owner last = by owner.rest last
     by (Some command) last = ap (λ n. turns_tiles n (user_in owner) command) last ∙ omega arith
 
 -- a turn that is not the last leaves the other tiles
-more_tiles : (user next : User) (command : Command) → next ≡ turned user command → turns next (rest_of command) + 1 ≡ turns user command
+more_tiles : (user next : User) (command : Command) → next ≡ turned user command
+    → turns next (rest_of command) + 1 ≡ turns user command
     → command_tiles user command ≡ turn_tiles user command + command_tiles next (rest_of command)
 unfolding turns_tiles
 more_tiles user next command is fewer =
@@ -153,9 +158,11 @@ more_tiles user next command is fewer =
     ∙ ap (λ u. turn_tiles user command + turns_tiles (turns next (rest_of command)) u (rest_of command)) (sym is)
 
 -- what is left of a command after a turn that was not its last has begun
-has_gone_on : (command : Command) (owner before : Owning) → owner ≡ begun command before → 0 < turns (user_in owner) command → HasBegun owner
+has_gone_on : (command : Command) (owner before : Owning) → owner ≡ begun command before
+    → 0 < turns (user_in owner) command → HasBegun owner
 has_gone_on command owner before e some =
-    let taken : 0 < turns (user_in before) command = subst (λ user. 0 < turns user command) (ap user_in e ∙ begun_user command before) some in
+    let taken : 0 < turns (user_in before) command =
+    subst (λ user. 0 < turns user command) (ap user_in e ∙ begun_user command before) some in
     subst HasBegun (sym e) (has_begun command before taken)
 
 -- a run goes on: what is left has begun, is answered as the command that ran first, and has the other tiles
@@ -164,20 +171,27 @@ pub record GoesOn (first owner next : Owning) : Type 0 where
   pub keeps : KeepsAnswer first next
   pub tiles : tiles_left owner ≡ tiles_now owner + tiles_left next
 
-module _ (first owner done next : Owning) (begun_there : HasBegun owner) (keeps : KeepsAnswer first owner) (same : SameRun owner done)
+module _ (first owner done next : Owning) (begun_there : HasBegun owner) (keeps : KeepsAnswer first owner)
+    (same : SameRun owner done)
     (not_last : turns_left done ≡ 1 → ⊥) (fewer : turns_left next + 1 ≡ turns_left done) where
-  goes_on_with : (command : Command) → done.rest ≡ Some command → next ≡ turned_from command done → user_in next ≡ turned (user_in done) command
-      → ((mark : Bool) → answer (user_in next) (rest_of command) mark ≡ answer (user_in done) command mark) → GoesOn first owner next
+  goes_on_with : (command : Command) → done.rest ≡ Some command → next ≡ turned_from command done
+      → user_in next ≡ turned (user_in done) command
+      → ((mark : Bool) → answer (user_in next) (rest_of command) mark ≡ answer (user_in done) command mark)
+      → GoesOn first owner next
   goes_on_with command e opened user kept = record {
-    begun = has_gone_on (rest_of command) next (with_state (changed_in (step_of command) turned_on done.state) done) opened
-        (subst (λ rest. 0 < option_map_or (turns (user_in next)) rest 0) rest_is (omega (arith, not_last, fewer, same_turns owner done same, begun_there.some)));
+    begun = has_gone_on (rest_of command) next (with_state (changed_in (step_of command) turned_on done.state) done)
+        opened
+        (subst (λ rest. 0 < option_map_or (turns (user_in next)) rest 0) rest_is
+        (omega (arith, not_last, fewer, same_turns owner done same, begun_there.some)));
     keeps = kept_from first.rest keeps;
     tiles =
         sym (same_left owner done same)
         ∙ ap (λ rest. option_map_or (command_tiles (user_in done)) rest 0) e
         ∙ more_tiles (user_in done) (user_in next) command user
-        (ap (λ rest. option_map_or (turns (user_in next)) rest 0 + 1) (sym rest_is) ∙ fewer ∙ ap (λ rest. option_map_or (turns (user_in done)) rest 0) e)
-        ∙ ap (λ rest. option_map_or (turn_tiles (user_in done)) rest 0 + command_tiles (user_in next) (rest_of command)) (sym e)
+        (ap (λ rest. option_map_or (turns (user_in next)) rest 0 + 1) (sym rest_is) ∙ fewer
+        ∙ ap (λ rest. option_map_or (turns (user_in done)) rest 0) e)
+        ∙ ap (λ rest. option_map_or (turn_tiles (user_in done)) rest 0 + command_tiles (user_in next) (rest_of command))
+        (sym e)
         ∙ ap (λ n. n + command_tiles (user_in next) (rest_of command)) (same_now owner done same)
         ∙ ap (λ rest. tiles_now owner + option_map_or (command_tiles (user_in next)) rest 0) (sym rest_is);
   }
@@ -185,22 +199,30 @@ module _ (first owner done next : Owning) (begun_there : HasBegun owner) (keeps 
       rest_is : next.rest ≡ Some (rest_of command)
       rest_is = ap (λ o. o.rest) opened
 
-      kept_from : (o : Option Command) → IfSome o (λ command. IfSome owner.rest (λ rest. (mark : Bool) → answer (user_in owner) rest mark ≡ answer (user_in first) command mark))
-          → IfSome o (λ command. IfSome next.rest (λ rest. (mark : Bool) → answer (user_in next) rest mark ≡ answer (user_in first) command mark))
+      kept_from : (o : Option Command) → IfSome o (λ command. IfSome owner.rest
+          (λ rest. (mark : Bool) → answer (user_in owner) rest mark ≡ answer (user_in first) command mark))
+          → IfSome o (λ command. IfSome next.rest (λ rest. (mark : Bool)
+          → answer (user_in next) rest mark ≡ answer (user_in first) command mark))
       kept_from None k = tt
       kept_from (Some command_first) k =
-          let before = subst (λ o. IfSome o (λ rest. (mark : Bool) → answer (user_in owner) rest mark ≡ answer (user_in first) command_first mark)) (sym same.rest ∙ e) k in
-          subst (λ o. IfSome o (λ rest. (mark : Bool) → answer (user_in next) rest mark ≡ answer (user_in first) command_first mark)) (sym rest_is)
+          let before =
+          subst (λ o. IfSome o (λ rest. (mark : Bool)
+          → answer (user_in owner) rest mark ≡ answer (user_in first) command_first mark)) (sym same.rest ∙ e) k in
+          subst (λ o. IfSome o (λ rest. (mark : Bool) → answer (user_in next) rest mark
+          ≡ answer (user_in first) command_first mark)) (sym rest_is)
           (λ mark. kept mark ∙ ap (λ user. answer user command mark) same.user ∙ before mark)
 
   pub goes_on : IfSome done.rest (λ command. next ≡ turned_from command done)
       → IfSome done.rest (λ command. user_in next ≡ turned (user_in done) command)
-      → IfSome done.rest (λ command. (mark : Bool) → answer (user_in next) (rest_of command) mark ≡ answer (user_in done) command mark) → GoesOn first owner next
+      → IfSome done.rest (λ command. (mark : Bool) → answer (user_in next) (rest_of command) mark
+      ≡ answer (user_in done) command mark) → GoesOn first owner next
   goes_on opened user kept = by done.rest refl opened user kept
     where
       by : (o : Option Command) → done.rest ≡ o → IfSome o (λ command. next ≡ turned_from command done)
           → IfSome o (λ command. user_in next ≡ turned (user_in done) command)
-          → IfSome o (λ command. (mark : Bool) → answer (user_in next) (rest_of command) mark ≡ answer (user_in done) command mark) → GoesOn first owner next
+          → IfSome o (λ command. (mark : Bool) → answer (user_in next) (rest_of command) mark
+          ≡ answer (user_in done) command mark) → GoesOn first owner next
       by None e opened user kept =
-          absurd (none-some (begun_there.gathers.name, begun_there.gathers.kind) (sym (ap (option_and_then step_of) (sym same.rest ∙ e)) ∙ begun_there.gathers.step))
+          absurd (none-some (begun_there.gathers.name, begun_there.gathers.kind)
+          (sym (ap (option_and_then step_of) (sym same.rest ∙ e)) ∙ begun_there.gathers.step))
       by (Some command) e opened user kept = goes_on_with command e opened user kept

@@ -1,5 +1,6 @@
 -- From item to item of a stream that is served, and to each of its ends.
-use Rattle.std.proofs.Common.{◌≡◌, ℕ, ◌+◌, ◌<◌, ◌≤◌, Bool, true, false, List, [], ◌∷◌, ◌++◌, length, take, cond, Option, Some, None, inl, inr, refl, sym, ap, ◌∙◌, subst, arith}
+use Rattle.std.proofs.Common.{◌≡◌, ℕ, ◌+◌, ◌<◌, ◌≤◌, Bool, true, false, List, [], ◌∷◌, ◌++◌, length, take, cond, Option}
+use Rattle.std.proofs.Common.{Some, None, inl, inr, refl, sym, ap, ◌∙◌, subst, arith}
 use Rattle.std.specs.List.{concat}
 use Rattle.std.specs.Io.KnownBytes.{Consumes, Appends}
 use Rattle.std.proofs.KnownBytes.{Consumes-nil, Consumes-trans, Appends-nil, Appends-trans}
@@ -33,19 +34,29 @@ use Rattle.lj_pool.specs.Serving.{AnswersItem, Serving}
 use Rattle.lj_pool.proofs.Beginning.{rises-more, rises-none}
 
 -- bytes that begin with items do so too where more bytes come after
-pub Takes-on : (n : ℕ) (bytes : List ℕ) (items : List Item) (left more : List ℕ) → Takes n bytes items left → Takes n (bytes ++ more) items (left ++ more)
+pub Takes-on : (n : ℕ) (bytes : List ℕ) (items : List Item) (left more : List ℕ) → Takes n bytes items left
+    → Takes n (bytes ++ more) items (left ++ more)
 Takes-on n bytes [] left more t = ap (λ b. b ++ more) t
-Takes-on n bytes (item ∷ items) left more t =
-    (t.0, t.1 ++ more, ap (λ b. b ++ more) t.2 ∙ append_assoc t.0 t.1 more, t.3, t.4, Takes-on (n + 1) t.1 items left more t.5)
+Takes-on n bytes (item ∷ items) left more t = (
+  t.0,
+  t.1 ++ more,
+  ap (λ b. b ++ more) t.2 ∙ append_assoc t.0 t.1 more,
+  t.3,
+  t.4,
+  Takes-on (n + 1) t.1 items left more t.5,
+)
 
 -- no item that was taken ends the connection
-Takes-none_ends : (n : ℕ) (bytes : List ℕ) (items : List Item) (left : List ℕ) → Takes n bytes items left → NoneEnds items
+Takes-none_ends : (n : ℕ) (bytes : List ℕ) (items : List Item) (left : List ℕ)
+    → Takes n bytes items left → NoneEnds items
 Takes-none_ends n bytes [] left t = refl
 Takes-none_ends n bytes (item ∷ items) left t = rw t.4 (Takes-none_ends (n + 1) t.1 items left t.5)
 
 -- the tiles of one item more
-tiles-more : (user : User) (items : List Item) (marks : List Bool) (item : Item) (mark : Bool) → length marks ≡ length items
-    → tiles user (items ++ item ∷ []) (marks ++ mark ∷ []) ≡ tiles user items marks + item_tiles (last_user user items marks) item
+tiles-more : (user : User) (items : List Item) (marks : List Bool) (item : Item) (mark : Bool)
+    → length marks ≡ length items
+    → tiles user (items ++ item ∷ []) (marks ++ mark ∷ [])
+    ≡ tiles user items marks + item_tiles (last_user user items marks) item
 tiles-more user [] [] item mark h = omega arith
 tiles-more user [] (next ∷ marks) item mark h = absurd (omega (arith, h))
 tiles-more user (first ∷ items) [] item mark h = absurd (omega (arith, h))
@@ -54,7 +65,8 @@ tiles-more user (first ∷ items) (next ∷ marks) item mark h =
     omega (arith, rest)
 
 -- what is handed out for an item takes the same turns and tiles
-lost_turns : (user : User) (found item : Item) → IsLost found item → (item_turns user item ≡ 0) × (item_turns user found ≡ 0)
+lost_turns : (user : User) (found item : Item) → IsLost found item → (item_turns user item ≡ 0)
+    × (item_turns user found ≡ 0)
 unfolding turns
 lost_turns user found item l = (ap (item_turns user) l.item_is, ap (item_turns user) l.found_is)
 
@@ -62,7 +74,8 @@ turns_alike : (user : User) (found item : Item) → IsHandedOut found item → i
 turns_alike user found item (inl same) = ap (item_turns user) same
 turns_alike user found item (inr l) = let none = lost_turns user found item l in none.0 ∙ sym none.1
 
-lost_tiles : (user : User) (found item : Item) → IsLost found item → (item_tiles user item ≡ 0) × (item_tiles user found ≡ 0)
+lost_tiles : (user : User) (found item : Item) → IsLost found item → (item_tiles user item ≡ 0)
+    × (item_tiles user found ≡ 0)
 unfolding turns turns_tiles
 lost_tiles user found item l = (ap (item_tiles user) l.item_is, ap (item_tiles user) l.found_is)
 
@@ -87,13 +100,15 @@ record Told (between next : User) (found : Item) (words : List ℕ) : Type 0 whe
   tells : told between found mark ≡ (words, next)
   only : mark ≡ true → is_memory (told between found mark).0 ≡ true
 
-told_of : (between next : User) (found item : Item) (reply : Reply) → IsHandedOut found item → AnswersItem between item reply next → Told between next found (text next reply)
+told_of : (between next : User) (found item : Item) (reply : Reply) → IsHandedOut found item
+    → AnswersItem between item reply next → Told between next found (text next reply)
 told_of between next found item reply handed answers = by_found handed
   where
     with_mark : (mark : Bool) → answered between found mark ≡ (reply, next) → Told between next found (text next reply)
     with_mark mark is =
         let first : told between found mark ≡ (text next reply, next) = ap (λ a. (text a.1 a.0, a.1)) is in
-        let same : told between found (is_memory (told between found mark).0) ≡ told between found mark = sym (marked between found mark) in
+        let same : told between found (is_memory (told between found mark).0) ≡ told between found mark =
+        sym (marked between found mark) in
         record {
           mark = is_memory (told between found mark).0;
           tells = same ∙ first;
@@ -105,7 +120,8 @@ told_of between next found item reply handed answers = by_found handed
     by_found (inr l) = with_mark true (sym (lost_answered between found item answers.0 l) ∙ answers.1)
 
 -- serving begins with nothing read
-pub serving-start : (user : User) (first : Standing) (was : Option (List ℕ)) (old : Seen) → first.items ≡ 0 → first.phase ≡ Open
+pub serving-start : (user : User) (first : Standing) (was : Option (List ℕ)) (old : Seen)
+    → first.items ≡ 0 → first.phase ≡ Open
     → Serving user first first was was old old user
 serving-start user first was old none is_open = record {
   read = [];
@@ -124,17 +140,20 @@ serving-start user first was old none is_open = record {
   errors = refl;
 }
 
-module _ (user : User) (first now : Standing) (was is : Option (List ℕ)) (old new : Seen) (next : User) (s : Serving user first now was is old new next) where
+module _ (user : User) (first now : Standing) (was is : Option (List ℕ)) (old new : Seen) (next : User)
+    (s : Serving user first now was is old new next) where
   number_is : now.items ≡ 0 + length s.items
   number_is = omega (arith, s.items_are)
 
-  serving-part : (part : List ℕ) → IsPart now.items part → AnswersAll NoneEnds user (s.read ++ part) s.written old new next
+  serving-part : (part : List ℕ) → IsPart now.items part
+      → AnswersAll NoneEnds user (s.read ++ part) s.written old new next
   serving-part part p = record {
     dialogue = record {
       items = s.items;
       rest = part;
       marks = s.marks;
-      splits = Splits-part 0 (s.read ++ part) s.items part (Takes-on 0 s.read s.items [] part s.takes) (subst (λ n. IsPart n part) number_is p);
+      splits = Splits-part 0 (s.read ++ part) s.items part (Takes-on 0 s.read s.items [] part s.takes)
+          (subst (λ n. IsPart n part) number_is p);
       are_marks = s.are_marks;
       written_is = s.written_is;
       next_is = s.next_is;
@@ -144,8 +163,10 @@ module _ (user : User) (first now : Standing) (was is : Option (List ℕ)) (old 
   }
 
   -- bytes more are read, and what is written is as it was
-  serves-on : (ending : Served) (last : Standing) (part : List ℕ) (newer : Seen) (state : Option User) → Consumes now.left last.left part
-      → IsServed ending user (s.read ++ part) s.written old newer state → Serves ending user first.left last.left was is old newer state
+  serves-on : (ending : Served) (last : Standing) (part : List ℕ) (newer : Seen) (state : Option User)
+      → Consumes now.left last.left part
+      → IsServed ending user (s.read ++ part) s.written old newer state
+      → Serves ending user first.left last.left was is old newer state
   serves-on ending last part newer state taken served = record {
     read = s.read ++ part;
     written = s.written;
@@ -155,11 +176,13 @@ module _ (user : User) (first now : Standing) (was is : Option (List ℕ)) (old 
   }
 
   -- the input has ended
-  pub serving-ceases : (last : Standing) → Ceases now last → Serves served.End user first.left last.left was is old new (Some next)
+  pub serving-ceases : (last : Standing) → Ceases now last
+      → Serves served.End user first.left last.left was is old new (Some next)
   serving-ceases last c = serves-on served.End last c.part new (Some next) c.taken (serving-part c.part c.is_part)
 
   -- a read has failed
-  pub serving-fails : (last : Standing) → Fails now last → Serves served.ReadFault user first.left last.left was is old new (Some next)
+  pub serving-fails : (last : Standing) → Fails now last
+      → Serves served.ReadFault user first.left last.left was is old new (Some next)
   serving-fails last f = serves-on served.ReadFault last f.part new (Some next) f.taken (serving-part f.part f.is_part)
 
   -- an item comes
@@ -201,13 +224,18 @@ module _ (user : User) (first now : Standing) (was is : Option (List ℕ)) (old 
       runs = subst (λ n. 0 < n) (turns_alike next h.found item h.is_found) runs;
     }
 
-    pub serving-halts : (halt : Halt) (newer : Seen) → 0 < item_turns next item → Serves (served_of halt) user first.left after.left was is old newer None
-    serving-halts halts.PoolClosed newer runs = serves-on served.PoolClosed after h.front newer None h.taken (stops runs)
-    serving-halts halts.TooManyStrays newer runs = serves-on served.TooManyStrays after h.front newer None h.taken (stops runs)
+    pub serving-halts : (halt : Halt) (newer : Seen) → 0 < item_turns next item
+        → Serves (served_of halt) user first.left after.left was is old newer None
+    serving-halts halts.PoolClosed newer runs =
+        serves-on served.PoolClosed after h.front newer None h.taken (stops runs)
+    serving-halts halts.TooManyStrays newer runs =
+        serves-on served.TooManyStrays after h.front newer None h.taken (stops runs)
 
     -- something is written for it
-    serves-more : (ending : Served) (more : List ℕ) (now_is : Option (List ℕ)) (newer : Seen) (state : Option User) → Appends is now_is more
-        → IsServed ending user (s.read ++ h.front) (s.written ++ more) old newer state → Serves ending user first.left after.left was now_is old newer state
+    serves-more : (ending : Served) (more : List ℕ) (now_is : Option (List ℕ)) (newer : Seen) (state : Option User)
+        → Appends is now_is more
+        → IsServed ending user (s.read ++ h.front) (s.written ++ more) old newer state
+        → Serves ending user first.left after.left was now_is old newer state
     serves-more ending more now_is newer state appends served = record {
       read = s.read ++ h.front;
       written = s.written ++ more;
@@ -222,23 +250,26 @@ module _ (user : User) (first now : Standing) (was is : Option (List ℕ)) (old 
       t = told_of next last h.found item reply h.is_found answers
 
       -- and the text is not written to its end
-      pub serving-breaks : (n : ℕ) (now_is : Option (List ℕ)) (newer : Seen) → n ≤ length (text last reply) → Appends is now_is (take n (text last reply))
+      pub serving-breaks : (n : ℕ) (now_is : Option (List ℕ)) (newer : Seen) → n ≤ length (text last reply)
+          → Appends is now_is (take n (text last reply))
           → Serves served.WriteFault user first.left after.left was now_is old newer (Some last)
-      serving-breaks n now_is newer within appends = serves-more served.WriteFault (take n (text last reply)) now_is newer (Some last) appends (record {
-        before = s.written;
-        between = next;
-        item = h.found;
-        reaches = reaches;
-        mark = t.mark;
-        only_memory = t.only;
-        bytes = n;
-        within = subst (λ told. n ≤ length told.0) (sym t.tells) within;
-        written_is = ap (λ told. s.written ++ take n told.0) (sym t.tells);
-        next_is = ap (λ told. told.1) (sym t.tells);
-      })
+      serving-breaks n now_is newer within appends =
+          serves-more served.WriteFault (take n (text last reply)) now_is newer (Some last) appends (record {
+            before = s.written;
+            between = next;
+            item = h.found;
+            reaches = reaches;
+            mark = t.mark;
+            only_memory = t.only;
+            bytes = n;
+            within = subst (λ told. n ≤ length told.0) (sym t.tells) within;
+            written_is = ap (λ told. s.written ++ take n told.0) (sym t.tells);
+            next_is = ap (λ told. told.1) (sym t.tells);
+          })
 
       -- and the text is written
-      module _ (now_is : Option (List ℕ)) (appends : Appends is now_is (text last reply)) (newer : Seen) (risen : CountsRise (item_tiles next item) new newer) where
+      module _ (now_is : Option (List ℕ)) (appends : Appends is now_is (text last reply)) (newer : Seen)
+          (risen : CountsRise (item_tiles next item) new newer) where
         abbrev items_more : List Item
         items_more = s.items ++ h.found ∷ []
 
@@ -249,7 +280,8 @@ module _ (user : User) (first now : Standing) (was is : Option (List ℕ)) (old 
         marks_many = marks-length s.marks (texts user s.items s.marks) s.are_marks ∙ texts-length user s.items s.marks
 
         more : Added user s.items s.marks h.found t.mark
-        more = added user s.items s.marks h.found t.mark s.are_marks (subst (λ u. t.mark ≡ true → is_memory (told u h.found t.mark).0 ≡ true) s.next_is t.only)
+        more = added user s.items s.marks h.found t.mark s.are_marks
+            (subst (λ u. t.mark ≡ true → is_memory (told u h.found t.mark).0 ≡ true) s.next_is t.only)
 
         tells_last : told (last_user user s.items s.marks) h.found t.mark ≡ (text last reply, last)
         tells_last = ap (λ u. told u h.found t.mark) (sym s.next_is) ∙ t.tells
@@ -267,8 +299,10 @@ module _ (user : User) (first now : Standing) (was is : Option (List ℕ)) (old 
         counted_more =
             let sum = tiles-more user s.items s.marks h.found t.mark marks_many in
             let same = tiles_alike next h.found item h.is_found in
-            let from : item_tiles next h.found ≡ item_tiles (last_user user s.items s.marks) h.found = ap (λ u. item_tiles u h.found) s.next_is in
-            rises-more (tiles user s.items s.marks) (item_tiles next item) (tiles user items_more marks_more) s.counted risen (omega (arith, sum, same, from))
+            let from : item_tiles next h.found ≡ item_tiles (last_user user s.items s.marks) h.found =
+            ap (λ u. item_tiles u h.found) s.next_is in
+            rises-more (tiles user s.items s.marks) (item_tiles next item) (tiles user items_more marks_more)
+            s.counted risen (omega (arith, sum, same, from))
 
         pub serving-more : ending_of item ≡ None → Serving user first after was now_is old newer last
         serving-more none =
@@ -280,7 +314,8 @@ module _ (user : User) (first now : Standing) (was is : Option (List ℕ)) (old 
               marks = marks_more;
               taken = taken_more;
               appends = Appends-trans was is now_is s.written (text last reply) s.appends appends;
-              takes = Takes-more 0 (s.read ++ h.front) s.items h.front h.front [] h.found takes_more (sym (append-nil h.front)) is_next (sym (ends_alike h.found item h.is_found) ∙ goes);
+              takes = Takes-more 0 (s.read ++ h.front) s.items h.front h.front [] h.found takes_more
+                  (sym (append-nil h.front)) is_next (sym (ends_alike h.found item h.is_found) ∙ goes);
               items_are = length-append s.items (h.found ∷ []) ∙ ap (λ n. n + 1) s.items_are ∙ sym h.items_is;
               are_marks = more.are_marks;
               written_is = written_more;
@@ -290,13 +325,15 @@ module _ (user : User) (first now : Standing) (was is : Option (List ℕ)) (old 
               errors = h.errors_is ∙ s.errors;
             }
 
-        ended : (Ending : List Item → Type 0) → Ending items_more → ends item ≡ true → AnswersAll Ending user (s.read ++ h.front) (s.written ++ text last reply) old newer last
+        ended : (Ending : List Item → Type 0) → Ending items_more → ends item ≡ true
+            → AnswersAll Ending user (s.read ++ h.front) (s.written ++ text last reply) old newer last
         ended Ending ending over = record {
           dialogue = record {
             items = items_more;
             rest = [];
             marks = marks_more;
-            splits = Splits-end 0 (s.read ++ h.front) s.items h.front h.front [] h.found takes_more (sym (append-nil h.front)) is_next (sym (ends_alike h.found item h.is_found) ∙ over);
+            splits = Splits-end 0 (s.read ++ h.front) s.items h.front h.front [] h.found takes_more
+                (sym (append-nil h.front)) is_next (sym (ends_alike h.found item h.is_found) ∙ over);
             are_marks = more.are_marks;
             written_is = written_more;
             next_is = next_more;
@@ -310,20 +347,25 @@ module _ (user : User) (first now : Standing) (was is : Option (List ℕ)) (old 
             → Serves kind user first.left after.left was now_is old newer (Some last)
         serving-ends_by (Command ByeCommand) served.Bye is e =
             serves-more served.Bye (text last reply) now_is newer (Some last) appends
-            (ended EndsByBye (s.items, ap (λ i. s.items ++ i ∷ []) is) (ends_alike h.found item h.is_found ∙ ap ends is))
+            (ended EndsByBye (s.items, ap (λ i. s.items ++ i ∷ []) is)
+            (ends_alike h.found item h.is_found ∙ ap ends is))
         serving-ends_by (Last fault) served.Ended is e =
             serves-more served.Ended (text last reply) now_is newer (Some last) appends
-            (ended EndsByFault (s.items, fault, ap (λ i. s.items ++ i ∷ []) is) (ends_alike h.found item h.is_found ∙ ap ends is))
+            (ended EndsByFault (s.items, fault, ap (λ i. s.items ++ i ∷ []) is)
+            (ends_alike h.found item h.is_found ∙ ap ends is))
         serving-ends_by found kind is e = absurd (cc)
 
-        pub serving-ends : (kind : Served) → ending_of item ≡ Some kind → Serves kind user first.left after.left was now_is old newer (Some last)
+        pub serving-ends : (kind : Served) → ending_of item ≡ Some kind
+            → Serves kind user first.left after.left was now_is old newer (Some last)
         serving-ends kind e = serving-ends_by h.found kind refl (sym (endings_alike h.found item h.is_found) ∙ e)
 
 -- what is served is told of equal users
-pub serves_same : (kind : Served) (user other : User) (left rest was is : Option (List ℕ)) (old new : Seen) (next last : User) → user ≡ other → next ≡ last
+pub serves_same : (kind : Served) (user other : User) (left rest was is : Option (List ℕ)) (old new : Seen)
+    (next last : User) → user ≡ other → next ≡ last
     → Serves kind user left rest was is old new (Some next) → Serves kind other left rest was is old new (Some last)
 serves_same kind user other left rest was is old new next last same same_last s =
-    subst (λ u. Serves kind u left rest was is old new (Some last)) same (subst (λ u. Serves kind user left rest was is old new (Some u)) same_last s)
+    subst (λ u. Serves kind u left rest was is old new (Some last)) same
+    (subst (λ u. Serves kind user left rest was is old new (Some u)) same_last s)
 
 -- a reader that goes on hands out none only where the input has ended, and fails only where a read does
 pub ceases_open : (old new : Standing) → old.phase ≡ Open → HandsNone old new → Ceases old new

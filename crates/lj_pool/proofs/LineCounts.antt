@@ -1,11 +1,13 @@
 -- How many lines replies have, and the first lines of a text written.
-use Rattle.std.proofs.Common.{◌≡◌, ℕ, zero, suc, ◌+◌, ◌<◌, ◌≤◌, List, [], ◌∷◌, ◌++◌, length, map, take, drop, get_or, slice_get, Option, Some, None, inl, inr, refl, sym, ap, ◌∙◌, subst, arith}
+use Rattle.std.proofs.Common.{◌≡◌, ℕ, zero, suc, ◌+◌, ◌<◌, ◌≤◌, List, [], ◌∷◌, ◌++◌, length, map, take, drop, get_or}
+use Rattle.std.proofs.Common.{slice_get, Option, Some, None, inl, inr, refl, sym, ap, ◌∙◌, subst, arith}
 use Rattle.std.specs.Prelude.{IfSome}
 use Rattle.std.specs.List.{concat}
 use Rattle.std.specs.Option.{option_map}
 use Rattle.std.specs.Io.KnownBytes.{Appends}
 use Rattle.std.proofs.KnownBytes.{Appends-trans}
-use Rattle.std.proofs.lemmas.List.{append-nil, length-append, length-map, take-append-drop, take-append-le, take_all, drop_more, take_more}
+use Rattle.std.proofs.lemmas.List.{append-nil, length-append, length-map, take-append-drop, take-append-le, take_all}
+use Rattle.std.proofs.lemmas.List.{drop_more, take_more}
 use Rattle.std.proofs.lemmas.List.Folds.{concat-append}
 use Rattle.std.proofs.lemmas.Option.{slice_get_within, get_or_from_slice_get, none-some, slice_get-get_or}
 use Rattle.std.proofs.lemmas.Bool.{cases_lt}
@@ -18,13 +20,15 @@ use Rattle.lj_session.specs.States.{Held, as_session}
 use Rattle.lj_session.specs.Users.{User}
 use Rattle.lj_wire.specs.Texts.{atom_lines, dump_lines, branch_lines, branch_line, reply_lines}
 
-atom_lines-few : (edge : ℕ) (symbols : List (List ℕ)) (places : List Place) → length (atom_lines edge symbols places) ≤ length places
+atom_lines-few : (edge : ℕ) (symbols : List (List ℕ)) (places : List Place)
+    → length (atom_lines edge symbols places) ≤ length places
 atom_lines-few edge [] places = omega arith
 atom_lines-few edge (symbol ∷ symbols) [] = omega arith
 atom_lines-few edge (symbol ∷ symbols) (place ∷ places) = let rest = atom_lines-few edge symbols places in omega arith
 
 -- the lines of the frame of a session that is held
-pub dump-few : (entry : Option Held) (live : Live) (name : List ℕ) (count : ℕ) → option_map (λ held. held.live) entry ≡ Some live → count ≡ length live.sim.cur
+pub dump-few : (entry : Option Held) (live : Live) (name : List ℕ) (count : ℕ)
+    → option_map (λ held. held.live) entry ≡ Some live → count ≡ length live.sim.cur
     → IfSome entry (λ held. length (dump_lines name (Some (as_session held))) ≤ count + 2 + 1)
 dump-few None live name count is counted = tt
 dump-few (Some held) live name count is counted =
@@ -34,7 +38,8 @@ dump-few (Some held) live name count is counted =
     omega (arith, few, atoms)
 
 -- the lines of what is saved in a session that is held
-pub branches-few : (entry : Option Held) (saved : List (List ℕ × Simulation)) (name : List ℕ) (count : ℕ) → option_map (λ held. held.saved) entry ≡ Some saved → count ≡ length saved
+pub branches-few : (entry : Option Held) (saved : List (List ℕ × Simulation)) (name : List ℕ) (count : ℕ)
+    → option_map (λ held. held.saved) entry ≡ Some saved → count ≡ length saved
     → IfSome entry (λ held. length (branch_lines name (Some (as_session held))) ≤ count + 1)
 branches-few None saved name count is counted = tt
 branches-few (Some held) saved name count is counted =
@@ -83,9 +88,14 @@ module _ (lines : List (List ℕ)) (k : ℕ) (line : List ℕ) (there : slice_ge
       ∙ ap (λ n. length (concat (take k lines)) + n) (length-append line (concat (drop (k + 1) lines))) in
       let bytes : take (length (concat (take k lines)) + n) text ≡ concat (take k lines) ++ take n line =
       ap (take (length (concat (take k lines)) + n)) (same ∙ all_is)
-      ∙ take-front (concat (take k lines)) (line ++ concat (drop (k + 1) lines)) n (length (concat (take k lines)) + n) refl
-      ∙ ap (λ t. concat (take k lines) ++ t) (take-append-le n line (concat (drop (k + 1) lines)) few) in
-      (length (concat (take k lines)) + n, omega (arith, count, few), subst (Appends was is) (sym bytes) (Appends-trans was mid is (concat (take k lines)) (take n line) first second))
+      ∙ take-front (concat (take k lines)) (line ++ concat (drop (k + 1) lines)) n
+      (length (concat (take k lines)) + n) refl
+      ∙ ap (λ t. concat (take k lines) ++ t) (take-append-le n line (concat (drop (k + 1) lines)) few) in (
+        length (concat (take k lines)) + n,
+        omega (arith, count, few),
+        subst (Appends was is) (sym bytes) (Appends-trans was mid is (concat (take k lines))
+            (take n line) first second),
+      )
 
 -- all lines are written
 pub lines_all : (lines : List (List ℕ)) (k : ℕ) → length lines ≤ k → concat (take k lines) ≡ concat lines
@@ -99,7 +109,8 @@ lines_past lines k none =
     ]
 
 -- a reply other than to DUMP and LIST has one line
-pub one_line : (user : User) (reply : Reply) → ((name : List ℕ) → reply ≡ Dumped name → ⊥) → (reply ≡ Listed → ⊥) → ((name : List ℕ) → reply ≡ ListedBranches name → ⊥)
+pub one_line : (user : User) (reply : Reply) → ((name : List ℕ) → reply ≡ Dumped name → ⊥) → (reply ≡ Listed → ⊥)
+    → ((name : List ℕ) → reply ≡ ListedBranches name → ⊥)
     → length (reply_lines user reply) ≤ 1
 unfolding reply_lines
 one_line user (Dumped name) dumped listed branches = absurd (dumped name refl)

@@ -1,5 +1,7 @@
--- Lists of numbers: how often one stands in a list, what is left where one passes no more, and the first one from a place on that passes.
-use Rattle.std.proofs.Common.{◌≡◌, ℕ, zero, suc, ◌+◌, ◌-◌, ◌<◌, ◌≤◌, Bool, true, false, List, [], ◌∷◌, ◌++◌, length, map, take, get_or, count_by, cond, Some, None, inl, inr, refl, sym, ap, ◌∙◌, subst, arith}
+-- Lists of numbers: how often one stands in a list, what is left where one passes no more, and the first one from a
+-- place on that passes.
+use Rattle.std.proofs.Common.{◌≡◌, ℕ, zero, suc, ◌+◌, ◌-◌, ◌<◌, ◌≤◌, Bool, true, false, List, [], ◌∷◌, ◌++◌, length}
+use Rattle.std.proofs.Common.{map, take, get_or, count_by, cond, Some, None, inl, inr, refl, sym, ap, ◌∙◌, subst, arith}
 use Rattle.std.specs.Prelude.{nat_eq}
 use Rattle.std.specs.List.{filter, find, range_with_len, Contains}
 use Rattle.std.proofs.lemmas.Bool.{cases_Bool, cases_eq, eq-eqb, ne_eqb}
@@ -59,8 +61,10 @@ pub times-range : (k a n : ℕ) → a ≤ k → k < a + n → times k (range_wit
 times-range k a zero from within = absurd (omega arith)
 times-range k a (suc n) from within =
     elim (cases_eq a k) [
-      | inl same ↦ times-here k a (range_with_len (a + 1) n) same ∙ ap (λ t. 1 + t) (times-range_before k (a + 1) n (omega arith))
-      | inr other ↦ times-other k a (range_with_len (a + 1) n) other ∙ times-range k (a + 1) n (omega arith) (omega arith)
+      | inl same ↦ times-here k a (range_with_len (a + 1) n) same
+          ∙ ap (λ t. 1 + t) (times-range_before k (a + 1) n (omega arith))
+      | inr other ↦ times-other k a (range_with_len (a + 1) n) other
+          ∙ times-range k (a + 1) n (omega arith) (omega arith)
     ]
 
 -- where no flag is set, none is counted
@@ -81,7 +85,8 @@ module _ (p q : ℕ → Bool) (k : ℕ) (ends : q k ≡ false) (agree : (j : ℕ
   filter-apart [] none = refl
   filter-apart (x ∷ xs) none =
       elim (cases_eq x k) [
-        | inl same ↦ let here : times k (x ∷ xs) ≡ 1 + times k xs = times-here k x xs same in absurd (omega (arith, here, none))
+        | inl same ↦ let here : times k (x ∷ xs) ≡ 1 + times k xs =
+            times-here k x xs same in absurd (omega (arith, here, none))
         | inr other ↦
             ap (λ b. cond b (x ∷ filter q xs) (filter q xs)) (agree x other)
             ∙ ap (λ r. cond (p x) (x ∷ r) r) (filter-apart xs (sym (times-other k x xs other) ∙ none))
@@ -100,7 +105,8 @@ module _ (p q : ℕ → Bool) (k : ℕ) (ends : q k ≡ false) (agree : (j : ℕ
         ]
 
     -- where its image is not there, nothing changes
-    pub images-kept : (xs : List ℕ) → p k ≡ true → (Contains (map f (filter p xs)) (f k) → ⊥) → map f (filter q xs) ≡ map f (filter p xs)
+    pub images-kept : (xs : List ℕ) → p k ≡ true → (Contains (map f (filter p xs)) (f k) → ⊥)
+        → map f (filter q xs) ≡ map f (filter p xs)
     images-kept xs passes absent =
         elim (cases_eq (times k xs) 0) [
           | inl none ↦ ap (map f) (filter-apart xs none)
@@ -108,7 +114,8 @@ module _ (p q : ℕ → Bool) (k : ℕ) (ends : q k ≡ false) (agree : (j : ℕ
         ]
 
     -- where its image is there, the first one is taken out
-    at_k : (x : ℕ) (xs : List ℕ) (front behind : List W) → times k (x ∷ xs) ≤ 1 → x ≡ k → p k ≡ true → f x ∷ map f (filter p xs) ≡ front ++ f k ∷ behind
+    at_k : (x : ℕ) (xs : List ℕ) (front behind : List W) → times k (x ∷ xs) ≤ 1 → x ≡ k → p k ≡ true
+        → f x ∷ map f (filter p xs) ≡ front ++ f k ∷ behind
         → (Contains front (f k) → ⊥) → map f (filter q (x ∷ xs)) ≡ front ++ behind
     at_k x xs [] behind once same passes e first =
         let here : times k (x ∷ xs) ≡ 1 + times k xs = times-here k x xs same in
@@ -119,9 +126,11 @@ module _ (p q : ℕ → Bool) (k : ℕ) (ends : q k ≡ false) (agree : (j : ℕ
     at_k x xs (w ∷ front) behind once same passes e first =
         let head : f x ≡ w = cc in absurd (first (0, omega arith, sym head ∙ ap f same))
 
-    before_k : (x : ℕ) (xs : List ℕ) (front behind : List W) → (x ≡ k → ⊥) → p x ≡ true → f x ∷ map f (filter p xs) ≡ front ++ f k ∷ behind
+    before_k : (x : ℕ) (xs : List ℕ) (front behind : List W) → (x ≡ k → ⊥) → p x ≡ true
+        → f x ∷ map f (filter p xs) ≡ front ++ f k ∷ behind
         → (Contains front (f k) → ⊥)
-        → ((others : List W) → map f (filter p xs) ≡ others ++ f k ∷ behind → (Contains others (f k) → ⊥) → map f (filter q xs) ≡ others ++ behind)
+        → ((others : List W) → map f (filter p xs) ≡ others ++ f k ∷ behind → (Contains others (f k) → ⊥)
+        → map f (filter q xs) ≡ others ++ behind)
         → map f (filter q (x ∷ xs)) ≡ front ++ behind
     before_k x xs [] behind other passes e first rest =
         let head : f x ≡ f k = cc in absurd (other (sym (back x) ∙ ap g head ∙ back k))
@@ -133,19 +142,23 @@ module _ (p q : ℕ → Bool) (k : ℕ) (ends : q k ≡ false) (agree : (j : ℕ
         ∙ ap (λ w. w ∷ map f (filter q xs)) head
         ∙ ap (λ ws. w ∷ ws) later
 
-    pub images-taken : (xs : List ℕ) (front behind : List W) → times k xs ≤ 1 → p k ≡ true → map f (filter p xs) ≡ front ++ f k ∷ behind
+    pub images-taken : (xs : List ℕ) (front behind : List W) → times k xs ≤ 1 → p k ≡ true
+        → map f (filter p xs) ≡ front ++ f k ∷ behind
         → (Contains front (f k) → ⊥) → map f (filter q xs) ≡ front ++ behind
     images-taken [] [] behind once passes e first = absurd (cc)
     images-taken [] (w ∷ front) behind once passes e first = absurd (cc)
     images-taken (x ∷ xs) front behind once passes e first =
         elim (cases_eq x k) [
           | inl same ↦
-              at_k x xs front behind once same passes (sym (ap (λ b. map f (cond b (x ∷ filter p xs) (filter p xs))) (ap p same ∙ passes)) ∙ e) first
+              at_k x xs front behind once same passes
+              (sym (ap (λ b. map f (cond b (x ∷ filter p xs) (filter p xs))) (ap p same ∙ passes)) ∙ e) first
           | inr other ↦
               elim (cases_Bool (p x)) [
                 | inl passing ↦
-                    before_k x xs front behind other passing (sym (ap (λ b. map f (cond b (x ∷ filter p xs) (filter p xs))) passing) ∙ e) first
-                    (λ others. images-taken xs others behind (subst (λ n. n ≤ 1) (times-other k x xs other) once) passes)
+                    before_k x xs front behind other passing
+                    (sym (ap (λ b. map f (cond b (x ∷ filter p xs) (filter p xs))) passing) ∙ e) first
+                    (λ others. images-taken xs others behind
+                    (subst (λ n. n ≤ 1) (times-other k x xs other) once) passes)
                 | inr failing ↦
                     ap (λ b. map f (cond b (x ∷ filter q xs) (filter q xs))) (agree x other ∙ failing)
                     ∙ images-taken xs front behind (subst (λ n. n ≤ 1) (times-other k x xs other) once) passes
@@ -154,7 +167,8 @@ module _ (p q : ℕ → Bool) (k : ℕ) (ends : q k ≡ false) (agree : (j : ℕ
         ]
 
 -- the first number from place a on that passes, by a test on places
-module _ (test : ℕ → Bool) (p : ℕ → Bool) (xs : List ℕ) (agree : (i : ℕ) → i < length xs → test i ≡ p (get_or xs i 0)) where
+module _ (test : ℕ → Bool) (p : ℕ → Bool) (xs : List ℕ)
+    (agree : (i : ℕ) → i < length xs → test i ≡ p (get_or xs i 0)) where
   skipped : (a : ℕ) → a < length xs → test a ≡ false → filter p (take (a + 1) xs) ≡ filter p (take a xs)
   skipped a within fails =
       filter_more p xs a 0 within
@@ -163,29 +177,48 @@ module _ (test : ℕ → Bool) (p : ℕ → Bool) (xs : List ℕ) (agree : (i : 
 
   -- there is one
   pub found_next : (n a i : ℕ) → n ≡ length xs - a → find test (range_with_len a n) ≡ Some i
-      → (a ≤ i) × (i < length xs) × (filter p (take (i + 1) xs) ≡ filter p (take a xs) ++ get_or xs i 0 ∷ []) × (p (get_or xs i 0) ≡ true)
+      → (a ≤ i) × (i < length xs) × (filter p (take (i + 1) xs) ≡ filter p (take a xs) ++ get_or xs i 0 ∷ [])
+      × (p (get_or xs i 0) ≡ true)
   found_next zero a i left found = absurd (none-some i found)
   found_next (suc n) a i left found =
       let within : a < length xs = omega arith in
       elim (cases_Bool (test a)) [
         | inl passing ↦
-            let here : a ≡ i = same_Some a i (sym (ap (λ b. cond b (Some a) (find test (range_with_len (a + 1) n))) passing) ∙ found) in
+            let here : a ≡ i =
+            same_Some a i (sym (ap (λ b. cond b (Some a) (find test (range_with_len (a + 1) n))) passing)
+            ∙ found) in
             let passes : p (get_or xs a 0) ≡ true = sym (agree a within) ∙ passing in
-            subst (λ i. (a ≤ i) × (i < length xs) × (filter p (take (i + 1) xs) ≡ filter p (take a xs) ++ get_or xs i 0 ∷ []) × (p (get_or xs i 0) ≡ true)) here
-            (omega arith, within, filter_more p xs a 0 within ∙ ap (λ b. filter p (take a xs) ++ cond b (get_or xs a 0 ∷ []) []) passes, passes)
+            subst (λ i. (a ≤ i) × (i < length xs) × (filter p (take (i + 1) xs)
+            ≡ filter p (take a xs) ++ get_or xs i 0 ∷ []) × (p (get_or xs i 0) ≡ true)) here (
+              omega arith,
+              within,
+              filter_more p xs a 0 within
+                  ∙ ap (λ b. filter p (take a xs) ++ cond b (get_or xs a 0 ∷ []) []) passes,
+              passes,
+            )
         | inr failing ↦
-            let rest = found_next n (a + 1) i (omega arith) (sym (ap (λ b. cond b (Some a) (find test (range_with_len (a + 1) n))) failing) ∙ found) in
-            (omega (arith, rest.0), rest.1, rest.2 ∙ ap (λ front. front ++ get_or xs i 0 ∷ []) (skipped a within failing), rest.3)
+            let rest =
+            found_next n (a + 1) i (omega arith)
+            (sym (ap (λ b. cond b (Some a) (find test (range_with_len (a + 1) n))) failing) ∙ found) in (
+              omega (arith, rest.0),
+              rest.1,
+              rest.2
+                  ∙ ap (λ front. front ++ get_or xs i 0 ∷ []) (skipped a within failing),
+              rest.3,
+            )
       ]
 
   -- there is none
-  pub found_none : (n a : ℕ) → n ≡ length xs - a → find test (range_with_len a n) ≡ None → filter p xs ≡ filter p (take a xs)
+  pub found_none : (n a : ℕ) → n ≡ length xs - a → find test (range_with_len a n) ≡ None
+      → filter p xs ≡ filter p (take a xs)
   found_none zero a left none = ap (filter p) (sym (take_all a xs (omega arith)))
   found_none (suc n) a left none =
       let within : a < length xs = omega arith in
       elim (cases_Bool (test a)) [
-        | inl passing ↦ absurd (none-some a (sym none ∙ ap (λ b. cond b (Some a) (find test (range_with_len (a + 1) n))) passing))
+        | inl passing ↦
+            absurd (none-some a (sym none ∙ ap (λ b. cond b (Some a) (find test (range_with_len (a + 1) n))) passing))
         | inr failing ↦
-            found_none n (a + 1) (omega arith) (sym (ap (λ b. cond b (Some a) (find test (range_with_len (a + 1) n))) failing) ∙ none)
+            found_none n (a + 1) (omega arith) (sym
+            (ap (λ b. cond b (Some a) (find test (range_with_len (a + 1) n))) failing) ∙ none)
             ∙ skipped a within failing
       ]

@@ -12,7 +12,8 @@ use Rattle.lj_session.specs.Users.{Session, User}
 use Rattle.lj_session.specs.Answers.{performed, settled, answer, can_advance}
 use Rattle.lj_session.specs.Owners.{Owning, user_in, step_of, step_in, IsReplied}
 
-advance_keeps : (user : User) (name : List ℕ) (n : ℕ) (mark : Bool) → (answer user (Advance name n) mark).1.quota ≡ user.quota
+advance_keeps : (user : User) (name : List ℕ) (n : ℕ) (mark : Bool)
+    → (answer user (Advance name n) mark).1.quota ≡ user.quota
 unfolding performed
 advance_keeps user name n mark = by (named name user.sessions) refl
   where
@@ -21,7 +22,8 @@ advance_keeps user name n mark = by (named name user.sessions) refl
     by_near session e true near = rw (e, near) refl
     by_near session e false near = rw (e, near) refl
 
-    by : (o : Option Session) → named name user.sessions ≡ o → (settled user (performed user (Advance name n) mark)).1.quota ≡ user.quota
+    by : (o : Option Session) → named name user.sessions ≡ o
+        → (settled user (performed user (Advance name n) mark)).1.quota ≡ user.quota
     by None e = rw e refl
     by (Some session) e = by_near session e (can_advance session n) refl
 
@@ -29,20 +31,25 @@ measure_keeps : (user : User) (name : List ℕ) (mark : Bool) → (answer user (
 unfolding performed
 measure_keeps user name mark = by (named name user.sessions) refl
   where
-    by : (o : Option Session) → named name user.sessions ≡ o → (settled user (performed user (Measure name) mark)).1.quota ≡ user.quota
+    by : (o : Option Session) → named name user.sessions ≡ o
+        → (settled user (performed user (Measure name) mark)).1.quota ≡ user.quota
     by None e = rw e refl
     by (Some session) e = rw e refl
 
-running_keeps : (user : User) (command : Command) (step : List ℕ × Kind) (mark : Bool) → step_of command ≡ Some step → (answer user command mark).1.quota ≡ user.quota
+running_keeps : (user : User) (command : Command) (step : List ℕ × Kind) (mark : Bool) → step_of command ≡ Some step
+    → (answer user command mark).1.quota ≡ user.quota
 running_keeps user (Advance name n) step mark e = advance_keeps user name n mark
 running_keeps user (Measure name) step mark e = measure_keeps user name mark
 running_keeps user command step mark e = absurd (none-some step e)
 
-pub replied_keeps : (owner : Owning) (step : List ℕ × Kind) (reply : Reply) (next : User) → step_in owner ≡ Some step → IsReplied owner reply next
+pub replied_keeps : (owner : Owning) (step : List ℕ × Kind) (reply : Reply) (next : User)
+    → step_in owner ≡ Some step → IsReplied owner reply next
     → next.quota ≡ (user_in owner).quota
 replied_keeps owner step reply next runs replied = by owner.rest runs replied
   where
-    by : (o : Option Command) → option_and_then step_of o ≡ Some step → IfSome o (λ command. (mark : Bool) → (reply, next) ≡ answer (user_in owner) command mark)
+    by : (o : Option Command) → option_and_then step_of o ≡ Some step
+        → IfSome o (λ command. (mark : Bool) → (reply, next) ≡ answer (user_in owner) command mark)
         → next.quota ≡ (user_in owner).quota
     by None runs replied = absurd (none-some step runs)
-    by (Some command) runs replied = ap (λ a. a.1.quota) (replied false) ∙ running_keeps (user_in owner) command step false runs
+    by (Some command) runs replied =
+        ap (λ a. a.1.quota) (replied false) ∙ running_keeps (user_in owner) command step false runs

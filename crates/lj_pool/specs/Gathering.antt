@@ -1,6 +1,7 @@
 -- The step of a running command whose tasks a pool computes: which tasks are owed, and that each tile still awaited is
 -- one of the cover.
-use Rattle.std.specs.Prelude.{◌≡◌, ℕ, ◌-◌, Bool, true, false, List, length, map, take, count_by, slice_index_or, nat_eq, Option, Some, None}
+use Rattle.std.specs.Prelude.{◌≡◌, ℕ, ◌-◌, Bool, true, false, List, length, map, take, count_by, slice_index_or, nat_eq}
+use Rattle.std.specs.Prelude.{Option, Some, None}
 use Rattle.std.specs.List.{filter}
 use Rattle.lj_tile.specs.declared.names.Kind.{Kind}
 use Rattle.lj_tile.specs.Tasks.{Work}

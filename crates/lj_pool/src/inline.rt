@@ -1,5 +1,6 @@
 //! A pool of no threads: each task is computed by the one who posts it.
-ghost use Rattle.std.specs.Prelude.{◌≡◌, ◌↔◌, ◌∷◌, ◌<◌, [], true, false, length, IsOk, IfErr, IfNone, IfSome, IsSome, OnErr, OnOk};
+ghost use Rattle.std.specs.Prelude.{◌≡◌, ◌↔◌, ◌∷◌, ◌<◌, [], true, false, length, IsOk, IfErr, IfNone, IfSome, IsSome};
+ghost use Rattle.std.specs.Prelude.{OnErr, OnOk};
 ghost use Rattle.lj_pool.specs.Seen.{unseen, one_more};
 ghost use Rattle.lj_pool.specs.declared.pool.Refused.TheVariants.{Full};
 

@@ -1,5 +1,6 @@
 //! A stream of commands served over a pool.
-ghost use Rattle.std.specs.Prelude.{◌≡◌, ◌<◌, ℕ, List, Option, [], None, IfOk, IfErr, IfSome, OnErr, OnOk, OnSome, true};
+ghost use Rattle.std.specs.Prelude.{◌≡◌, ◌<◌, ℕ, List, Option, [], None, IfOk, IfErr, IfSome, OnErr, OnOk, OnSome};
+ghost use Rattle.std.specs.Prelude.{true};
 ghost use Rattle.std.specs.Option.{option_map};
 ghost use Rattle.std.specs.Io.KnownBytes.{IsAtEnd};
 ghost use Rattle.lj_session.specs.States.{user_of};

@@ -17,7 +17,8 @@ returns-in_err-put_all-clause-begun g c =
     let p = err_from_is_err_and c.from_residual.result c.from_residual.ensures.1 in
     rw p.1
     (line_part lines c.loop-line.k c.in-Some.line.items (sym c.in-Some.ensures) begun.0 begun.1
-    (g.W.Sink.contents c.args.writer.now) (g.W.Sink.contents c.loop-line.writer) (g.W.Sink.contents c.put_all.new.sink) (text user c.args.reply.now)
+    (g.W.Sink.contents c.args.writer.now) (g.W.Sink.contents c.loop-line.writer)
+    (g.W.Sink.contents c.put_all.new.sink) (text user c.args.reply.now)
     (text-lines user c.args.reply.now) c.loop-line.invariant.written begun.2)
 
 pub loop-line-preserved : goal.loop-line-preserved
@@ -28,7 +29,8 @@ loop-line-preserved g c =
       written =
           subst (Appends (g.W.Sink.contents c.args.writer.now) (g.W.Sink.contents c.put_all.new.sink))
           (sym (line_more lines c.loop-line.k c.in-Some.line.items (sym c.in-Some.ensures)))
-          (Appends-trans (g.W.Sink.contents c.args.writer.now) (g.W.Sink.contents c.loop-line.writer) (g.W.Sink.contents c.put_all.new.sink) (concat (take c.loop-line.k lines))
+          (Appends-trans (g.W.Sink.contents c.args.writer.now) (g.W.Sink.contents c.loop-line.writer)
+          (g.W.Sink.contents c.put_all.new.sink) (concat (take c.loop-line.k lines))
           c.in-Some.line.items c.loop-line.invariant.written written);
       faults = c.in_ok-put_all.ensures.counted ∙ c.loop-line.invariant.faults;
       within = omega (arith, c.loop-line.invariant.within, c.if-k-last.false);
@@ -41,8 +43,10 @@ returns-then-k-last-clause-written g c =
     let written = rw c.as_slice.ensures.value at c.in_ok-put_all.ensures.written in
     let all : length lines ≤ c.loop-line.k + 1 = omega (arith, c.last_line-last.ensures, c.if-k-last.true) in
     subst (Appends (g.W.Sink.contents c.args.writer.now) (g.W.Sink.contents c.put_all.new.sink))
-    (sym (line_more lines c.loop-line.k c.in-Some.line.items (sym c.in-Some.ensures)) ∙ lines_all lines (c.loop-line.k + 1) all ∙ sym (text-lines user c.args.reply.now))
-    (Appends-trans (g.W.Sink.contents c.args.writer.now) (g.W.Sink.contents c.loop-line.writer) (g.W.Sink.contents c.put_all.new.sink) (concat (take c.loop-line.k lines))
+    (sym (line_more lines c.loop-line.k c.in-Some.line.items (sym c.in-Some.ensures))
+    ∙ lines_all lines (c.loop-line.k + 1) all ∙ sym (text-lines user c.args.reply.now))
+    (Appends-trans (g.W.Sink.contents c.args.writer.now) (g.W.Sink.contents c.loop-line.writer)
+    (g.W.Sink.contents c.put_all.new.sink) (concat (take c.loop-line.k lines))
     c.in-Some.line.items c.loop-line.invariant.written written)
 
 pub returns-in_default-clause-written : goal.returns-in_default-clause-written
@@ -50,5 +54,6 @@ returns-in_default-clause-written g c =
     let user = user_of c.args.state.now in
     let lines = reply_lines user c.args.reply.now in
     subst (Appends (g.W.Sink.contents c.args.writer.now) (g.W.Sink.contents c.loop-line.writer))
-    (lines_all lines c.loop-line.k (lines_past lines c.loop-line.k (sym c.in_default.ensures)) ∙ sym (text-lines user c.args.reply.now))
+    (lines_all lines c.loop-line.k (lines_past lines c.loop-line.k (sym c.in_default.ensures))
+    ∙ sym (text-lines user c.args.reply.now))
     c.loop-line.invariant.written

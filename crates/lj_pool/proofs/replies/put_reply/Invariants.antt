@@ -7,7 +7,8 @@ use Rattle.lj_pool.proofs.replies.put_reply.Given as goal
 
 abbrev pub invariant-loop-line : goal.invariant-loop-line
 invariant-loop-line g l = record {
-  written : Appends (g.W.Sink.contents l.initial.writer) (g.W.Sink.contents l.writer) (concat (take l.k (reply_lines (user_of l.state) l.reply)));
+  written : Appends (g.W.Sink.contents l.initial.writer) (g.W.Sink.contents l.writer)
+      (concat (take l.k (reply_lines (user_of l.state) l.reply)));
   faults : g.W.Sink.faults l.writer ≡ g.W.Sink.faults l.initial.writer;
   within : l.k ≤ l.last;
 }

@@ -8,7 +8,8 @@ abbrev pub invariant-loop-owner : goal.invariant-loop-owner
 invariant-loop-owner g l = record {
   gathers : Gathers l.owner (g.P.Pool.seen l.pool).owed;
   same : SameRun l.initial.owner l.owner;
-  counted : CountsRise (awaited_in l.initial.owner - awaited_in l.owner) (g.P.Pool.seen l.initial.pool) (g.P.Pool.seen l.pool);
+  counted : CountsRise (awaited_in l.initial.owner - awaited_in l.owner)
+      (g.P.Pool.seen l.initial.pool) (g.P.Pool.seen l.pool);
   in_a_row : StraysRise l.strays (g.P.Pool.seen l.initial.pool) (g.P.Pool.seen l.pool);
   few : l.strays < MAX_STRAYS;
 }

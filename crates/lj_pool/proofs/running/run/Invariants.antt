@@ -9,7 +9,8 @@ invariant-loop-owner g l = record {
   begun : HasBegun l.owner;
   none_owed : (g.P.Pool.seen l.pool).owed ≡ [];
   keeps : KeepsAnswer l.initial.owner l.owner;
-  counted : CountsRise (tiles_left l.initial.owner - tiles_left l.owner) (g.P.Pool.seen l.initial.pool) (g.P.Pool.seen l.pool);
+  counted : CountsRise (tiles_left l.initial.owner - tiles_left l.owner)
+      (g.P.Pool.seen l.initial.pool) (g.P.Pool.seen l.pool);
 }
 
 abbrev pub decreases-loop-owner : goal.decreases-loop-owner

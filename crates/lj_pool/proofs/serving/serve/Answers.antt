@@ -1,4 +1,4 @@
-use Rattle.std.proofs.Common.{◌≡◌, sym, ap, ◌∙◌}
+use Rattle.std.proofs.Common.{sym, ap, ◌∙◌}
 use Rattle.std.specs.Option.{option_map}
 use Rattle.std.specs.Io.KnownBytes.{prepend_known}
 use Rattle.lj_session.specs.States.{user_of}
@@ -11,7 +11,8 @@ returns-clause-told g c =
     let told = rw c.new-lines.ensures.left at c.serve_lines-state.ensures.told in
     serves-all c.serve_lines-state.result.1 (user_of c.args.state) (g.R.Source.remaining c.args.reader)
     (g.W.Sink.contents c.args.writer.now) (g.W.Sink.contents c.serve_lines-state.new.writer)
-    (g.P.Pool.seen c.args.pool.now) (g.P.Pool.seen c.serve_lines-state.new.pool) (option_map user_of c.serve_lines-state.result.0)
+    (g.P.Pool.seen c.args.pool.now) (g.P.Pool.seen c.serve_lines-state.new.pool)
+    (option_map user_of c.serve_lines-state.result.0)
     lines.left (g.R.Source.remaining c.into_source.result) lines.held
     (c.into_source.ensures.ahead ∙ ap (prepend_known lines.held) (sym c.into_source.ensures.remaining))
     c.serve_lines-state.ensures.end c.serve_lines-state.ensures.all_read told

@@ -7,7 +7,8 @@ use Rattle.lj_pool.proofs.serving.serve_lines.Given as goal
 abbrev pub invariant-items : goal.invariant-items
 invariant-items g l = record {
   serving :
-      Serving (user_in l.initial.owner) l.initial.lines l.lines (g.W.Sink.contents l.initial.writer) (g.W.Sink.contents l.writer)
+      Serving (user_in l.initial.owner) l.initial.lines l.lines (g.W.Sink.contents l.initial.writer)
+      (g.W.Sink.contents l.writer)
       (g.P.Pool.seen l.initial.pool) (g.P.Pool.seen l.pool) (user_in l.owner);
   idle : l.owner.rest ≡ None;
   none_owed : (g.P.Pool.seen l.pool).owed ≡ [];
