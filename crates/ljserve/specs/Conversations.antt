@@ -8,8 +8,8 @@ use Rattle.lj_pool.specs.declared.served.Served.TheVariants.{End}
 use Rattle.lj_pool.specs.Seen.{Seen, unseen}
 use Rattle.lj_pool.specs.Served.{Serves}
 
--- What was written is the dialogue of what was read, from a user of this quota without sessions, and it ended so; at the
--- end of the input all was read.
+-- What was written is the dialogue of what was read, from a user of this quota without sessions, and it ended so; at
+-- the end of the input all was read.
 pub record Converses (served : Served) (quota : Quota) (left was is : Option (List ℕ)) : Type 0 where
   pub rest : Option (List ℕ)
   pub seen : Seen

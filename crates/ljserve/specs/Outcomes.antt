@@ -1,7 +1,8 @@
 -- How a run of the program comes out, and its exit status.
 use Rattle.std.specs.Prelude.{ℕ, Result, Ok, Err}
 use Rattle.lj_pool.specs.declared.served.Served.{Served}
-use Rattle.lj_pool.specs.declared.served.Served.TheVariants.{End, Bye, Ended, ReadFault, WriteFault, PoolClosed, TooManyStrays}
+use Rattle.lj_pool.specs.declared.served.Served.TheVariants.{End, Bye, Ended, ReadFault, WriteFault, PoolClosed}
+use Rattle.lj_pool.specs.declared.served.Served.TheVariants.{TooManyStrays}
 use Rattle.ljserve.specs.declared.fault.RunFault.{RunFault}
 use Rattle.ljserve.specs.declared.fault.RunFault.TheVariants.{Read, Write, Memory}
 

@@ -8,7 +8,8 @@ use std::fmt::Write;
 use std::process::Abort;
 use std::test::Fail;
 
-/// A command that takes memory, what it is answered at first and after that, and what LIST is answered before and after.
+/// A command that takes memory, what it is answered at first and after that, and what LIST is answered before and
+/// after.
 struct Growth {
     command: &'static str,
     first: &'static str,
