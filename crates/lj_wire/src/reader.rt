@@ -89,21 +89,22 @@ impl<S: Source> LineReader<S> {
             self.phase = Phase::Over;
             return Ok(Some(Item::Last(Fault::Enough)));
         }
-        match read_item(self.alloc, &mut self.input) {
+        let read = read_item(self.alloc, &mut self.input);
+        match &read {
             Ok(Some(item)) => {
-                self.items += 1;
                 if item.ends() {
                     self.phase = Phase::Over;
                 }
-                Ok(Some(item))
+                self.items += 1;
+                read
             }
             Ok(None) => {
                 self.phase = Phase::Over;
-                Ok(None)
+                read
             }
-            Err(fault) => {
+            Err(ReadFault) => {
                 self.phase = Phase::Failed;
-                Err(fault)
+                read
             }
         }
     }

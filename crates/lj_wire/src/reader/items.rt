@@ -55,7 +55,10 @@ fn finish<S: Source>(
     ensures reads_for { ReadsFor input.old input.new count }
 {
     if !takes_body(&item) {
-        return Ok(pass(input, count)?.then_some(item));
+        if !pass(input, count)? {
+            return Ok(None);
+        }
+        return Ok(Some(item));
     }
     match read_body(alloc, input, count)? {
         Some(body) => Ok(Some(item.with_body(body))),
