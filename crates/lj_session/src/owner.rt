@@ -1,5 +1,5 @@
 //! The owner of a user's state: a command is begun, and what takes time goes out as tasks that anyone may compute.
-ghost use Rattle.std.specs.Prelude.{◌≡◌, ◌↔◌, ◌<◌, ◌+◌, ℕ, Bool, true, Some, None, IsOk, IsSome, IsTrue, IfSome, IfErr, OnOk, OnErr, OnSome, IfNone};
+ghost use Rattle.std.specs.Prelude.{◌≡◌, ◌↔◌, ◌<◌, ◌+◌, ℕ, Bool, true, Some, None, IsOk, IsSome, IsTrue, IfSome, IfErr, OnOk, OnErr, OnSome, IfNone, is_some};
 ghost use Rattle.lj_session.specs.Answers.{AnswersAlike};
 ghost use Rattle.lj_session.specs.Turns.{turns, turned, rest_of};
 ghost use Rattle.lj_session.specs.Owners.{IsAnswered, IsReplied, IsAwaitedIn, user_in, turns_left, begun, label_in, task_in, with_task_posted, with_task_in, is_ready, turned_from};
@@ -146,6 +146,13 @@ impl Owner {
                 None
             }
         }
+    }
+
+    /// Whether a command runs.
+    pub fn is_running(&self) -> bool
+        ensures { result ≡ is_some self.now.rest }
+    {
+        self.running.is_some()
     }
 
     /// The state. While a command runs it stands as the current step began.
