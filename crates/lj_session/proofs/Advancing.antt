@@ -16,7 +16,7 @@ use Rattle.lj_branch.specs.Named.{named}
 use Rattle.lj_session.specs.Users.{Session, User}
 use Rattle.lj_session.specs.Answers.{performed, answer, settled, can_advance, with_sim}
 use Rattle.lj_session.proofs.Entries.{named-put, put-put}
-use Rattle.lj_session.proofs.Performing.{advance-on}
+use Rattle.lj_session.proofs.Performing.{advance-on, measure-none, measure-done}
 use Rattle.lj_session.specs.Turns.{turns, turned, rest_of, advance_turns, measure_turns, session_turned}
 
 -- the session after a step
@@ -153,7 +153,7 @@ advance_lowers user name n (Some session) e h = lowered (going_from session n (o
         ≡ advance_turns (Some session) n) less
         (step ∙ ap (advance_turns (Some session)) (sym r.is_more))
 
-measure_once : (found : Option Session) → 1 < measure_turns found → ⊥
+pub measure_once : (found : Option Session) → 1 < measure_turns found → ⊥
 measure_once None h = omega (arith, h)
 measure_once (Some session) h = omega (arith, h)
 
@@ -194,3 +194,27 @@ command_lowers user ListSessions h = absurd (omega (arith, h))
 command_lowers user (ListBranches name) h = absurd (omega (arith, h))
 command_lowers user (Unload name) h = absurd (omega (arith, h))
 command_lowers user Bye h = absurd (omega (arith, h))
+
+-- an ADVANCE that has one turn left is answered with the user one step on
+advance_last : (user : User) (name : List ℕ) (n : ℕ) (mark : Bool) (found : Option Session) → named name user.sessions ≡ found
+    → advance_turns found n ≡ 1 → (answer user (Advance name n) mark).1 ≡ session_turned user name found
+advance_last user name n mark None e h = absurd (omega (arith, h))
+advance_last user name n mark (Some session) e h =
+    let r = going_from session n (omega (arith, h)) in
+    let one : n ≡ 1 = rw r.can at h in
+    ap (λ a. a.1) (advanced user name session n mark e r.can) ∙ ap (λ m. with_sim name session (steps session.units m session.sim) user) one
+
+-- MEASURE leaves the user
+measure_leaves : (user : User) (name : List ℕ) (mark : Bool) → (answer user (Measure name) mark).1 ≡ user
+measure_leaves user name mark = by (named name user.sessions) refl
+  where
+    by : (found : Option Session) → named name user.sessions ≡ found → (answer user (Measure name) mark).1 ≡ user
+    by None e = ap (λ r. (settled user r).1) (measure-none user name mark e)
+    by (Some session) e = ap (λ r. (settled user r).1) (measure-done user name mark session e)
+
+-- a command that has one turn left is answered with the turned user
+pub last_turned : (user : User) (command : Command) (mark : Bool) → turns user command ≡ 1 → (answer user command mark).1 ≡ turned user command
+unfolding turns turned
+last_turned user (Advance name n) mark h = advance_last user name n mark (named name user.sessions) refl h
+last_turned user (Measure name) mark h = measure_leaves user name mark
+last_turned user command mark h = absurd (omega (arith, h))

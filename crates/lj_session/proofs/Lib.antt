@@ -14,3 +14,5 @@ pub mod Results
 pub mod Limits
 pub mod Advancing
 pub mod Owning
+pub mod Keeping
+pub mod Listing

@@ -12,4 +12,5 @@ pub mod Owners
 pub mod Running
 pub mod Begins
 pub mod KeptOwners
+pub mod Laws
 pub mod Worked

@@ -4,6 +4,7 @@
 mod body;
 mod command;
 mod conversions;
+mod laws;
 mod opening;
 mod owner;
 mod refusal;
@@ -15,6 +16,10 @@ mod state;
 
 pub use body::{Body, LoadBody};
 pub use command::{Command, Load, Mode};
+pub use laws::{
+    accept_keeps_user, begin_keeps_user, last_turn_gives_turned, listed_is_there,
+    posted_keeps_user, turn_gives_turned,
+};
 pub use lj_tile::Name;
 pub use owner::{Begin, Owner};
 pub use refusal::Refusal;

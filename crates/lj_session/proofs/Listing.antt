@@ -1,0 +1,56 @@
+-- A reply that lists the atoms of a session, or what is saved in it, and the user after it.
+use Rattle.std.proofs.Common.{◌≡◌, ℕ, Bool, List, Option, Some, None, Result, Ok, Err, nat_lt, refl}
+use Rattle.std.specs.Prelude.{IsSome, IfSome, is_some, not}
+use Rattle.lj_branch.specs.Named.{named}
+use Rattle.lj_xyz.specs.Atoms.{◌>>=◌}
+use Rattle.lj_session.specs.declared.command.Command.{Command}
+use Rattle.lj_session.specs.declared.command.Command.TheVariants.{Load, Advance, Reverse, Branch, Restore, Forget, Tug, Measure, Show, Dump, List as ListSessions, ListBranches, Unload, Bye}
+use Rattle.lj_session.specs.declared.refusal.Refusal.{Refusal}
+use Rattle.lj_session.specs.declared.refusal.Refusal.TheVariants.{NoSession, BranchExists, QuotaBranches, StepRange, Memory}
+use Rattle.lj_session.specs.declared.reply.Reply.{Reply}
+use Rattle.lj_session.specs.declared.reply.Reply.TheVariants as reply
+use Rattle.lj_session.specs.Users.{Session, User, branches_used}
+use Rattle.lj_session.specs.Loads.{admitted, body_held, session_read, unless}
+use Rattle.lj_session.specs.Answers.{or_refusal, session_of, saved_in, has_atom, can_advance, performed, answer, settled}
+use Rattle.lj_session.specs.Laws.{session_listed}
+
+-- what a command comes to
+abbrev Outcome : Type 0
+Outcome = Result (Reply × User) Refusal
+
+-- the session that is listed is one of the user
+abbrev pub IsThere : Reply × User → Type 0
+IsThere told = IfSome (session_listed told.0) (λ name. IsSome (named name told.1.sessions))
+
+-- a refusal lists no session, so it is enough to look at what comes after each test
+after : {A : Type 0} (user : User) (m : Result A Refusal) (f : A → Outcome) → ((x : A) → IsThere (settled user (f x)))
+    → IsThere (settled user (m >>= f))
+after user (Ok x) f h = h x
+after user (Err refusal) f h = tt
+
+-- a session that was found is listed
+found : (user : User) (name : List ℕ) (made : Reply) → session_listed made ≡ Some name → (session : Option Session)
+    → named name user.sessions ≡ session → IsThere (settled user (or_refusal session NoSession >>= λ s. Ok (made, user)))
+found user name made lists None e = tt
+found user name made lists (Some session) e = rw (lists, e) refl
+
+pub listed : (user : User) (command : Command) (mark : Bool) → IsThere (answer user command mark)
+unfolding performed
+listed user (Load load) mark = after user (admitted user load) _ (λ units. after user (body_held load.body mark) _ (λ body.
+    after user (session_read user units load.mode body) _ (λ session. tt)))
+listed user (Advance name n) mark = after user (session_of user name) _ (λ session. after user (unless (can_advance session n) StepRange) _ (λ near. tt))
+listed user (Reverse name) mark = after user (session_of user name) _ (λ session. tt)
+listed user (Branch name branch) mark = after user (session_of user name) _ (λ session.
+    after user (unless (not (is_some (named branch session.saved))) BranchExists) _ (λ new.
+    after user (unless (nat_lt (branches_used user) user.quota.branches) QuotaBranches) _ (λ room.
+    after user (unless (not mark) Memory) _ (λ held. tt))))
+listed user (Restore name branch) mark = after user (session_of user name) _ (λ session. after user (saved_in session branch) _ (λ sim. tt))
+listed user (Forget name branch) mark = after user (session_of user name) _ (λ session. after user (saved_in session branch) _ (λ sim. tt))
+listed user (Tug name atom x y z) mark = after user (session_of user name) _ (λ session. after user (has_atom session atom) _ (λ there. tt))
+listed user (Measure name) mark = after user (session_of user name) _ (λ session. tt)
+listed user (Show name atom) mark = after user (session_of user name) _ (λ session. after user (has_atom session atom) _ (λ there. tt))
+listed user (Dump name) mark = found user name (reply.Dumped name) refl (named name user.sessions) refl
+listed user ListSessions mark = tt
+listed user (ListBranches name) mark = found user name (reply.ListedBranches name) refl (named name user.sessions) refl
+listed user (Unload name) mark = after user (session_of user name) _ (λ session. tt)
+listed user Bye mark = tt

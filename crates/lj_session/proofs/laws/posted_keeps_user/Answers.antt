@@ -1,0 +1,5 @@
+use Rattle.lj_session.proofs.Keeping.{posted_user}
+use Rattle.lj_session.proofs.laws.posted_keeps_user.Goals as goal
+
+pub returns : goal.returns
+returns c = posted_user
