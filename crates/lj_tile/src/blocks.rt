@@ -32,9 +32,9 @@ impl Block {
         requires { length places.now ≤ BLOCK }
         ensures { result ≡ places.now }
     {
-        Block {
-            places: ArrayVec::try_from(places).unwrap(),
-        }
+        let mut kept = ArrayVec::new();
+        let _fits = kept.try_extend_from_slice(places);
+        Block { places: kept }
     }
 
     /// Its places, in order.
@@ -54,6 +54,7 @@ impl Block {
     }
 
     /// Whether these are its places.
+    #[inline]
     pub fn has(&self, places: &[Place]) -> bool
         ensures { IsTrue result ↔ (self.now ≡ places.now) }
     {
@@ -68,6 +69,7 @@ impl Block {
     }
 }
 
+#[inline]
 fn are_same(a: &[Place], b: &[Place]) -> bool
     ensures { result ≡ same_places a.now b.now }
 {

@@ -1,6 +1,5 @@
 //! A quick test of which places of a block may be near one, all of them at once.
-ghost use Rattle.std.specs.Prelude.{◌≡◌, ◌≤◌, ◌<◌, ◌+◌, ◌-◌, ◌*◌, ◌/◌, ◌%◌, ◌^◌, ℕ, min, length, slice_index};
-ghost use Rattle.std.specs.Prelude.{unsigned_abs};
+ghost use Rattle.std.specs.Prelude.{◌≡◌, ◌≤◌, ◌<◌, ◌+◌, ◌-◌, ◌*◌, ◌/◌, ◌%◌, ◌^◌, ℕ, length, slice_index, unsigned_abs};
 ghost use Rattle.std.specs.Int.{bit_at};
 ghost use Rattle.lj_ring.specs.declared.coordinates.Place.{Place};
 ghost use Rattle.lj_ring.specs.Ring.{distance, image};
@@ -45,10 +44,10 @@ impl Columns {
         ensures { (k : ℕ) (there : Place) → k < BLOCK → bit_at result k ≡ 0
             → column_place self.now k ≡ coarse_place there → reach * 2 ^ 48 ≤ distance here.now there + 3 * 2 ^ 48 }
     {
-        let x = coarse_sizes(self.x, here.x);
-        let y = coarse_sizes(self.y, here.y);
-        let z = coarse_sizes(self.z, here.z);
-        below(sums_of_squares(x, y, z), reach)
+        let x = coarse_squares(self.x, here.x);
+        let y = coarse_squares(self.y, here.y);
+        let z = coarse_squares(self.z, here.z);
+        below(sums(x, y, z), reach)
     }
 }
 
@@ -60,16 +59,16 @@ fn coarse(coordinate: u32) -> u16
     (coordinate >> 16) as u16
 }
 
-/// The sizes of the images of coordinates, of which `there` has the whole units of 2^16, in whole units of 2^24. They
-/// may be too great by what was cut off, less than 2^16.
+/// The squares of the images of coordinates, of which `there` has the whole units of 2^16, in whole units of 2^48. They
+/// may be too great by what was cut off, less than one unit.
 #[inline(always)]
-fn coarse_sizes(there: u16x64, here: u32) -> u16x64
-    ensures least { (k c : ℕ) → k < BLOCK → slice_index there k ≡ c / 2 ^ 16
-        → slice_index result k * 2 ^ 24 < unsigned_abs (image here c) + 2 ^ 16 }
-    ensures small { (k : ℕ) → k < BLOCK → slice_index result k ≤ 2 ^ 7 }
+fn coarse_squares(there: u16x64, here: u32) -> u16x64
+    ensures least { (k c : ℕ) → k < BLOCK → slice_index there k ≡ c / 2 ^ 16 → let size = unsigned_abs (image here c) in
+        slice_index result k * 2 ^ 48 < size * size + 2 ^ 48 }
+    ensures small { (k : ℕ) → k < BLOCK → slice_index result k ≤ 2 ^ 14 }
 {
-    let here = splat(coarse(here));
-    shift_by_8(lesser(differences(there, here), differences(here, there)))
+    let apart = signed(differences(there, splat(coarse(here))));
+    narrowed(shift_by_16(squares(apart)))
 }
 
 #[inline(always)]
@@ -86,29 +85,65 @@ fn differences(a: u16x64, b: u16x64) -> u16x64
     a - b
 }
 
+/// The lanes as numbers with a sign, modulo 2^32.
 #[inline(always)]
-fn lesser(a: u16x64, b: u16x64) -> u16x64
-    ensures { (k : ℕ) → k < BLOCK → slice_index result k ≡ min (slice_index a k) (slice_index b k) }
+fn signed(v: u16x64) -> u32x64
+    ensures { (k : ℕ) → k < BLOCK → slice_index result k ≡ ((slice_index v k + 2 ^ 15) % 2 ^ 16 + (2 ^ 32 - 2 ^ 15)) % 2 ^ 32 }
 {
-    a.simd_min(b)
+    less_half(widened(plus_half(v)))
 }
 
 #[inline(always)]
-fn shift_by_8(v: u16x64) -> u16x64
-    ensures { (k : ℕ) → k < BLOCK → slice_index result k ≡ slice_index v k / 2 ^ 8 }
+fn plus_half(v: u16x64) -> u16x64
+    ensures { (k : ℕ) → k < BLOCK → slice_index result k ≡ (slice_index v k + 2 ^ 15) % 2 ^ 16 }
 {
-    v >> u16x64::splat(8)
+    v + u16x64::splat(1 << 15)
 }
 
 #[inline(always)]
-fn sums_of_squares(x: u16x64, y: u16x64, z: u16x64) -> u16x64
-    requires x_small { (k : ℕ) → k < BLOCK → slice_index x k ≤ 2 ^ 7 }
-    requires y_small { (k : ℕ) → k < BLOCK → slice_index y k ≤ 2 ^ 7 }
-    requires z_small { (k : ℕ) → k < BLOCK → slice_index z k ≤ 2 ^ 7 }
-    ensures { (k : ℕ) → k < BLOCK → slice_index result k ≡
-        slice_index x k * slice_index x k + slice_index y k * slice_index y k + slice_index z k * slice_index z k }
+fn widened(v: u16x64) -> u32x64
+    ensures { (k : ℕ) → k < BLOCK → slice_index result k ≡ slice_index v k }
 {
-    x * x + y * y + z * z
+    v.cast::<u32>()
+}
+
+#[inline(always)]
+fn less_half(v: u32x64) -> u32x64
+    ensures { (k : ℕ) → k < BLOCK → slice_index result k ≡ (slice_index v k + (2 ^ 32 - 2 ^ 15)) % 2 ^ 32 }
+{
+    v - u32x64::splat(1 << 15)
+}
+
+#[inline(always)]
+fn squares(v: u32x64) -> u32x64
+    ensures { (k : ℕ) → k < BLOCK → slice_index result k ≡ slice_index v k * slice_index v k % 2 ^ 32 }
+{
+    v * v
+}
+
+#[inline(always)]
+fn shift_by_16(v: u32x64) -> u32x64
+    ensures { (k : ℕ) → k < BLOCK → slice_index result k ≡ slice_index v k / 2 ^ 16 }
+{
+    v >> u32x64::splat(16)
+}
+
+#[inline(always)]
+fn narrowed(v: u32x64) -> u16x64
+    requires { (k : ℕ) → k < BLOCK → slice_index v k < 2 ^ 16 }
+    ensures { (k : ℕ) → k < BLOCK → slice_index result k ≡ slice_index v k }
+{
+    v.cast::<u16>()
+}
+
+#[inline(always)]
+fn sums(x: u16x64, y: u16x64, z: u16x64) -> u16x64
+    requires x_small { (k : ℕ) → k < BLOCK → slice_index x k ≤ 2 ^ 14 }
+    requires y_small { (k : ℕ) → k < BLOCK → slice_index y k ≤ 2 ^ 14 }
+    requires z_small { (k : ℕ) → k < BLOCK → slice_index z k ≤ 2 ^ 14 }
+    ensures { (k : ℕ) → k < BLOCK → slice_index result k ≡ slice_index x k + slice_index y k + slice_index z k }
+{
+    x + y + z
 }
 
 /// Bit k tells whether lane k is below `reach`.

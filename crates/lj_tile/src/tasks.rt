@@ -97,6 +97,7 @@ impl Task {
     }
 
     /// Whether this is the task of this name and scale over these places. It copies no places.
+    #[inline]
     pub fn is_of(&self, name: &TaskName, scale: &Scale, a: &[Place], b: &[Place]) -> bool
         ensures { IsTrue result ↔ (self.now ≡ record { name = name.now; units = scale.now; a = a.now; b = b.now }) }
     {
