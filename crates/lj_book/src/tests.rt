@@ -28,7 +28,8 @@ fn task(user: u8, step: i64, rt: &impl Abort) -> Task {
     Task::new(name, scale, block.copy(), block)
 }
 
-/// Any one growth may be refused (`rt try --test --fail-alloc`): the same call then succeeds.
+/// Any one growth may be refused (`rt try --test --fail-alloc`): it is asked for once more, here and wherever a test
+/// takes memory.
 fn empty_book(rt: &impl AllocGlobal) -> Result<Book, AllocError> {
     Book::new(rt.alloc()).or_else(|_| Book::new(rt.alloc()))
 }
@@ -68,11 +69,16 @@ enum Stage {
     Done,
 }
 
+/// What stands under a key, and which of the tasks of the test it is.
 #[derive(Clone, Copy, PartialEq, Eq, Debug)]
 struct Slot {
     stage: Stage,
-    user: u8,
-    step: i64,
+    which: usize,
+}
+
+/// The tasks are of five users.
+fn user_of(which: usize) -> u8 {
+    (which % 5) as u8
 }
 
 /// The book as a plain list that is walked. Of the vacant keys the one that was vacated last is taken first.
@@ -108,10 +114,17 @@ impl Plain {
         }
     }
 
-    fn find(&self, stage: Stage, user: Option<u8>, pick: usize) -> Option<usize> {
-        match find_from(self.slots.as_slice(), stage, user, pick) {
+    fn open(&self, pick: usize) -> Option<usize> {
+        match open_from(self.slots.as_slice(), pick) {
             Some(key) => Some(key),
-            None => find_from(self.slots.as_slice(), stage, user, 0),
+            None => open_from(self.slots.as_slice(), 0),
+        }
+    }
+
+    fn done(&self, user: u8, pick: usize) -> Option<usize> {
+        match done_from(self.slots.as_slice(), user, pick) {
+            Some(key) => Some(key),
+            None => done_from(self.slots.as_slice(), user, 0),
         }
     }
 
@@ -134,9 +147,18 @@ impl Plain {
     }
 }
 
-fn find_from(slots: &[Slot], stage: Stage, user: Option<u8>, from: usize) -> Option<usize> {
-    for (key, slot) in slots.iter().enumerate() {
-        if key >= from && slot.stage == stage && user.is_none_or(|user| user == slot.user) {
+fn open_from(slots: &[Slot], from: usize) -> Option<usize> {
+    for key in from..slots.len() {
+        if matches!(slots[key].stage, Stage::Open) {
+            return Some(key);
+        }
+    }
+    None
+}
+
+fn done_from(slots: &[Slot], user: u8, from: usize) -> Option<usize> {
+    for key in from..slots.len() {
+        if matches!(slots[key].stage, Stage::Done) && user_of(slots[key].which) == user {
             return Some(key);
         }
     }
@@ -162,15 +184,34 @@ impl Dice {
         self.below(1030) as usize
     }
 
-    fn user(&mut self) -> u8
-        ensures { result < 5 }
-    {
+    fn user(&mut self) -> u8 {
         self.below(5) as u8
     }
 
-    fn step(&mut self) -> i64 {
-        i64::from(self.below(3) as u32)
+    fn which(&mut self) -> usize {
+        self.below(TASKS as u64) as usize
     }
+}
+
+/// How many different tasks there are.
+const TASKS: usize = 15;
+
+/// A task, and its result.
+#[derive(Drop)]
+struct Work {
+    task: Task,
+    done: Done,
+}
+
+fn works(rt: &(impl Abort + AllocGlobal)) -> Result<Vec<Work>, AllocError> {
+    let table = Table::new();
+    let mut works = Vec::with_capacity(rt.alloc(), TASKS)?;
+    for which in 0..TASKS {
+        let task = task(user_of(which), i64::from(which as u32), rt);
+        let done = compute(task.copy(), &table);
+        works.push(Work { task, done })?;
+    }
+    Ok(works)
 }
 
 #[derive(Drop)]
@@ -178,59 +219,62 @@ struct Trial {
     book: Book,
     plain: Plain,
     dice: Dice,
-    table: Table,
+    works: Vec<Work>,
+    refused: u64,
 }
 
 impl Trial {
+    fn work(&self, which: usize, rt: &impl Abort) -> &Work {
+        self.works.get(which).expect(rt, "a task")
+    }
+
     fn post(&mut self, rt: &impl Abort) -> Result<(), Fail> {
-        let (user, step) = (self.dice.user(), self.dice.step());
-        let posted = self.book.post(task(user, step, rt)).is_ok();
+        let which = self.dice.which();
+        let task = self.work(which, rt).task.copy();
+        let posted = self.book.post(task).is_ok();
         assert_eq!(rt; posted, self.plain.counts.entries < 1024);
         if posted {
             let stage = Stage::Open;
-            self.plain.put(Slot { stage, user, step })?;
+            self.plain.put(Slot { stage, which })?;
             self.plain.counts.posted = self.plain.counts.posted.wrapping_add(1);
             self.plain.counts.entries = self.plain.counts.entries.wrapping_add(1);
+        } else {
+            self.refused = self.refused.wrapping_add(1);
         }
         Ok(())
     }
 
     fn take(&mut self, rt: &impl Abort) {
         let pick = self.dice.key();
-        let found = self.plain.find(Stage::Open, None, pick);
+        let found = self.plain.open(pick);
         match self.book.take(pick) {
             Some((key, taken)) => {
                 assert_eq!(rt; found, Some(key));
                 let slot = self.plain.slot(key).expect(rt, "a slot");
-                assert!(rt; taken.is(&task(slot.user, slot.step, rt)));
+                assert!(rt; taken.is(&self.work(slot.which, rt).task));
                 self.plain.set(key, Stage::Out);
             }
             None => assert_eq!(rt; found, None),
         }
     }
 
-    /// A key, and a task that is often the one which stands there.
-    fn guess(&mut self, rt: &impl Abort) -> (usize, Task, bool) {
-        let key = self.dice.key();
-        let (user, step) = (self.dice.user(), self.dice.step());
+    /// A key, a task that is often the one which stands there, and whether it is out under that key.
+    fn guess(&mut self) -> (usize, usize, bool) {
+        let (key, other) = (self.dice.key(), self.dice.which());
         match self.plain.slot(key) {
             Some(slot) => {
                 let right = self.dice.below(4) != 0;
-                let (user, step) = if right {
-                    (slot.user, slot.step)
-                } else {
-                    (user, step)
-                };
-                let is_out = slot.stage == Stage::Out && user == slot.user && step == slot.step;
-                (key, task(user, step, rt), is_out)
+                let which = if right { slot.which } else { other };
+                let is_out = slot.stage == Stage::Out && which == slot.which;
+                (key, which, is_out)
             }
-            None => (key, task(user, step, rt), false),
+            None => (key, other, false),
         }
     }
 
     fn give(&mut self, rt: &impl Abort) {
-        let (key, task, is_out) = self.guess(rt);
-        let done = compute(task, &self.table);
+        let (key, which, is_out) = self.guess();
+        let done = self.work(which, rt).done.copy();
         assert_eq!(rt; self.book.give(key, done).is_ok(), is_out);
         if is_out {
             self.plain.set(key, Stage::Done);
@@ -239,7 +283,8 @@ impl Trial {
     }
 
     fn hand_back(&mut self, rt: &impl Abort) {
-        let (key, task, is_out) = self.guess(rt);
+        let (key, which, is_out) = self.guess();
+        let task = self.work(which, rt).task.copy();
         let want = if is_out { Ok(()) } else { Err(NotOut) };
         assert_eq!(rt; self.book.hand_back(key, &task), want);
         if is_out {
@@ -249,12 +294,12 @@ impl Trial {
 
     fn fetch(&mut self, rt: &impl Abort) -> Result<(), Fail> {
         let (user, pick) = (self.dice.user(), self.dice.key());
-        let found = self.plain.find(Stage::Done, Some(user), pick);
+        let found = self.plain.done(user, pick);
         let fetched = self.book.fetch(user, pick);
         assert_eq!(rt; fetched.is_some(), found.is_some());
         if let (Some(key), Some(done)) = (found, fetched) {
             let slot = self.plain.slot(key).expect(rt, "a slot");
-            assert!(rt; done.task().is(&task(user, slot.step, rt)));
+            assert!(rt; done.task().is(&self.work(slot.which, rt).task));
             self.plain.vacate(key)?;
             self.plain.counts.fetched = self.plain.counts.fetched.wrapping_add(1);
             self.plain.counts.entries = self.plain.counts.entries.wrapping_sub(1);
@@ -267,7 +312,7 @@ impl Trial {
         self.book.withdraw(user);
         for key in 0..MAX_ENTRIES {
             let slot = self.plain.slot(key);
-            if slot.is_some_and(|slot| slot.stage != Stage::Vacant && slot.user == user) {
+            if slot.is_some_and(|slot| slot.stage != Stage::Vacant && user_of(slot.which) == user) {
                 self.plain.vacate(key)?;
                 self.plain.counts.withdrawn = self.plain.counts.withdrawn.wrapping_add(1);
                 self.plain.counts.entries = self.plain.counts.entries.wrapping_sub(1);
@@ -296,12 +341,13 @@ fn random_calls_as_a_plain_list(rt: HostRuntime) -> Result<(), Fail> {
         book: empty_book(&rt)?,
         plain: Plain::new(&rt).or_else(|_| Plain::new(&rt))?,
         dice: Dice { state: 7 },
-        table: Table::new(),
+        works: works(&rt).or_else(|_| works(&rt))?,
+        refused: 0,
     };
     for _ in 0..1_000_000 {
         trial.call(&rt)?;
     }
     let counts = trial.book.counts();
-    assert!(rt; 0 < counts.withdrawn && 1024 < counts.fetched);
+    assert!(rt; 0 < counts.withdrawn && 1024 < counts.fetched && 0 < trial.refused);
     Ok(())
 }
