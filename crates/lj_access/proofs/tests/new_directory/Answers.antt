@@ -2,7 +2,7 @@ use Rattle.std.proofs.Common.{subst, sym}
 use Rattle.std.specs.List.{IsDistinct}
 use Rattle.std.specs.Str.{bytes_eq}
 use Rattle.lj_access.specs.Users.{names}
-use Rattle.lj_access.proofs.tests.directory.Goals as goal
+use Rattle.lj_access.proofs.tests.new_directory.Goals as goal
 
 pub loop-i-init : goal.loop-i-init
 unfolding IsDistinct
