@@ -1,13 +1,23 @@
--- What a pool of no threads has seen: it is owed what it holds, and was handed no other result.
-use Rattle.std.specs.Prelude.{false, List, [], ◌∷◌, Option, Some, None}
+-- A pool of no threads: what it holds and has counted, and what its end has seen.
+use Rattle.std.specs.Prelude.{ℕ, false, List, [], ◌∷◌, Option, Some, None}
 use Rattle.lj_tile.specs.Tasks.{Work}
-use Rattle.lj_pool.specs.declared.inline.InlinePool.TheInside.{Inside}
 use Rattle.lj_pool.specs.Seen.{Seen}
+
+-- the task of the result that is held, if there is one, and how many results it has handed out, as far as they are
+-- counted
+pub record Inline : Type 0 where
+  pub held : Option Work
+  pub good : ℕ
+
+-- nothing is held, and nothing is counted
+abbrev pub empty : Inline
+empty = record { held = None; good = 0 }
 
 -- the task of a result that is held, if there is one
 abbrev pub held_task : Option Work → List Work
 held_task (Some task) = task ∷ []
 held_task None = []
 
-abbrev pub seen_of : Inside → Seen
+-- it is owed what it holds; it hands out no other result, and is never closed
+abbrev pub seen_of : Inline → Seen
 seen_of pool = record { owed = held_task pool.held; good = pool.good; strays = 0; closed = false }

@@ -1,7 +1,7 @@
 //! A pool of no threads: each task is computed by the one who posts it.
-ghost use Rattle.std.specs.Prelude.{◌≡◌, ◌↔◌, ◌∷◌, ◌<◌, [], true, false, length, IsOk, IfErr, IfNone, IfSome, IsSome};
-ghost use Rattle.std.specs.Prelude.{OnErr, OnOk};
-ghost use Rattle.lj_pool.specs.Seen.{unseen, one_more};
+ghost use Rattle.std.specs.Prelude.{◌≡◌, ◌↔◌, Some, None, true, false, IsOk, IfErr, IfNone, IfSome, IsSome, OnErr, OnOk};
+ghost use Rattle.lj_pool.specs.Seen.{one_more};
+ghost use Rattle.lj_pool.specs.Inline.{empty, seen_of};
 ghost use Rattle.lj_pool.specs.declared.pool.Refused.TheVariants.{Full};
 
 use crate::pool::{Pool, Refused};
@@ -18,19 +18,17 @@ pub struct InlinePool {
 }
 
 impl Model for InlinePool {
-    ghost use Rattle.lj_pool.specs.Seen.{Seen};
+    ghost use Rattle.lj_pool.specs.Inline.{Inline};
 
-    ghost Value = { Seen };
+    ghost Value = { Inline };
 
-    ghost use Rattle.lj_pool.specs.Inline.{seen_of};
-
-    ghost view = { seen_of };
+    ghost view = { λ pool. record { held = pool.held; good = pool.good } };
 }
 
 impl InlinePool {
     /// Holds nothing at first.
     pub fn new(table: Table) -> InlinePool
-        ensures { result ≡ unseen }
+        ensures { result ≡ empty }
     {
         InlinePool {
             table,
@@ -41,11 +39,11 @@ impl InlinePool {
 }
 
 impl Pool for InlinePool {
-    ghost seen = { λ pool. pool };
+    ghost seen = { seen_of };
 
     fn post(&mut self, task: Task, _wait: bool) -> Result<(), Refused>
-        ensures free { IsOk result ↔ (self.old.owed ≡ []) }
-        ensures posted { OnOk result (self.new ≡ record self.old { owed = task ∷ [] }) }
+        ensures free { IsOk result ↔ (self.old.held ≡ None) }
+        ensures posted { OnOk result (self.new ≡ record self.old { held = Some task }) }
         ensures full { IfErr result (λ refused. refused ≡ Full task) }
         ensures unchanged { OnErr result (self.new ≡ self.old) }
     {
@@ -57,10 +55,8 @@ impl Pool for InlinePool {
     }
 
     fn fetch(&mut self, _user: u8) -> Option<Done>
-        ensures some { IsSome result ↔ (0 < length self.old.owed) }
-        ensures owed { IfSome result (λ done. self.old.owed ≡ done ∷ []) }
-        ensures taken_off { IfSome result (λ _.
-            self.new ≡ record self.old { owed = []; good = one_more self.old.good }) }
+        ensures held { result ≡ self.old.held }
+        ensures taken_off { IfSome result (λ _. self.new ≡ record { held = None; good = one_more self.old.good }) }
         ensures unchanged { IfNone result (self.new ≡ self.old) }
     {
         self.good = self.good.saturating_add(u64::from(self.held.is_some()));
@@ -72,16 +68,14 @@ impl Pool for InlinePool {
     }
 
     fn full(&self) -> bool
-        ensures { result ≡ true ↔ (0 < length self.now.owed) }
+        ensures { result ≡ true ↔ IsSome self.now.held }
     {
         self.held.is_some()
     }
 
     fn closed(&self) -> bool
-        ensures value { result ≡ self.now.closed }
-        ensures never { result ≡ false }
+        ensures { result ≡ false }
     {
-        let _held = &self.held;
         false
     }
 }
