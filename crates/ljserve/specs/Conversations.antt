@@ -4,15 +4,17 @@ use Rattle.std.specs.Io.KnownBytes.{IsAtEnd}
 use Rattle.lj_quota.specs.declared.Quota.{Quota}
 use Rattle.lj_session.specs.Users.{User, fresh}
 use Rattle.lj_pool.specs.declared.served.Served.{Served}
-use Rattle.lj_pool.specs.declared.served.Served.TheVariants.{End}
+use Rattle.lj_pool.specs.declared.served.Served.TheVariants.{End, PoolClosed, TooManyStrays}
 use Rattle.lj_pool.specs.Seen.{Seen, unseen}
 use Rattle.lj_pool.specs.Served.{Serves}
 
--- What was written is the dialogue of what was read, from a user of this quota without sessions, and it ended so; at
--- the end of the input all was read.
+-- What was written is the dialogue of what was read, from a user of this quota without sessions, and it ended so; at the
+-- end of the input all was read. The pool never gives up.
 pub record Converses (served : Served) (quota : Quota) (left was is : Option (List ℕ)) : Type 0 where
   pub rest : Option (List ℕ)
   pub seen : Seen
   pub next : Option User
   pub serves : Serves served (fresh quota) left rest was is unseen seen next
   pub all : served ≡ End → IsAtEnd rest
+  pub never_closed : served ≡ PoolClosed → ⊥
+  pub few_strays : served ≡ TooManyStrays → ⊥

@@ -1,6 +1,7 @@
 //! The ends of a conversation: what was replied is sent before more input is waited for.
-ghost use Rattle.std.specs.Prelude.{◌≡◌, ◌<◌, ◌≤◌, [], None, length, IfOk, OnOk};
-ghost use Rattle.std.specs.Io.KnownBytes.{Appends, Keeps};
+ghost use Rattle.std.specs.Prelude.{◌≡◌, ◌<◌, ◌≤◌, ℕ, [], None, length, take, IfOk, IfErr, OnOk, OnErr};
+ghost use Rattle.std.specs.Io.KnownBytes.{Appends, Keeps, append_known};
+ghost use Rattle.ljserve.specs.declared.fault.RunFault.TheVariants.{Memory};
 
 use crate::fault::RunFault;
 use lj_wire::{ReadFault, Sink, Source, WriteFault, put_all};
@@ -50,11 +51,15 @@ struct Held<W> {
 }
 
 impl<W: Write> Held<W> {
-    /// Holds back some of `bytes`, and answers how many: 0 only where there are none. Where there is no room, what is
-    /// held back is sent first.
+    /// Holds back some of `bytes`, and answers how many: 0 only where there are none. Where there is no room, what is held
+    /// back is sent first.
     fn hold(&mut self, bytes: &[u8]) -> Result<usize, WriteFault>
         ensures bound { IfOk result (λ n. n ≤ length bytes.now) }
         ensures some { IfOk result (λ n. 0 < length bytes.now → 0 < n) }
+        ensures held { IfOk result (λ n. Appends
+            (append_known (W.contents self.old.outlet.writer) self.old.bytes.items)
+            (append_known (W.contents self.new.outlet.writer) self.new.bytes.items)
+            (take n bytes.now)) }
     {
         if self.bytes.len() >= MAX_HELD_BYTES {
             self.send()?;
@@ -70,8 +75,9 @@ impl<W: Write> Held<W> {
     /// Writes what is held back, and flushes the writer. Nothing is held back then, nor after a fault.
     fn send(&mut self) -> Result<(), WriteFault>
         ensures none { self.new.bytes.items ≡ [] }
-        ensures sent { OnOk result
-            (Appends (W.contents self.old.outlet.writer) (W.contents self.new.outlet.writer) self.old.bytes.items) }
+        ensures sent { OnOk result (Appends (W.contents self.old.outlet.writer) (W.contents self.new.outlet.writer) self.old.bytes.items) }
+        ensures begun { OnErr result ((n : ℕ) × (n ≤ length self.old.bytes.items)
+            × Appends (W.contents self.old.outlet.writer) (W.contents self.new.outlet.writer) (take n self.old.bytes.items)) }
     {
         if self.bytes.is_empty() {
             return Ok(());
@@ -95,7 +101,9 @@ impl<W: Write + Drop> Replies<W> {
     ///
     /// # Errors
     /// `Memory` where there is none for the replies that are held back.
-    pub fn new(alloc: Global, writer: W) -> Result<Self, RunFault> {
+    pub fn new(alloc: Global, writer: W) -> Result<Self, RunFault>
+        ensures { IfErr result (λ fault. fault ≡ Memory) }
+    {
         match Vec::with_capacity(alloc, MAX_HELD_BYTES) {
             Ok(bytes) => Ok(Replies {
                 held: RefCell::new(Held {
@@ -148,7 +156,9 @@ pub struct Commands<'a, R, W: Write + Drop> {
 
 impl<'a, R: Read, W: Write + Drop> Commands<'a, R, W> {
     /// Reads nothing.
-    pub fn new(reader: R, replies: &'a Replies<W>) -> Self {
+    pub fn new(reader: R, replies: &'a Replies<W>) -> Self
+        ensures { ⟦<Commands<'a, R, W> as Source>⟧.remaining result ≡ R.remaining reader }
+    {
         Commands { reader, replies }
     }
 }

@@ -1,6 +1,12 @@
 //! Serves simulations of Lennard-Jones atoms by commands on standard input, and replies on standard output.
 #![tactic(auto)]
 
+ghost use Rattle.std.specs.Prelude.{◌≡◌, ◌≢◌};
+ghost use Rattle.std.specs.Process.{exit_status};
+ghost use Rattle.clap.specs.Values.{kind_of};
+ghost use Rattle.clap.specs.declared.error.kind.ErrorKind.TheVariants.{OutOfMemory};
+ghost use Rattle.ljserve.specs.Outcomes.{exit_of, usage_status};
+
 mod arguments;
 mod ends;
 mod fault;
@@ -37,8 +43,11 @@ fn words_of(rt: &HostRuntime) -> Result<Vec<String>, Error> {
     }
 }
 
-/// Prints what the words of the command line are answered.
-fn usage(rt: &(impl Print + Eprint), error: &Error) -> ExitCode {
+/// Prints what the words of the command line are answered. Where that can't be printed, the status is 1.
+fn usage(rt: &(impl Print + Eprint), error: &Error) -> ExitCode
+    ensures printed { exit_status result ≢ 1 → exit_status result ≡ usage_status (kind_of error.now) }
+    ensures memory { kind_of error.now ≡ OutOfMemory → exit_status result ≡ 3 }
+{
     if error.kind() == ErrorKind::OutOfMemory {
         return ended(rt, Err(RunFault::Memory));
     }
@@ -49,7 +58,9 @@ fn usage(rt: &(impl Print + Eprint), error: &Error) -> ExitCode {
 }
 
 /// Prints the fault of a run, if it has one.
-fn ended(rt: &impl Eprint, outcome: Result<(), RunFault>) -> ExitCode {
+fn ended(rt: &impl Eprint, outcome: Result<(), RunFault>) -> ExitCode
+    ensures { exit_status result ≡ exit_of outcome }
+{
     match outcome {
         Ok(()) => ExitCode::SUCCESS,
         Err(fault) => {

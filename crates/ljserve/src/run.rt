@@ -1,7 +1,8 @@
 //! One user served over a reader and a writer.
 ghost use Rattle.std.specs.Prelude.{◌≡◌};
 ghost use Rattle.ljserve.specs.Conversations.{Converses};
-ghost use Rattle.ljserve.specs.Outcomes.{outcome};
+ghost use Rattle.ljserve.specs.Outcomes.{ComesTo};
+ghost use Rattle.lj_pool.specs.declared.served.Served.TheVariants.{PoolClosed, TooManyStrays};
 
 use crate::ends::{Commands, Replies};
 use crate::fault::RunFault;
@@ -16,8 +17,8 @@ use std::io::{Read, Write};
 /// The number of the one user.
 const ONLY_USER: u8 = 0;
 
-/// Answers the commands of `reader` on `writer`, as those of one user with this quota and no sessions, until the input
-/// or the connection ends. What was replied is written before more input is waited for.
+/// Answers the commands of `reader` on `writer`, as those of one user with this quota and no sessions, until the input or
+/// the connection ends. What was replied is written before more input is waited for.
 ///
 /// # Errors
 /// `Memory` comes before anything is read.
@@ -36,8 +37,8 @@ pub fn run<R: Read + Drop, W: Write + Drop>(
     outcome(served)
 }
 
-/// Answers the items of a source on a sink, as those of one user with this quota and no sessions, until the input or
-/// the connection ends.
+/// Answers the items of a source on a sink, as those of one user with this quota and no sessions, until the input or the
+/// connection ends.
 fn converse<R: Source + Drop, W: Sink>(
     alloc: Global,
     quota: Quota,
@@ -52,14 +53,16 @@ fn converse<R: Source + Drop, W: Sink>(
     (served, sink)
 }
 
-/// What a run comes to that has ended so, and whose replies are written. Where its pool gives up, which one of no
-/// threads does not, a reply is left out.
+/// What a run comes to that has ended so, and whose replies are written.
 fn outcome(served: Served) -> Result<(), RunFault>
-    ensures { result ≡ outcome served }
+    requires never_closed { served ≡ PoolClosed → ⊥ }
+    requires few_strays { served ≡ TooManyStrays → ⊥ }
+    ensures { ComesTo served result }
 {
     match served {
         Served::End | Served::Bye | Served::Ended => Ok(()),
         Served::ReadFault => Err(RunFault::Read),
-        Served::WriteFault | Served::PoolClosed | Served::TooManyStrays => Err(RunFault::Write),
+        Served::WriteFault => Err(RunFault::Write),
+        Served::PoolClosed | Served::TooManyStrays => unreachable!(),
     }
 }
