@@ -1,0 +1,181 @@
+-- The laws of runs, each proved on the function of its name, and the headline.
+use Rattle.std.specs.Prelude.{◌≡◌, ◌≢◌, ℕ, zero, suc, Bool, nat_eq, List, [], map, length, take, slice_get, Option, Some, None, if◌then◌else◌, ◌⊎◌}
+use Rattle.std.specs.Option.{option_map, option_and_then}
+use Rattle.lj_quota.specs.declared.Quota.{Quota}
+use Rattle.lj_session.specs.declared.command.Command.{Command as Order}
+use Rattle.lj_session.specs.Users.{User as Value, fresh}
+use Rattle.lj_session.specs.States.{Owned, user_of}
+use Rattle.lj_session.specs.Owners.{Owning, user_in}
+use Rattle.lj_wire.specs.declared.item.Item.{Item}
+use Rattle.lj_wire.specs.declared.item.Item.TheVariants.{Command}
+use Rattle.lj_wire.specs.Told.{alone, last_user}
+use Rattle.lj_wire.specs.Runs.{user_turned, item_left}
+use Rattle.lj_access.specs.declared.user.User.{User}
+use Rattle.lj_access.specs.Rows.{Row, user_with}
+use Rattle.lj_world.specs.declared.event.Event.{Event}
+use Rattle.lj_world.specs.declared.event.Event.TheVariants.{Hello, Arrive, End, Enter, Next, Post, Take, Compute, Give, HandBack, Fetch, Turn, Leave}
+use Rattle.lj_world.specs.declared.transcript.Entry.{Entry}
+use Rattle.lj_world.specs.States.{State, Talk, inside, start, talk_at}
+use Rattle.lj_world.specs.Runs.{Step, Run, IsTranscript}
+use Rattle.lj_world.specs.Scripts.{Heard, Script, Agree, IsPrefix, OneIsPrefix, heard, line_of, replies, script}
+
+-- a user of this number has this quota
+abbrev pub HasQuota : List User → ℕ → Quota → Type 0
+HasQuota users user quota = option_map (λ u. u.quota) (slice_get users user) ≡ Some quota
+
+-- The texts of a script's items answered alone, over the integrator of all pairs.
+abbrev pub alone_texts : Quota → Script → List (List ℕ)
+alone_texts quota s = (alone quota s.items s.marks).0
+
+-- the first of them, one for each mark
+abbrev pub first_texts : Quota → Script → List (List ℕ)
+first_texts quota s = take (length s.marks) (alone_texts quota s)
+
+-- In every run a user's replies are the first texts of its script alone, one for each mark.
+abbrev pub RepliesAreFirstTexts : Type 0
+RepliesAreFirstTexts = (users : List User) (events : List Event) (entries : List Entry) (user : ℕ) (quota : Quota)
+    → IsTranscript users events entries → HasQuota users user quota
+    → replies user entries ≡ first_texts quota (script user users events entries)
+
+-- Of two scripts that agree the one list of these texts is a prefix of the other.
+abbrev pub AgreeingScriptsAgreeInTexts : Type 0
+AgreeingScriptsAgreeInTexts = (quota : Quota) (one other : Script) → Agree one other
+    → OneIsPrefix (first_texts quota one) (first_texts quota other)
+
+-- A run as one of its users sees it: the users, of whom this one has this quota, the events, and what is replied.
+pub record Play (quota : Quota) : Type 0 where
+  pub users : List User
+  pub user : ℕ
+  pub has_quota : HasQuota users user quota
+  pub events : List Event
+  pub entries : List Entry
+  pub is_run : IsTranscript users events entries
+
+-- the script and the replies of the user
+abbrev pub script_in : {quota : Quota} → Play quota → Script
+script_in play = script play.user play.users play.events play.entries
+
+abbrev pub replies_in : {quota : Quota} → Play quota → List (List ℕ)
+replies_in play = replies play.user play.entries
+
+-- Of the replies that two runs give a user one list is a prefix of the other, and each is a prefix of the replies of the
+-- user's commands answered alone.
+pub record TellAlike {quota : Quota} (one other : Play quota) : Type 0 where
+  pub alike : OneIsPrefix (replies_in one) (replies_in other)
+  pub one_alone : IsPrefix (replies_in one) (alone_texts quota (script_in one))
+  pub other_alone : IsPrefix (replies_in other) (alone_texts quota (script_in other))
+
+-- THE HEADLINE. For every two lists of events in which a user's scripts agree, of the replies that the two runs give this
+-- user one list is a prefix of the other, and each is a prefix of the replies of that user's commands folded alone over
+-- the all-pairs integrator, whatever other users sent, however tasks were taken, and however many workers there were.
+abbrev pub Headline : Type 0
+Headline = (quota : Quota) (one other : Play quota) → Agree (script_in one) (script_in other) → TellAlike one other
+
+-- the headline of one run against every other
+abbrev pub TellsAsAnyOther : List User → List Event → List Entry → Type 0
+TellsAsAnyOther users events entries =
+    (user : ℕ) (quota : Quota) (has_quota : HasQuota users user quota) (is_run : IsTranscript users events entries) (other : Play quota)
+    → let one : Play quota = record {
+      users = users;
+      user = user;
+      has_quota = has_quota;
+      events = events;
+      entries = entries;
+      is_run = is_run;
+    } in Agree (script_in one) (script_in other) → TellAlike one other
+
+-- The state of the user is at home, and this is its value.
+pub record IsAtHome (s : State) (user : ℕ) (value : Value) : Type 0 where
+  pub row : Row
+  pub there : slice_get s.rows user ≡ Some row
+  pub state : Owned
+  pub home : row.home ≡ Some state
+  pub is : value ≡ user_of state
+
+-- A connection owns the state of the user, this is its value, and this runs or nothing.
+pub record IsOwned (s : State) (user : ℕ) (value : Value) (rest : Option Order) : Type 0 where
+  pub connection : ℕ
+  pub talk : Talk
+  pub known : talk_at s connection ≡ Some talk
+  pub of_user : talk.user ≡ user
+  pub owner : Owning
+  pub owns : talk.stage ≡ inside owner
+  pub is : value ≡ user_in owner
+  pub runs : rest ≡ owner.rest
+
+-- the value of a user in a state, and what runs on it
+abbrev pub HasValue : State → ℕ → Value → Option Order → Type 0
+HasValue s user value rest = IsAtHome s user value × (rest ≡ None) ⊎ IsOwned s user value rest
+
+-- the user and what is left of the item, after so many turns of it
+abbrev pub after_turns : ℕ → Value → Item → Value × Item
+after_turns zero value item = (value, item)
+after_turns (suc n) value item = let before = after_turns n value item in (user_turned before.0 before.1, item_left before.1)
+
+-- the user after so many items of a script as have marks
+abbrev pub value_so_far : Quota → Script → Value
+value_so_far quota s = last_user (fresh quota) (take (length s.marks) s.items) s.marks
+
+-- The value is that of the script so far; while an item runs it is that after some turns of the item, and what runs is
+-- what is then left of it.
+abbrev pub IsScriptValue : Quota → Script → Value → Option Order → Type 0
+IsScriptValue quota s value None = value ≡ value_so_far quota s
+IsScriptValue quota s value (Some command) =
+    (item : Item) × (n : ℕ) × (slice_get s.items (length s.marks) ≡ Some item)
+    × ((value, Command command) ≡ after_turns n (value_so_far quota s) item)
+
+-- In every run each user has a value, and it is that of its script so far.
+abbrev pub ValueIsThatOfScript : Type 0
+ValueIsThatOfScript = (users : List User) (events : List Event) (entries : List Entry) (last : State) (user : ℕ) (quota : Quota)
+    → Run (start users) events entries last → HasQuota users user quota
+    → ((value : Value) × (rest : Option Order) × HasValue last user value rest)
+    × ((value : Value) (rest : Option Order) → HasValue last user value rest
+    → IsScriptValue quota (script user users events entries) value rest)
+
+-- The connection has the user's ticket of this number.
+pub record HasTicket (s : State) (connection user number : ℕ) : Type 0 where
+  pub talk : Talk
+  pub known : talk_at s connection ≡ Some talk
+  pub of_user : talk.user ≡ user
+  pub numbered : talk.number ≡ number
+
+-- In every run a user's n-th granted HELLO, counted from 0, gets its ticket n.
+abbrev pub TicketsAreInOrder : Type 0
+TicketsAreInOrder = (users : List User) (events : List Event) (entries : List Entry) (last : State) (user n : ℕ) (h : Heard)
+    → Run (start users) events entries last → slice_get (line_of user (heard users events)) n ≡ Some h
+    → HasTicket last h.connection user n
+
+-- the user of a connection, if it is known
+abbrev pub connected : State → ℕ → Option ℕ
+connected s connection = option_map (λ talk. talk.user) (talk_at s connection)
+
+-- the user whose event it is, if it is a user's: workers act for none
+abbrev pub actor : State → Event → Option ℕ
+actor s (Hello connection name token) = user_with s.rows name token
+actor s (Arrive connection item) = connected s connection
+actor s (End connection) = connected s connection
+actor s (Enter connection) = connected s connection
+actor s (Next connection) = connected s connection
+actor s (Post connection) = connected s connection
+actor s (Take worker pick) = None
+actor s (Compute worker) = None
+actor s (Give worker) = None
+actor s (HandBack worker) = None
+actor s (Fetch connection pick) = connected s connection
+actor s (Turn connection) = connected s connection
+actor s (Leave connection) = connected s connection
+
+-- the connection of a number, if it is this user's
+abbrev pub talk_of : ℕ → State → ℕ → Option Talk
+talk_of user s connection = option_and_then (λ talk. if nat_eq talk.user user then Some talk else None) (talk_at s connection)
+
+-- Nothing of the user has changed, its row or its connections, and nothing is replied to it.
+pub record Untouched (user : ℕ) (old : State) (reply : Option Entry) (new : State) : Type 0 where
+  pub row : slice_get new.rows user ≡ slice_get old.rows user
+  pub talks : (connection : ℕ) → talk_of user new connection ≡ talk_of user old connection
+  pub untold : option_map (λ e. e.user) reply ≢ Some user
+
+-- An event that is not this user's changes nothing of it.
+abbrev pub OthersChangeNothing : Type 0
+OthersChangeNothing = (old : State) (event : Event) (reply : Option Entry) (new : State) (user : ℕ)
+    → Step old event reply new → actor old event ≢ Some user → Untouched user old reply new

@@ -1,0 +1,5 @@
+pub mod States
+pub mod Happenings
+pub mod Runs
+pub mod Scripts
+pub mod Laws

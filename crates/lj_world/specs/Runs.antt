@@ -1,0 +1,26 @@
+-- Runs of the machine: one step for each event, in which an event that is not possible changes nothing.
+use Rattle.std.specs.Prelude.{◌≡◌, List, [], ◌∷◌, ◌++◌, Option, None, option_to_list, ◌⊎◌}
+use Rattle.lj_access.specs.declared.user.User.{User}
+use Rattle.lj_world.specs.declared.event.Event.{Event}
+use Rattle.lj_world.specs.declared.transcript.Entry.{Entry}
+use Rattle.lj_world.specs.States.{State, start}
+use Rattle.lj_world.specs.Happenings.{Happens}
+
+-- the event is possible
+abbrev pub IsPossible : State → Event → Type 0
+IsPossible old event = (reply : Option Entry) × (new : State) × Happens old event reply new
+
+-- A step: the event happens, or it is not possible, and then nothing is told and nothing changes.
+abbrev pub Step : State → Event → Option Entry → State → Type 0
+Step old event reply new = Happens old event reply new ⊎ (¬ IsPossible old event) × (reply ≡ None) × (new ≡ old)
+
+-- Steps over these events, one after the other, which tell these replies.
+abbrev pub Run : State → List Event → List Entry → State → Type 0
+Run old [] replies new = (replies ≡ []) × (new ≡ old)
+Run old (event ∷ events) replies new =
+    (reply : Option Entry) × (between : State) × (later : List Entry)
+    × Step old event reply between × Run between events later new × (replies ≡ option_to_list reply ++ later)
+
+-- These replies are the whole transcript of a run from these users over just these events, in their order.
+abbrev pub IsTranscript : List User → List Event → List Entry → Type 0
+IsTranscript users events replies = (last : State) × Run (start users) events replies last
