@@ -1,0 +1,49 @@
+//! Laws of runs: functions that do nothing of their own, whose contracts are the laws.
+ghost use Rattle.lj_world.specs.Laws.{RepliesAreFirstTexts, AgreeingScriptsAgreeInTexts, Headline, ValueIsThatOfScript, TicketsAreInOrder, OthersChangeNothing};
+
+use lj_wire::{mark_is_told, running_goes_on, turn_keeps_told};
+
+/// In every run a user's replies are the first texts of its script answered alone, one for each mark.
+pub fn replies_are_first_texts()
+    ensures { RepliesAreFirstTexts }
+{
+    mark_is_told();
+    turn_keeps_told();
+    running_goes_on();
+}
+
+/// Of two scripts that agree the one list of texts is a prefix of the other.
+pub fn agreeing_scripts_agree_in_texts()
+    ensures { AgreeingScriptsAgreeInTexts }
+{}
+
+/// For every two lists of events in which a user's scripts agree, of the replies that the two runs give this user one
+/// list is a prefix of the other, and each is a prefix of the replies of that user's commands answered alone.
+pub fn headline()
+    ensures { Headline }
+{
+    replies_are_first_texts();
+    agreeing_scripts_agree_in_texts();
+}
+
+/// In every run the value of a user is that of its script so far, while an item runs after some of its turns.
+pub fn value_is_that_of_script()
+    ensures { ValueIsThatOfScript }
+{
+    mark_is_told();
+    turn_keeps_told();
+    running_goes_on();
+}
+
+/// In every run a user's n-th granted HELLO, counted from 0, gets its ticket n.
+pub fn tickets_are_in_order()
+    ensures { TicketsAreInOrder }
+{
+    turn_keeps_told();
+    running_goes_on();
+}
+
+/// An event that is not a user's changes nothing of it.
+pub fn others_change_nothing()
+    ensures { OthersChangeNothing }
+{}
