@@ -3,3 +3,7 @@ pub mod Cuts
 pub mod Seats
 pub mod Lines
 pub mod Agreeing
+pub mod Finding
+pub mod RowLemmas
+pub mod Keeping
+pub mod Rowing

@@ -24,18 +24,18 @@ pub data Changes (connection : ℕ) (seat x : Seat) : List Seat → List Seat �
   there : {other : Seat} {line new : List Seat} → nat_eq other.connection connection ≡ false → Changes connection seat x line new
       → Changes connection seat x (other ∷ line) (other ∷ new)
 
-pub AllWait : List Seat → Type 0
+unfoldable pub AllWait : List Seat → Type 0
 AllWait [] = Unit {0}
 AllWait (seat ∷ line) = Waits seat × AllWait line
 
 -- the tickets are numbered from here on
-pub Numbered : ℕ → List Seat → Type 0
+unfoldable pub Numbered : ℕ → List Seat → Type 0
 Numbered n [] = Unit {0}
 Numbered n (seat ∷ line) = (seat.talk.number ≡ n) × Numbered (suc n) line
 
 -- So many connections have left; the state is at home and all others wait, or the next one owns it and all after it wait.
 -- From a user on, these are the texts that all were told.
-pub Stands : User → ℕ → Option Owned → List Seat → Texts → Type 0
+unfoldable pub Stands : User → ℕ → Option Owned → List Seat → Texts → Type 0
 Stands from zero (Some state) line texts = (texts ≡ []) × (user_of state ≡ from) × AllWait line
 Stands from zero None [] texts = ⊥
 Stands from zero None (seat ∷ line) texts = Owns from texts seat × AllWait line
@@ -140,7 +140,7 @@ stands_hello from (suc past) home (seat ∷ line) x texts w (between, early, lat
     (between, early, late, left, stands_hello between past home line x late w s, whole)
 
 -- where a value stands beside the items of a script that are not answered
-pub At : User → User → Option Order → List Item → Type 0
+unfoldable pub At : User → User → Option Order → List Item → Type 0
 At last value None others = value ≡ last
 At last value (Some command) others =
     (item : Item) × (n : ℕ) × (more : List Item) × (others ≡ item ∷ more) × ((value, Command command) ≡ after_turns n last item)

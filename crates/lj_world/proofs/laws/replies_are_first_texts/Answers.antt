@@ -1,0 +1,6 @@
+use Rattle.lj_world.proofs.RowLemmas
+use Rattle.lj_world.proofs.Rowing
+use Rattle.lj_world.proofs.laws.replies_are_first_texts.Goals as goal
+
+pub returns : goal.returns
+returns c = ?
