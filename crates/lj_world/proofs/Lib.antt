@@ -7,3 +7,4 @@ pub mod Finding
 pub mod RowLemmas
 pub mod Keeping
 pub mod Rowing
+pub mod Stepping

@@ -1,5 +1,5 @@
 use Rattle.lj_world.proofs.RowLemmas
-use Rattle.lj_world.proofs.Rowing
+use Rattle.lj_world.proofs.Stepping
 use Rattle.lj_world.proofs.laws.replies_are_first_texts.Goals as goal
 
 pub returns : goal.returns
