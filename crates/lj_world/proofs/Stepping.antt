@@ -196,3 +196,167 @@ module _ (known : Known) (rows : List Row) (user : ℕ) (from : User) where
       (one_goes s t hs texts k c p.talk after (Some p.text) p.whole.known
       (λ seat. turns_last p.owner p.after p.command p.answers.mark p.text p.whole.owns p.whole.runs p.answers.is_told p.answers.idle)
       (λ seat. refl) (ap (λ z. z.rows) p.next) (ap (λ z. z.talks) p.next))
+
+-- a known connection is heard
+is_heard : (rows : List Row) (user : ℕ) (from : User) (s : State) (hs : List Heard) (texts : Texts) (k : Keeps rows user from s hs texts) (c : ℕ)
+    → list_any (λ h. nat_eq h.connection c) hs ≡ is_some (found c k.seats)
+is_heard rows user from s hs texts k c = ap (list_any (λ h. nat_eq h.connection c)) k.heard_is ∙ any_found c k.seats
+
+-- the number of a user's tickets is the length of its line
+line_length : (rows : List Row) (user : ℕ) (from : User) (s : State) (hs : List Heard) (texts : Texts) (k : Keeps rows user from s hs texts) (v : ℕ) (row : Row)
+    → slice_get s.rows v ≡ Some row → length (line_of v hs) ≡ row.granted
+line_length rows user from s hs texts k v row e =
+    ap (λ l. length (line_of v l)) k.heard_is ∙ ap length (line_heard v k.seats) ∙ length-map (line_in v k.seats) heard_of ∙ sym (k.granted v row e)
+
+-- what the machine grants is granted in what is heard
+hello_granted : (rows : List Row) (user : ℕ) (from : User) (s t : State) (hs : List Heard) (texts : Texts) (k : Keeps rows user from s hs texts)
+    (c : ℕ) (name token : List ℕ) (p : SaysHello s c name token t) → is_granted c p.user hs ≡ true
+hello_granted rows user from s t hs texts k c name token p =
+    let none = nowhere c k.seats (sym (k.seated c) ∙ p.is_new) in
+    let first : nat_le 1 c ≡ true = le-leb 1 c p.within.first in
+    let last : nat_le c 64 ≡ true = le-leb c 64 p.within.last in
+    let new : not (list_any (λ h. nat_eq h.connection c) hs) ≡ true = ap not (is_heard rows user from s hs texts k c ∙ ap is_some none) in
+    let left : nat_lt (length (line_of p.user hs)) 4294967296 ≡ true =
+    ap (λ n. nat_lt n 4294967296) (line_length rows user from s hs texts k p.user p.row p.there) ∙ lt-ltb p.row.granted 4294967296 p.left in
+    ap₂ (λ a b. a && b) (ap₂ (λ a b. a && b) first last) (ap₂ (λ a b. a && b) new left)
+
+and_left : (a b : Bool) → (a && b) ≡ true → a ≡ true
+and_left true b e = refl
+and_left false b e = e
+
+and_right : (a b : Bool) → (a && b) ≡ true → b ≡ true
+and_right true b e = e
+and_right false b e = absurd (true≢false (sym e))
+
+not_true : (a : Bool) → not a ≡ true → a ≡ false
+not_true true e = absurd (true≢false (sym e))
+not_true false e = refl
+
+no_seat : (o : Option Seat) → is_some o ≡ false → o ≡ None
+no_seat None e = refl
+no_seat (Some seat) e = absurd (true≢false e)
+
+-- and what is granted there can be granted by the machine
+hello_possible : (rows : List Row) (user : ℕ) (from : User) (s : State) (hs : List Heard) (texts : Texts) (k : Keeps rows user from s hs texts)
+    (c : ℕ) (name token : List ℕ) (v : ℕ) → user_with rows name token ≡ Some v → is_granted c v hs ≡ true
+    → (t : State) × SaysHello s c name token t
+hello_possible rows user from s hs texts k c name token v is_named granted =
+    let number = and_left (nat_le 1 c && nat_le c 64) _ granted in
+    let others = and_right (nat_le 1 c && nat_le c 64) _ granted in
+    let fresh = not_true (list_any (λ h. nat_eq h.connection c) hs) (and_left _ _ others) in
+    let none = no_seat (found c k.seats) (sym (is_heard rows user from s hs texts k c) ∙ fresh) in
+    let here : user_with s.rows name token ≡ Some v = k.names name token ∙ is_named in
+    let within = (position-Some (is_of name token) s.rows v k.row here).0 in
+    let row = slice_index_or s.rows v k.row in
+    let there : slice_get s.rows v ≡ Some row = slice_get-get_or s.rows v k.row within in
+    let left = ltb-true (length (line_of v hs)) 4294967296 (and_right (not (list_any (λ h. nat_eq h.connection c) hs)) _ others) in
+    (_, record {
+      within = record { first = leb-true 1 c (and_left (nat_le 1 c) (nat_le c 64) number); last = leb-true c 64 (and_right (nat_le 1 c) (nat_le c 64) number) };
+      is_new = k.seated c ∙ ap (option_map (λ seat. seat.talk)) none;
+      user = v;
+      named = here;
+      row = row;
+      there = there;
+      left = omega (arith, left, line_length rows user from s hs texts k v row there);
+      next = refl;
+    })
+
+module _ (known : Known) (rows : List Row) (user : ℕ) (from : User) where
+  hello_keeps : (s t : State) (hs : List Heard) (texts : Texts) (k : Keeps rows user from s hs texts) (c : ℕ) (name token : List ℕ)
+      → SaysHello s c name token t → Keeps rows user from t (greeting c (user_with rows name token) hs) texts
+  hello_keeps s t hs texts k c name token p =
+      let is_named : user_with rows name token ≡ Some p.user = sym (k.names name token) ∙ p.named in
+      let granted = hello_granted rows user from s t hs texts k c name token p in
+      let heard_is : greeting c (user_with rows name token) hs ≡ hs ++ heard_of (new_seat c p.user p.row.granted) ∷ [] =
+      ap (λ o. greeting c o hs) is_named ∙ ap (λ b. cond b (hs ++ heard_of (new_seat c p.user p.row.granted) ∷ []) hs) granted in
+      subst (λ h. Keeps rows user from t h texts) (sym heard_is) (hello_goes rows user from s t hs texts k c name token p)
+
+  -- what is kept is kept by what happens
+  happens_keeps : (s t : State) (hs : List Heard) (texts : Texts) (event : Event) (reply : Option Entry) (k : Keeps rows user from s hs texts)
+      → Happens s event reply t → KeepsAfter rows user from t (hear rows hs event) texts reply
+  unfolding Happens told_to
+  happens_keeps s t hs texts (Hello c name token) reply k (r, p) =
+      quiet rows user from t _ texts reply r (hello_keeps s t hs texts k c name token p)
+  happens_keeps s t hs texts (Arrive c item) reply k (r, p) = quiet rows user from t _ texts reply r (arrive_keeps known rows user from s t hs texts k c item p)
+  happens_keeps s t hs texts (End c) reply k (r, p) = quiet rows user from t _ texts reply r (end_keeps known rows user from s t hs texts k c p)
+  happens_keeps s t hs texts (Enter c) reply k (r, p) = quiet rows user from t hs texts reply r (enter_keeps known rows user from s t hs texts k c p)
+  happens_keeps s t hs texts (Next c) reply k p = next_keeps known rows user from s t hs texts reply k c p
+  happens_keeps s t hs texts (Post c) reply k (r, p) = quiet rows user from t hs texts reply r (post_keeps known rows user from s t hs texts k c p)
+  happens_keeps s t hs texts (Take w pick) reply k (r, p) =
+      quiet rows user from t hs texts reply r (front_stays rows user from s t hs texts k (ap (λ z. z.rows) p.next) (ap (λ z. z.talks) p.next))
+  happens_keeps s t hs texts (Compute w) reply k (r, p) =
+      quiet rows user from t hs texts reply r (front_stays rows user from s t hs texts k (ap (λ z. z.rows) p.next) (ap (λ z. z.talks) p.next))
+  happens_keeps s t hs texts (Give w) reply k (r, p) =
+      quiet rows user from t hs texts reply r (front_stays rows user from s t hs texts k (ap (λ z. z.rows) p.next) (ap (λ z. z.talks) p.next))
+  happens_keeps s t hs texts (HandBack w) reply k (r, p) =
+      quiet rows user from t hs texts reply r (front_stays rows user from s t hs texts k (ap (λ z. z.rows) p.next) (ap (λ z. z.talks) p.next))
+  happens_keeps s t hs texts (Fetch c pick) reply k (r, p) = quiet rows user from t hs texts reply r (fetch_keeps known rows user from s t hs texts k c p)
+  happens_keeps s t hs texts (Turn c) reply k p = turn_keeps known rows user from s t hs texts reply k c p
+  happens_keeps s t hs texts (Leave c) reply k (r, p) = quiet rows user from t hs texts reply r (leave_keeps known rows user from s t hs texts k c p)
+
+-- nothing is heard at an event that is not possible
+module _ (rows : List Row) (user : ℕ) (from : User) (s : State) (hs : List Heard) (texts : Texts) (k : Keeps rows user from s hs texts) where
+  unheard_hello : (c : ℕ) (name token : List ℕ) → ¬ IsPossible s (Hello c name token) → greeting c (user_with rows name token) hs ≡ hs
+  unfolding Happens
+  unheard_hello c name token impossible = by (user_with rows name token) refl
+    where
+      at : (v : ℕ) → user_with rows name token ≡ Some v → (b : Bool) → is_granted c v hs ≡ b → greeting c (Some v) hs ≡ hs
+      at v e true g =
+          let p = hello_possible rows user from s hs texts k c name token v e g in absurd (impossible (None, p.0, (refl, p.1)))
+      at v e false g = ap (λ b. cond b (hs ++ record { connection = c; user = v; items = []; ended = false } ∷ []) hs) g
+
+      by : (o : Option ℕ) → user_with rows name token ≡ o → greeting c o hs ≡ hs
+      by None e = refl
+      by (Some v) e = at v e (is_granted c v hs) refl
+
+  -- a change of a connection that is not known, or that changes nothing of what was heard
+  unheard_change : (c : ℕ) (change : Heard → Heard) → ((seat : Seat) → talk_at s c ≡ Some seat.talk → change (heard_of seat) ≡ heard_of seat)
+      → with_heard c change hs ≡ hs
+  unheard_change c change same = by (found c k.seats) refl
+    where
+      by : (o : Option Seat) → found c k.seats ≡ o → with_heard c change hs ≡ hs
+      by None e = ap (with_heard c change) k.heard_is ∙ heard_nowhere c change k.seats e ∙ sym k.heard_is
+      by (Some seat) e =
+          let is_known : talk_at s c ≡ Some seat.talk = k.seated c ∙ ap (option_map (λ x. x.talk)) e in
+          let new = found_changes c k.seats seat seat e in
+          ap (with_heard c change) k.heard_is ∙ heard_changes c change seat seat k.seats new.0 new.1 (sym (same seat is_known))
+          ∙ heard_stays c seat seat k.seats new.0 new.1 refl ∙ sym k.heard_is
+
+  unheard_arrive : (c : ℕ) (item : Item) → ¬ IsPossible s (Arrive c item) → with_heard c (with_item item) hs ≡ hs
+  unfolding Happens
+  unheard_arrive c item impossible = unheard_change c (with_item item) (λ seat e. by seat e seat.talk.ended refl)
+    where
+      by : (seat : Seat) → talk_at s c ≡ Some seat.talk → (b : Bool) → seat.talk.ended ≡ b → with_item item (heard_of seat) ≡ heard_of seat
+      by seat e true is_ended = ap (λ b. cond b (heard_of seat) (record (heard_of seat) { items = seat.items ++ item ∷ [] })) is_ended
+      by seat e false still = absurd (impossible (None, _, (refl, record { talk = seat.talk; known = e; not_ended = still; next = refl })))
+
+  unheard_end : (c : ℕ) → ¬ IsPossible s (End c) → with_heard c with_end hs ≡ hs
+  unfolding Happens
+  unheard_end c impossible =
+      unheard_change c with_end (λ seat e. absurd (impossible (None, _, (refl, record { talk = seat.talk; known = e; next = refl }))))
+
+  unheard : (event : Event) → ¬ IsPossible s event → hear rows hs event ≡ hs
+  unheard (Hello c name token) impossible = unheard_hello c name token impossible
+  unheard (Arrive c item) impossible = unheard_arrive c item impossible
+  unheard (End c) impossible = unheard_end c impossible
+  unheard (Enter c) impossible = refl
+  unheard (Next c) impossible = refl
+  unheard (Post c) impossible = refl
+  unheard (Take w pick) impossible = refl
+  unheard (Compute w) impossible = refl
+  unheard (Give w) impossible = refl
+  unheard (HandBack w) impossible = refl
+  unheard (Fetch c pick) impossible = refl
+  unheard (Turn c) impossible = refl
+  unheard (Leave c) impossible = refl
+
+module _ (known : Known) (rows : List Row) (user : ℕ) (from : User) where
+  -- what is kept is kept by each step
+  pub step_keeps : (s t : State) (hs : List Heard) (texts : Texts) (event : Event) (reply : Option Entry) (k : Keeps rows user from s hs texts)
+      → Step s event reply t → KeepsAfter rows user from t (hear rows hs event) texts reply
+  step_keeps s t hs texts event reply k (inl h) = happens_keeps known rows user from s t hs texts event reply k h
+  step_keeps s t hs texts event reply k (inr (impossible, r, same)) =
+      quiet rows user from t (hear rows hs event) texts reply r
+      (front_stays rows user from s t (hear rows hs event) texts
+      (subst (λ h. Keeps rows user from s h texts) (sym (unheard rows user from s hs texts k event impossible)) k)
+      (ap (λ z. z.rows) same) (ap (λ z. z.talks) same))
