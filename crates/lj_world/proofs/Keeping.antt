@@ -24,9 +24,10 @@ Distinct (seat ∷ seats) = (found seat.connection seats ≡ None) × Distinct s
 pub distinct_changed : (c : ℕ) (seat x : Seat) (seats new : List Seat) → Changes c seat x seats new → x.connection ≡ seat.connection → Distinct seats → Distinct new
 unfolding Distinct
 distinct_changed c seat x seats new (here {line = rest} e) same (none, more) = (ap (λ n. found n rest) same ∙ none, more)
-distinct_changed c seat x seats new (there {other} {line = rest} {new = changed} e ch) same (none, more) =
-    (found_other c other.connection seat x rest changed ch same (λ h. eqb-false other.connection c e h) ∙ none,
-    distinct_changed c seat x rest changed ch same more)
+distinct_changed c seat x seats new (there {other} {line = rest} {new = changed} e ch) same (none, more) = (
+  found_other c other.connection seat x rest changed ch same (λ h. eqb-false other.connection c e h) ∙ none,
+  distinct_changed c seat x rest changed ch same more,
+)
 
 -- Of a user that begins from a value: what is kept in a state, beside what was heard and what the user was told. The rows
 -- are those in which the run began.
@@ -153,9 +154,10 @@ module _ (keeps : TurnKeepsTold) (goes_on : RunningGoesOn) where
       line_goes : (b : Bool) → nat_eq seat.talk.user user ≡ b
           → Stands from k.row.past k.row.home (line_in user new) (grown texts (told_if b reply)) × Numbered 0 (line_in user new)
       line_goes true e =
-          let line_ch = line_changes user c seat x k.seats new ch e same.user in
-          (stands_goes keeps goes_on from k.row.past k.row.home c seat x (line_in user k.seats) (line_in user new) texts reply line_ch g k.stands,
-          numbered_changed c seat x 0 (line_in user k.seats) (line_in user new) line_ch same.number k.numbered)
+          let line_ch = line_changes user c seat x k.seats new ch e same.user in (
+            stands_goes keeps goes_on from k.row.past k.row.home c seat x (line_in user k.seats) (line_in user new) texts reply line_ch g k.stands,
+            numbered_changed c seat x 0 (line_in user k.seats) (line_in user new) line_ch same.number k.numbered,
+          )
       line_goes false e =
           subst (λ l. Stands from k.row.past k.row.home l texts × Numbered 0 l) (sym (line_stays user c seat x k.seats new ch e same.user))
           (k.stands, k.numbered)

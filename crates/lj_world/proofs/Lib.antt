@@ -8,3 +8,4 @@ pub mod RowLemmas
 pub mod Keeping
 pub mod Rowing
 pub mod Stepping
+pub mod Running

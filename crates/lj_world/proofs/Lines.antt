@@ -90,9 +90,14 @@ module _ (keeps : TurnKeepsTold) (goes_on : RunningGoesOn) where
   stands_goes from (suc past) home connection seat x line new texts reply (here {line = rest} e) g (between, early, late, left, s, whole) =
       let r = left_goes from seat reply x early between left g in
       subst (λ o. Stands from (suc past) home (x ∷ rest) (grown texts o)) (sym r.0) (between, early, late, r.1, s, whole)
-  stands_goes from (suc past) home connection seat x line new texts reply (there {other} {line = rest} {new = changed} e ch) g (between, early, late, left, s, whole) =
-      (between, early, grown late reply, left, stands_goes between past home connection seat x rest changed late reply ch g s,
-      ap (λ ts. grown ts reply) whole ∙ grown-append early late reply)
+  stands_goes from (suc past) home connection seat x line new texts reply (there {other} {line = rest} {new = changed} e ch) g (between, early, late, left, s, whole) = (
+    between,
+    early,
+    grown late reply,
+    left,
+    stands_goes between past home connection seat x rest changed late reply ch g s,
+    ap (λ ts. grown ts reply) whole ∙ grown-append early late reply,
+  )
 
 -- the first ticket that has not left enters
 pub stands_enters : (from : User) (past n : ℕ) (state : Owned) (connection : ℕ) (seat : Seat) (owner : Owning) (line new : List Seat) (texts : Texts)
@@ -105,9 +110,14 @@ stands_enters from zero n state connection seat owner line new texts (there {oth
     absurd (let later = numbered_later connection seat (seat_inside owner seat) (suc n) rest changed ch more in omega (arith, later, number))
 stands_enters from (suc past) n state connection seat owner line new texts (here e) waits numbered number idle u (between, early, late, left, s, whole) =
     absurd (gone_waiting seat.talk.stage left.is_gone waits)
-stands_enters from (suc past) n state connection seat owner line new texts (there {other} {line = rest} {new = changed} e ch) waits (is, more) number idle u (between, early, late, left, s, whole) =
-    (between, early, late, left,
-    stands_enters between past (suc n) state connection seat owner rest changed late ch waits more (omega (arith, number)) idle u s, whole)
+stands_enters from (suc past) n state connection seat owner line new texts (there {other} {line = rest} {new = changed} e ch) waits (is, more) number idle u (between, early, late, left, s, whole) = (
+  between,
+  early,
+  late,
+  left,
+  stands_enters between past (suc n) state connection seat owner rest changed late ch waits more (omega (arith, number)) idle u s,
+  whole,
+)
 
 -- the owner leaves
 pub stands_leaves : (from : User) (past : ℕ) (connection : ℕ) (seat : Seat) (owner : Owning) (line new : List Seat) (texts : Texts)

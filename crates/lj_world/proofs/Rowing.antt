@@ -91,15 +91,19 @@ rows_go rows user from s t hs texts k c seat x change is_found same unheard leav
             → (row : Row) × (slice_get (changed seat.talk.user change s.rows) user ≡ Some row)
             × Stands from row.past row.home (line_in user new) texts × Numbered 0 (line_in user new)
         by (inl (e, is)) =
-            let line_ch = line_changes user c seat x k.seats new ch e same.user in
-            (change k.row,
-            ap (λ v. slice_get (changed v change s.rows) user) is ∙ row_changed s.rows user change k.row k.there_is,
-            line_stands is (line_in user new) line_ch,
-            numbered_changed c seat x 0 (line_in user k.seats) (line_in user new) line_ch same.number k.numbered)
+            let line_ch = line_changes user c seat x k.seats new ch e same.user in (
+              change k.row,
+              ap (λ v. slice_get (changed v change s.rows) user) is ∙ row_changed s.rows user change k.row k.there_is,
+              line_stands is (line_in user new) line_ch,
+              numbered_changed c seat x 0 (line_in user k.seats) (line_in user new) line_ch same.number k.numbered,
+            )
         by (inr (e, differs)) =
-            let stays = line_stays user c seat x k.seats new ch e same.user in
-            (k.row, row_other s.rows seat.talk.user change user differs ∙ k.there_is,
-            subst (λ l. Stands from k.row.past k.row.home l texts) (sym stays) k.stands, subst (Numbered 0) (sym stays) k.numbered)
+            let stays = line_stays user c seat x k.seats new ch e same.user in (
+              k.row,
+              row_other s.rows seat.talk.user change user differs ∙ k.there_is,
+              subst (λ l. Stands from k.row.past k.row.home l texts) (sym stays) k.stands,
+              subst (Numbered 0) (sym stays) k.numbered,
+            )
 
 numbered_pushed : (n : ℕ) (line : List Seat) (x : Seat) → Numbered n line → x.talk.number ≡ n + length line → Numbered n (line ++ x ∷ [])
 unfolding Numbered
@@ -213,12 +217,16 @@ hello_goes rows user from s t hs texts k c name token p = record {
         by (inl (e, is)) =
             let line = line_pushed user k.seats x true e in
             let w : Waits x = record { waits = refl; inbox = refl; not_over = refl } in
-            let number : p.row.granted ≡ length (line_in user k.seats) = k.granted user p.row (ap (slice_get s.rows) (sym is) ∙ p.there) in
-            (with_ticket k.row,
-            ap (λ v. slice_get (changed v with_ticket s.rows) user) is ∙ row_changed s.rows user with_ticket k.row k.there_is,
-            subst (λ l. Stands from k.row.past k.row.home l texts) (sym line) (stands_hello from k.row.past k.row.home (line_in user k.seats) x texts w k.stands),
-            subst (Numbered 0) (sym line) (numbered_pushed 0 (line_in user k.seats) x k.numbered (omega (arith, number))))
+            let number : p.row.granted ≡ length (line_in user k.seats) = k.granted user p.row (ap (slice_get s.rows) (sym is) ∙ p.there) in (
+              with_ticket k.row,
+              ap (λ v. slice_get (changed v with_ticket s.rows) user) is ∙ row_changed s.rows user with_ticket k.row k.there_is,
+              subst (λ l. Stands from k.row.past k.row.home l texts) (sym line) (stands_hello from k.row.past k.row.home (line_in user k.seats) x texts w k.stands),
+              subst (Numbered 0) (sym line) (numbered_pushed 0 (line_in user k.seats) x k.numbered (omega (arith, number))),
+            )
         by (inr (e, differs)) =
-            let stays = line_pushed user k.seats x false e ∙ append-nil (line_in user k.seats) in
-            (k.row, row_other s.rows p.user with_ticket user differs ∙ k.there_is,
-            subst (λ l. Stands from k.row.past k.row.home l texts) (sym stays) k.stands, subst (Numbered 0) (sym stays) k.numbered)
+            let stays = line_pushed user k.seats x false e ∙ append-nil (line_in user k.seats) in (
+              k.row,
+              row_other s.rows p.user with_ticket user differs ∙ k.there_is,
+              subst (λ l. Stands from k.row.past k.row.home l texts) (sym stays) k.stands,
+              subst (Numbered 0) (sym stays) k.numbered,
+            )

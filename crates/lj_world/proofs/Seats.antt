@@ -147,12 +147,14 @@ wait_goes seat reply x w (turns_last owner after command mark text e r t a) = ab
 pub left_goes : (from : User) (seat : Seat) (reply : Option (List ℕ)) (x : Seat) (texts : Texts) (last : User) → HasLeft from seat texts last → Goes seat reply x
     → (reply ≡ None) × HasLeft from x texts last
 left_goes from seat reply x texts last l (arrives item still) =
-    let one : OneEnds seat.items = sym (ap (λ (b : Bool). b || list_any ends seat.items) still) ∙ l.closed in
-    (refl, record {
-      is_gone = l.is_gone;
-      closed = ap (λ (b : Bool). b || list_any ends (seat.items ++ item ∷ [])) still ∙ one-append seat.items (item ∷ []) one;
-      is_told = subst (λ (items : List Item). Told from items texts last) (sym (cut-one seat.items (item ∷ []) one)) l.is_told;
-    })
+    let one : OneEnds seat.items = sym (ap (λ (b : Bool). b || list_any ends seat.items) still) ∙ l.closed in (
+      refl,
+      record {
+        is_gone = l.is_gone;
+        closed = ap (λ (b : Bool). b || list_any ends (seat.items ++ item ∷ [])) still ∙ one-append seat.items (item ∷ []) one;
+        is_told = subst (λ (items : List Item). Told from items texts last) (sym (cut-one seat.items (item ∷ []) one)) l.is_told;
+      },
+    )
 left_goes from seat reply x texts last l ends_now = (refl, record { is_gone = l.is_gone; closed = refl; is_told = l.is_told })
 left_goes from seat reply x texts last l (works owner after posted e r u) = absurd (not_gone seat.talk.stage owner l.is_gone e)
 left_goes from seat reply x texts last l (begins owner after command items e r o i t a u) = absurd (not_gone seat.talk.stage owner l.is_gone e)

@@ -39,7 +39,7 @@ pub record Known : Type 0 where
   pub turn : TurnGivesTurned
 
 -- what a user is told by a reply
-pub told_to : ℕ → Option Entry → Option (List ℕ)
+unfoldable pub told_to : ℕ → Option Entry → Option (List ℕ)
 told_to user None = None
 told_to user (Some e) = told_if (nat_eq e.user user) (Some e.text)
 
@@ -249,17 +249,19 @@ hello_possible rows user from s hs texts k c name token v is_named granted =
     let within = (position-Some (is_of name token) s.rows v k.row here).0 in
     let row = slice_index_or s.rows v k.row in
     let there : slice_get s.rows v ≡ Some row = slice_get-get_or s.rows v k.row within in
-    let left = ltb-true (length (line_of v hs)) 4294967296 (and_right (not (list_any (λ h. nat_eq h.connection c) hs)) _ others) in
-    (_, record {
-      within = record { first = leb-true 1 c (and_left (nat_le 1 c) (nat_le c 64) number); last = leb-true c 64 (and_right (nat_le 1 c) (nat_le c 64) number) };
-      is_new = k.seated c ∙ ap (option_map (λ seat. seat.talk)) none;
-      user = v;
-      named = here;
-      row = row;
-      there = there;
-      left = omega (arith, left, line_length rows user from s hs texts k v row there);
-      next = refl;
-    })
+    let left = ltb-true (length (line_of v hs)) 4294967296 (and_right (not (list_any (λ h. nat_eq h.connection c) hs)) _ others) in (
+      _,
+      record {
+        within = record { first = leb-true 1 c (and_left (nat_le 1 c) (nat_le c 64) number); last = leb-true c 64 (and_right (nat_le 1 c) (nat_le c 64) number) };
+        is_new = k.seated c ∙ ap (option_map (λ seat. seat.talk)) none;
+        user = v;
+        named = here;
+        row = row;
+        there = there;
+        left = omega (arith, left, line_length rows user from s hs texts k v row there);
+        next = refl;
+      },
+    )
 
 module _ (known : Known) (rows : List Row) (user : ℕ) (from : User) where
   hello_keeps : (s t : State) (hs : List Heard) (texts : Texts) (k : Keeps rows user from s hs texts) (c : ℕ) (name token : List ℕ)

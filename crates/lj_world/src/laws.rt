@@ -1,6 +1,7 @@
 //! Laws of runs: functions that do nothing of their own, whose contracts are the laws.
 ghost use Rattle.lj_world.specs.Laws.{RepliesAreFirstTexts, AgreeingScriptsAgreeInTexts, Headline, ValueIsThatOfScript, TicketsAreInOrder, OthersChangeNothing};
 
+use lj_session::{accept_keeps_user, begin_keeps_user, posted_keeps_user, turn_gives_turned};
 use lj_wire::{mark_is_told, running_goes_on, turn_keeps_told};
 
 /// In every run a user's replies are the first texts of its script answered alone, one for each mark.
@@ -10,6 +11,10 @@ pub fn replies_are_first_texts()
     mark_is_told();
     turn_keeps_told();
     running_goes_on();
+    begin_keeps_user();
+    posted_keeps_user();
+    accept_keeps_user();
+    turn_gives_turned();
 }
 
 /// Of two scripts that agree the one list of texts is a prefix of the other.
@@ -33,6 +38,10 @@ pub fn value_is_that_of_script()
     mark_is_told();
     turn_keeps_told();
     running_goes_on();
+    begin_keeps_user();
+    posted_keeps_user();
+    accept_keeps_user();
+    turn_gives_turned();
 }
 
 /// In every run a user's n-th granted HELLO, counted from 0, gets its ticket n.
@@ -41,6 +50,10 @@ pub fn tickets_are_in_order()
 {
     turn_keeps_told();
     running_goes_on();
+    begin_keeps_user();
+    posted_keeps_user();
+    accept_keeps_user();
+    turn_gives_turned();
 }
 
 /// An event that is not a user's changes nothing of it.

@@ -1,5 +1,15 @@
-use Rattle.lj_world.proofs.Stepping.{step_keeps}
+use Rattle.lj_world.proofs.Stepping.{Known}
+use Rattle.lj_world.proofs.Running.{are_first_texts}
 use Rattle.lj_world.proofs.laws.replies_are_first_texts.Goals as goal
 
 pub returns : goal.returns
-returns c = ?
+returns c =
+    let known : Known = record {
+      keeps = c.turn_keeps_told.ensures;
+      goes_on = c.running_goes_on.ensures;
+      begin = c.begin_keeps_user.ensures;
+      posted = c.posted_keeps_user.ensures;
+      accept = c.accept_keeps_user.ensures;
+      turn = c.turn_gives_turned.ensures;
+    } in
+    are_first_texts c.mark_is_told.ensures known
