@@ -9,3 +9,4 @@ pub mod Keeping
 pub mod Rowing
 pub mod Stepping
 pub mod Running
+pub mod Values

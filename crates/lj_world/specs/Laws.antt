@@ -141,9 +141,9 @@ pub record HasTicket (s : State) (connection user number : ℕ) : Type 0 where
 
 -- In every run a user's n-th granted HELLO, counted from 0, gets its ticket n.
 abbrev pub TicketsAreInOrder : Type 0
-TicketsAreInOrder = (users : List User) (events : List Event) (entries : List Entry) (last : State) (user n : ℕ) (h : Heard)
-    → Run (start users) events entries last → slice_get (line_of user (heard users events)) n ≡ Some h
-    → HasTicket last h.connection user n
+TicketsAreInOrder = (users : List User) (events : List Event) (entries : List Entry) (last : State) (user : ℕ) (quota : Quota)
+    → Run (start users) events entries last → HasQuota users user quota
+    → (n : ℕ) (h : Heard) → slice_get (line_of user (heard users events)) n ≡ Some h → HasTicket last h.connection user n
 
 -- the user of a connection, if it is known
 abbrev pub connected : State → ℕ → Option ℕ
