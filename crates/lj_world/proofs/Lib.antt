@@ -10,3 +10,4 @@ pub mod Rowing
 pub mod Stepping
 pub mod Running
 pub mod Values
+pub mod Others

@@ -149,10 +149,12 @@ script_value marked quota items told_texts value rest a = by rest a.at
 
     by : (o : Option Order) → At a.last value o a.others → IsScriptValue quota (record { items = items; marks = marks }) value o
     by None at = at ∙ sym so_far
-    by (Some command) (item, n, more, others, is) =
-        (item, n,
-        ap (slice_get items) counted ∙ ap (λ xs. slice_get xs (length a.answered)) (a.split ∙ ap (λ ys. a.answered ++ ys) others) ∙ get_after a.answered item more,
-        is ∙ ap (λ v. after_turns n v item) (sym so_far))
+    by (Some command) (item, n, more, others, is) = (
+      item,
+      n,
+      ap (slice_get items) counted ∙ ap (λ xs. slice_get xs (length a.answered)) (a.split ∙ ap (λ ys. a.answered ++ ys) others) ∙ get_after a.answered item more,
+      is ∙ ap (λ v. after_turns n v item) (sym so_far),
+    )
 
 -- in every run the value of a user is that of its script so far
 pub value_is_of_script : MarkIsTold → Known → ValueIsThatOfScript
@@ -160,11 +162,12 @@ value_is_of_script marked known users events entries last user quota run has_quo
     let k = run_kept known users events entries last user quota run has_quota in
     let rows = map opening users in
     let hs = heard users events in
-    let told_texts = replies user entries in
-    (has_value rows user (fresh quota) last hs told_texts k,
-    λ value rest h. script_value marked quota (joined (line_of user hs)) told_texts value rest
-    (subst (λ xs. Account (fresh quota) xs told_texts value rest) (sym (script_items rows user (fresh quota) last hs told_texts k))
-    (value_account rows user (fresh quota) last hs told_texts k value rest h)))
+    let told_texts = replies user entries in (
+      has_value rows user (fresh quota) last hs told_texts k,
+      λ value rest h. script_value marked quota (joined (line_of user hs)) told_texts value rest
+          (subst (λ xs. Account (fresh quota) xs told_texts value rest) (sym (script_items rows user (fresh quota) last hs told_texts k))
+          (value_account rows user (fresh quota) last hs told_texts k value rest h)),
+    )
 
 -- the seat at a place of a line
 numbered_at : (n i : ℕ) (line : List Seat) (seat : Seat) → Numbered n line → slice_get line i ≡ Some seat → In seat line × (seat.talk.number ≡ n + i)

@@ -1,0 +1,5 @@
+use Rattle.lj_world.proofs.Others.{others_leave}
+use Rattle.lj_world.proofs.laws.others_change_nothing.Goals as goal
+
+pub returns : goal.returns
+returns c = others_leave
