@@ -1,11 +1,10 @@
 -- Scripts that agree: what they are told, and the headline from there.
-use Rattle.std.proofs.Common.{◌≡◌, ℕ, Bool, List, [], ◌∷◌, ◌++◌, length, take, drop, ◌⊎◌, inl, inr, refl, sym, ◌∙◌, ap, ap₂, subst, subst₂, take-append-drop}
-use Rattle.lj_quota.specs.declared.Quota.{Quota}
+use Rattle.std.proofs.Common.{◌≡◌, ℕ, Bool, List, [], ◌∷◌, ◌++◌, length, take, drop, inl, inr, refl, sym, ap, ap₂, subst, subst₂, take-append-drop}
 use Rattle.lj_session.specs.Users.{User, fresh}
 use Rattle.lj_wire.specs.declared.item.Item.{Item}
 use Rattle.lj_wire.specs.Told.{told, texts}
-use Rattle.lj_world.specs.Scripts.{IsPrefix, OneIsPrefix, Agree}
-use Rattle.lj_world.specs.Laws.{RepliesAreFirstTexts, AgreeingScriptsAgreeInTexts, Headline, Play, TellAlike, alone_texts, first_texts, script_in, replies_in}
+use Rattle.lj_world.specs.Scripts.{IsPrefix, OneIsPrefix}
+use Rattle.lj_world.specs.Laws.{RepliesAreFirstTexts, AgreeingScriptsAgreeInTexts, Headline, alone_texts, script_in}
 
 cons_head : {A : Type 0} (x y : A) (xs ys : List A) → x ∷ xs ≡ y ∷ ys → x ≡ y
 cons_head x y xs ys e = cc

@@ -1,5 +1,5 @@
 -- Seats found by the number of their connection, and the lines of users among them.
-use Rattle.std.proofs.Common.{◌≡◌, ◌≢◌, ℕ, ◌<◌, Bool, true, false, not, cond, nat_eq, List, [], ◌∷◌, ◌++◌, map, filter, is_some, Option, Some, None, option_map, ◌⊎◌, inl, inr, ◌||◌, refl, sym, ◌∙◌, ap, subst, subst₂, true≢false, eq-eqb, ne_eqb, eqb-true}
+use Rattle.std.proofs.Common.{◌≡◌, ◌≢◌, ℕ, Bool, true, false, cond, nat_eq, List, [], ◌∷◌, ◌++◌, map, filter, is_some, Option, Some, None, ◌⊎◌, inl, inr, ◌||◌, refl, sym, ◌∙◌, ap, subst, subst₂, ne_eqb, eqb-true}
 use Rattle.std.proofs.lemmas.Bool.{eqb-false}
 use Rattle.std.specs.List.{list_any}
 use Rattle.lj_world.specs.Scripts.{Heard, with_heard, line_of}

@@ -1,15 +1,12 @@
 -- What is kept in a run of the machine for one of its users: its connections are those that were heard, in the order of
 -- their tickets, and its line stands.
-use Rattle.std.proofs.Common.{◌≡◌, ◌≢◌, ℕ, zero, suc, ◌+◌, ◌<◌, Bool, true, false, cond, nat_eq, List, [], ◌∷◌, ◌++◌, map, length, slice_get, slice_set, slice_index_or, Option, Some, None, option_map, ◌⊎◌, inl, inr, refl, sym, ◌∙◌, ap, subst, arith, eq-eqb, ne_eqb, eqb-true, get_or-set_same, get_or-set_other, length-set}
+use Rattle.std.proofs.Common.{◌≡◌, ◌≢◌, ℕ, zero, suc, ◌<◌, Bool, true, false, cond, nat_eq, List, [], ◌∷◌, map, length, slice_get, slice_set, slice_index_or, Option, Some, None, option_map, ◌⊎◌, inl, inr, refl, sym, ◌∙◌, ap, subst, arith, get_or-set_same, get_or-set_other, length-set}
 use Rattle.std.proofs.lemmas.Bool.{eqb-false}
 use Rattle.std.proofs.lemmas.Bool.Decides.{eqb_tells}
 use Rattle.lj_session.specs.Users.{User}
-use Rattle.lj_session.specs.Owners.{Owning}
 use Rattle.lj_wire.specs.Laws.{TurnKeepsTold, RunningGoesOn}
 use Rattle.lj_access.specs.Rows.{Row, user_with}
-use Rattle.lj_world.specs.declared.transcript.Entry.{Entry}
 use Rattle.lj_world.specs.States.{State, Talk, talk_at}
-use Rattle.lj_world.specs.Happenings.{entry}
 use Rattle.lj_world.specs.Scripts.{Heard}
 use Rattle.lj_world.proofs.Tellings.{Texts}
 use Rattle.lj_world.proofs.Seats.{Seat, heard_of, seat_with, Goes, arrives, ends_now, works, begins, answers, turns_on, turns_last, grown}

@@ -1,18 +1,16 @@
 -- The line of a user's connections, in the order of their tickets: those that have left, then the one that owns the state
 -- or, while it is at home, none, then those that wait.
-use Rattle.std.proofs.Common.{◌≡◌, ℕ, zero, suc, ◌+◌, ◌<◌, ◌≤◌, Bool, true, false, ◌||◌, cond, nat_eq, List, [], ◌∷◌, ◌++◌, map, Option, Some, None, ◌⊎◌, inl, inr, refl, sym, ◌∙◌, ap, subst, append_assoc, append-nil, true≢false, arith}
-use Rattle.std.specs.List.{list_any}
+use Rattle.std.proofs.Common.{◌≡◌, ℕ, zero, suc, ◌+◌, ◌≤◌, true, false, cond, nat_eq, List, [], ◌∷◌, ◌++◌, map, Option, Some, None, refl, sym, ◌∙◌, ap, subst, append_assoc, append-nil, arith}
 use Rattle.lj_session.specs.declared.command.Command.{Command as Order}
 use Rattle.lj_session.specs.Users.{User}
 use Rattle.lj_session.specs.States.{Owned, user_of}
 use Rattle.lj_session.specs.Owners.{Owning, user_in}
 use Rattle.lj_wire.specs.declared.item.Item.{Item}
 use Rattle.lj_wire.specs.declared.item.Item.TheVariants.{Command}
-use Rattle.lj_wire.specs.Items.{ends}
 use Rattle.lj_wire.specs.Laws.{TurnKeepsTold, RunningGoesOn}
-use Rattle.lj_world.specs.States.{Stage, waiting, inside, gone, Talk}
+use Rattle.lj_world.specs.States.{waiting, inside}
 use Rattle.lj_world.specs.Happenings.{IsDone}
-use Rattle.lj_world.specs.Scripts.{Heard, is_closed, cut, joined}
+use Rattle.lj_world.specs.Scripts.{is_closed, cut, joined}
 use Rattle.lj_world.specs.Laws.{after_turns}
 use Rattle.lj_world.proofs.Tellings.{Texts, Told, told-append}
 use Rattle.lj_world.proofs.Cuts.{cut-none}

@@ -1,13 +1,12 @@
 -- An event that is not a user's changes nothing of it.
-use Rattle.std.proofs.Common.{◌≡◌, ◌≢◌, ℕ, zero, suc, Bool, true, false, cond, nat_eq, List, [], ◌∷◌, slice_get, slice_set, slice_index_or, Option, Some, None, option_map, option_and_then, ◌⊎◌, inl, inr, refl, sym, ◌∙◌, ap, subst, ne_eqb, get_or-set_other}
+use Rattle.std.proofs.Common.{◌≡◌, ◌≢◌, ℕ, zero, suc, true, false, cond, nat_eq, List, [], ◌∷◌, slice_get, slice_set, slice_index_or, Option, Some, None, option_map, option_and_then, ◌⊎◌, inl, inr, refl, sym, ◌∙◌, ap, ne_eqb, get_or-set_other}
 use Rattle.std.proofs.lemmas.Bool.Decides.{eqb_tells}
-use Rattle.lj_access.specs.Rows.{changed, with_ticket, lent, with_home}
+use Rattle.lj_access.specs.Rows.{with_ticket, lent, with_home}
 use Rattle.lj_world.specs.declared.event.Event.{Event}
 use Rattle.lj_world.specs.declared.event.Event.TheVariants.{Hello, Arrive, End, Enter, Next, Post, Take, Compute, Give, HandBack, Fetch, Turn, Leave}
 use Rattle.lj_world.specs.declared.transcript.Entry.{Entry}
 use Rattle.lj_world.specs.States.{State, Talk, talk_at, greeted}
 use Rattle.lj_world.specs.Happenings.{Happens, entry}
-use Rattle.lj_world.specs.Runs.{Step}
 use Rattle.lj_world.specs.Laws.{OthersChangeNothing, Untouched, actor, talk_of}
 use Rattle.lj_world.proofs.RowLemmas.{row_other}
 

@@ -1,5 +1,5 @@
 -- Rows of users: one changed, and what is read of the others.
-use Rattle.std.proofs.Common.{◌≡◌, ◌≢◌, ℕ, zero, suc, ◌+◌, ◌<◌, Bool, not, cond, nat_lt, List, [], ◌∷◌, length, slice_get, slice_set, position, Option, Some, None, nat_eq, true, false, ◌⊎◌, inl, inr, refl, sym, ◌∙◌, ap, ap₂, length-set}
+use Rattle.std.proofs.Common.{◌≡◌, ◌≢◌, ℕ, zero, suc, ◌+◌, Bool, not, cond, nat_lt, List, [], ◌∷◌, slice_get, slice_set, position, Option, Some, None, nat_eq, true, false, ◌⊎◌, inl, inr, refl, sym, ◌∙◌, ap, ap₂, length-set}
 use Rattle.std.proofs.lemmas.Bool.Decides.{eqb_tells}
 use Rattle.std.specs.List.{prefix_len}
 use Rattle.lj_access.specs.Rows.{Row, is_of, user_with, changed, changed_to}

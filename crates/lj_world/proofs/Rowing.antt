@@ -1,23 +1,19 @@
 -- What is kept where the row of a user changes: a connection enters or leaves, or a new one is granted a ticket.
-use Rattle.std.proofs.Common.{◌≡◌, ◌≢◌, ℕ, suc, ◌+◌, ◌<◌, ◌≤◌, Bool, true, false, not, ◌&&◌, cond, nat_eq, nat_lt, nat_le, List, [], ◌∷◌, ◌++◌, map, filter, length, slice_get, slice_set, slice_index_or, Option, Some, None, option_map, is_some, ◌⊎◌, inl, inr, refl, sym, ◌∙◌, ap, ap₂, subst, arith, append-nil, get_or-set_same, get_or-set_other, length-set, length-append, eq-eqb, ne_eqb, eqb-true, le-leb, lt-ltb, leb-true, ltb-true}
+use Rattle.std.proofs.Common.{◌≡◌, ◌≢◌, ℕ, suc, ◌+◌, ◌<◌, Bool, true, false, cond, nat_eq, List, [], ◌∷◌, ◌++◌, length, slice_get, slice_set, slice_index_or, Option, Some, None, option_map, ◌⊎◌, inl, inr, refl, sym, ◌∙◌, ap, subst, arith, append-nil, get_or-set_same, get_or-set_other, length-set, length-append, eq-eqb, ne_eqb}
 use Rattle.std.proofs.lemmas.Bool.{eqb-false}
 use Rattle.std.proofs.lemmas.Bool.Decides.{eqb_tells}
-use Rattle.std.proofs.lemmas.List.{map-append, length-map}
+use Rattle.std.proofs.lemmas.List.{map-append}
 use Rattle.std.proofs.lemmas.List.Elements.{filter-append}
-use Rattle.std.proofs.lemmas.List.Quantifiers.{position-Some}
-use Rattle.std.proofs.lemmas.Option.{slice_get_cases}
-use Rattle.std.specs.List.{list_any}
 use Rattle.lj_session.specs.Users.{User}
-use Rattle.lj_session.specs.States.{Owned, user_of}
-use Rattle.lj_session.specs.Owners.{Owning, user_in}
-use Rattle.lj_access.specs.Rows.{Row, is_of, user_with, changed, with_ticket, lent, with_home, HasTicketLeft}
-use Rattle.lj_world.specs.States.{State, Talk, talk_at, greeted, IsConnection, with_talk, with_rows}
+use Rattle.lj_session.specs.States.{Owned}
+use Rattle.lj_access.specs.Rows.{Row, is_of, user_with, changed, with_ticket, lent, with_home}
+use Rattle.lj_world.specs.States.{State, Talk, talk_at, greeted}
 use Rattle.lj_world.specs.Happenings.{SaysHello}
-use Rattle.lj_world.specs.Scripts.{Heard, line_of, is_granted, greeting}
+use Rattle.lj_world.specs.Scripts.{Heard}
 use Rattle.lj_world.proofs.Tellings.{Texts}
 use Rattle.lj_world.proofs.Seats.{Seat, heard_of, Waits}
 use Rattle.lj_world.proofs.Lines.{Changes, Stands, Numbered, numbered_changed, stands_hello}
-use Rattle.lj_world.proofs.Finding.{found, line_in, found_changes, found_pushed, line_changes, line_stays, heard_stays, line_heard, any_found}
+use Rattle.lj_world.proofs.Finding.{found, line_in, found_changes, found_pushed, line_changes, line_stays, heard_stays}
 use Rattle.lj_world.proofs.RowLemmas.{row_changed, row_other, users_stay, WasRead, read_changed}
 use Rattle.lj_world.proofs.Keeping.{Keeps, Distinct, Same, distinct_changed, seated_changed, within_places, changes_length}
 

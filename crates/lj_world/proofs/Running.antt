@@ -1,11 +1,10 @@
 -- Runs: what is kept holds at their start and through all their steps, so a user is told what its script alone tells.
-use Rattle.std.proofs.Common.{◌≡◌, ℕ, zero, suc, Bool, true, false, cond, nat_eq, List, [], ◌∷◌, ◌++◌, map, filter, fold, length, take, replicate, slice_get, slice_index_or, Option, Some, None, option_map, option_to_list, ◌⊎◌, inl, inr, refl, sym, ◌∙◌, ap, subst, append_assoc, append-nil}
+use Rattle.std.proofs.Common.{◌≡◌, ℕ, zero, suc, Bool, true, false, cond, nat_eq, List, [], ◌∷◌, ◌++◌, map, filter, fold, length, take, replicate, slice_get, slice_index_or, Option, Some, None, option_map, option_to_list, refl, sym, ◌∙◌, ap, subst, append_assoc, append-nil}
 use Rattle.std.proofs.lemmas.List.{length-map}
 use Rattle.std.proofs.lemmas.Option.{slice_get-map}
 use Rattle.lj_quota.specs.declared.Quota.{Quota}
 use Rattle.lj_session.specs.Users.{User as Value, fresh}
 use Rattle.lj_session.specs.States.{user_of, empty}
-use Rattle.lj_wire.specs.declared.item.Item.{Item}
 use Rattle.lj_wire.specs.Texts.{is_memory}
 use Rattle.lj_wire.specs.Told.{texts}
 use Rattle.lj_wire.specs.Laws.{MarkIsTold}
@@ -14,12 +13,12 @@ use Rattle.lj_access.specs.Rows.{Row, opening}
 use Rattle.lj_world.specs.declared.event.Event.{Event}
 use Rattle.lj_world.specs.declared.transcript.Entry.{Entry}
 use Rattle.lj_world.specs.States.{State, Talk, start}
-use Rattle.lj_world.specs.Runs.{Run, IsTranscript}
-use Rattle.lj_world.specs.Scripts.{Heard, hear, heard, line_of, joined, replies, script}
-use Rattle.lj_world.specs.Laws.{HasQuota, RepliesAreFirstTexts, first_texts}
+use Rattle.lj_world.specs.Runs.{Run}
+use Rattle.lj_world.specs.Scripts.{Heard, hear, heard, line_of, joined, replies}
+use Rattle.lj_world.specs.Laws.{HasQuota, RepliesAreFirstTexts}
 use Rattle.lj_world.proofs.Tellings.{Texts, texts-told}
-use Rattle.lj_world.proofs.Seats.{Seat, heard_of, grown}
-use Rattle.lj_world.proofs.Lines.{Stands, AllWait, Numbered, Account, items_in, stands_account}
+use Rattle.lj_world.proofs.Seats.{grown}
+use Rattle.lj_world.proofs.Lines.{Stands, AllWait, Numbered, items_in, stands_account}
 use Rattle.lj_world.proofs.Finding.{found, line_in, line_heard}
 use Rattle.lj_world.proofs.Keeping.{Keeps, Distinct}
 use Rattle.lj_world.proofs.Stepping.{Known, told_to, step_keeps}

@@ -1,32 +1,30 @@
 -- What is kept in a run is kept by each step.
-use Rattle.std.proofs.Common.{◌≡◌, ◌≢◌, ℕ, suc, ◌+◌, ◌-◌, ◌<◌, ◌≤◌, Bool, true, false, not, ◌&&◌, cond, nat_eq, nat_lt, nat_le, List, [], ◌∷◌, ◌++◌, map, length, slice_get, slice_set, slice_index_or, Option, Some, None, option_map, is_some, ◌⊎◌, inl, inr, ⊎_elim, refl, sym, ◌∙◌, ap, ap₂, subst, arith, add-one, le-leb, lt-ltb, leb-true, ltb-true, true≢false, position}
+use Rattle.std.proofs.Common.{◌≡◌, ℕ, ◌+◌, ◌-◌, ◌<◌, Bool, true, false, not, ◌&&◌, cond, nat_eq, nat_lt, nat_le, List, [], ◌∷◌, ◌++◌, length, slice_get, slice_set, slice_index_or, Option, Some, None, option_map, is_some, ◌⊎◌, inl, inr, ⊎_elim, refl, sym, ◌∙◌, ap, ap₂, subst, arith, add-one, le-leb, lt-ltb, leb-true, ltb-true, true≢false}
 use Rattle.std.proofs.lemmas.List.{length-map}
 use Rattle.std.proofs.lemmas.List.Quantifiers.{position-Some}
 use Rattle.std.proofs.lemmas.Option.{slice_get-get_or}
 use Rattle.std.specs.Option.{option_map_or}
 use Rattle.std.specs.List.{list_any}
-use Rattle.lj_session.specs.declared.command.Command.{Command as Order}
 use Rattle.lj_session.specs.Users.{User}
 use Rattle.lj_session.specs.Turns.{turns}
-use Rattle.lj_session.specs.States.{Owned}
-use Rattle.lj_session.specs.Owners.{Owning, user_in, begun, with_task_posted, with_task_in, turned_from}
+use Rattle.lj_session.specs.Owners.{Owning, user_in, begun, with_task_posted, turned_from}
 use Rattle.lj_session.specs.Laws.{BeginKeepsUser, PostedKeepsUser, AcceptKeepsUser, TurnGivesTurned}
 use Rattle.lj_wire.specs.declared.item.Item.{Item}
 use Rattle.lj_wire.specs.Items.{ends}
 use Rattle.lj_wire.specs.Laws.{TurnKeepsTold, RunningGoesOn}
-use Rattle.lj_access.specs.Rows.{Row, is_of, user_with, changed, lent, with_home}
+use Rattle.lj_access.specs.Rows.{Row, is_of, user_with, lent, with_home}
 use Rattle.lj_world.specs.declared.event.Event.{Event}
 use Rattle.lj_world.specs.declared.event.Event.TheVariants.{Hello, Arrive, End, Enter, Next, Post, Take, Compute, Give, HandBack, Fetch, Turn, Leave}
 use Rattle.lj_world.specs.declared.transcript.Entry.{Entry}
-use Rattle.lj_world.specs.States.{State, Talk, inside, gone, talk_at, greeted, with_stage, with_talk, with_rows, with_book}
+use Rattle.lj_world.specs.States.{State, Talk, inside, gone, talk_at, with_stage}
 use Rattle.lj_world.specs.Happenings.{Happens, SaysHello, Arrives, Ends, Enters, AnswersNext, RunsNext, PostsTask, FetchesResult, TurnsOn, TurnsLast, Leaves}
 use Rattle.lj_world.specs.Runs.{Step, IsPossible}
 use Rattle.lj_world.specs.Scripts.{Heard, hear, with_heard, with_item, with_end, greeting, is_granted, line_of}
 use Rattle.lj_world.proofs.Tellings.{Texts}
 use Rattle.lj_world.proofs.Seats.{Seat, heard_of, seat_with, seat_inside, Goes, arrives, ends_now, works, begins, answers, turns_on, turns_last, grown}
-use Rattle.lj_world.proofs.Lines.{Changes, Stands, stands_enters, stands_leaves, account_owned}
+use Rattle.lj_world.proofs.Lines.{Stands, stands_enters, stands_leaves, account_owned}
 use Rattle.lj_world.proofs.Finding.{found, line_in, found_changes, heard_changes, heard_stays, heard_nowhere, line_heard, any_found}
-use Rattle.lj_world.proofs.Keeping.{Keeps, Same, seat_at, told_if, goes}
+use Rattle.lj_world.proofs.Keeping.{Keeps, seat_at, told_if, goes}
 use Rattle.lj_world.proofs.Rowing.{rows_go, lent_leaves, home_leaves, nowhere, new_seat, hello_goes}
 
 -- the laws of what runs

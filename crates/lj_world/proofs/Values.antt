@@ -1,5 +1,5 @@
 -- The value of a user in a run, and the tickets of its connections.
-use Rattle.std.proofs.Common.{◌≡◌, ℕ, zero, suc, Bool, true, false, ◌||◌, cond, nat_eq, List, [], ◌∷◌, ◌++◌, map, length, take, slice_get, ◌+◌, arith, Option, Some, None, option_map, ◌⊎◌, inl, inr, refl, sym, ◌∙◌, ap, subst, eq-eqb, eqb-true}
+use Rattle.std.proofs.Common.{◌≡◌, ℕ, zero, suc, Bool, true, false, cond, nat_eq, List, [], ◌∷◌, ◌++◌, map, length, take, slice_get, ◌+◌, arith, Option, Some, None, option_map, inl, inr, refl, sym, ◌∙◌, ap, subst, eq-eqb, eqb-true}
 use Rattle.std.proofs.lemmas.List.{length-map}
 use Rattle.std.proofs.lemmas.Option.{slice_get-map}
 use Rattle.lj_quota.specs.declared.Quota.{Quota}
@@ -8,21 +8,16 @@ use Rattle.lj_session.specs.Users.{User as Value, fresh}
 use Rattle.lj_session.specs.States.{Owned, user_of}
 use Rattle.lj_session.specs.Owners.{Owning, user_in}
 use Rattle.lj_wire.specs.declared.item.Item.{Item}
-use Rattle.lj_wire.specs.declared.item.Item.TheVariants.{Command}
 use Rattle.lj_wire.specs.Texts.{is_memory}
 use Rattle.lj_wire.specs.Told.{last_user}
 use Rattle.lj_wire.specs.Laws.{MarkIsTold}
-use Rattle.lj_access.specs.declared.user.User.{User}
 use Rattle.lj_access.specs.Rows.{Row, opening}
-use Rattle.lj_world.specs.declared.event.Event.{Event}
-use Rattle.lj_world.specs.declared.transcript.Entry.{Entry}
-use Rattle.lj_world.specs.States.{State, Talk, inside, start, talk_at}
-use Rattle.lj_world.specs.Runs.{Run}
-use Rattle.lj_world.specs.Scripts.{Heard, heard, line_of, joined, replies, script}
-use Rattle.lj_world.specs.Laws.{HasQuota, HasValue, IsAtHome, IsOwned, IsScriptValue, HasTicket, ValueIsThatOfScript, TicketsAreInOrder, after_turns, value_so_far}
-use Rattle.lj_world.proofs.Tellings.{Texts, Told, told-length, last_user-told}
-use Rattle.lj_world.proofs.Seats.{Seat, heard_of, seat_with, Owns}
-use Rattle.lj_world.proofs.Lines.{Changes, here, there, Stands, Numbered, Account, At, items_in, account_home, account_owned}
+use Rattle.lj_world.specs.States.{State, inside}
+use Rattle.lj_world.specs.Scripts.{Heard, heard, line_of, joined, replies}
+use Rattle.lj_world.specs.Laws.{HasValue, IsAtHome, IsOwned, IsScriptValue, HasTicket, ValueIsThatOfScript, TicketsAreInOrder, after_turns}
+use Rattle.lj_world.proofs.Tellings.{Texts, told-length, last_user-told}
+use Rattle.lj_world.proofs.Seats.{Seat, heard_of, seat_with}
+use Rattle.lj_world.proofs.Lines.{Stands, Numbered, Account, At, items_in, account_home, account_owned}
 use Rattle.lj_world.proofs.Finding.{found, line_in, found_changes, line_changes, line_heard}
 use Rattle.lj_world.proofs.Keeping.{Keeps, Distinct, seat_at}
 use Rattle.lj_world.proofs.Stepping.{Known}

@@ -10,7 +10,6 @@ use Rattle.lj_wire.specs.declared.item.Item.TheVariants.{Command}
 use Rattle.lj_wire.specs.Items.{ends}
 use Rattle.lj_wire.specs.Told.{told}
 use Rattle.lj_wire.specs.Runs.{item_turns}
-use Rattle.lj_access.specs.Rows as rows
 use Rattle.lj_access.specs.Rows.{Row, user_with, HasTicketLeft, CanEnter, changed, with_ticket, lent, with_home}
 use Rattle.lj_book.specs.declared.entries.TheConstants.{MAX_ENTRIES}
 use Rattle.lj_book.specs.Held.{Held, standing, Posts, Takes, Gives, HandsBack, Fetches, Withdraws}
@@ -18,7 +17,7 @@ use Rattle.lj_world.specs.declared.event.Event.{Event}
 use Rattle.lj_world.specs.declared.event.Event.TheVariants.{Hello, Arrive, End, Enter, Next, Post, Take, Compute, Give, HandBack, Fetch, Turn, Leave}
 use Rattle.lj_world.specs.declared.transcript.Entry.{Entry}
 use Rattle.lj_world.specs.declared.limits.TheConstants.{MAX_POSTED}
-use Rattle.lj_world.specs.States.{Stage, waiting, inside, gone, Talk, Hand, State, IsConnection, IsWorker, talk_at, hand_at, greeted, with_stage, with_talk, with_hand, with_rows, with_book}
+use Rattle.lj_world.specs.States.{waiting, inside, gone, Talk, Hand, State, IsConnection, IsWorker, talk_at, hand_at, greeted, with_stage, with_talk, with_hand, with_rows, with_book}
 
 -- a reply that a connection is told
 abbrev pub entry : ℕ → Talk → List ℕ → Entry
@@ -49,8 +48,8 @@ pub record Ends (old : State) (connection : ℕ) (new : State) : Type 0 where
   pub known : talk_at old connection ≡ Some talk
   pub next : new ≡ with_talk connection (record talk { ended = true }) old
 
--- ENTER: the connection has not entered, its ticket is the user's first one that has not left, and the state is at home.
--- The connection owns the state.
+-- ENTER: the connection has not entered, its ticket is the user's first one that has not left, and the state is at
+-- home. The connection owns the state.
 pub record Enters (old : State) (connection : ℕ) (new : State) : Type 0 where
   pub talk : Talk
   pub known : talk_at old connection ≡ Some talk
@@ -65,7 +64,8 @@ pub record Enters (old : State) (connection : ℕ) (new : State) : Type 0 where
 
 -- The connection owns the state of its user, nothing runs, no item that ends the connection was answered, and its inbox
 -- begins with this item.
-pub record HasNext (old : State) (connection : ℕ) (talk : Talk) (owner : Owning) (item : Item) (items : List Item) : Type 0 where
+pub record HasNext (old : State) (connection : ℕ) (talk : Talk) (owner : Owning) (item : Item) (items : List Item)
+    : Type 0 where
   pub known : talk_at old connection ≡ Some talk
   pub owns : talk.stage ≡ inside owner
   pub idle : owner.rest ≡ None
@@ -138,7 +138,8 @@ pub record ComputesTask (old : State) (worker : ℕ) (new : State) : Type 0 wher
   pub task : hand.computed ≡ false
   pub next : new ≡ with_hand worker (record hand { computed = true }) old
 
--- GIVE: the worker holds a result whose task is out under its key. The result stands there, and the worker keeps a copy.
+-- GIVE: the worker holds a result whose task is out under its key. The result stands there, and the worker keeps a
+-- copy.
 pub record GivesResult (old : State) (worker : ℕ) (new : State) : Type 0 where
   pub hand : Hand
   pub holds : hand_at old worker ≡ Some hand

@@ -1,5 +1,5 @@
 -- The laws of runs, each proved on the function of its name, and the headline.
-use Rattle.std.specs.Prelude.{◌≡◌, ◌≢◌, ℕ, zero, suc, Bool, nat_eq, List, [], map, length, take, slice_get, Option, Some, None, if◌then◌else◌, ◌⊎◌}
+use Rattle.std.specs.Prelude.{◌≡◌, ◌≢◌, ℕ, zero, suc, nat_eq, List, length, take, slice_get, Option, Some, None, if◌then◌else◌, ◌⊎◌}
 use Rattle.std.specs.Option.{option_map, option_and_then}
 use Rattle.lj_quota.specs.declared.Quota.{Quota}
 use Rattle.lj_session.specs.declared.command.Command.{Command as Order}
@@ -58,24 +58,25 @@ script_in play = script play.user play.users play.events play.entries
 abbrev pub replies_in : {quota : Quota} → Play quota → List (List ℕ)
 replies_in play = replies play.user play.entries
 
--- Of the replies that two runs give a user one list is a prefix of the other, and each is a prefix of the replies of the
--- user's commands answered alone.
+-- Of the replies that two runs give a user one list is a prefix of the other, and each is a prefix of the replies of
+-- the user's commands answered alone.
 pub record TellAlike {quota : Quota} (one other : Play quota) : Type 0 where
   pub alike : OneIsPrefix (replies_in one) (replies_in other)
   pub one_alone : IsPrefix (replies_in one) (alone_texts quota (script_in one))
   pub other_alone : IsPrefix (replies_in other) (alone_texts quota (script_in other))
 
--- THE HEADLINE. For every two lists of events in which a user's scripts agree, of the replies that the two runs give this
--- user one list is a prefix of the other, and each is a prefix of the replies of that user's commands folded alone over
--- the all-pairs integrator, whatever other users sent, however tasks were taken, and however many workers there were.
+-- THE HEADLINE. For every two lists of events in which a user's scripts agree, of the replies that the two runs give
+-- this user one list is a prefix of the other, and each is a prefix of the replies of that user's commands folded alone
+-- over the all-pairs integrator, whatever other users sent, however tasks were taken, and however many workers there
+-- were.
 abbrev pub Headline : Type 0
 Headline = (quota : Quota) (one other : Play quota) → Agree (script_in one) (script_in other) → TellAlike one other
 
 -- the headline of one run against every other
 abbrev pub TellsAsAnyOther : List User → List Event → List Entry → Type 0
 TellsAsAnyOther users events entries =
-    (user : ℕ) (quota : Quota) (has_quota : HasQuota users user quota) (is_run : IsTranscript users events entries) (other : Play quota)
-    → let one : Play quota = record {
+    (user : ℕ) (quota : Quota) (has_quota : HasQuota users user quota) (is_run : IsTranscript users events entries)
+    (other : Play quota) → let one : Play quota = record {
       users = users;
       user = user;
       has_quota = has_quota;
@@ -110,7 +111,8 @@ HasValue s user value rest = IsAtHome s user value × (rest ≡ None) ⊎ IsOwne
 -- the user and what is left of the item, after so many turns of it
 abbrev pub after_turns : ℕ → Value → Item → Value × Item
 after_turns zero value item = (value, item)
-after_turns (suc n) value item = let before = after_turns n value item in (user_turned before.0 before.1, item_left before.1)
+after_turns (suc n) value item =
+    let before = after_turns n value item in (user_turned before.0 before.1, item_left before.1)
 
 -- the user after so many items of a script as have marks
 abbrev pub value_so_far : Quota → Script → Value
@@ -126,7 +128,8 @@ IsScriptValue quota s value (Some command) =
 
 -- In every run each user has a value, and it is that of its script so far.
 abbrev pub ValueIsThatOfScript : Type 0
-ValueIsThatOfScript = (users : List User) (events : List Event) (entries : List Entry) (last : State) (user : ℕ) (quota : Quota)
+ValueIsThatOfScript =
+    (users : List User) (events : List Event) (entries : List Entry) (last : State) (user : ℕ) (quota : Quota)
     → Run (start users) events entries last → HasQuota users user quota
     → ((value : Value) × (rest : Option Order) × HasValue last user value rest)
     × ((value : Value) (rest : Option Order) → HasValue last user value rest
@@ -141,9 +144,11 @@ pub record HasTicket (s : State) (connection user number : ℕ) : Type 0 where
 
 -- In every run a user's n-th granted HELLO, counted from 0, gets its ticket n.
 abbrev pub TicketsAreInOrder : Type 0
-TicketsAreInOrder = (users : List User) (events : List Event) (entries : List Entry) (last : State) (user : ℕ) (quota : Quota)
+TicketsAreInOrder =
+    (users : List User) (events : List Event) (entries : List Entry) (last : State) (user : ℕ) (quota : Quota)
     → Run (start users) events entries last → HasQuota users user quota
-    → (n : ℕ) (h : Heard) → slice_get (line_of user (heard users events)) n ≡ Some h → HasTicket last h.connection user n
+    → (n : ℕ) (h : Heard) → slice_get (line_of user (heard users events)) n ≡ Some h
+    → HasTicket last h.connection user n
 
 -- the user of a connection, if it is known
 abbrev pub connected : State → ℕ → Option ℕ
@@ -167,7 +172,8 @@ actor s (Leave connection) = connected s connection
 
 -- the connection of a number, if it is this user's
 abbrev pub talk_of : ℕ → State → ℕ → Option Talk
-talk_of user s connection = option_and_then (λ talk. if nat_eq talk.user user then Some talk else None) (talk_at s connection)
+talk_of user s connection =
+    option_and_then (λ talk. if nat_eq talk.user user then Some talk else None) (talk_at s connection)
 
 -- Nothing of the user has changed, its row or its connections, and nothing is replied to it.
 pub record Untouched (user : ℕ) (old : State) (reply : Option Entry) (new : State) : Type 0 where

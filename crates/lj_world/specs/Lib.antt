@@ -3,3 +3,4 @@ pub mod Happenings
 pub mod Runs
 pub mod Scripts
 pub mod Laws
+pub mod Worked

@@ -12,7 +12,8 @@ IsPossible old event = (reply : Option Entry) × (new : State) × Happens old ev
 
 -- A step: the event happens, or it is not possible, and then nothing is told and nothing changes.
 abbrev pub Step : State → Event → Option Entry → State → Type 0
-Step old event reply new = Happens old event reply new ⊎ (¬ IsPossible old event) × (reply ≡ None) × (new ≡ old)
+Step old event reply new =
+    Happens old event reply new ⊎ (¬ IsPossible old event) × (reply ≡ None) × (new ≡ old)
 
 -- Steps over these events, one after the other, which tell these replies.
 abbrev pub Run : State → List Event → List Entry → State → Type 0

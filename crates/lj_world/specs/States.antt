@@ -1,5 +1,5 @@
 -- The state of the machine: what is known of users, connections and workers, and the book of tasks.
-use Rattle.std.specs.Prelude.{ℕ, ◌<◌, ◌≤◌, Bool, false, List, [], map, replicate, slice_index_or, slice_set, Option, Some, None}
+use Rattle.std.specs.Prelude.{ℕ, ◌≤◌, Bool, false, List, [], map, replicate, slice_index_or, slice_set, Option, Some, None}
 use Rattle.lj_tile.specs.Tasks.{Work}
 use Rattle.lj_session.specs.Owners.{Owning}
 use Rattle.lj_wire.specs.declared.item.Item.{Item}
@@ -15,7 +15,8 @@ pub data Stage : Type 0 where
   gone : Stage
 
 -- A connection: the user and the number of its ticket, where it stands, the items that arrived and are not begun,
--- whether nothing more arrives, whether an item that ends it was answered, and how many tasks are posted and not fetched.
+-- whether nothing more arrives, whether an item that ends it was answered, and how many tasks are posted and not
+-- fetched.
 pub record Talk : Type 0 where
   pub user : ℕ
   pub number : ℕ

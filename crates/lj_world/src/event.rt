@@ -3,8 +3,8 @@
 use lj_access::{Name, Token};
 use lj_wire::Item;
 
-/// An event. Connections are numbered from 1 to `MAX_CONNECTIONS`, and workers from 1 to `MAX_WORKERS`. An event that is
-/// not possible changes nothing. A pick says from which key on the book looks first.
+/// An event. Connections are numbered from 1 to `MAX_CONNECTIONS`, and workers from 1 to `MAX_WORKERS`. An event that
+/// is not possible changes nothing. A pick says from which key on the book looks first.
 #[derive(Debug, Drop)]
 pub enum Event {
     /// A new connection shows a name and a token, and is granted a ticket.

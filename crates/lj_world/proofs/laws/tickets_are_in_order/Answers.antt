@@ -5,11 +5,11 @@ use Rattle.lj_world.proofs.laws.tickets_are_in_order.Goals as goal
 pub returns : goal.returns
 returns c =
     let known : Known = record {
-      keeps = c.turn_keeps_told.ensures;
-      goes_on = c.running_goes_on.ensures;
-      begin = c.begin_keeps_user.ensures;
-      posted = c.posted_keeps_user.ensures;
-      accept = c.accept_keeps_user.ensures;
-      turn = c.turn_gives_turned.ensures;
+      keeps = c.laws_of_what_runs.ensures.keeps;
+      goes_on = c.laws_of_what_runs.ensures.goes_on;
+      begin = c.laws_of_what_runs.ensures.begin;
+      posted = c.laws_of_what_runs.ensures.posted;
+      accept = c.laws_of_what_runs.ensures.accept;
+      turn = c.laws_of_what_runs.ensures.turn;
     } in
     tickets_in_order known
