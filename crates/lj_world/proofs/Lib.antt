@@ -11,3 +11,4 @@ pub mod Stepping
 pub mod Running
 pub mod Values
 pub mod Others
+pub mod Pushing
