@@ -23,45 +23,40 @@ no_atoms : (b : ℕ) → length_in b 0 ≡ 0
 unfolding length_in
 no_atoms b = omega arith
 
--- the terms of one block among those of all atoms
+-- the terms of one block among those of all atoms, whatever is added
+module _ {A : Type 0} (add : A → A → A) (none : A) (total : ℕ → (ℕ → A) → A) (same : (a : A) → add a none ≡ a)
+    (first : (f g : ℕ → A) → total 0 f ≡ total 0 g)
+    (more : (n : ℕ) (f : ℕ → A) → total (suc n) f ≡ add (total n f) (f n)) where
+  block_terms : (f : ℕ → A) (b n : ℕ) → total n (λ j. if j / 64 == b then f j else none)
+      ≡ total (length_in b n) (λ s. f (64 * b + s))
+  block_terms f b zero =
+      first (λ j. if j / 64 == b then f j else none) (λ s. f (64 * b + s))
+      ∙ sym (ap (λ m. total m (λ s. f (64 * b + s))) (no_atoms b))
+  block_terms f b (suc n) =
+      more n (λ j. if j / 64 == b then f j else none)
+      ∙ elim (cases_eq (n / 64) b) [
+        | inl within ↦
+            let e : (n / 64 == b) ≡ true = grind (arith, nat_tests) in
+            ap (λ (t : Bool). add (total n (λ j. if j / 64 == b then f j else none)) (if t then f n else none)) e
+            ∙ ap (λ s. add s (f n)) (block_terms f b n)
+            ∙ ap (λ k. add (total (length_in b n) (λ s. f (64 * b + s))) (f k)) (sym (in_block b n within).1)
+            ∙ sym (more (length_in b n) (λ s. f (64 * b + s)))
+            ∙ ap (λ m. total m (λ s. f (64 * b + s))) (sym (in_block b n within).0)
+        | inr outside ↦
+            let e : (n / 64 == b) ≡ false = grind (arith, nat_tests) in
+            ap (λ (t : Bool). add (total n (λ j. if j / 64 == b then f j else none)) (if t then f n else none)) e
+            ∙ same (total n (λ j. if j / 64 == b then f j else none))
+            ∙ block_terms f b n
+            ∙ ap (λ m. total m (λ s. f (64 * b + s))) (sym (out_of_block b n outside))
+      ]
+
 pub block_sum : (f : ℕ → ℕ) (b n : ℕ) → sum_below n (λ j. if j / 64 == b then f j else 0)
     ≡ sum_below (length_in b n) (λ s. f (64 * b + s))
-block_sum f b zero = sym (ap (λ m. sum_below m (λ s. f (64 * b + s))) (no_atoms b))
-block_sum f b (suc n) =
-    elim (cases_eq (n / 64) b) [
-      | inl within ↦
-          let e : (n / 64 == b) ≡ true = grind (arith, nat_tests) in
-          ap (λ (t : Bool). sum_below n (λ j. if j / 64 == b then f j else 0) + (if t then f n else 0)) e
-          ∙ ap (λ s. s + f n) (block_sum f b n)
-          ∙ ap (λ k. sum_below (length_in b n) (λ s. f (64 * b + s)) + f k) (sym (in_block b n within).1)
-          ∙ ap (λ m. sum_below m (λ s. f (64 * b + s))) (sym (in_block b n within).0)
-      | inr outside ↦
-          let e : (n / 64 == b) ≡ false = grind (arith, nat_tests) in
-          ap (λ (t : Bool). sum_below n (λ j. if j / 64 == b then f j else 0) + (if t then f n else 0)) e
-          ∙ add-zero (sum_below n (λ j. if j / 64 == b then f j else 0))
-          ∙ block_sum f b n
-          ∙ ap (λ m. sum_below m (λ s. f (64 * b + s))) (sym (out_of_block b n outside))
-    ]
+block_sum = block_terms ◌+◌ 0 sum_below add-zero (λ f g. refl) (λ n f. refl)
 
--- the same of signed numbers
 pub int_block_sum : (f : ℕ → ℤ) (b n : ℕ) → int_sum_below n (λ j. if j / 64 == b then f j else pos 0)
     ≡ int_sum_below (length_in b n) (λ s. f (64 * b + s))
-int_block_sum f b zero = sym (ap (λ m. int_sum_below m (λ s. f (64 * b + s))) (no_atoms b))
-int_block_sum f b (suc n) =
-    elim (cases_eq (n / 64) b) [
-      | inl within ↦
-          let e : (n / 64 == b) ≡ true = grind (arith, nat_tests) in
-          ap (λ (t : Bool). int_sum_below n (λ j. if j / 64 == b then f j else pos 0) +ℤ (if t then f n else pos 0)) e
-          ∙ ap (λ s. s +ℤ f n) (int_block_sum f b n)
-          ∙ ap (λ k. int_sum_below (length_in b n) (λ s. f (64 * b + s)) +ℤ f k) (sym (in_block b n within).1)
-          ∙ ap (λ m. int_sum_below m (λ s. f (64 * b + s))) (sym (in_block b n within).0)
-      | inr outside ↦
-          let e : (n / 64 == b) ≡ false = grind (arith, nat_tests) in
-          ap (λ (t : Bool). int_sum_below n (λ j. if j / 64 == b then f j else pos 0) +ℤ (if t then f n else pos 0)) e
-          ∙ +ℤ_idr (int_sum_below n (λ j. if j / 64 == b then f j else pos 0))
-          ∙ int_block_sum f b n
-          ∙ ap (λ m. int_sum_below m (λ s. f (64 * b + s))) (sym (out_of_block b n outside))
-    ]
+int_block_sum = block_terms ◌+ℤ◌ (pos 0) int_sum_below +ℤ_idr (λ f g. refl) (λ n f. refl)
 
 -- sums of terms that are equal below n
 pub int_sum_same : (n : ℕ) (f g : ℕ → ℤ) → ((k : ℕ) → k < n → f k ≡ g k) → int_sum_below n f ≡ int_sum_below n g

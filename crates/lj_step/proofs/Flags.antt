@@ -87,15 +87,6 @@ tile_passes kind count k below ordered =
     let first : nat_lt (second_block k) (blocks count) ≡ true = grind (arith, nat_tests) in
     ap (λ (b : Bool). b && in_order kind k) first ∙ ordered
 
--- an opened force step awaits each pair
-pub force_opened : (count i j : ℕ) → i < count → j < count → count ≤ 4096
-    → pair_awaited (map (is_tile Force count) (range_with_len 0 (64 * blocks count))) i j ≡ true
-force_opened count i j hi hj few =
-    let parts = parts_of count i j hj few in
-    let below : second_block (tile_number (i / 64) (j / 64)) < blocks count = rw parts.1 (block_below count j hj) in
-    opened_flag Force count (tile_number (i / 64) (j / 64)) (tile_within count i j hi hj few)
-    ∙ tile_passes Force count (tile_number (i / 64) (j / 64)) below refl
-
 pub ordered_blocks : (count i j : ℕ) → i < j → j < count → count ≤ 4096
     → first_block (tile_number (i / 64) (j / 64)) ≤ second_block (tile_number (i / 64) (j / 64))
 ordered_blocks count i j before hj few = omega arith
@@ -103,17 +94,27 @@ ordered_blocks count i j before hj few = omega arith
 pub ordered_is : (k : ℕ) → first_block k ≤ second_block k → in_order Energy k ≡ true
 ordered_is k h = grind (arith, nat_tests)
 
+-- an opened step awaits each pair whose blocks are in order
+pair_opened : (kind : Kind) (count i j : ℕ) → i < count → j < count → count ≤ 4096
+    → in_order kind (tile_number (i / 64) (j / 64)) ≡ true
+    → pair_awaited (map (is_tile kind count) (range_with_len 0 (64 * blocks count))) i j ≡ true
+pair_opened kind count i j hi hj few ordered =
+    let parts = parts_of count i j hj few in
+    let below : second_block (tile_number (i / 64) (j / 64)) < blocks count = rw parts.1 (block_below count j hj) in
+    opened_flag kind count (tile_number (i / 64) (j / 64)) (tile_within count i j hi hj few)
+    ∙ tile_passes kind count (tile_number (i / 64) (j / 64)) below ordered
+
+-- an opened force step awaits each pair
+pub force_opened : (count i j : ℕ) → i < count → j < count → count ≤ 4096
+    → pair_awaited (map (is_tile Force count) (range_with_len 0 (64 * blocks count))) i j ≡ true
+force_opened count i j hi hj few = pair_opened Force count i j hi hj few refl
+
 -- an opened energy step awaits each pair i < j
 pub energy_opened : (count i j : ℕ) → i < j → j < count → count ≤ 4096
     → pair_awaited (map (is_tile Energy count) (range_with_len 0 (64 * blocks count))) i j ≡ true
 energy_opened count i j before hj few =
-    let parts = parts_of count i j hj few in
-    let below : second_block (tile_number (i / 64) (j / 64)) < blocks count = rw parts.1 (block_below count j hj) in
-    let order = ordered_blocks count i j before hj few in
-    let ordered : in_order Energy (tile_number (i / 64) (j / 64)) ≡ true =
-    ordered_is (tile_number (i / 64) (j / 64)) order in
-    opened_flag Energy count (tile_number (i / 64) (j / 64)) (tile_within count i j (omega arith) hj few)
-    ∙ tile_passes Energy count (tile_number (i / 64) (j / 64)) below ordered
+    pair_opened Energy count i j (omega arith) hj few
+    (ordered_is (tile_number (i / 64) (j / 64)) (ordered_blocks count i j before hj few))
 
 -- the flags that are set are those of tiles
 pub opened_within : (kind : Kind) (count k : ℕ) → slice_index_or

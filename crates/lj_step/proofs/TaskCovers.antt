@@ -12,7 +12,7 @@ use Rattle.lj_ring.specs.Scales.{Units}
 use Rattle.lj_tile.specs.declared.names.Kind.{Kind}
 use Rattle.lj_tile.specs.declared.names.Kind.TheVariants.{Force, Energy}
 use Rattle.lj_tile.specs.Tiles.{Tile, times, IsForceCover, IsEnergyCover}
-use Rattle.lj_step.specs.OpenSteps.{blocks, tile_number, is_tile, tile_of, cover}
+use Rattle.lj_step.specs.OpenSteps.{blocks, tile_number, in_order, is_tile, tile_of, cover}
 use Rattle.lj_step.proofs.Flags.{tile_within, parts_of, block_below, tile_passes, ordered_blocks, ordered_is}
 
 -- how many numbers of a range pass a test that one number at most passes
@@ -72,32 +72,50 @@ times_is kind p i j (x ∷ xs) =
 number_is : (k i j : ℕ) → i / 64 ≡ k / 64 → j / 64 ≡ k % 64 → k ≡ tile_number (i / 64) (j / 64)
 number_is k i j first second = omega arith
 
--- a pair of different atoms lies in the force tile of their blocks, and in no other
-force_others : (count i j k : ℕ) → k ≢ tile_number (i / 64) (j / 64)
-    → (is_tile Force count k && tile_of Force k i j) ≡ false
-force_others count i j k other =
-    false_from_ne_true (is_tile Force count k && tile_of Force k i j)
+-- the pairs that a tile of a kind has among those of its two blocks
+abbrev has_pair : Kind → ℕ → ℕ → Bool
+has_pair Force i j = not (i == j)
+has_pair Energy i j = nat_lt i j
+
+tile_pairs : (kind : Kind) (k i j : ℕ)
+    → tile_of kind k i j ≡ ((i / 64 == k / 64 && j / 64 == k % 64) && has_pair kind i j)
+tile_pairs Force k i j = refl
+tile_pairs Energy k i j = refl
+
+-- a pair lies in the tile of its two blocks, and in no other
+others : (kind : Kind) (count i j k : ℕ) → k ≢ tile_number (i / 64) (j / 64)
+    → (is_tile kind count k && tile_of kind k i j) ≡ false
+others kind count i j k other =
+    false_from_ne_true (is_tile kind count k && tile_of kind k i j)
     (λ both.
-    let tile = (and_parts (is_tile Force count k) (tile_of Force k i j) both).1 in
-    let parts = and_parts (i / 64 == k / 64 && j / 64 == k % 64) (not (i == j)) tile in
+    let tile = sym (tile_pairs kind k i j) ∙ (and_parts (is_tile kind count k) (tile_of kind k i j) both).1 in
+    let parts = and_parts (i / 64 == k / 64 && j / 64 == k % 64) (has_pair kind i j) tile in
     let blocks_are = and_parts (i / 64 == k / 64) (j / 64 == k % 64) parts.0 in
     other (number_is k i j (eqb-true (i / 64) (k / 64) blocks_are.0) (eqb-true (j / 64) (k % 64) blocks_are.1)))
 
-apart_is : (i j : ℕ) → i ≢ j → not (i == j) ≡ true
-apart_is i j other = let f : (i == j) ≡ false = grind (arith, nat_tests) in ap not f
-
-force_here : (count i j : ℕ) → i < count → j < count → count ≤ 4096 → i ≢ j
-    → (is_tile Force count (tile_number (i / 64) (j / 64)) && tile_of Force (tile_number (i / 64) (j / 64)) i j) ≡ true
-force_here count i j hi hj few other =
+here : (kind : Kind) (count i j : ℕ) → j < count → count ≤ 4096
+    → in_order kind (tile_number (i / 64) (j / 64)) ≡ true → has_pair kind i j ≡ true
+    → (is_tile kind count (tile_number (i / 64) (j / 64)) && tile_of kind (tile_number (i / 64) (j / 64)) i j) ≡ true
+here kind count i j hj few ordered pair =
+    let k = tile_number (i / 64) (j / 64) in
     let parts = parts_of count i j hj few in
-    and_from (is_tile Force count (tile_number (i / 64) (j / 64))) (tile_of Force (tile_number (i / 64) (j / 64)) i j)
-    (tile_passes Force count (tile_number (i / 64) (j / 64)) (rw parts.1 (block_below count j hj)) refl)
-    (and_from (i / 64 == tile_number (i / 64) (j / 64) / 64 && j / 64 == tile_number (i / 64) (j / 64) % 64)
-    (not (i == j))
-    (and_from (i / 64 == tile_number (i / 64) (j / 64) / 64) (j / 64 == tile_number (i / 64) (j / 64) % 64)
-    (eq-eqb (i / 64) (tile_number (i / 64) (j / 64) / 64) (sym parts.0))
-    (eq-eqb (j / 64) (tile_number (i / 64) (j / 64) % 64) (sym parts.1)))
-    (apart_is i j other))
+    let blocks_are =
+    and_from (i / 64 == k / 64) (j / 64 == k % 64) (eq-eqb (i / 64) (k / 64) (sym parts.0))
+    (eq-eqb (j / 64) (k % 64) (sym parts.1)) in
+    and_from (is_tile kind count k) (tile_of kind k i j)
+    (tile_passes kind count k (rw parts.1 (block_below count j hj)) ordered)
+    (tile_pairs kind k i j
+    ∙ and_from (i / 64 == k / 64 && j / 64 == k % 64) (has_pair kind i j) blocks_are pair)
+
+once : (kind : Kind) (count i j : ℕ) → i < count → j < count → count ≤ 4096
+    → in_order kind (tile_number (i / 64) (j / 64)) ≡ true → has_pair kind i j ≡ true
+    → times i j (map (tile_of kind) (cover kind count)) ≡ 1
+once kind count i j hi hj few ordered pair =
+    times_is kind (is_tile kind count) i j (range_with_len 0 (64 * blocks count))
+    ∙ counted_one (λ k. is_tile kind count k && tile_of kind k i j) 0 (64 * blocks count)
+    (tile_number (i / 64) (j / 64)) (omega arith)
+    (let within = tile_within count i j hi hj few in omega (arith, within))
+    (here kind count i j hj few ordered pair) (others kind count i j)
 
 force_itself : (count i k : ℕ) → (is_tile Force count k && tile_of Force k i i) ≡ false
 force_itself count i k =
@@ -108,14 +126,12 @@ force_itself count i k =
     let same : (i == i) ≡ true = grind (arith, nat_tests) in
     true≢false (sym parts.1 ∙ ap not same))
 
+-- two different atoms lie in one force tile
 force_once : (count i j : ℕ) → i < count → j < count → count ≤ 4096 → i ≢ j
     → times i j (map (tile_of Force) (cover Force count)) ≡ 1
 force_once count i j hi hj few other =
-    times_is Force (is_tile Force count) i j (range_with_len 0 (64 * blocks count))
-    ∙ counted_one (λ k. is_tile Force count k && tile_of Force k i j) 0 (64 * blocks count)
-    (tile_number (i / 64) (j / 64)) (omega arith)
-    (let within = tile_within count i j hi hj few in omega (arith, within))
-    (force_here count i j hi hj few other) (force_others count i j)
+    let apart : (i == j) ≡ false = grind (arith, nat_tests) in
+    once Force count i j hi hj few refl (ap not apart)
 
 -- the force tasks of a step are a cover
 pub force_cover : (u : Units) (frame : List Place) → length frame ≤ 4096
@@ -129,39 +145,12 @@ force_cover u frame few = record {
       (force_itself (length frame) i);
 }
 
-energy_others : (count i j k : ℕ) → k ≢ tile_number (i / 64) (j / 64)
-    → (is_tile Energy count k && tile_of Energy k i j) ≡ false
-energy_others count i j k other =
-    false_from_ne_true (is_tile Energy count k && tile_of Energy k i j)
-    (λ both.
-    let tile = (and_parts (is_tile Energy count k) (tile_of Energy k i j) both).1 in
-    let parts = and_parts (i / 64 == k / 64 && j / 64 == k % 64) (nat_lt i j) tile in
-    let blocks_are = and_parts (i / 64 == k / 64) (j / 64 == k % 64) parts.0 in
-    other (number_is k i j (eqb-true (i / 64) (k / 64) blocks_are.0) (eqb-true (j / 64) (k % 64) blocks_are.1)))
-
-energy_here : (count i j : ℕ) → i < j → j < count → count ≤ 4096
-    → (is_tile Energy count (tile_number (i / 64) (j / 64)) && tile_of Energy (tile_number (i / 64) (j / 64)) i j)
-    ≡ true
-energy_here count i j before hj few =
-    let parts = parts_of count i j hj few in
-    and_from (is_tile Energy count (tile_number (i / 64) (j / 64))) (tile_of Energy (tile_number (i / 64) (j / 64)) i j)
-    (tile_passes Energy count (tile_number (i / 64) (j / 64)) (rw parts.1 (block_below count j hj))
-    (ordered_is (tile_number (i / 64) (j / 64)) (ordered_blocks count i j before hj few)))
-    (and_from (i / 64 == tile_number (i / 64) (j / 64) / 64 && j / 64 == tile_number (i / 64) (j / 64) % 64)
-    (nat_lt i j)
-    (and_from (i / 64 == tile_number (i / 64) (j / 64) / 64) (j / 64 == tile_number (i / 64) (j / 64) % 64)
-    (eq-eqb (i / 64) (tile_number (i / 64) (j / 64) / 64) (sym parts.0))
-    (eq-eqb (j / 64) (tile_number (i / 64) (j / 64) % 64) (sym parts.1)))
-    (lt-ltb i j before))
-
+-- each pair of atoms lies in one energy tile
 energy_once : (count i j : ℕ) → i < j → j < count → count ≤ 4096
     → times i j (map (tile_of Energy) (cover Energy count)) ≡ 1
 energy_once count i j before hj few =
-    times_is Energy (is_tile Energy count) i j (range_with_len 0 (64 * blocks count))
-    ∙ counted_one (λ k. is_tile Energy count k && tile_of Energy k i j) 0 (64 * blocks count)
-    (tile_number (i / 64) (j / 64)) (omega arith)
-    (let within = tile_within count i j (omega arith) hj few in omega (arith, within))
-    (energy_here count i j before hj few) (energy_others count i j)
+    once Energy count i j (omega arith) hj few
+    (ordered_is (tile_number (i / 64) (j / 64)) (ordered_blocks count i j before hj few)) (lt-ltb i j before)
 
 -- the energy tasks of a step are a cover
 pub energy_cover : (u : Units) (frame : List Place) → length frame ≤ 4096
