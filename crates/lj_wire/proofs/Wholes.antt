@@ -86,14 +86,20 @@ line_taken old mid new count line kept h is bounded after =
       is_line = subst IsLine (sym same) is_line;
     }
 
+-- and more after it
+line_and : (old mid new : Ahead) (line more : List ℕ) → LineTaken old mid line → Takes mid new more
+    → Takes old new (line ++ 10 ∷ more)
+line_and old mid new line more t taken =
+    subst (Takes old new) (append_assoc line (10 ∷ []) more)
+    (Takes-trans old mid new (line ++ 10 ∷ []) more t.taken taken)
+
 -- less than the body was taken
 pub open_body : (old mid new : Ahead) (line : List ℕ) (count : ℕ) → LineTaken old mid line
     → count ≡ announced line → TakesFewer mid new count
     → TakesNoItem old new
 open_body old mid new line count t n f = record {
   part = line ++ 10 ∷ f.part;
-  taken = subst (Takes old new) (append_assoc line (10 ∷ []) f.part)
-      (Takes-trans old mid new (line ++ 10 ∷ []) f.part t.taken f.taken);
+  taken = line_and old mid new line f.part t f.taken;
   is_part =
       inr (record {
         line = line;
@@ -126,8 +132,7 @@ pub finished : (old mid new : Ahead) (line : List ℕ) (item : Item) (count : �
 finished old mid new line item count (Some handed) t on is n f = record {
   front = line ++ 10 ∷ f.body;
   found = item_of line f.body;
-  taken = subst (Takes old new) (append_assoc line (10 ∷ []) f.body)
-      (Takes-trans old mid new (line ++ 10 ∷ []) f.body t.taken f.taken);
+  taken = line_and old mid new line f.body t f.taken;
   is_item =
       inl (record {
         line = line;

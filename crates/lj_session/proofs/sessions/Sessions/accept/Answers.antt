@@ -2,8 +2,16 @@ use Rattle.std.proofs.Common.{ℕ, length, refl, ap}
 use Rattle.lj_step.specs.OpenSteps.{tile_number_of}
 use Rattle.lj_session.specs.States.{Held, as_session, with_tile_in}
 use Rattle.lj_session.proofs.Results.{on_ok-then, on_err-then, same-either}
-use Rattle.lj_session.proofs.Writing.{writes, changed_by, unchanged, user_kept, totals_kept}
+use Rattle.lj_session.proofs.Writing.{Writes, writes, changed_by, unchanged, user_kept, totals_kept}
+use Rattle.lj_session.proofs.sessions.Sessions.accept.Goals.{After-accept}
 use Rattle.lj_session.proofs.sessions.Sessions.accept.Goals as goal
+
+-- what is written in the session
+written : (c : After-accept)
+    → Writes c.self.inside c.args.self.now c.args.label.now.session c.in-Some.session.now c.accept.new.self
+    (record { quota = c.self.inside.quota; sessions = (c.get_mut.follows.lender c.accept.new.self).entries })
+written c = writes c.self.inside c.args.self.now c.self.view_is c.self.invariant c.args.label.now.session _
+    c.in-Some.ensures.value _ c.accept.new.self (c.get_mut.follows.holds c.accept.new.self).0
 
 pub invariant_of-self-2 : goal.invariant_of-self-2
 invariant_of-self-2 c =
@@ -12,28 +20,23 @@ invariant_of-self-2 c =
     c.accept.new.self c.in-Some.session.now
     (with_tile_in (tile_number_of c.args.done) c.in-Some.session.now)
     c.accept.ensures.taken c.accept.ensures.unchanged refl in
-    totals_kept (writes c.self.inside c.args.self.now c.self.view_is c.self.invariant c.args.label.now.session _
-    c.in-Some.ensures.value _ c.accept.new.self (c.get_mut.follows.holds c.accept.new.self).0)
+    totals_kept (written (goal.at.invariant_of-self-2 c).After-accept)
     (ap (λ p. p.0) kept) (ap (λ p. p.1) kept)
 
 pub returns-clause-taken : goal.returns-clause-taken
 returns-clause-taken c = on_ok-then c.accept.result
-    (changed_by (writes c.self.inside c.args.self.now c.self.view_is c.self.invariant c.args.label.now.session _
-    c.in-Some.ensures.value _ c.accept.new.self (c.get_mut.follows.holds c.accept.new.self).0)
+    (changed_by (written (goal.at.returns-clause-taken c).After-accept)
     (with_tile_in (tile_number_of c.args.done)))
     c.accept.ensures.taken
 
 pub returns-clause-user : goal.returns-clause-user
 returns-clause-user c =
-    user_kept (writes c.self.inside c.args.self.now c.self.view_is c.self.invariant c.args.label.now.session _
-    c.in-Some.ensures.value _ c.accept.new.self (c.get_mut.follows.holds c.accept.new.self).0)
+    user_kept (written (goal.at.returns-clause-user c).After-accept)
     (same-either c.accept.result as_session c.accept.new.self c.in-Some.session.now
     (with_tile_in (tile_number_of c.args.done) c.in-Some.session.now)
     c.accept.ensures.taken c.accept.ensures.unchanged refl)
 
 pub returns-clause-unchanged : goal.returns-clause-unchanged
 returns-clause-unchanged c =
-    on_err-then c.accept.result (unchanged (writes c.self.inside c.args.self.now c.self.view_is c.self.invariant
-    c.args.label.now.session _ c.in-Some.ensures.value _ c.accept.new.self
-    (c.get_mut.follows.holds c.accept.new.self).0))
+    on_err-then c.accept.result (unchanged (written (goal.at.returns-clause-unchanged c).After-accept))
     c.accept.ensures.unchanged
