@@ -345,6 +345,12 @@ module _ (owner : Owning) (owed : List Work) (t : Gathers owner owed) where
         (subst (Contains (map task (posted_tiles t.flags t.held.passed tiles))) (sym awaited_there.1) h)))
         ∙ sym t.owed_is ∙ sym same ∙ sym stray.owed)
 
+  -- what is taken off what is owed is awaited
+  wanted_off : (work : Work) (old new : Seen) → old.owed ≡ owed → TakesOff work old new → IsAwaitedIn owner work
+  wanted_off work old new same off =
+      let there = Contains-append_right off.front (work ∷ off.behind) work (0, omega arith, refl) in
+      owed_wanted work (subst (λ ws. Contains ws work) (sym off.was ∙ same) there)
+
   -- a result that comes is taken in, or refused: then it was not owed
   module _ {A B : Type 0} (work : Work) (old new : Seen) (same : old.owed ≡ owed)
       (handed : IsHandedOut work old new) (next : Owning) where
@@ -355,14 +361,8 @@ module _ (owner : Owning) (owed : List Work) (t : Gathers owner owed) where
     comes_gathers (Err b) accepted taken refused =
         subst (λ owner. Gathers owner new.owed) (sym refused) (by handed)
       where
-        owes : TakesOff work old new → Contains old.owed work
-        owes off =
-            subst (λ ws. Contains ws work) (sym off.was)
-            (Contains-append_right off.front (work ∷ off.behind) work (0, omega arith, refl))
-
         by : IsHandedOut work old new → Gathers owner new.owed
-        by (inl off) =
-            absurd (false≢true (accepted.1 (owed_wanted work (subst (λ ws. Contains ws work) same (owes off)))))
+        by (inl off) = absurd (false≢true (accepted.1 (wanted_off work old new same off)))
         by (inr stray) = subst (Gathers owner) (sym (stray.owed ∙ same)) t
 
     pub comes_unposted : (r : Result A B) → (IsOk r ↔ IsAwaitedIn owner work) → OnOk r (next ≡ with_task_in work owner)
@@ -380,12 +380,6 @@ module _ (owner : Owning) (owed : List Work) (t : Gathers owner owed) where
     comes_stray (Ok a) accepted is = absurd (true≢false is)
     comes_stray (Err b) accepted is = by handed
       where
-        owes : TakesOff work old new → Contains old.owed work
-        owes off =
-            subst (λ ws. Contains ws work) (sym off.was)
-            (Contains-append_right off.front (work ∷ off.behind) work (0, omega arith, refl))
-
         by : IsHandedOut work old new → new.strays ≡ one_more old.strays
-        by (inl off) =
-            absurd (false≢true (accepted.1 (owed_wanted work (subst (λ ws. Contains ws work) same (owes off)))))
+        by (inl off) = absurd (false≢true (accepted.1 (wanted_off work old new same off)))
         by (inr stray) = stray.strays
