@@ -16,7 +16,7 @@ use Rattle.lj_branch.specs.Named.{named}
 use Rattle.lj_session.specs.Users.{Session, User}
 use Rattle.lj_session.specs.Answers.{performed, answer, settled, can_advance, with_sim}
 use Rattle.lj_session.proofs.Entries.{named-put, put-put}
-use Rattle.lj_session.proofs.Performing.{advance-on, measure-none, measure-done}
+use Rattle.lj_session.proofs.Performing.{advance-on, none, measure-done}
 use Rattle.lj_session.specs.Turns.{turns, turned, rest_of, advance_turns, measure_turns, session_turned}
 
 -- the session after a step
@@ -209,7 +209,7 @@ measure_leaves : (user : User) (name : List ℕ) (mark : Bool) → (answer user 
 measure_leaves user name mark = by (named name user.sessions) refl
   where
     by : (found : Option Session) → named name user.sessions ≡ found → (answer user (Measure name) mark).1 ≡ user
-    by None e = ap (λ r. (settled user r).1) (measure-none user name mark e)
+    by None e = ap (λ r. (settled user r).1) (none user (Measure name) mark e)
     by (Some session) e = ap (λ r. (settled user r).1) (measure-done user name mark session e)
 
 -- a command that has one turn left is answered with the turned user
