@@ -1,5 +1,6 @@
 //! A pool of no threads: each task is computed by the one who posts it.
-ghost use Rattle.std.specs.Prelude.{◌≡◌, ◌↔◌, Some, None, true, false, IsOk, IfErr, IfNone, IfSome, IsSome, OnErr, OnOk};
+ghost use Rattle.std.specs.Prelude.{◌≡◌, ◌↔◌, Some, None, true, false};
+ghost use Rattle.std.specs.Prelude.{IsOk, IsSome, IfErr, IfSome, IfNone, OnOk, OnErr};
 ghost use Rattle.lj_pool.specs.Seen.{one_more};
 ghost use Rattle.lj_pool.specs.Inline.{empty, seen_of};
 ghost use Rattle.lj_pool.specs.declared.pool.Refused.TheVariants.{Full};
@@ -40,6 +41,8 @@ impl InlinePool {
 
 impl Pool for InlinePool {
     ghost seen = { seen_of };
+
+    ghost for_others = { λ _ _. 0 };
 
     fn post(&mut self, task: Task, _wait: bool) -> Result<(), Refused>
         ensures free { IsOk result ↔ (self.old.held ≡ None) }

@@ -1,5 +1,5 @@
 //! What a pool is to the one who posts tasks: an end that takes tasks and hands out results.
-ghost use Rattle.std.specs.Prelude.{◌≡◌, ◌<◌, length, true, false, [], IfErr, IfNone, IfSome, OnErr, OnOk};
+ghost use Rattle.std.specs.Prelude.{◌≡◌, ◌<◌, ℕ, length, true, false, [], IfErr, IfNone, IfSome, OnErr, OnOk};
 ghost use Rattle.lj_pool.specs.Seen.{Seen, SameOwed, IsPosted, IsHandedOut, StaysClosed};
 ghost use Rattle.lj_pool.specs.Refusals.{task_of, IsClosed};
 
@@ -25,6 +25,10 @@ pub enum Refused {
 pub trait Pool {
     ghost seen: { Self → Seen };
 
+    // How often it was asked for others than the user of this number, by a task of another or a fetch for another,
+    // where that is counted.
+    ghost for_others: { Self → ℕ → ℕ };
+
     /// Posts a task. With `wait` it is never refused as `Full`.
     fn post(&mut self, task: Task, wait: bool) -> Result<(), Refused>
         requires room { length (seen self.old).owed < MAX_OWED }
@@ -34,7 +38,8 @@ pub trait Pool {
         ensures unchanged { OnErr result (SameOwed (seen self.old) (seen self.new)) }
         ensures full { wait ≡ true → IfErr result IsClosed }
         ensures closed { IfErr result (λ refused. IsClosed refused → (seen self.new).closed ≡ true) }
-        ensures stays_closed { StaysClosed (seen self.old) (seen self.new) };
+        ensures stays_closed { StaysClosed (seen self.old) (seen self.new) }
+        ensures own { let user = task.name.label.user in for_others self.new user ≡ for_others self.old user };
 
     /// The next result for a user. None only where the pool is closed.
     fn fetch(&mut self, user: u8) -> Option<Done>
@@ -42,7 +47,8 @@ pub trait Pool {
         ensures handed_out { IfSome result (λ done. IsHandedOut done (seen self.old) (seen self.new)) }
         ensures unchanged { IfNone result (SameOwed (seen self.old) (seen self.new)) }
         ensures closed { IfNone result ((seen self.new).closed ≡ true) }
-        ensures stays_closed { StaysClosed (seen self.old) (seen self.new) };
+        ensures stays_closed { StaysClosed (seen self.old) (seen self.new) }
+        ensures own { for_others self.new user ≡ for_others self.old user };
 
     /// How many tasks are owed.
     fn owed(&self) -> usize

@@ -25,6 +25,7 @@ pub(crate) fn answer_over<P: Pool>(
     command: Command,
 ) -> Result<Reply, Halt>
     requires idle { owner.old.rest ≡ None }
+    requires number { owner.old.number ≡ user }
     requires none_owed { (P.seen pool.old).owed ≡ [] }
     ensures answered { IfOk result (λ reply. IsAnswered (user_in owner.old) command reply (user_in owner.new)) }
     ensures idle { OnOk result (owner.new.rest ≡ None) }
@@ -34,6 +35,8 @@ pub(crate) fn answer_over<P: Pool>(
         (CountsRise (command_tiles (user_in owner.old) command) (P.seen pool.old) (P.seen pool.new)) }
     ensures runs { OnErr result (0 < turns (user_in owner.old) command) }
     ensures halted { IfErr result (λ halt. IsHalted halt (P.seen pool.old) (P.seen pool.new)) }
+    ensures number { owner.new.number ≡ user }
+    ensures own { P.for_others pool.new user ≡ P.for_others pool.old user }
 {
     match owner.begin(command) {
         Begin::Answered(reply) => Ok(reply),
@@ -44,6 +47,7 @@ pub(crate) fn answer_over<P: Pool>(
 /// Takes step by step what has begun, until it is answered.
 fn run<P: Pool>(owner: &mut Owner, user: u8, pool: &mut P) -> Result<Reply, Halt>
     requires begun { HasBegun owner.old }
+    requires number { owner.old.number ≡ user }
     requires none_owed { (P.seen pool.old).owed ≡ [] }
     ensures replied { IfOk result (λ reply. IsReplied owner.old reply (user_in owner.new)) }
     ensures idle { OnOk result (owner.new.rest ≡ None) }
@@ -51,6 +55,8 @@ fn run<P: Pool>(owner: &mut Owner, user: u8, pool: &mut P) -> Result<Reply, Halt
     ensures none_owed { OnOk result ((P.seen pool.new).owed ≡ []) }
     ensures counted { OnOk result (CountsRise (tiles_left owner.old) (P.seen pool.old) (P.seen pool.new)) }
     ensures halted { IfErr result (λ halt. IsHalted halt (P.seen pool.old) (P.seen pool.new)) }
+    ensures number { owner.new.number ≡ user }
+    ensures own { P.for_others pool.new user ≡ P.for_others pool.old user }
 {
     loop {
         gather(owner, user, pool)?;
@@ -62,12 +68,14 @@ fn run<P: Pool>(owner: &mut Owner, user: u8, pool: &mut P) -> Result<Reply, Halt
 
 /// Posts the tasks of the step that is open, and takes in their results, until all its tiles are in.
 fn gather<P: Pool>(owner: &mut Owner, user: u8, pool: &mut P) -> Result<(), Halt>
-    requires { Gathers owner.old (P.seen pool.old).owed }
+    requires gathers { Gathers owner.old (P.seen pool.old).owed }
+    requires number { owner.old.number ≡ user }
     ensures ready { OnOk result (is_ready owner.new ≡ true) }
     ensures same { SameRun owner.old owner.new }
     ensures none_owed { OnOk result ((P.seen pool.new).owed ≡ []) }
     ensures counted { OnOk result (CountsRise (awaited_in owner.old) (P.seen pool.old) (P.seen pool.new)) }
     ensures halted { IfErr result (λ halt. IsHalted halt (P.seen pool.old) (P.seen pool.new)) }
+    ensures own { P.for_others pool.new user ≡ P.for_others pool.old user }
 {
     let mut strays = 0;
     while !owner.ready() {
@@ -98,6 +106,7 @@ fn post_next<P: Pool>(owner: &mut Owner, pool: &mut P) -> Result<bool, Halt>
     ensures good { OnOk result ((P.seen pool.new).good ≡ (P.seen pool.old).good) }
     ensures strays { OnOk result ((P.seen pool.new).strays ≡ (P.seen pool.old).strays) }
     ensures halted { IfErr result (λ halt. IsHalted halt (P.seen pool.old) (P.seen pool.new)) }
+    ensures own { let user = owner.old.number in P.for_others pool.new user ≡ P.for_others pool.old user }
 {
     if pool.full() {
         return Ok(false);
@@ -127,6 +136,7 @@ fn fetch_next<P: Pool>(owner: &mut Owner, user: u8, pool: &mut P) -> Result<bool
     ensures counted { OnOk result (CountsRise 1 (P.seen pool.old) (P.seen pool.new)) }
     ensures stray { IfOk result (λ taken. taken ≡ false → StraysRise 1 (P.seen pool.old) (P.seen pool.new)) }
     ensures halted { IfErr result (λ halt. IsHalted halt (P.seen pool.old) (P.seen pool.new)) }
+    ensures own { P.for_others pool.new user ≡ P.for_others pool.old user }
 {
     let Some(done) = pool.fetch(user) else {
         return Err(Halt::PoolClosed);

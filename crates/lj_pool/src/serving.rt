@@ -23,7 +23,8 @@ use lj_wire::{Item, LineReader, ReadFault, Sink, Source, WriteFault};
 use std::alloc::Global;
 
 /// Serves a stream of commands from a user's state on, over a pool that owes nothing. What is written is the dialogue
-/// of what is read. The state is handed back but where a command was running, and the reader in any case.
+/// of what is read. The state is handed back but where a command was running, and the reader in any case. The pool is
+/// asked for no other user.
 pub fn serve<R: Source, W: Sink, P: Pool>(
     alloc: Global,
     state: UserState,
@@ -42,6 +43,7 @@ pub fn serve<R: Source, W: Sink, P: Pool>(
     ensures closed { result.1 ≡ served.PoolClosed → (P.seen pool.new).closed ≡ true }
     ensures strays { result.1 ≡ served.TooManyStrays → StraysRise MAX_STRAYS (P.seen pool.old) (P.seen pool.new) }
     ensures none_owed { OnSome result.0 ((P.seen pool.new).owed ≡ []) }
+    ensures own { P.for_others pool.new user ≡ P.for_others pool.old user }
     ensures quota { IfSome result.0 (λ owned. owned.quota ≡ state.quota) }
 {
     let mut lines = LineReader::new(alloc, reader);
@@ -71,6 +73,7 @@ pub fn serve_lines<R: Source, W: Sink, P: Pool>(
     ensures closed { result.1 ≡ served.PoolClosed → (P.seen pool.new).closed ≡ true }
     ensures strays { result.1 ≡ served.TooManyStrays → StraysRise MAX_STRAYS (P.seen pool.old) (P.seen pool.new) }
     ensures none_owed { OnSome result.0 ((P.seen pool.new).owed ≡ []) }
+    ensures own { P.for_others pool.new user ≡ P.for_others pool.old user }
     ensures quota { IfSome result.0 (λ owned. owned.quota ≡ state.quota) }
 {
     let mut owner = Owner::new(state, user);
@@ -100,6 +103,7 @@ pub fn serve_lines<R: Source, W: Sink, P: Pool>(
 /// Answers an item.
 fn answer<P: Pool>(owner: &mut Owner, user: u8, pool: &mut P, item: Item) -> Result<Reply, Halt>
     requires idle { owner.old.rest ≡ None }
+    requires number { owner.old.number ≡ user }
     requires none_owed { (P.seen pool.old).owed ≡ [] }
     ensures answered { IfOk result (λ reply. AnswersItem (user_in owner.old) item reply (user_in owner.new)) }
     ensures idle { OnOk result (owner.new.rest ≡ None) }
@@ -109,6 +113,8 @@ fn answer<P: Pool>(owner: &mut Owner, user: u8, pool: &mut P, item: Item) -> Res
         (CountsRise (item_tiles (user_in owner.old) item) (P.seen pool.old) (P.seen pool.new)) }
     ensures runs { OnErr result (0 < item_turns (user_in owner.old) item) }
     ensures halted { IfErr result (λ halt. IsHalted halt (P.seen pool.old) (P.seen pool.new)) }
+    ensures number { owner.new.number ≡ user }
+    ensures own { P.for_others pool.new user ≡ P.for_others pool.old user }
 {
     match item {
         Item::Command(command) => answer_over(owner, user, pool, command),

@@ -1,4 +1,4 @@
-//! Pools that hand out results that are not awaited, or that are closed. They note what is asked for another user.
+//! Pools that hand out results that are not awaited, or that are closed.
 ghost use Rattle.std.specs.Prelude.{◌≡◌, None, IfSome};
 
 use super::serving::LOAD;
@@ -10,9 +10,6 @@ use lj_table::Table;
 use lj_tile::{Done, Task, compute};
 use lj_wire::{LineReader, Reading, Writing};
 use std::alloc::Global;
-
-/// The number of the user who is served.
-const USER: u8 = 3;
 
 /// A pool that computes a task as it is posted. It may hand out copies of an earlier result before each result, and may
 /// be closed at a post or a fetch.
@@ -29,8 +26,6 @@ struct OddPool {
     good: u64,
     strays: u64,
     closed: bool,
-    /// How many tasks and fetches were of other users.
-    of_others: u64,
 }
 
 impl OddPool {
@@ -47,15 +42,7 @@ impl OddPool {
             good: 0,
             strays: 0,
             closed: false,
-            of_others: 0,
         }
-    }
-
-    /// Counts what is asked for another user.
-    fn note(&mut self, user: u8)
-        ensures { self.new ≡ record self.old { of_others = self.new.of_others } }
-    {
-        self.of_others = self.of_others.saturating_add(u64::from(user != USER));
     }
 
     /// A copy of the earlier result, if it is of another task than the one that is held.
@@ -81,8 +68,9 @@ impl Pool for OddPool {
       closed = pool.closed;
     } };
 
+    ghost for_others = { λ _ _. 0 };
+
     fn post(&mut self, task: Task, _wait: bool) -> Result<(), Refused> {
-        self.note(task.name().label.user);
         if self.posts == 0 {
             self.closed = true;
             return Err(Refused::Closed(task));
@@ -95,8 +83,7 @@ impl Pool for OddPool {
         Ok(())
     }
 
-    fn fetch(&mut self, user: u8) -> Option<Done> {
-        self.note(user);
+    fn fetch(&mut self, _user: u8) -> Option<Done> {
         if self.fetches == 0 {
             self.closed = true;
             return None;
@@ -137,7 +124,7 @@ fn serve_over(alloc: Global, pool: &mut OddPool, output: &mut Output) -> (Served
     let mut lines = LineReader::new(alloc, Reading::new(stream));
     let mut sink = Writing::new(Sheet::new(usize::MAX));
     let state = UserState::new(alloc, Quota::USUAL);
-    let (state, served) = serve_lines(state, USER, &mut lines, &mut sink, pool);
+    let (state, served) = serve_lines(state, 3, &mut lines, &mut sink, pool);
     *output = sink.into_inner().output;
     (served, state.is_some())
 }
@@ -154,7 +141,6 @@ fn strays_are_dropped(rt: HostRuntime) {
             b"OK LOAD a 0 2\nOK ADVANCE a 1\nOK ADVANCE a 2\nOK SHOW a 2 0 1774 0 0\nOK LIST 1\na 2 2 0\n";
         assert_eq!(rt; output.as_slice(), replies.as_slice());
         assert_eq!(rt; pool.strays, copies);
-        assert_eq!(rt; pool.of_others, 0);
     }
 }
 

@@ -1,4 +1,4 @@
-use Rattle.std.proofs.Common.{◌+◌, ◌-◌, ◌*◌, ◌<◌}
+use Rattle.std.proofs.Common.{◌≡◌, ◌+◌, ◌-◌, ◌*◌, ◌<◌}
 use Rattle.lj_pool.specs.Gathering.{Gathers, SameRun, awaited_in, unposted_in}
 use Rattle.lj_pool.specs.Counting.{CountsRise, StraysRise}
 use Rattle.lj_pool.specs.declared.pool.TheConstants.{MAX_STRAYS}
@@ -12,6 +12,7 @@ invariant-loop-owner g l = record {
       (g.P.Pool.seen l.initial.pool) (g.P.Pool.seen l.pool);
   in_a_row : StraysRise l.strays (g.P.Pool.seen l.initial.pool) (g.P.Pool.seen l.pool);
   few : l.strays < MAX_STRAYS;
+  own : g.P.Pool.for_others l.pool l.user ≡ g.P.Pool.for_others l.initial.pool l.user;
 }
 
 abbrev pub decreases-loop-owner : goal.decreases-loop-owner

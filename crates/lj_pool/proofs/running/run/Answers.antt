@@ -28,12 +28,14 @@ loop-owner-preserved g c =
     let awaited : awaited_in owner ≡ tiles_now owner = c.loop-owner.invariant.begun.awaited in
     record {
       begun = on.begun;
+      number = search rules;
       none_owed = c.in_ok-gather.ensures.none_owed;
       keeps = on.keeps;
       counted =
           rises-more (tiles_left c.args.owner.now - tiles_left owner) (awaited_in owner)
           (tiles_left c.args.owner.now - tiles_left c.turn.new.self)
           c.loop-owner.invariant.counted c.in_ok-gather.ensures.counted (omega (arith, on.tiles, awaited));
+      own = search rules;
     }
 
 pub returns-in-Some-clause-quota : goal.returns-in-Some-clause-quota

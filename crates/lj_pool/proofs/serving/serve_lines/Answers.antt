@@ -13,8 +13,10 @@ items-init g c = record {
       serving-start (user_in c.new-owner.result) c.args.lines.now (g.W.Sink.contents c.args.writer.now)
       (g.P.Pool.seen c.args.pool.now) c.requires.fresh c.requires.at_work;
   idle = ap (λ owner. owner.rest) c.new-owner.ensures;
+  number = ap (λ owner. owner.number) c.new-owner.ensures;
   none_owed = c.requires.none_owed;
   faults = refl;
+  own = refl;
   quota = refl;
 }
 
@@ -101,7 +103,9 @@ items-preserved g c =
           (g.W.Sink.contents c.put_reply.new.writer) written (g.P.Pool.seen c.answer.new.pool)
           c.in-Ok.ensures.counted (sym c.ending_of-ending.ensures ∙ c.in_default-ending.is);
       idle = c.in-Ok.ensures.idle;
+      number = c.answer.ensures.number;
       none_owed = c.in-Ok.ensures.none_owed;
       faults = c.in_default.ensures.counted ∙ c.items.invariant.faults;
+      own = c.answer.ensures.own ∙ c.items.invariant.own;
       quota = c.in-Ok.ensures.quota ∙ c.items.invariant.quota;
     }

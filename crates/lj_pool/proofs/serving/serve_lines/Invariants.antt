@@ -11,8 +11,10 @@ invariant-items g l = record {
       (g.W.Sink.contents l.writer)
       (g.P.Pool.seen l.initial.pool) (g.P.Pool.seen l.pool) (user_in l.owner);
   idle : l.owner.rest ≡ None;
+  number : l.owner.number ≡ l.user;
   none_owed : (g.P.Pool.seen l.pool).owed ≡ [];
   faults : g.W.Sink.faults l.writer ≡ g.W.Sink.faults l.initial.writer;
+  own : g.P.Pool.for_others l.pool l.user ≡ g.P.Pool.for_others l.initial.pool l.user;
   quota : l.owner.state.quota ≡ l.initial.owner.state.quota;
 }
 
