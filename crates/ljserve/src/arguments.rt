@@ -1,4 +1,7 @@
 //! The words of the command line.
+ghost use Rattle.std.specs.Prelude.{◌≡◌, IfOk};
+ghost use Rattle.clap.specs.Values.{kind_of};
+ghost use Rattle.clap.specs.declared.error.kind.ErrorKind.TheVariants.{InvalidValue};
 
 use clap::error::ErrorKind;
 use clap::{Arg, ArgMatches, Command, Error, value_parser};
@@ -27,7 +30,9 @@ pub fn parse_arguments<'a>(alloc: Global, words: &'a [String]) -> Result<Quota, 
 }
 
 /// The fault of words that are no text.
-pub fn no_text(alloc: Global) -> Result<Error, AllocError> {
+pub fn no_text(alloc: Global) -> Result<Error, AllocError>
+    ensures { IfOk result (λ error. kind_of error ≡ InvalidValue) }
+{
     program(alloc)?.error(
         ErrorKind::InvalidValue,
         "invalid UTF-8 was detected in one or more arguments",

@@ -51,8 +51,8 @@ struct Held<W> {
 }
 
 impl<W: Write> Held<W> {
-    /// Holds back some of `bytes`, and answers how many: 0 only where there are none. Where there is no room, what is held
-    /// back is sent first.
+    /// Holds back some of `bytes`, and answers how many: 0 only where there are none. Where there is no room, what is
+    /// held back is sent first.
     fn hold(&mut self, bytes: &[u8]) -> Result<usize, WriteFault>
         ensures bound { IfOk result (λ n. n ≤ length bytes.now) }
         ensures some { IfOk result (λ n. 0 < length bytes.now → 0 < n) }
@@ -75,9 +75,10 @@ impl<W: Write> Held<W> {
     /// Writes what is held back, and flushes the writer. Nothing is held back then, nor after a fault.
     fn send(&mut self) -> Result<(), WriteFault>
         ensures none { self.new.bytes.items ≡ [] }
-        ensures sent { OnOk result (Appends (W.contents self.old.outlet.writer) (W.contents self.new.outlet.writer) self.old.bytes.items) }
-        ensures begun { OnErr result ((n : ℕ) × (n ≤ length self.old.bytes.items)
-            × Appends (W.contents self.old.outlet.writer) (W.contents self.new.outlet.writer) (take n self.old.bytes.items)) }
+        ensures sent { OnOk result
+            (Appends (W.contents self.old.outlet.writer) (W.contents self.new.outlet.writer) self.old.bytes.items) }
+        ensures begun { OnErr result ((n : ℕ) × (n ≤ length self.old.bytes.items) × Appends
+            (W.contents self.old.outlet.writer) (W.contents self.new.outlet.writer) (take n self.old.bytes.items)) }
     {
         if self.bytes.is_empty() {
             return Ok(());

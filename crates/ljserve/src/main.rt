@@ -1,10 +1,10 @@
 //! Serves simulations of Lennard-Jones atoms by commands on standard input, and replies on standard output.
 #![tactic(auto)]
 
-ghost use Rattle.std.specs.Prelude.{◌≡◌, ◌≢◌};
+ghost use Rattle.std.specs.Prelude.{◌≡◌, ◌≢◌, ◌⊎◌, IfErr};
 ghost use Rattle.std.specs.Process.{exit_status};
 ghost use Rattle.clap.specs.Values.{kind_of};
-ghost use Rattle.clap.specs.declared.error.kind.ErrorKind.TheVariants.{OutOfMemory};
+ghost use Rattle.clap.specs.declared.error.kind.ErrorKind.TheVariants.{OutOfMemory, InvalidValue};
 ghost use Rattle.ljserve.specs.Outcomes.{exit_of, usage_status};
 
 mod arguments;
@@ -34,8 +34,10 @@ fn main(rt: HostRuntime) -> ExitCode {
     }
 }
 
-/// The words of the command line.
-fn words_of(rt: &HostRuntime) -> Result<Vec<String>, Error> {
+/// The words of the command line. They fail where there is no memory, or where one is no text.
+fn words_of(rt: &HostRuntime) -> Result<Vec<String>, Error>
+    ensures { IfErr result (λ error. (kind_of error ≡ OutOfMemory) ⊎ (kind_of error ≡ InvalidValue)) }
+{
     match env::args(rt) {
         Ok(words) => Ok(words.collect(rt.alloc())?),
         Err(error) if error.kind() == io::ErrorKind::OutOfMemory => Err(Error::from(AllocError)),
