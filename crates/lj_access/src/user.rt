@@ -43,6 +43,13 @@ impl Token {
         Some(Token { bytes })
     }
 
+    /// Its bytes.
+    pub fn as_bytes(&self) -> &[u8]
+        ensures { result.now ≡ self.now }
+    {
+        &self.bytes
+    }
+
     /// Whether `word` is this token.
     pub fn is(&self, word: &[u8]) -> bool
         ensures { result ≡ bytes_eq self.now word.now }
