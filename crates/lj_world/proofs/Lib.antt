@@ -12,3 +12,12 @@ pub mod Running
 pub mod Values
 pub mod Others
 pub mod Pushing
+pub mod LineCounts
+pub mod Beginning
+pub mod Acting
+pub mod Working
+pub mod RowsKept
+pub mod Greeting
+pub mod Lifting
+pub mod PlacesKept
+pub mod RunSteps

@@ -4,3 +4,10 @@ pub mod Runs
 pub mod Scripts
 pub mod Laws
 pub mod Worked
+pub mod Connections
+pub mod Positions
+pub mod Begun
+pub mod Holdings
+pub mod Hands
+pub mod Machines
+pub mod Worlds

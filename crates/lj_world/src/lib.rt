@@ -1,10 +1,19 @@
 //! The world: users, connections, workers and the book of tasks as one machine of events, and the laws of its runs.
 #![tactic(auto)]
 
+mod act;
+mod answers;
+mod connection;
 mod event;
+mod holding;
 mod laws;
 mod limits;
+mod machine;
+mod position;
+mod texts;
 mod transcript;
+mod worker;
+mod world;
 
 pub use event::Event;
 pub use laws::{
@@ -13,3 +22,4 @@ pub use laws::{
 };
 pub use limits::{MAX_CONNECTIONS, MAX_POSTED, MAX_WORKERS};
 pub use transcript::{Entry, ReplyText, Transcript};
+pub use world::World;

@@ -1,0 +1,103 @@
+-- What a connection does leaves the connections and rows of the machine as they have to be.
+use Rattle.std.proofs.Common.{◌≡◌, ◌≢◌, ℕ, ◌<◌, List, length, set, get_or, slice_get, Option, Some, None, refl, ap, ◌∙◌, sym, subst, inl, inr}
+use Rattle.lj_session.specs.States.{Owned}
+use Rattle.lj_session.specs.Owners.{Owning}
+use Rattle.lj_access.specs.Rows.{Row, CanEnter, changed, lent, with_home}
+use Rattle.lj_book.specs.Held.{Held}
+use Rattle.lj_world.specs.declared.act.Act.{Act}
+use Rattle.lj_world.specs.declared.act.Act.TheVariants.{Arrive, End, Enter, Next, Post, Fetch, Turn, Leave}
+use Rattle.lj_world.specs.States.{inside, gone, Talk, Hand, with_stage}
+use Rattle.lj_world.specs.Connections.{Here, here, Does, Acts, HasRow, Stays}
+use Rattle.lj_world.specs.Machines.{IsMachine}
+use Rattle.lj_world.proofs.RowsKept.{changed_here, has_changed, stays_has, put_talk}
+
+module _ (rows : List Row) (talks : List (Option Talk)) (hands : List (Option Hand)) (c : ℕ) (talk : Talk)
+    (m : IsMachine rows talks hands) (within : c < length talks) (known : get_or talks c None ≡ Some talk) where
+  -- no other connection has the ticket of this one
+  unlike : (new : Talk) → new.user ≡ talk.user → new.number ≡ talk.number → (d : ℕ) (other : Talk) → d ≢ c
+      → get_or talks d None ≡ Some other → other.user ≡ new.user → other.number ≢ new.number
+  unlike new user number d other apart e same_user same_number =
+      apart (m.apart d c other talk e known (same_user ∙ user) (same_number ∙ number))
+
+  -- the rows stay, and the connection owns the state only if it did
+  pub stays_keeps : (new : Talk) → Stays talk new → IsMachine rows (set talks c (Some new)) hands
+  stays_keeps new stays =
+      put_talk rows rows talks hands c new m within (stays_has rows talk new stays (m.known c talk known))
+      (λ d other apart e. m.known d other e) (unlike new stays.user stays.number)
+
+  -- the connection is given the state of its user
+  pub enters_keeps : (owner : Owning) (row : Row) → slice_get rows talk.user ≡ Some row → CanEnter talk.number row
+      → IsMachine (changed talk.user lent rows) (set talks c (Some (with_stage (inside owner) talk))) hands
+  enters_keeps owner row there may =
+      put_talk rows (changed talk.user lent rows) talks hands c (with_stage (inside owner) talk) m within (
+        lent row,
+        changed_here rows talk.user lent row there,
+        record {
+          granted = may.first.granted;
+          entered = λ i. record { first = record { granted = may.first.granted; past = may.first.past }; lent = refl };
+        },
+      )
+      (λ d other apart e. has_changed rows talk.user lent other (m.known d other e) (λ r at same is. record {
+        granted = is.granted;
+        entered = λ i. let h = is.entered i in record {
+          first = record { granted = h.first.granted; past = h.first.past };
+          lent = refl;
+        };
+      }))
+      (unlike (with_stage (inside owner) talk) refl refl)
+
+  -- the connection hands the state back
+  pub leaves_keeps : (owner : Owning) (state : Owned) → talk.stage ≡ inside owner
+      → IsMachine (changed talk.user (with_home state) rows) (set talks c (Some (with_stage gone talk))) hands
+  leaves_keeps owner state owns =
+      put_talk rows (changed talk.user (with_home state) rows) talks hands c (with_stage gone talk) m within (
+        with_home state has.0,
+        changed_here rows talk.user (with_home state) has.0 has.1,
+        record {
+          granted = has.2.granted;
+          entered = λ i. let e = i.1 in cc;
+        },
+      )
+      (λ d other apart e. has_changed rows talk.user (with_home state) other (m.known d other e) (λ r at same is. record {
+        granted = is.granted;
+        entered = λ i.
+            let h = is.entered i in
+            let row : r ≡ has.0 = cc (at, has.1) in
+            let number : other.number ≡ talk.number =
+            sym h.first.past ∙ ap (λ (x : Row). x.past) row ∙ (has.2.entered (owner, owns)).first.past in
+            absurd (apart (m.apart d c other talk e known same number));
+      }))
+      (unlike (with_stage gone talk) refl refl)
+    where
+      has : HasRow rows talk
+      has = m.known c talk known
+
+  -- what is there afterwards, as it is said
+  carried : (h x : Here) → h ≡ x → IsMachine x.rows (set talks c (Some x.talk)) hands → IsMachine h.rows (set talks c (Some h.talk)) hands
+  carried h x e k = subst (λ (y : Here). IsMachine y.rows (set talks c (Some y.talk)) hands) (sym e) k
+
+  -- the connection owned the state, and may own it still
+  owned : (new : Talk) (owner : Owning) → talk.stage ≡ inside owner → new.user ≡ talk.user → new.number ≡ talk.number → Stays talk new
+  owned new owner owns user number = record { user = user; number = number; owned = λ i. (owner, owns) }
+
+  does_keeps : (act : Act) (book : Held) (text : Option (List ℕ)) (h : Here) → Does act (here talk rows book) text h
+      → IsMachine h.rows (set talks c (Some h.talk)) hands
+  does_keeps (Arrive item) book text h d =
+      carried h _ d.next (stays_keeps _ (record { user = refl; number = refl; owned = λ i. i }))
+  does_keeps End book text h d =
+      carried h _ d.next (stays_keeps _ (record { user = refl; number = refl; owned = λ i. i }))
+  does_keeps Enter book text h d = carried h _ d.next (enters_keeps _ d.row d.there d.may_enter)
+  does_keeps Next book text h (inl d) = carried h _ d.next (stays_keeps _ (owned _ d.owner d.begins.owns refl refl))
+  does_keeps Next book text h (inr d) = carried h _ d.next (stays_keeps _ (owned _ d.owner d.begins.owns refl refl))
+  does_keeps Post book text h d = carried h _ d.next (stays_keeps _ (owned _ d.owner d.owns refl refl))
+  does_keeps (Fetch pick) book text h d = carried h _ d.next (stays_keeps _ (owned _ d.owner d.owns refl refl))
+  does_keeps Turn book text h (inl d) = carried h _ d.next (stays_keeps _ (owned _ d.owner d.whole.owns refl refl))
+  does_keeps Turn book text h (inr d) = carried h _ d.next (stays_keeps _ (owned _ d.owner d.whole.owns refl refl))
+  does_keeps Leave book text h d = carried h _ d.next (leaves_keeps d.owner d.owner.state d.owns)
+
+  -- whatever the connection does, or cannot do
+  pub acts_keeps : (act : Act) (book : Held) (text : Option (List ℕ)) (h : Here) → Acts act (here talk rows book) text h
+      → IsMachine h.rows (set talks c (Some h.talk)) hands
+  acts_keeps act book text h (inl d) = does_keeps act book text h d
+  acts_keeps act book text h (inr n) =
+      carried h (here talk rows book) n.2 (stays_keeps talk (record { user = refl; number = refl; owned = λ i. i }))

@@ -1,0 +1,29 @@
+use Rattle.std.proofs.Common.{◌≡◌, ap, ◌∙◌}
+use Rattle.lj_session.specs.States.{Owned, user_of}
+use Rattle.lj_session.specs.declared.reply.Reply.{Reply}
+use Rattle.lj_session.specs.declared.reply.Reply.TheVariants.{Refused}
+use Rattle.lj_session.specs.Owners.{Owning, user_in}
+use Rattle.lj_wire.specs.Texts.{text}
+use Rattle.lj_world.proofs.Beginning.{command_answered, fault_answered, last_answered}
+use Rattle.lj_world.proofs.answers.begin.Goals.{in-Command+in-Answered, in-Bad, in-Last}
+use Rattle.lj_world.proofs.answers.begin.Goals as goal
+
+pub returns : goal.returns
+returns c =
+    let made : c.in_ok-text_of.field-0 ≡ text (user_in c.match-item.owner) c.match-item.reply =
+    c.in_ok-text_of.ensures ∙ ap (λ (s : Owned). text (user_of s) c.match-item.reply) c.state.ensures in
+    let told = λ (is : c.match-item.owner ≡ c.args.owner.now) (reply : Reply) (e : c.match-item.reply ≡ reply).
+    made ∙ ap (λ (o : Owning). text (user_in o) c.match-item.reply) is ∙ ap (text (user_in c.args.owner.now)) e in
+    elim c.match-item.branch [
+      | in-Command+in-Answered w ↦
+          let b = w.in-Answered.ensures in
+          rw (w.in-Command.is, w.owner-is)
+          (command_answered c.args.owner.now w.begin.new.self w.in-Command.command w.in-Answered.reply c.in_ok-text_of.field-0
+          b.at_once b.answered b.idle w.begin.ensures.number (rw (← w.owner-is, ← w.reply-is) made))
+      | in-Bad w ↦
+          rw (w.in-Bad.is, w.owner-is)
+          (fault_answered c.args.owner.now w.in-Bad.fault c.in_ok-text_of.field-0 c.requires (told w.owner-is _ (w.reply-is ∙ ap Refused w.into.ensures)))
+      | in-Last w ↦
+          rw (w.in-Last.is, w.owner-is)
+          (last_answered c.args.owner.now w.in-Last.fault c.in_ok-text_of.field-0 c.requires (told w.owner-is _ (w.reply-is ∙ ap Refused w.into-in-Last.ensures)))
+    ]

@@ -1,0 +1,15 @@
+use Rattle.std.proofs.Common.{sym, ap, ◌∙◌}
+use Rattle.lj_world.specs.contracts.connection.Connection.{the_view}
+use Rattle.lj_world.specs.Positions.{stage_of}
+use Rattle.lj_world.proofs.Acting.{given, fetches}
+use Rattle.lj_world.proofs.connection.Connection.fetch.Goals as goal
+
+pub returns : goal.returns
+returns c =
+    let some = c.in-Some.ensures.some in
+    let a = c.accept-taken_in.ensures in
+    rw (← c.self.view_is, c.saturating_sub-self-inside.ensures)
+    (λ rows. fetches (the_view c.self.inside) rows c.args.book.now c.fetch.new.self c.in-Inside.owner
+    c.accept-taken_in.new.self c.in-Some.done some.0 c.args.pick (ap stage_of c.in-Inside.is)
+    (sym c.is_running.ensures ∙ c.if-not-is_running.false) some.1 some.2.passes
+    (given c.in-Inside.owner c.accept-taken_in.new.self c.in-Some.done c.accept-taken_in.result a.accepted a.taken a.unchanged))

@@ -1,0 +1,12 @@
+use Rattle.std.proofs.Common.{sym, ap, ◌∙◌}
+use Rattle.std.proofs.lemmas.Result.{IfOk-weaker}
+use Rattle.lj_world.specs.contracts.connection.Connection.{the_view}
+use Rattle.lj_world.specs.Positions.{stage_of}
+use Rattle.lj_world.proofs.Acting.{turns_acts}
+use Rattle.lj_world.proofs.connection.Connection.turn.Goals as goal
+
+pub returns-clause-acts : goal.returns-clause-acts
+returns-clause-acts c =
+    rw (← c.self.view_is)
+    (IfOk-weaker c.turn.result _ _ (λ text t. turns_acts (the_view c.self.inside) c.in-Inside.owner c.turn.new.owner text
+    (ap stage_of c.in-Inside.is) (sym c.ready.ensures ∙ c.if-not-ready.false) t) c.turn.ensures)

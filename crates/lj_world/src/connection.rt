@@ -1,0 +1,270 @@
+//! Connections, and what each of them does.
+ghost use Rattle.std.specs.Prelude.{◌≡◌, ◌↔◌, None, IfOk, IsTrue, OnErr, List};
+ghost use Rattle.lj_access.specs.Rows.{Row};
+ghost use Rattle.lj_book.specs.Held.{Held};
+ghost use Rattle.lj_world.specs.declared.act.Act.{Act as Deed};
+ghost use Rattle.lj_world.specs.States.{greeted};
+ghost use Rattle.lj_world.specs.Happenings.{IsDone};
+ghost use Rattle.lj_world.specs.Connections.{Acts, HasRow, Stays, here};
+
+use crate::act::Act;
+use crate::answers;
+use crate::limits::MAX_POSTED;
+use crate::position::Position;
+use crate::transcript::ReplyText;
+use lj_access::{Directory, Ticket};
+use lj_book::Book;
+use lj_session::Owner;
+use lj_tile::Done;
+use lj_wire::Item;
+use std::alloc::{AllocError, Global};
+use std::collections::VecDeque;
+use std::marker::Model;
+use std::mem;
+
+/// A connection that was granted a ticket.
+#[derive(Drop)]
+pub(crate) struct Connection {
+    alloc: Global,
+    user: u8,
+    number: u32,
+    ticket: Option<Ticket>,
+    position: Position,
+    inbox: VecDeque<Item>,
+    ended: bool,
+    over: bool,
+    posted: usize,
+}
+
+impl Model for Connection {
+    ghost use Rattle.lj_world.specs.States.{Talk};
+
+    ghost Value = { Talk };
+
+    ghost use Rattle.lj_world.specs.Positions.{stage_of, HasTicket};
+
+    ghost view = { λ c. record {
+      user = c.user;
+      number = c.number;
+      stage = stage_of c.position;
+      inbox = c.inbox.items;
+      ended = c.ended;
+      over = c.over;
+      posted = c.posted;
+    } };
+
+    ghost invariant = { λ c. HasTicket c.position c.ticket c.user c.number };
+}
+
+impl Connection {
+    /// Has this ticket, and nothing in its inbox.
+    pub(crate) fn new(alloc: Global, ticket: Ticket) -> Connection
+        ensures { result ≡ greeted ticket.user ticket.number }
+    {
+        Connection {
+            alloc,
+            user: ticket.user(),
+            number: ticket.number(),
+            ticket: Some(ticket),
+            position: Position::Waiting,
+            inbox: VecDeque::new(alloc),
+            ended: false,
+            over: false,
+            posted: 0,
+        }
+    }
+
+    /// The number of its user.
+    pub(crate) fn user(&self) -> u8
+        ensures { result ≡ self.now.user }
+    {
+        self.user
+    }
+
+    /// Does what it is asked for, or nothing where it cannot. What is replied is handed back.
+    ///
+    /// # Errors
+    /// Out of memory. What it has done then is not said.
+    pub(crate) fn act(
+        &mut self,
+        act: Act,
+        directory: &mut Directory,
+        book: &mut Book,
+    ) -> Result<Option<ReplyText>, AllocError>
+        requires { HasRow directory.old self.old }
+        ensures acts { IfOk result (λ text.
+            Acts act (here self.old directory.old book.old) text (here self.new directory.new book.new)) }
+        ensures stays { OnErr result (Stays self.old self.new) }
+        ensures rows { OnErr result (directory.new ≡ directory.old) }
+    {
+        match act {
+            Act::Arrive(item) => {
+                self.arrive(item)?;
+                return Ok(None);
+            }
+            Act::End => {
+                self.end();
+                return Ok(None);
+            }
+            Act::Enter => {
+                self.enter(directory);
+                return Ok(None);
+            }
+            Act::Next => return self.next(),
+            Act::Post => {
+                self.post(book);
+                return Ok(None);
+            }
+            Act::Fetch(pick) => {
+                self.fetch(book, pick);
+                return Ok(None);
+            }
+            Act::Turn => return self.turn(),
+            Act::Leave => {
+                self.leave(directory, book);
+                return Ok(None);
+            }
+        }
+    }
+
+    /// Notes an item that has arrived, unless the connection has ended.
+    fn arrive(&mut self, item: Item) -> Result<(), AllocError>
+        ensures acts { IfOk result (λ _. (rows : List Row) (book : Held)
+            → Acts (Deed.Arrive item) (here self.old rows book) None (here self.new rows book)) }
+        ensures stays { OnErr result (Stays self.old self.new) }
+    {
+        if !self.ended {
+            self.inbox.push_back(item)?;
+        }
+        Ok(())
+    }
+
+    /// Notes that nothing more arrives.
+    fn end(&mut self)
+        ensures { (rows : List Row) (book : Held)
+            → Acts Deed.End (here self.old rows book) None (here self.new rows book) }
+    {
+        self.ended = true;
+    }
+
+    /// Takes the state of its user, where it is its turn.
+    fn enter(&mut self, directory: &mut Directory)
+        ensures { (book : Held)
+            → Acts Deed.Enter (here self.old directory.old book) None (here self.new directory.new book) }
+    {
+        let Position::Waiting = &self.position else {
+            return;
+        };
+        let Some(ticket) = &self.ticket else {
+            return;
+        };
+        if let Some(state) = directory.try_enter(ticket) {
+            self.position = Position::Inside(Owner::new(state, self.user));
+        }
+    }
+
+    /// Begins the next item of its inbox.
+    fn next(&mut self) -> Result<Option<ReplyText>, AllocError>
+        ensures acts { IfOk result (λ text. (rows : List Row) (book : Held)
+            → Acts Deed.Next (here self.old rows book) text (here self.new rows book)) }
+        ensures stays { OnErr result (Stays self.old self.new) }
+    {
+        let Position::Inside(owner) = &mut self.position else {
+            return Ok(None);
+        };
+        if self.over || owner.is_running() {
+            return Ok(None);
+        }
+        let Some(item) = self.inbox.pop_front() else {
+            return Ok(None);
+        };
+        let ends = item.ends();
+        let text = answers::begin(self.alloc, owner, item)?;
+        self.over = ends && text.is_some();
+        Ok(text)
+    }
+
+    /// Posts the next task of what runs.
+    fn post(&mut self, book: &mut Book)
+        ensures { (rows : List Row)
+            → Acts Deed.Post (here self.old rows book.old) None (here self.new rows book.new) }
+    {
+        if self.posted >= MAX_POSTED {
+            return;
+        }
+        let Position::Inside(owner) = &mut self.position else {
+            return;
+        };
+        let Some(task) = owner.next_task() else {
+            return;
+        };
+        if book.post(task).is_ok() {
+            owner.posted();
+            self.posted += 1;
+        }
+    }
+
+    /// Fetches a result of its user. One that the step does not await is dropped.
+    fn fetch(&mut self, book: &mut Book, pick: usize)
+        ensures { (rows : List Row)
+            → Acts (Deed.Fetch pick) (here self.old rows book.old) None (here self.new rows book.new) }
+    {
+        let Position::Inside(owner) = &mut self.position else {
+            return;
+        };
+        if !owner.is_running() {
+            return;
+        }
+        let Some(done) = book.fetch(self.user, pick) else {
+            return;
+        };
+        let _taken_in = owner.accept(done);
+        self.posted = self.posted.saturating_sub(1);
+    }
+
+    /// Turns the step of what runs.
+    fn turn(&mut self) -> Result<Option<ReplyText>, AllocError>
+        ensures acts { IfOk result (λ text. (rows : List Row) (book : Held)
+            → Acts Deed.Turn (here self.old rows book) text (here self.new rows book)) }
+        ensures stays { OnErr result (Stays self.old self.new) }
+    {
+        let Position::Inside(owner) = &mut self.position else {
+            return Ok(None);
+        };
+        if !owner.ready() {
+            return Ok(None);
+        }
+        answers::turn(self.alloc, owner)
+    }
+
+    /// Hands the state of its user back, where nothing is left to answer.
+    fn leave(&mut self, directory: &mut Directory, book: &mut Book)
+        requires { HasRow directory.old self.old }
+        ensures { Acts Deed.Leave (here self.old directory.old book.old) None (here self.new directory.new book.new) }
+    {
+        if !self.is_done() {
+            return;
+        }
+        let Position::Inside(owner) = &self.position else {
+            return;
+        };
+        if owner.is_running() {
+            return;
+        }
+        let Some(ticket) = self.ticket.take() else {
+            return;
+        };
+        let Position::Inside(owner) = mem::replace(&mut self.position, Position::Gone) else {
+            return;
+        };
+        book.withdraw(self.user);
+        let _home = directory.leave(ticket, owner.into_state());
+    }
+
+    /// Whether nothing is left to answer.
+    fn is_done(&self) -> bool
+        ensures { IsTrue result ↔ IsDone self.now }
+    {
+        self.over || self.ended && self.inbox.is_empty()
+    }
+}
