@@ -4,4 +4,3 @@ pub mod Gathering
 pub mod Beginning
 pub mod Dialogues
 pub mod Quotas
-pub mod LineCounts

@@ -3,10 +3,10 @@ ghost use Rattle.std.specs.Prelude.{◌≡◌, ◌≤◌, ◌+◌, ℕ, OnErr, O
 ghost use Rattle.std.specs.Io.KnownBytes.{Appends};
 ghost use Rattle.lj_session.specs.States.{user_of};
 ghost use Rattle.lj_wire.specs.Ends.{Rises};
-ghost use Rattle.lj_wire.specs.Texts.{text, reply_lines};
+ghost use Rattle.lj_wire.specs.Texts.{text};
 
 use lj_session::{Reply, UserState};
-use lj_wire::{Sink, WriteFault, put_all, reply_line};
+use lj_wire::{Sink, WriteFault, last_line, put_all, reply_line};
 
 /// Writes the lines of a reply, which tells of the state after its command. After a fault the first bytes of them may
 /// have been written.
@@ -32,23 +32,4 @@ pub(crate) fn put_reply<W: Sink>(
         k += 1;
     }
     Ok(())
-}
-
-/// No line of a reply comes after this one.
-#[tactic(auto, using(lj_wire::proofs::ReplyLines::index_within))]
-fn last_line(state: &UserState, reply: &Reply) -> usize
-    ensures { length (reply_lines (user_of state.now) reply.now) ≤ result + 1 }
-{
-    match reply {
-        Reply::Dumped { name } => match state.index_of(name) {
-            Some(i) => state.sim_at(i).count() + 2,
-            None => 0,
-        },
-        Reply::Listed => state.len(),
-        Reply::ListedBranches { name } => match state.index_of(name) {
-            Some(i) => state.branches_at(i).len(),
-            None => 0,
-        },
-        _ => 0,
-    }
 }

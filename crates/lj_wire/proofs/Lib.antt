@@ -17,3 +17,4 @@ pub mod Taking
 pub mod Passing
 pub mod Wholes
 pub mod Handed
+pub mod LineCounts

@@ -417,3 +417,22 @@ pub fn reply_line(state: &UserState, reply: &Reply, k: usize) -> Option<Line>
         _ => None,
     }
 }
+
+/// No line of a reply comes after the one of this number, counted from 0, with the state of the user after the command.
+#[tactic(auto, using(crate::proofs::ReplyLines::index_within))]
+pub fn last_line(state: &UserState, reply: &Reply) -> usize
+    ensures { length (reply_lines (user_of state.now) reply.now) ≤ result + 1 }
+{
+    match reply {
+        Reply::Dumped { name } => match state.index_of(name) {
+            Some(i) => state.sim_at(i).count() + 2,
+            None => 0,
+        },
+        Reply::Listed => state.len(),
+        Reply::ListedBranches { name } => match state.index_of(name) {
+            Some(i) => state.branches_at(i).len(),
+            None => 0,
+        },
+        _ => 0,
+    }
+}

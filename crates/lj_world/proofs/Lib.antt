@@ -1,3 +1,10 @@
+pub mod Beginning
+pub mod Acting
+pub mod Working
+pub mod RowsKept
+pub mod Greeting
+pub mod Lifting
+pub mod PlacesKept
 pub mod Tellings
 pub mod Cuts
 pub mod Seats
@@ -12,12 +19,3 @@ pub mod Running
 pub mod Values
 pub mod Others
 pub mod Pushing
-pub mod LineCounts
-pub mod Beginning
-pub mod Acting
-pub mod Working
-pub mod RowsKept
-pub mod Greeting
-pub mod Lifting
-pub mod PlacesKept
-pub mod RunSteps

@@ -3,7 +3,6 @@ pub mod Happenings
 pub mod Runs
 pub mod Scripts
 pub mod Laws
-pub mod Worked
 pub mod Connections
 pub mod Positions
 pub mod Begun
@@ -11,3 +10,4 @@ pub mod Holdings
 pub mod Hands
 pub mod Machines
 pub mod Worlds
+pub mod Worked

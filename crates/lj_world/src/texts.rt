@@ -1,11 +1,11 @@
 //! The text of a reply.
-ghost use Rattle.std.specs.Prelude.{◌≡◌, ◌≤◌, ◌+◌, IfOk, length};
+ghost use Rattle.std.specs.Prelude.{◌≡◌, IfOk};
 ghost use Rattle.lj_session.specs.States.{user_of};
-ghost use Rattle.lj_wire.specs.Texts.{text, reply_lines};
+ghost use Rattle.lj_wire.specs.Texts.{text};
 
 use crate::transcript::ReplyText;
 use lj_session::{Reply, UserState};
-use lj_wire::reply_line;
+use lj_wire::{last_line, reply_line};
 use std::alloc::{AllocError, Global};
 
 /// The text of a reply, which tells of the state after its command.
@@ -30,23 +30,4 @@ pub(crate) fn text_of(
         k += 1;
     }
     Ok(ReplyText::new(bytes))
-}
-
-/// No line of a reply comes after this one.
-#[tactic(auto, using(lj_wire::proofs::ReplyLines::index_within))]
-fn last_line(state: &UserState, reply: &Reply) -> usize
-    ensures { length (reply_lines (user_of state.now) reply.now) ≤ result + 1 }
-{
-    match reply {
-        Reply::Dumped { name } => match state.index_of(name) {
-            Some(i) => state.sim_at(i).count() + 2,
-            None => 0,
-        },
-        Reply::Listed => state.len(),
-        Reply::ListedBranches { name } => match state.index_of(name) {
-            Some(i) => state.branches_at(i).len(),
-            None => 0,
-        },
-        _ => 0,
-    }
 }

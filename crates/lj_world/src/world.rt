@@ -1,17 +1,37 @@
-//! The world.
-ghost use Rattle.std.specs.Prelude.{◌≡◌, ◌≤◌, ◌++◌, true, false, Option, IfOk, OnOk, OnErr, IsErr, length, option_to_list};
+//! A world: its machine, the flag of lost memory, and runs.
+ghost use Rattle.std.specs.Prelude.{◌≡◌, ◌↔◌, ◌≤◌, length, IsTrue, IsFalse, IsErr, IfOk};
 ghost use Rattle.std.specs.List.{IsDistinct};
 ghost use Rattle.std.specs.Str.{bytes_eq};
 ghost use Rattle.lj_access.specs.Users.{names};
 ghost use Rattle.lj_world.specs.States.{start};
 ghost use Rattle.lj_world.specs.Runs.{Step, IsTranscript};
+ghost use Rattle.lj_world.specs.Laws.{TellsAsAnyOther};
 
 use crate::event::Event;
+use crate::laws::headline;
 use crate::machine::Machine;
 use crate::transcript::{Entry, Transcript};
 use lj_access::{MAX_USERS, User};
-use std::alloc::{AllocError, Global};
+use std::alloc::{AllocError, AllocFailed, Global};
 use std::marker::Model;
+use thiserror::Error;
+
+/// There was no memory for a world, a step or a run.
+#[derive(Clone, Copy, PartialEq, Eq, Debug, Error)]
+#[error("out of memory")]
+pub struct OutOfMemory;
+
+impl From<AllocError> for OutOfMemory {
+    fn from(_error: AllocError) -> OutOfMemory {
+        OutOfMemory
+    }
+}
+
+impl<T: Drop> From<AllocFailed<T>> for OutOfMemory {
+    fn from(_failed: AllocFailed<T>) -> OutOfMemory {
+        OutOfMemory
+    }
+}
 
 /// Users, connections, workers and the book of tasks: one machine, to which one event happens after the other. A world
 /// to which memory was refused is lost, and goes no further.
@@ -26,65 +46,59 @@ impl Model for World {
 
     ghost Value = { Condition };
 
-    ghost view = { λ w. record { state = w.machine; lost = w.lost } };
+    ghost view = { λ world. record { state = world.machine; lost = world.lost } };
 }
 
 impl World {
-    /// A world of these users, with no connections, and with nothing in the hands of the workers.
+    /// The world of these users: nobody is connected, and no worker holds anything.
     ///
     /// # Errors
     /// Out of memory.
-    pub fn new(alloc: Global, users: Vec<User>) -> Result<World, AllocError>
+    pub fn new(alloc: Global, users: Vec<User>) -> Result<World, OutOfMemory>
         requires some { 1 ≤ length users.items }
         requires most { length users.items ≤ MAX_USERS }
         requires distinct { IsDistinct bytes_eq (names users.items) }
-        ensures start { IfOk result (λ world. world.state ≡ start users.items) }
-        ensures found { IfOk result (λ world. world.lost ≡ false) }
+        ensures state { IfOk result (λ world. world.state ≡ start users.items) }
+        ensures whole { IfOk result (λ world. IsFalse world.lost) }
     {
-        let machine = Machine::new(alloc, users)?;
         Ok(World {
-            machine,
+            machine: Machine::new(alloc, users)?,
             lost: false,
         })
     }
 
-    /// An event happens, and what is replied is handed back. One that is not possible changes nothing.
+    /// An event happens, or it is not possible and nothing changes. What is replied is answered.
     ///
     /// # Errors
-    /// Out of memory, here or at an earlier step. The world is lost then, and every later step is out of memory too.
-    pub fn step(&mut self, event: Event) -> Result<Option<Entry>, AllocError>
-        ensures steps { IfOk result (λ reply. Step self.old.state event reply self.new.state) }
-        ensures lost { self.old.lost ≡ true → IsErr result }
-        ensures found { OnOk result (self.new.lost ≡ false) }
-        ensures loses { OnErr result (self.new.lost ≡ true) }
+    /// Out of memory, now or at an earlier step: a world that has once lost memory takes no step more.
+    pub fn step(&mut self, event: Event) -> Result<Option<Entry>, OutOfMemory>
+        ensures step { IfOk result (λ reply. Step self.old.state event reply self.new.state) }
+        ensures lost { IsTrue self.new.lost ↔ IsErr result }
+        ensures no_more { IsTrue self.old.lost → IsErr result }
+        ensures unchanged { IsTrue self.old.lost → self.new ≡ self.old }
     {
         if self.lost {
-            return Err(AllocError);
+            return Err(OutOfMemory);
         }
-        let stepped = self.machine.step(event);
-        self.lost = stepped.is_err();
-        stepped
+        match self.machine.step(event) {
+            Ok(reply) => Ok(reply),
+            Err(_) => {
+                self.lost = true;
+                Err(OutOfMemory)
+            }
+        }
     }
 
-    /// Whether memory was refused to an earlier step.
+    /// Whether an earlier step was out of memory.
     pub fn is_lost(&self) -> bool
         ensures { result ≡ self.now.lost }
     {
         self.lost
     }
 
-    /// An event happens, and what is replied is noted.
-    fn note(&mut self, event: Event, entries: &mut Vec<Entry>) -> Result<(), AllocError>
-        ensures { OnOk result ((reply : Option Entry) × Step self.old.state event reply self.new.state
-            × (entries.new.items ≡ entries.old.items ++ option_to_list reply)) }
-    {
-        if let Some(entry) = self.step(event)? {
-            entries.push(entry)?;
-        }
-        Ok(())
-    }
-
-    /// What a world of these users replies to these events.
+    /// Runs a world of these users over these events, and answers what is replied. For every user, and every other run
+    /// in which the user's script agrees with the one here, one of the two lists of its replies is a prefix of the
+    /// other, and both are prefixes of what its commands are answered alone.
     ///
     /// # Errors
     /// Out of memory.
@@ -92,17 +106,21 @@ impl World {
         alloc: Global,
         users: Vec<User>,
         events: Vec<Event>,
-    ) -> Result<Transcript, AllocError>
+    ) -> Result<Transcript, OutOfMemory>
         requires some { 1 ≤ length users.items }
         requires most { length users.items ≤ MAX_USERS }
         requires distinct { IsDistinct bytes_eq (names users.items) }
-        ensures { IfOk result (λ transcript. IsTranscript users.items events.items transcript) }
+        ensures run { IfOk result (λ transcript. IsTranscript users.items events.items transcript) }
+        ensures headline { IfOk result (λ transcript. TellsAsAnyOther users.items events.items transcript) }
     {
         let mut world = World::new(alloc, users)?;
         let mut entries = Vec::new(alloc);
         for event in events {
-            world.note(event, &mut entries)?;
+            if let Some(entry) = world.step(event)? {
+                entries.push(entry)?;
+            }
         }
+        headline();
         Ok(Transcript::new(entries))
     }
 }

@@ -6,7 +6,7 @@ use Rattle.std.proofs.lemmas.Result.{err_from_is_err_and}
 use Rattle.lj_session.specs.States.{user_of}
 use Rattle.lj_wire.specs.Texts.{text, reply_lines}
 use Rattle.lj_wire.proofs.ReplyTexts.{text-lines}
-use Rattle.lj_pool.proofs.LineCounts.{line_more, line_part, lines_all, lines_past}
+use Rattle.lj_wire.proofs.LineCounts.{line_more, line_part, lines_all, lines_past}
 use Rattle.lj_pool.proofs.replies.put_reply.Goals as goal
 
 pub returns-in_err-put_all-clause-begun : goal.returns-in_err-put_all-clause-begun

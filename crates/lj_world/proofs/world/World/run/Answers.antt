@@ -1,23 +1,34 @@
-use Rattle.std.proofs.Common.{◌≡◌, sym, ◌∙◌, arith}
-use Rattle.std.proofs.lemmas.List.{map-id}
+use Rattle.std.proofs.Common.{rules, map-id, append-nil}
 use Rattle.std.proofs.lemmas.Iterator.Consumers.{YieldsList-end}
 use Rattle.std.proofs.lemmas.Iterator.Adapters.{YieldsList-from_vec}
-use Rattle.lj_world.specs.States.{start}
-use Rattle.lj_world.proofs.RunSteps.{run_more}
+use Rattle.lj_world.proofs.Pushing.{run_push}
 use Rattle.lj_world.proofs.world.World.run.Goals as goal
 
+-- a reply is pushed
+pub loop-event-preserved-in-Continue-branch-4 : goal.loop-event-preserved-in-Continue-branch-4
+loop-event-preserved-in-Continue-branch-4 c =
+    let step = rw c.in-Some-2.is at c.in_ok-entry.ensures.step in
+    rw c.in_ok-push.ensures.items (run_push _ _ _ _ _ _ _ c.loop-event.invariant step)
+
+-- nothing is replied
 pub loop-event-preserved : goal.loop-event-preserved
 loop-event-preserved c =
-    let n = c.in_ok-note.ensures in
-    rw n.2
-    (run_more (start c.args.users.items) c.loop-event.yielded c.loop-event.entries.items c.loop-event.world.state c.in-Some.event n.0
-    c.note.new.self.state c.loop-event.invariant n.1)
+    let step = rw c.in_default.is at c.in_ok-entry.ensures.step in
+    rw (← append-nil c.loop-event.entries.items) (run_push _ _ _ _ _ _ _ c.loop-event.invariant step)
 
-pub returns : goal.returns
-returns c =
-    let gives = c.into_iter-event-iterator.ensures.into_iter_gives in
-    let seen = YieldsList-end (YieldsList-from_vec c.args.events.items gives.0 (omega (arith, gives.1)))
-    c.loop-event.yielded c.loop-event.event-iterator c.loop-event.yielded_by c.next.result c.next.new.self c.in-None.is
-    c.next.ensures.steps in
-    let all : c.loop-event.yielded ≡ c.args.events.items = sym (map-id c.loop-event.yielded) ∙ seen.0 in
-    (c.loop-event.world.state, rw (c.new-2.ensures, ← all) c.loop-event.invariant)
+-- all events were yielded
+pub returns-clause-run : goal.returns-clause-run
+returns-clause-run c =
+    let end = YieldsList-end (YieldsList-from_vec {s = c.into_iter-event-iterator.result} c.args.events.items (search rules) (search rules))
+    c.loop-event.yielded c.loop-event.event-iterator c.loop-event.yielded_by c.next.result c.next.new.self c.in-None.is c.next.ensures.steps in
+    (c.loop-event.world.state, rw (c.new-2.ensures, ← end.0, map-id) c.loop-event.invariant)
+
+pub returns-clause-headline : goal.returns-clause-headline
+returns-clause-headline c = λ user quota has_quota is_run other. c.headline.ensures quota (record {
+  users = c.args.users.items;
+  user = user;
+  has_quota = has_quota;
+  events = c.args.events.items;
+  entries = c.new-2.result;
+  is_run = is_run;
+}) other

@@ -4,8 +4,8 @@ use Rattle.lj_session.specs.States.{held_at, user_of, as_entry}
 use Rattle.lj_session.specs.Users.{Session}
 use Rattle.lj_wire.specs.Texts.{reply_lines, dump_lines, branch_lines, session_line}
 use Rattle.lj_wire.proofs.ReplyLines.{under_name, no_name}
-use Rattle.lj_pool.proofs.LineCounts.{dump-few, branches-few, one_line}
-use Rattle.lj_pool.proofs.replies.last_line.Goals as goal
+use Rattle.lj_wire.proofs.LineCounts.{dump-few, branches-few, one_line}
+use Rattle.lj_wire.proofs.replies.last_line.Goals as goal
 
 pub returns-in-Some : goal.returns-in-Some
 unfolding reply_lines
