@@ -4,19 +4,26 @@ use Rattle.std.proofs.lemmas.List.Quantifiers.{position-Some}
 use Rattle.std.proofs.lemmas.Option.{slice_get_read}
 use Rattle.lj_access.specs.Rows.{Row, is_of, HasTicketLeft, with_ticket}
 use Rattle.lj_access.proofs.RowLemmas.{Writes, changed-written, IsDirectory-written}
+use Rattle.lj_access.proofs.directory.Directory.hello.Goals.{After-grant-number}
 use Rattle.lj_access.proofs.directory.Directory.hello.Goals as goal
 
-pub invariant_of-self : goal.invariant_of-self
-invariant_of-self c =
-    let rows = c.self.inside.rows.items in
-    let row = c.index_mut.result.now in
-    let here = position-Some (is_of c.args.name.now c.args.token.now) c.args.self.now c.in_ok-user.user row (sym c.user_with.ensures ∙ c.in_ok-user.ensures.ok_part) in
-    let w : Writes rows c.in_ok-user.user row c.grant-number.new.self with_ticket = record {
+-- the row of the user is there, and a ticket more is granted
+written : (c : After-grant-number)
+    → Writes c.self.inside.rows.items c.in_ok-user.user c.index_mut.result.now c.grant-number.new.self with_ticket
+written c =
+    let user_is = sym c.user_with.ensures ∙ c.in_ok-user.ensures.ok_part in
+    let is_this = is_of c.args.name.now c.args.token.now in
+    let here = position-Some is_this c.args.self.now c.in_ok-user.user c.index_mut.result.now user_is in
+    record {
       within = omega (arith, here.0, ap length c.self.view_is);
       read = c.index_mut.ensures.value;
       written = c.grant-number.ensures.granted;
-    } in
-    IsDirectory-written rows _ row _ with_ticket w refl c.self.invariant
+    }
+
+pub invariant_of-self : goal.invariant_of-self
+invariant_of-self c =
+    IsDirectory-written c.self.inside.rows.items _ c.index_mut.result.now _ with_ticket
+    (written (goal.at.invariant_of-self c).After-grant-number) refl c.self.invariant
 
 pub returns-clause-granted : goal.returns-clause-granted
 returns-clause-granted c =
@@ -35,9 +42,8 @@ pub returns-clause-number : goal.returns-clause-number
 returns-clause-number c =
     let rows = c.self.inside.rows.items in
     let row = c.index_mut.result.now in
-    let here = position-Some (is_of c.args.name.now c.args.token.now) c.args.self.now c.in_ok-user.user row (sym c.user_with.ensures ∙ c.in_ok-user.ensures.ok_part) in
-    let within : c.in_ok-user.user < length rows = omega (arith, here.0, ap length c.self.view_is) in
-    let read = slice_get_read rows (length rows) c.in_ok-user.user row refl within c.index_mut.ensures.value in
+    let w = written (goal.at.returns-clause-number c).After-grant-number in
+    let read = slice_get_read rows (length rows) c.in_ok-user.user row refl w.within w.read in
     let found : slice_get c.args.self.now c.new.result.user ≡ Some row = cc in
     let number : row.granted ≡ c.new.result.number = cc in
     ap (option_map (λ (r : Row). r.granted)) found ∙ ap (λ (n : ℕ). Some n) number
@@ -46,11 +52,6 @@ pub returns-clause-counted : goal.returns-clause-counted
 returns-clause-counted c =
     let rows = c.self.inside.rows.items in
     let row = c.index_mut.result.now in
-    let here = position-Some (is_of c.args.name.now c.args.token.now) c.args.self.now c.in_ok-user.user row (sym c.user_with.ensures ∙ c.in_ok-user.ensures.ok_part) in
-    let w : Writes rows c.in_ok-user.user row c.grant-number.new.self with_ticket = record {
-      within = omega (arith, here.0, ap length c.self.view_is);
-      read = c.index_mut.ensures.value;
-      written = c.grant-number.ensures.granted;
-    } in
+    let w = written (goal.at.returns-clause-counted c).After-grant-number in
     let e = changed-written rows c.in_ok-user.user row c.grant-number.new.self with_ticket w in
     cc
