@@ -59,6 +59,7 @@ impl Owner {
 
     /// Begins a command. One that takes no turn is answered at once; of another the first step is opened. Only LOAD
     /// and BRANCH take memory.
+    #[inline(never)]
     pub fn begin(&mut self, command: Command) -> Begin
         requires idle { self.old.rest ≡ None }
         ensures at_once { IfAnswered result (λ _. turns (user_in self.old) command ≡ 0) }
