@@ -10,6 +10,7 @@ use lj_wire::{Sink, WriteFault, last_line, put_all, reply_line};
 
 /// Writes the lines of a reply, which tells of the state after its command. After a fault the first bytes of them may
 /// have been written.
+#[inline(never)]
 pub(crate) fn put_reply<W: Sink>(
     writer: &mut W,
     state: &UserState,
