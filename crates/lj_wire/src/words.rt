@@ -8,7 +8,7 @@ use std::marker::Model;
 /// The words of a line that are not yet taken. A word is a longest run of bytes that are neither
 /// space nor tab.
 #[derive(Drop)]
-pub(crate) struct Words<'a> {
+pub struct Words<'a> {
     rest: &'a [u8],
 }
 
