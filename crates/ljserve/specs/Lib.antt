@@ -1,2 +1,4 @@
 pub mod Outcomes
 pub mod Conversations
+pub mod Named
+pub mod Printed

@@ -4,6 +4,12 @@ use Rattle.lj_pool.specs.declared.served.Served.{Served}
 use Rattle.lj_pool.specs.declared.served.Served.TheVariants.{End, Bye, Ended, ReadFault, WriteFault, PoolClosed, TooManyStrays}
 use Rattle.clap.specs.declared.error.kind.ErrorKind.{ErrorKind}
 use Rattle.clap.specs.declared.error.kind.ErrorKind.TheVariants.{DisplayHelp, DisplayVersion, OutOfMemory}
+use Rattle.ljserve.specs.declared.fault.Fault.{Fault}
+use Rattle.ljserve.specs.declared.fault.Fault.TheVariants.{Run, Replay, Unreadable}
+use Rattle.ljserve.specs.declared.fault.ReplayFault.{ReplayFault}
+use Rattle.ljserve.specs.declared.fault.ReplayFault.TheVariants as replays
+use Rattle.ljserve.specs.declared.fault.ScheduleFault.{ScheduleFault}
+use Rattle.ljserve.specs.declared.fault.ScheduleFault.TheVariants as schedules
 use Rattle.ljserve.specs.declared.fault.RunFault.{RunFault}
 use Rattle.ljserve.specs.declared.fault.RunFault.TheVariants.{Read, Write, Memory}
 
@@ -18,15 +24,32 @@ ComesTo PoolClosed outcome = ⊥
 ComesTo TooManyStrays outcome = ⊥
 
 -- the exit status of a run that failed
-abbrev pub status_of : RunFault → ℕ
-status_of Read = 1
-status_of Write = 1
-status_of Memory = 3
+abbrev pub run_status_of : RunFault → ℕ
+run_status_of Read = 1
+run_status_of Write = 1
+run_status_of Memory = 3
 
--- the exit status of a run
-abbrev pub exit_of : Result (Unit {0}) RunFault → ℕ
+-- the exit status of a replay that failed
+abbrev pub replay_status_of : ReplayFault → ℕ
+replay_status_of (replays.Line number) = 2
+replay_status_of replays.Memory = 3
+replay_status_of replays.Write = 1
+
+-- the exit status of a program that failed
+abbrev pub status_of : Fault → ℕ
+status_of (Run fault) = run_status_of fault
+status_of (Replay fault) = replay_status_of fault
+status_of (Unreadable file) = 2
+
+-- the exit status of the program
+abbrev pub exit_of : Result (Unit {0}) Fault → ℕ
 exit_of (Ok done) = 0
 exit_of (Err fault) = status_of fault
+
+-- why a schedule is not replayed that is not read
+abbrev pub replay_fault_of : ScheduleFault → ReplayFault
+replay_fault_of (schedules.Line number) = replays.Line number
+replay_fault_of schedules.Memory = replays.Memory
 
 -- the exit status where the words of the command line are no commands to run: 0 where help or the version is asked for,
 -- 3 where there is no memory, and 2 at a usage fault

@@ -3,30 +3,42 @@ ghost use Rattle.std.specs.Prelude.{◌≡◌, IfOk};
 ghost use Rattle.clap.specs.Values.{kind_of};
 ghost use Rattle.clap.specs.declared.error.kind.ErrorKind.TheVariants.{InvalidValue};
 
+use crate::limits::{MAX_ATOMS, MAX_BRANCHES, MAX_SESSIONS};
 use clap::error::ErrorKind;
 use clap::{Arg, ArgMatches, Command, Error, value_parser};
 use lj_quota::Quota;
 use std::alloc::{AllocError, Global};
 
-/// The most sessions that a user may be given.
-const MAX_SESSIONS: i64 = 64;
+/// What the program is to do.
+#[derive(Debug, Drop)]
+pub enum Job<'a> {
+    /// Answers one user of this quota.
+    Run(Quota),
+    /// Replays the schedule in the file of this name.
+    Replay(&'a str),
+}
 
-/// The most atoms that a user may be given.
-const MAX_ATOMS: i64 = 65_536;
-
-/// The most saved simulations that a user may be given.
-const MAX_BRANCHES: i64 = 256;
-
-/// The quota that the words of the command line give the one user. The first word is the program's name.
+/// What the words of the command line ask for. The first word is the program's name.
 ///
 /// # Errors
 /// A usage fault, a request for help or for the version, or out of memory.
-pub fn parse_arguments<'a>(alloc: Global, words: &'a [String]) -> Result<Quota, Error> {
+pub fn parse_arguments<'a>(alloc: Global, words: &'a [String]) -> Result<Job<'a>, Error> {
     let matches = program(alloc)?.try_get_matches_from(words)?;
-    Ok(match matches.subcommand_matches("run") {
+    if let Some(matches) = matches.subcommand_matches("replay") {
+        return match matches.get_str("file") {
+            Some(file) => Ok(Job::Replay(file)),
+            None => Err(no_file(alloc)?),
+        };
+    }
+    Ok(Job::Run(match matches.subcommand_matches("run") {
         Some(matches) => quota(matches),
         None => Quota::USUAL,
-    })
+    }))
+}
+
+/// The fault of words that name no file.
+fn no_file(alloc: Global) -> Result<Error, AllocError> {
+    program(alloc)?.error(ErrorKind::MissingRequiredArgument, "no file is named")
 }
 
 /// The fault of words that are no text.
@@ -46,21 +58,33 @@ fn program<'a>(alloc: Global) -> Result<Command<'a>, AllocError> {
             "Runs simulations of Lennard-Jones atoms that go back exactly. With no word: the same as run",
         )
         .disable_help_subcommand(true)
-        .subcommand(run_command(alloc)?)
+        .subcommand(run_command(alloc)?)?
+        .subcommand(replay_command(alloc)?)
 }
 
 fn run_command<'a>(alloc: Global) -> Result<Command<'a>, AllocError> {
     Command::new(alloc, "run")
         .about("Answers the commands of standard input on standard output, as those of one user")
-        .arg(limit(alloc, "sessions", "8", MAX_SESSIONS).help(
+        .arg(limit(alloc, "sessions", "8", MAX_SESSIONS as i64).help(
             "How many sessions the user may have, 0 to 64",
         ))?
-        .arg(limit(alloc, "atoms", "16384", MAX_ATOMS).help(
+        .arg(limit(alloc, "atoms", "16384", MAX_ATOMS as i64).help(
             "How many atoms in all sessions together, 0 to 65536",
         ))?
-        .arg(limit(alloc, "branches", "16", MAX_BRANCHES).help(
+        .arg(limit(alloc, "branches", "16", MAX_BRANCHES as i64).help(
             "How many saved simulations in all sessions together, 0 to 256",
         ))
+}
+
+fn replay_command<'a>(alloc: Global) -> Result<Command<'a>, AllocError> {
+    Command::new(alloc, "replay")
+        .about("Runs the events of a schedule, and prints what each user is replied")
+        .arg(
+            Arg::new(alloc, "file")
+                .value_name("FILE")
+                .required(true)
+                .help("The schedule: users, and then an event in each line"),
+        )
 }
 
 /// An option whose value is a whole number from 0 to `most`.

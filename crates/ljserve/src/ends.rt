@@ -14,12 +14,20 @@ const MAX_HELD_BYTES: usize = 65_536;
 
 /// A writer that can be flushed.
 #[derive(Drop)]
-struct Outlet<W> {
+pub struct Outlet<W> {
     writer: W,
 }
 
 impl<W: Write> Outlet<W> {
-    fn flush(&mut self) -> Result<(), WriteFault>
+    /// Writes nothing.
+    pub fn new(writer: W) -> Self
+        ensures { ⟦<Outlet<W> as Sink>⟧.contents result ≡ W.contents writer }
+    {
+        Outlet { writer }
+    }
+
+    /// Sends what was written.
+    pub fn flush(&mut self) -> Result<(), WriteFault>
         ensures { Keeps (W.contents self.old.writer) (W.contents self.new.writer) }
     {
         match self.writer.flush() {
@@ -108,7 +116,7 @@ impl<W: Write + Drop> Replies<W> {
         match Vec::with_capacity(alloc, MAX_HELD_BYTES) {
             Ok(bytes) => Ok(Replies {
                 held: RefCell::new(Held {
-                    outlet: Outlet { writer },
+                    outlet: Outlet::new(writer),
                     bytes,
                 }),
                 failed: Cell::new(false),

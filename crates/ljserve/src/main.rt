@@ -10,18 +10,26 @@ ghost use Rattle.ljserve.specs.Outcomes.{exit_of, usage_status};
 mod arguments;
 mod ends;
 mod fault;
+mod happening;
+mod limits;
+mod replay;
 mod run;
+mod schedule;
 #[cfg(test)]
 mod tests;
+mod users;
 
-use arguments::{no_text, parse_arguments};
+use arguments::{Job, no_text, parse_arguments};
 use clap::Error;
 use clap::error::ErrorKind;
-use fault::RunFault;
+use ends::Outlet;
+use fault::{Fault, ReplayFault, RunFault};
+use lj_quota::Quota;
+use replay::replay;
 use run::run;
 use std::alloc::AllocError;
 use std::process::ExitCode;
-use std::{env, io};
+use std::{env, fs, io};
 
 fn main(rt: HostRuntime) -> ExitCode {
     let words: Vec<String> = match words_of(&rt) {
@@ -29,9 +37,31 @@ fn main(rt: HostRuntime) -> ExitCode {
         Err(error) => return usage(&rt, &error),
     };
     match parse_arguments(rt.alloc(), words.as_slice()) {
-        Ok(quota) => ended(&rt, run(rt.alloc(), quota, rt.reader(), io::writer(&rt))),
+        Ok(Job::Run(quota)) => ended(&rt, run_input(&rt, quota)),
+        Ok(Job::Replay(file)) => ended(&rt, replay_file(&rt, file)),
         Err(error) => usage(&rt, &error),
     }
+}
+
+/// Answers the commands of standard input on standard output.
+fn run_input<'a>(rt: &HostRuntime, quota: Quota) -> Result<(), Fault<'a>> {
+    run(rt.alloc(), quota, rt.reader(), io::writer(rt))?;
+    Ok(())
+}
+
+/// Replays the schedule in the file of this name on standard output.
+fn replay_file<'a>(rt: &HostRuntime, file: &'a str) -> Result<(), Fault<'a>> {
+    let bytes = match fs::read(rt, file) {
+        Ok(bytes) => bytes,
+        Err(error) if error.kind() == io::ErrorKind::OutOfMemory => {
+            return Err(Fault::Replay(ReplayFault::Memory));
+        }
+        Err(_) => return Err(Fault::Unreadable(file)),
+    };
+    let mut outlet = Outlet::new(io::writer(rt));
+    replay(rt.alloc(), bytes.as_slice(), &mut outlet)?;
+    outlet.flush().map_err(ReplayFault::from)?;
+    Ok(())
 }
 
 /// The words of the command line. They fail where there is no memory, or where one is no text.
@@ -51,17 +81,17 @@ fn usage(rt: &(impl Print + Eprint), error: &Error) -> ExitCode
     ensures memory { kind_of error.now ≡ OutOfMemory → exit_status result ≡ 3 }
 {
     if error.kind() == ErrorKind::OutOfMemory {
-        return ended(rt, Err(RunFault::Memory));
+        return ended(rt, Err(Fault::Run(RunFault::Memory)));
     }
     match error.print(rt) {
         Ok(()) => ExitCode::from(if error.use_stderr() { 2 } else { 0 }),
-        Err(_) => ended(rt, Err(RunFault::Write)),
+        Err(_) => ended(rt, Err(Fault::Run(RunFault::Write))),
     }
 }
 
-/// Prints the fault of a run, if it has one.
-fn ended(rt: &impl Eprint, outcome: Result<(), RunFault>) -> ExitCode
-    ensures { exit_status result ≡ exit_of outcome }
+/// Prints the fault of the program, if it has one.
+fn ended(rt: &impl Eprint, outcome: Result<(), Fault<'_>>) -> ExitCode
+    ensures { exit_status result ≡ exit_of outcome.entry }
 {
     match outcome {
         Ok(()) => ExitCode::SUCCESS,

@@ -8,6 +8,8 @@ mod loads;
 mod memory;
 mod pools;
 mod refusals;
+mod replays;
 mod results;
+mod schedules;
 mod serving;
 mod streams;

@@ -1,0 +1,158 @@
+//! Schedules: users, and what happens to their connections and to workers, each in a line.
+ghost use Rattle.std.specs.Prelude.{◌≡◌, ◌≤◌, ◌<◌, ◌+◌, length, IfOk};
+ghost use Rattle.ljserve.specs.Named.{AreUsers};
+
+use crate::fault::{LineFault, ScheduleFault};
+use crate::happening::{parse_arrival, parse_event};
+use crate::users::Users;
+use lj_access::User;
+use lj_session::{Body, Command, LoadBody};
+use lj_wire::{Item, LineReading, Words, read_line, split_line};
+use lj_world::Event;
+use lj_xyz::split_word;
+use std::alloc::{AllocError, Global};
+
+/// Users, at least one, and events.
+#[derive(Debug, Drop)]
+pub struct Schedule {
+    pub users: Vec<User>,
+    pub events: Vec<Event>,
+}
+
+/// Reads a schedule: lines of users, and after these a line for each event. Lines without a word are passed over.
+///
+/// # Errors
+/// The number of the first bad line, counted from 1 with the lines of bodies; that after the last line where there is
+/// no user; or out of memory.
+pub fn read_schedule(alloc: Global, bytes: &[u8]) -> Result<Schedule, ScheduleFault>
+    ensures users { IfOk result (λ schedule. AreUsers schedule.users.items) }
+    ensures some { IfOk result (λ schedule. 1 ≤ length schedule.users.items) }
+{
+    let mut draft = Draft::new(alloc);
+    let mut at = 0;
+    while at < bytes.len() {
+        let (before, rest) = bytes.split_at(at);
+        match draft.read(rest) {
+            Ok(taken) => at += taken,
+            Err(LineFault::Form) => return Err(ScheduleFault::Line(line_after(before))),
+            Err(LineFault::Memory) => return Err(ScheduleFault::Memory),
+        }
+    }
+    if draft.users.is_empty() {
+        return Err(ScheduleFault::Line(line_after_all(bytes)));
+    }
+    Ok(Schedule {
+        users: draft.users.into_vec(),
+        events: draft.events,
+    })
+}
+
+/// The number of the line that begins after these bytes.
+fn line_after(before: &[u8]) -> u64
+    ensures { result ≤ length before.now + 1 }
+{
+    before.iter().filter(|byte| **byte == b'\n').count() as u64 + 1
+}
+
+/// The number after that of the last line, which may end without a line feed.
+fn line_after_all(bytes: &[u8]) -> u64 {
+    match bytes.last() {
+        Some(b'\n') | None => line_after(bytes),
+        Some(_) => line_after(bytes) + 1,
+    }
+}
+
+/// What a schedule says so far.
+#[derive(Drop)]
+struct Draft {
+    alloc: Global,
+    users: Users,
+    events: Vec<Event>,
+}
+
+impl Draft {
+    fn new(alloc: Global) -> Draft {
+        Draft {
+            alloc,
+            users: Users::new(alloc),
+            events: Vec::new(alloc),
+        }
+    }
+
+    /// Reads the first line of some bytes, with the body that it announces, and answers how many bytes these are.
+    fn read(&mut self, bytes: &[u8]) -> Result<usize, LineFault>
+        requires { 1 ≤ length bytes.now }
+        ensures bound { IfOk result (λ taken. taken ≤ length bytes.now) }
+        ensures some { IfOk result (λ taken. 0 < taken) }
+    {
+        let (line, after) = first_line(bytes);
+        let body = self.read_line(line, after)?;
+        Ok(bytes.len() - after.len() + body)
+    }
+
+    /// Reads a line, and answers how many of the bytes that follow it are its body.
+    fn read_line(&mut self, line: &[u8], after: &[u8]) -> Result<usize, LineFault>
+        ensures { IfOk result (λ body. body ≤ length after.now) }
+    {
+        let Some((verb, rest)) = split_word(line) else {
+            return Ok(0);
+        };
+        if verb == b"user".as_slice() {
+            self.add_user(Words::new(rest))?;
+            return Ok(0);
+        }
+        if self.users.is_empty() {
+            return Err(LineFault::Form);
+        }
+        if verb == b"arrive".as_slice() {
+            return self.arrive(rest, after);
+        }
+        let event = parse_event(verb, Words::new(rest)).ok_or(LineFault::Form)?;
+        self.events.push(event)?;
+        Ok(0)
+    }
+
+    fn add_user(&mut self, words: Words) -> Result<(), LineFault> {
+        if !self.events.is_empty() {
+            return Err(LineFault::Form);
+        }
+        self.users.add(words)
+    }
+
+    /// An item arrives: its line stands after the connection, and its body in the next lines. Answers how many bytes the
+    /// body has.
+    fn arrive(&mut self, words: &[u8], after: &[u8]) -> Result<usize, LineFault>
+        ensures { IfOk result (λ body. body ≤ length after.now) }
+    {
+        let (connection, line) = parse_arrival(words).ok_or(LineFault::Form)?;
+        let LineReading { item, body } = read_line(line);
+        if body > after.len() {
+            return Err(LineFault::Form);
+        }
+        let (bytes, _) = after.split_at(body);
+        let item = with_bytes(self.alloc, item, bytes)?;
+        self.events.push(Event::Arrive { connection, item })?;
+        Ok(body)
+    }
+}
+
+/// The first line of some bytes, without its line feed, and what follows it. The last line may have no line feed.
+fn first_line(bytes: &[u8]) -> (&[u8], &[u8])
+    requires { 1 ≤ length bytes.now }
+    ensures { length result.1.now < length bytes.now }
+{
+    match split_line(bytes) {
+        Some(parts) => parts,
+        None => bytes.split_at(bytes.len()),
+    }
+}
+
+/// The item with a copy of these bytes as its body, where it is a LOAD.
+fn with_bytes(alloc: Global, item: Item, bytes: &[u8]) -> Result<Item, AllocError> {
+    if !matches!(&item, Item::Command(Command::Load(_))) {
+        return Ok(item);
+    }
+    let mut body = Vec::new(alloc);
+    body.extend_from_slice(bytes)?;
+    Ok(item.with_body(LoadBody::Read(Body::new(body))))
+}

@@ -1,0 +1,96 @@
+//! Users as the lines of a file give them.
+ghost use Rattle.std.specs.Prelude.{◌≡◌, ◌↔◌, ◌≤◌, ◌++◌, [], ◌∷◌, length, IsTrue, IfSome, OnOk, OnErr};
+ghost use Rattle.ljserve.specs.Named.{AreUsers};
+
+use crate::fault::LineFault;
+use crate::limits::{MAX_ATOMS, MAX_BRANCHES, MAX_SESSIONS};
+use lj_access::{MAX_USERS, Token, User, is_named};
+use lj_fixed::parse_number;
+use lj_quota::Quota;
+use lj_tile::Name;
+use lj_wire::Words;
+use std::alloc::Global;
+use std::marker::Model;
+
+/// Users with different names, at most `MAX_USERS`.
+#[derive(Debug, Drop)]
+pub struct Users {
+    users: Vec<User>,
+}
+
+impl Model for Users {
+    ghost use Rattle.std.specs.Prelude.{List};
+    ghost use Rattle.lj_access.specs.declared.user.User as declared;
+    ghost use Rattle.ljserve.specs.Named as named;
+
+    ghost Value = { List declared.User };
+
+    ghost view = { λ users. users.users.items };
+
+    ghost invariant = { λ users. named.AreUsers users.users.items };
+}
+
+impl Users {
+    /// No users.
+    pub fn new(alloc: Global) -> Users
+        ensures { result ≡ [] }
+    {
+        Users {
+            users: Vec::new(alloc),
+        }
+    }
+
+    /// Whether there are none.
+    pub fn is_empty(&self) -> bool
+        ensures { IsTrue result ↔ (self.now ≡ []) }
+    {
+        self.users.is_empty()
+    }
+
+    /// Adds the user that these words say: a name that no user has yet, a token, and how many sessions, atoms and
+    /// branches.
+    ///
+    /// # Errors
+    /// `Form` where the words say no user, the name is taken, or there are `MAX_USERS` already. Nothing has changed
+    /// after an error.
+    pub fn add(&mut self, words: Words) -> Result<(), LineFault>
+        ensures { OnErr result (self.new ≡ self.old) }
+    {
+        let user = parse_user(words).ok_or(LineFault::Form)?;
+        if self.users.len() >= MAX_USERS || is_named(&self.users, &user.name) {
+            return Err(LineFault::Form);
+        }
+        self.users.push(user)?;
+        Ok(())
+    }
+
+    /// The users, in the order in which they were added.
+    pub fn into_vec(self) -> Vec<User>
+        ensures value { result.items ≡ self }
+        ensures users { AreUsers result.items }
+    {
+        let Users { users } = self;
+        users
+    }
+}
+
+fn parse_user(mut words: Words) -> Option<User> {
+    let user = User {
+        name: Name::parse(words.next()?)?,
+        token: Token::parse(words.next()?)?,
+        quota: Quota {
+            sessions: parse_limited(words.next()?, MAX_SESSIONS)?,
+            atoms: parse_limited(words.next()?, MAX_ATOMS)?,
+            branches: parse_limited(words.next()?, MAX_BRANCHES)?,
+        },
+    };
+    words.end()?;
+    Some(user)
+}
+
+/// The number that a word says, where it is at most `most`.
+fn parse_limited(word: &[u8], most: u64) -> Option<u64>
+    ensures { IfSome result (λ number. number ≤ most) }
+{
+    parse_number(word).filter(|number| *number <= most)
+}
