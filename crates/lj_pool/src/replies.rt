@@ -6,13 +6,14 @@ ghost use Rattle.lj_wire.specs.Ends.{Rises};
 ghost use Rattle.lj_wire.specs.Texts.{text};
 
 use lj_session::{Reply, UserState};
-use lj_wire::{Sink, WriteFault, last_line, put_all, reply_line};
+use lj_wire::{Line, Sink, WriteFault, last_line, put_all, put_reply_line};
 
-/// Writes the lines of a reply, which tells of the state after its command. After a fault the first bytes of them may
-/// have been written.
+/// Writes the lines of a reply, which tells of the state after its command. Each is built in the room of `line`. After
+/// a fault the first bytes of them may have been written.
 #[inline(never)]
 pub(crate) fn put_reply<W: Sink>(
     writer: &mut W,
+    line: &mut Line,
     state: &UserState,
     reply: &Reply,
 ) -> Result<(), WriteFault>
@@ -25,7 +26,7 @@ pub(crate) fn put_reply<W: Sink>(
 {
     let last = last_line(state, reply);
     let mut k = 0;
-    while let Some(line) = reply_line(state, reply, k) {
+    while let Some(()) = put_reply_line(line, state, reply, k) {
         put_all(writer, line.as_slice())?;
         if k == last {
             break;

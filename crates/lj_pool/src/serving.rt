@@ -19,7 +19,7 @@ use crate::replies::put_reply;
 use crate::running::{Halt, answer_over};
 use crate::served::{Served, ending_of};
 use lj_session::{Owner, Refusal, Reply, UserState};
-use lj_wire::{Item, LineReader, ReadFault, Sink, Source, WriteFault};
+use lj_wire::{Item, Line, LineReader, ReadFault, Sink, Source, WriteFault};
 use std::alloc::Global;
 
 /// Serves a stream of commands from a user's state on, over a pool that owes nothing. What is written is the dialogue
@@ -77,6 +77,7 @@ pub fn serve_lines<R: Source, W: Sink, P: Pool>(
     ensures quota { IfSome result.0 (λ owned. owned.quota ≡ state.quota) }
 {
     let mut owner = Owner::new(state, user);
+    let mut line = Line::new();
     'items: loop {
         let item = match lines.next() {
             Ok(Some(item)) => item,
@@ -91,7 +92,7 @@ pub fn serve_lines<R: Source, W: Sink, P: Pool>(
                 return (None, Served::from(halt));
             }
         };
-        if let Err(WriteFault) = put_reply(writer, owner.state(), &reply) {
+        if let Err(WriteFault) = put_reply(writer, &mut line, owner.state(), &reply) {
             return (Some(owner.into_state()), Served::WriteFault);
         }
         if let Some(served) = ending {

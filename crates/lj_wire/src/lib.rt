@@ -28,5 +28,5 @@ pub use line::split_line;
 pub use put::put_all;
 pub use reader::{LineReader, Phase, handed_are_all, handed_come_first, lost_is_marked};
 pub use reading::{LineReading, parse_command, read_line};
-pub use replies::{Line, MAX_REPLY_LINE_BYTES, last_line, reply_line};
+pub use replies::{Line, MAX_REPLY_LINE_BYTES, last_line, put_reply_line, reply_line};
 pub use words::Words;

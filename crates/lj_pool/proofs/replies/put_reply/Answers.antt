@@ -16,24 +16,24 @@ returns-in_err-put_all-clause-begun g c =
     let begun = rw c.as_slice.ensures.value at c.in_err-put_all.ensures.begun in
     let p = err_from_is_err_and c.from_residual.result c.from_residual.ensures.1 in
     rw p.1
-    (line_part lines c.loop-line.k c.in-Some.line.items (sym c.in-Some.ensures) begun.0 begun.1
-    (g.W.Sink.contents c.args.writer.now) (g.W.Sink.contents c.loop-line.writer)
+    (line_part lines c.loop-writer.k c.put_reply_line.new.line.items (sym c.in-Some.ensures.text) begun.0 begun.1
+    (g.W.Sink.contents c.args.writer.now) (g.W.Sink.contents c.loop-writer.writer)
     (g.W.Sink.contents c.put_all.new.sink) (text user c.args.reply.now)
-    (text-lines user c.args.reply.now) c.loop-line.invariant.written begun.2)
+    (text-lines user c.args.reply.now) c.loop-writer.invariant.written begun.2)
 
-pub loop-line-preserved : goal.loop-line-preserved
-loop-line-preserved g c =
+pub loop-writer-preserved : goal.loop-writer-preserved
+loop-writer-preserved g c =
     let lines = reply_lines (user_of c.args.state.now) c.args.reply.now in
     let written = rw c.as_slice.ensures.value at c.in_ok-put_all.ensures.written in
     record {
       written =
           subst (Appends (g.W.Sink.contents c.args.writer.now) (g.W.Sink.contents c.put_all.new.sink))
-          (sym (line_more lines c.loop-line.k c.in-Some.line.items (sym c.in-Some.ensures)))
-          (Appends-trans (g.W.Sink.contents c.args.writer.now) (g.W.Sink.contents c.loop-line.writer)
-          (g.W.Sink.contents c.put_all.new.sink) (concat (take c.loop-line.k lines))
-          c.in-Some.line.items c.loop-line.invariant.written written);
-      faults = c.in_ok-put_all.ensures.counted ∙ c.loop-line.invariant.faults;
-      within = omega (arith, c.loop-line.invariant.within, c.if-k-last.false);
+          (sym (line_more lines c.loop-writer.k c.put_reply_line.new.line.items (sym c.in-Some.ensures.text)))
+          (Appends-trans (g.W.Sink.contents c.args.writer.now) (g.W.Sink.contents c.loop-writer.writer)
+          (g.W.Sink.contents c.put_all.new.sink) (concat (take c.loop-writer.k lines))
+          c.put_reply_line.new.line.items c.loop-writer.invariant.written written);
+      faults = c.in_ok-put_all.ensures.counted ∙ c.loop-writer.invariant.faults;
+      within = omega (arith, c.loop-writer.invariant.within, c.if-k-last.false);
     }
 
 pub returns-then-k-last-clause-written : goal.returns-then-k-last-clause-written
@@ -41,19 +41,19 @@ returns-then-k-last-clause-written g c =
     let user = user_of c.args.state.now in
     let lines = reply_lines user c.args.reply.now in
     let written = rw c.as_slice.ensures.value at c.in_ok-put_all.ensures.written in
-    let all : length lines ≤ c.loop-line.k + 1 = omega (arith, c.last_line-last.ensures, c.if-k-last.true) in
+    let all : length lines ≤ c.loop-writer.k + 1 = omega (arith, c.last_line-last.ensures, c.if-k-last.true) in
     subst (Appends (g.W.Sink.contents c.args.writer.now) (g.W.Sink.contents c.put_all.new.sink))
-    (sym (line_more lines c.loop-line.k c.in-Some.line.items (sym c.in-Some.ensures))
-    ∙ lines_all lines (c.loop-line.k + 1) all ∙ sym (text-lines user c.args.reply.now))
-    (Appends-trans (g.W.Sink.contents c.args.writer.now) (g.W.Sink.contents c.loop-line.writer)
-    (g.W.Sink.contents c.put_all.new.sink) (concat (take c.loop-line.k lines))
-    c.in-Some.line.items c.loop-line.invariant.written written)
+    (sym (line_more lines c.loop-writer.k c.put_reply_line.new.line.items (sym c.in-Some.ensures.text))
+    ∙ lines_all lines (c.loop-writer.k + 1) all ∙ sym (text-lines user c.args.reply.now))
+    (Appends-trans (g.W.Sink.contents c.args.writer.now) (g.W.Sink.contents c.loop-writer.writer)
+    (g.W.Sink.contents c.put_all.new.sink) (concat (take c.loop-writer.k lines))
+    c.put_reply_line.new.line.items c.loop-writer.invariant.written written)
 
 pub returns-in_default-clause-written : goal.returns-in_default-clause-written
 returns-in_default-clause-written g c =
     let user = user_of c.args.state.now in
     let lines = reply_lines user c.args.reply.now in
-    subst (Appends (g.W.Sink.contents c.args.writer.now) (g.W.Sink.contents c.loop-line.writer))
-    (lines_all lines c.loop-line.k (lines_past lines c.loop-line.k (sym c.in_default.ensures))
+    subst (Appends (g.W.Sink.contents c.args.writer.now) (g.W.Sink.contents c.loop-writer.writer))
+    (lines_all lines c.loop-writer.k (lines_past lines c.loop-writer.k (sym c.in_default.ensures.text))
     ∙ sym (text-lines user c.args.reply.now))
-    c.loop-line.invariant.written
+    c.loop-writer.invariant.written

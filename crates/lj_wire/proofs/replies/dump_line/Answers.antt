@@ -3,12 +3,12 @@ use Rattle.lj_session.specs.States.{held_at}
 use Rattle.lj_wire.proofs.ReplyLines.{dumped_atom, past_last_atom}
 use Rattle.lj_wire.proofs.replies.dump_line.Goals as goal
 
-pub returns-in_default : goal.returns-in_default
-returns-in_default c =
-    dumped_atom (held_at c.args.state.now c.args.i) c.args.k _ _ _ (Some c.atom_line.result.items)
+pub returns-in_default-clause-text : goal.returns-in_default-clause-text
+returns-in_default-clause-text c =
+    dumped_atom (held_at c.args.state.now c.args.i) c.args.k _ _ _ (Some c.atom_line.new.line.items)
     (omega arith) c.atom_line.ensures
 
-pub returns-in_default-2 : goal.returns-in_default-2
-returns-in_default-2 c =
+pub returns-in_default-2-clause-text : goal.returns-in_default-2-clause-text
+returns-in_default-2-clause-text c =
     dumped_atom (held_at c.args.state.now c.args.i) c.args.k _ _ _ None (omega arith)
     (past_last_atom (held_at c.args.state.now c.args.i) c.sim_at-sim.result.now _ c.sim_at-sim.ensures (omega arith))

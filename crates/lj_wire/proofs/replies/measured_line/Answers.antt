@@ -14,7 +14,7 @@ returns c =
       c.push_number-2.ensures.text,
       c.push_number.ensures.text,
       c.push_momentum.ensures.text,
-      c.begin_measured-line.ensures.text,
+      c.begin_measured.ensures.text,
       step,
       potential,
     )

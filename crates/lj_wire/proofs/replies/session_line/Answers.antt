@@ -8,7 +8,7 @@ use Rattle.lj_wire.proofs.replies.session_line.Goals as goal
 pub returns : goal.returns
 returns c =
     let step = to_z-of_z w64 c.step.result (record { sfits = omega (arith, c.step.ensures.most) }) in
-    let text : c.entry_line.result.items ≡ line_of
+    let text : c.entry_line.new.line.items ≡ line_of
     (c.name_at.result.now ∷ signed_decimal c.sim_at-sim.result.now.sim.step
     ∷ decimal (length c.sim_at-sim.result.now.sim.cur) ∷ decimal (length c.branches_at-branches.result.now) ∷ []) =
     rw (c.entry_line.ensures, step, c.step.ensures.value, c.count.ensures.value, c.len.ensures.value) refl in
