@@ -10,7 +10,6 @@ use lj_wire::{Line, Sink, WriteFault, last_line, put_all, put_reply_line};
 
 /// Writes the lines of a reply, which tells of the state after its command. Each is built in the room of `line`. After
 /// a fault the first bytes of them may have been written.
-#[inline(never)]
 pub(crate) fn put_reply<W: Sink>(
     writer: &mut W,
     line: &mut Line,

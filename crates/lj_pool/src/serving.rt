@@ -102,7 +102,6 @@ pub fn serve_lines<R: Source, W: Sink, P: Pool>(
 }
 
 /// Answers an item.
-#[inline(never)]
 fn answer<P: Pool>(owner: &mut Owner, user: u8, pool: &mut P, item: Item) -> Result<Reply, Halt>
     requires idle { owner.old.rest ≡ None }
     requires number { owner.old.number ≡ user }

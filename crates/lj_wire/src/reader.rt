@@ -74,7 +74,6 @@ impl<S: Source> LineReader<S> {
 
     /// The next item. `None` where the input has ended in less than an item, or after an item that
     /// ends the connection; nothing is read after that, nor after a fault.
-    #[inline(never)]
     pub fn next(&mut self) -> Result<Option<Item>, ReadFault>
         ensures item { IfOk result (λ item. IfSome item (HandsOut self.old self.new)) }
         ensures none { IfOk result (λ item. IfNone item (HandsNone self.old self.new)) }

@@ -24,7 +24,6 @@ pub struct LineReading {
 }
 
 /// Reads a line, which is given without its line feed.
-#[inline(never)]
 pub fn read_line(line: &[u8]) -> LineReading
     ensures item { result.item ≡ item_with line.now Unread }
     ensures body { result.body ≡ announced line.now }
