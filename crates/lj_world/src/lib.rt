@@ -10,6 +10,8 @@ mod laws;
 mod limits;
 mod machine;
 mod position;
+#[cfg(test)]
+mod tests;
 mod texts;
 mod transcript;
 mod worker;
