@@ -30,19 +30,17 @@ fn with_others<'a>(
     Ok(parts)
 }
 
+/// The events of two users at once, with those of nobody after each.
+fn two_users_and_nobody(rt: &impl AllocGlobal) -> Result<Vec<Part<'static>>, AllocError> {
+    let mut parts = with_others(rt, UP_TO_THE_TURN, OF_NOBODY)?;
+    let mut rest = with_others(rt, FROM_THE_TURN, OF_NOBODY)?;
+    parts.append(&mut rest)?;
+    Ok(parts)
+}
+
 #[test]
 fn events_of_nobody(rt: HostRuntime) -> Result<(), Fail> {
-    let mut parts = with_others(&rt, UP_TO_THE_TURN, OF_NOBODY).or_else(|_| with_others(
-        &rt,
-        UP_TO_THE_TURN,
-        OF_NOBODY,
-    ))?;
-    let mut rest = with_others(&rt, FROM_THE_TURN, OF_NOBODY).or_else(|_| with_others(
-        &rt,
-        FROM_THE_TURN,
-        OF_NOBODY,
-    ))?;
-    parts.append(&mut rest)?;
+    let parts = two_users_and_nobody(&rt).or_else(|_| two_users_and_nobody(&rt))?;
     expect(&rt, &TWO_USERS, &parts, TOLD_TO_TWO)?;
     Ok(())
 }

@@ -105,7 +105,7 @@ fn hello(rt: &impl Abort, connection: u8, words: &str) -> Event {
 }
 
 /// The event that a text says.
-pub fn event(rt: &(impl Abort + AllocGlobal), text: &str) -> Result<Event, AllocError> {
+fn event(rt: &(impl Abort + AllocGlobal), text: &str) -> Result<Event, AllocError> {
     let (verb, rest) = text.split_once(' ').expect(rt, "a number");
     let (word, rest) = rest.split_once(' ').unwrap_or((rest, ""));
     let (connection, worker) = (number(rt, word), number(rt, word));
