@@ -13,6 +13,7 @@ use lj_wire::{Writing, parse_command};
 use lj_world::Event;
 use std::alloc::{AllocError, AllocGlobal, Global};
 use std::io::Write;
+use std::process::Abort;
 use std::test::Fail;
 
 /// A user, in the first line of a schedule.
@@ -55,57 +56,57 @@ const BEGINNING: [&str; 11] = [
     WORK,
 ];
 
-#[test]
-fn two_users_are_told_what_they_ask_for(rt: HostRuntime) -> Result<(), Fail> {
-    let mut schedule = joined(rt.alloc(), &BEGINNING)?;
-    schedule.extend_from_slice(TURNS.as_bytes())?;
-    let mut sheet = Sheet::new(usize::MAX);
-    let outcome = replay(
-        rt.alloc(),
-        schedule.as_slice(),
-        &mut Writing::new(&mut sheet),
-    );
-    assert!(rt; outcome == Ok(()), "{outcome:?}");
-    assert_eq!(rt; sheet.output.as_slice(), REPLIES.as_bytes());
-    Ok(())
-}
-
-#[test]
-fn a_user_alone_is_told_the_same(rt: HostRuntime) -> Result<(), Fail> {
-    let parts = [USER, GREETING, "arrive 1 ", CHAIN, ASKED_BY_FIRST, ALONE];
-    let schedule = joined(rt.alloc(), &parts)?;
-    let mut sheet = Sheet::new(usize::MAX);
-    let outcome = replay(
-        rt.alloc(),
-        schedule.as_slice(),
-        &mut Writing::new(&mut sheet),
-    );
-    assert!(rt; outcome == Ok(()), "{outcome:?}");
-    assert_eq!(rt; sheet.output.as_slice(), REPLIES_TO_FIRST.as_bytes());
-    Ok(())
-}
-
-#[test]
-fn a_run_cut_short_tells_the_first_replies(rt: HostRuntime) -> Result<(), Fail> {
-    let schedule = joined(rt.alloc(), &BEGINNING)?;
-    let mut sheet = Sheet::new(usize::MAX);
-    let outcome = replay(
-        rt.alloc(),
-        schedule.as_slice(),
-        &mut Writing::new(&mut sheet),
-    );
-    assert!(rt; outcome == Ok(()), "{outcome:?}");
-    let told = "A 1 OK LOAD c 0 65\nB 2 ERR 21 QUOTA_ATOMS\nB 2 OK LOAD d 0 2\n";
-    assert_eq!(rt; sheet.output.as_slice(), told.as_bytes());
-    Ok(())
-}
-
 /// What a schedule of these parts comes to, and what it prints.
 fn replayed(alloc: Global, parts: &[&str]) -> Result<(Result<(), ReplayFault>, Sheet), AllocError> {
     let schedule = joined(alloc, parts)?;
     let mut sheet = Sheet::new(usize::MAX);
     let outcome = replay(alloc, schedule.as_slice(), &mut Writing::new(&mut sheet));
     Ok((outcome, sheet))
+}
+
+/// Asks that a schedule of these parts is run, and prints this.
+fn prints(rt: &(impl Abort + AllocGlobal), parts: &[&str], told: &str) -> Result<(), AllocError> {
+    let (outcome, sheet) = replayed(rt.alloc(), parts)?;
+    assert!(rt; outcome == Ok(()), "{parts:?} give {outcome:?}");
+    assert_eq!(rt; sheet.output.as_slice(), told.as_bytes(), "{parts:?}");
+    Ok(())
+}
+
+/// Asks that a schedule of these parts is bad at this line, and prints nothing.
+fn is_bad_at(
+    rt: &(impl Abort + AllocGlobal),
+    parts: &[&str],
+    number: u64,
+) -> Result<(), AllocError> {
+    let (outcome, sheet) = replayed(rt.alloc(), parts)?;
+    assert!(rt;
+        outcome == Err(ReplayFault::Line(number)),
+        "{parts:?} give {outcome:?}"
+    );
+    assert!(rt; sheet.output.is_empty());
+    Ok(())
+}
+
+#[test]
+fn two_users_are_told_what_they_ask_for(rt: HostRuntime) -> Result<(), Fail> {
+    let mut parts = Vec::from_array(rt.alloc(), BEGINNING)?;
+    parts.push(TURNS)?;
+    prints(&rt, parts.as_slice(), REPLIES)?;
+    Ok(())
+}
+
+#[test]
+fn a_user_alone_is_told_the_same(rt: HostRuntime) -> Result<(), Fail> {
+    let parts = [USER, GREETING, "arrive 1 ", CHAIN, ASKED_BY_FIRST, ALONE];
+    prints(&rt, &parts, REPLIES_TO_FIRST)?;
+    Ok(())
+}
+
+#[test]
+fn a_run_cut_short_tells_the_first_replies(rt: HostRuntime) -> Result<(), Fail> {
+    let told = "A 1 OK LOAD c 0 65\nB 2 ERR 21 QUOTA_ATOMS\nB 2 OK LOAD d 0 2\n";
+    prints(&rt, &BEGINNING, told)?;
+    Ok(())
 }
 
 /// Lines that are no event.
@@ -152,12 +153,7 @@ const BAD_LINES: [&str; 36] = [
 fn a_bad_line_is_told_by_its_number(rt: HostRuntime) -> Result<(), Fail> {
     for line in BAD_LINES {
         let parts = [USER, "\nenter 1\n", line, "\nenter\n"];
-        let (outcome, sheet) = replayed(rt.alloc(), &parts)?;
-        assert!(rt;
-            outcome == Err(ReplayFault::Line(4)),
-            "{line:?} gives {outcome:?}"
-        );
-        assert!(rt; sheet.output.is_empty());
+        is_bad_at(&rt, &parts, 4)?;
     }
     Ok(())
 }
@@ -182,11 +178,7 @@ const BAD_USERS: [&str; 13] = [
 #[test]
 fn a_bad_user_is_told_by_its_number(rt: HostRuntime) -> Result<(), Fail> {
     for line in BAD_USERS {
-        let (outcome, _) = replayed(rt.alloc(), &["\n", USER, line])?;
-        assert!(rt;
-            outcome == Err(ReplayFault::Line(3)),
-            "{line:?} gives {outcome:?}"
-        );
+        is_bad_at(&rt, &["\n", USER, line], 3)?;
     }
     Ok(())
 }
@@ -220,11 +212,7 @@ const BAD_SCHEDULES: [(&[&str], u64); 13] = [
 #[test]
 fn a_bad_line_is_counted_with_bodies(rt: HostRuntime) -> Result<(), Fail> {
     for (parts, number) in BAD_SCHEDULES {
-        let (outcome, _) = replayed(rt.alloc(), parts)?;
-        assert!(rt;
-            outcome == Err(ReplayFault::Line(number)),
-            "{parts:?} gives {outcome:?}"
-        );
+        is_bad_at(&rt, parts, number)?;
     }
     Ok(())
 }
@@ -248,9 +236,7 @@ const GOOD_LINES: [&str; 12] = [
 #[test]
 fn a_good_line_is_taken(rt: HostRuntime) -> Result<(), Fail> {
     for line in GOOD_LINES {
-        let (outcome, sheet) = replayed(rt.alloc(), &[USER, line])?;
-        assert!(rt; outcome == Ok(()), "{line:?} gives {outcome:?}");
-        assert!(rt; sheet.output.is_empty());
+        prints(&rt, &[USER, line], "")?;
     }
     Ok(())
 }
@@ -286,11 +272,9 @@ fn an_arriving_line_is_an_item(rt: HostRuntime) -> Result<(), Fail> {
     let arriving =
         "arrive 1 LIST\r\narrive 1\tLIST\narrive 1  LIST \narrive 1 \narrive 1 LIST x y\narrive 1 BYE\n";
     let begun = "next 1\nnext 1\nnext 1\nnext 1\nnext 1\nnext 1\nnext 1\nleave 1\n";
-    let (outcome, sheet) = replayed(rt.alloc(), &[USER, GREETING, arriving, begun])?;
-    assert!(rt; outcome == Ok(()), "{outcome:?}");
     let told =
         "A 1 OK LIST 0\nA 1 OK LIST 0\nA 1 OK LIST 0\nA 1 ERR 03 SYNTAX\nA 1 ERR 03 SYNTAX\nA 1 OK BYE\n";
-    assert_eq!(rt; sheet.output.as_slice(), told.as_bytes());
+    prints(&rt, &[USER, GREETING, arriving, begun], told)?;
     Ok(())
 }
 
@@ -328,12 +312,10 @@ fn an_arriving_line_may_be_too_long(rt: HostRuntime) -> Result<(), Fail> {
 #[test]
 fn each_line_of_a_reply_is_headed(rt: HostRuntime) -> Result<(), Fail> {
     let work = "arrive 1 LIST\narrive 1 DUMP d\nnext 1\nnext 1\nnext 1\n";
-    let (outcome, sheet) = replayed(rt.alloc(), &[USER, GREETING, "arrive 1 ", DIMER, work])?;
-    assert!(rt; outcome == Ok(()), "{outcome:?}");
     let told =
         "A 1 OK LOAD d 0 2\nA 1 OK LIST 1\nA 1 d 0 2 0\nA 1 OK DUMP d 0 4\nA 1 2\nA 1 step 0\n\
         A 1 Ar 0.000000 0.000000 0.000000\nA 1 Ar 1.500000 0.000000 0.000000\n";
-    assert_eq!(rt; sheet.output.as_slice(), told.as_bytes());
+    prints(&rt, &[USER, GREETING, "arrive 1 ", DIMER, work], told)?;
     Ok(())
 }
 
