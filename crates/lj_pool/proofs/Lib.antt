@@ -4,3 +4,4 @@ pub mod Gathering
 pub mod Beginning
 pub mod Dialogues
 pub mod Quotas
+pub mod Places

@@ -7,3 +7,5 @@ pub mod Running
 pub mod Endings
 pub mod Serving
 pub mod Served
+pub mod Accounts
+pub mod Desks

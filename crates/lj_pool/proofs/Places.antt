@@ -1,0 +1,241 @@
+-- Tasks in places, of which a list has each once and the first ones hold what is owed.
+use Rattle.std.proofs.Common.{◌≡◌, ℕ, zero, suc, ◌+◌, ◌-◌, ◌<◌, ◌≤◌, Bool, true, false, List, [], ◌∷◌, ◌++◌}
+use Rattle.std.proofs.Common.{Option, Some, None, length, take, drop, get_or, set, cond, refl, sym, ap, ◌∙◌}
+use Rattle.std.proofs.Common.{inl, inr, arith, length-append, length-set, get_or-set_same, get_or-set_other}
+use Rattle.std.proofs.Common.{append_assoc, drop-cons}
+use Rattle.std.specs.Prelude.{nat_eq, nat_lt}
+use Rattle.std.specs.List.{remove}
+use Rattle.std.proofs.lemmas.Bool.{cases_Bool, cases_eq, eq-eqb, ne_eqb, ltb-true, ltb-false, lt-ltb, le-ltb}
+use Rattle.std.proofs.lemmas.List.{take_more, take-append-drop, take-append-le, length-take-le, length_push, get_or-take}
+use Rattle.std.proofs.lemmas.List.Edits.{length-remove, remove-append_left}
+use Rattle.std.proofs.lemmas.List.Sums.{sum_by-cons, sum_by_push, sum_by_more, sum_by-take-le, sum_by-remove, get_or-le-sum_by}
+use Rattle.lj_tile.specs.Tasks.{Work}
+use Rattle.lj_pool.specs.declared.pool.TheConstants.{MAX_OWED}
+use Rattle.lj_pool.specs.Gathering.{times}
+use Rattle.lj_pool.specs.Inline.{held_task}
+use Rattle.lj_pool.specs.Accounts.{works, IsFirst, IsKept}
+use Rattle.lj_pool.specs.Seen.{Seen, TakesOff, one_more}
+
+-- 1 for true
+abbrev bit : Bool → ℕ
+bit b = cond b 1 0
+
+held-le : (slot : Option Work) → length (held_task slot) ≤ 1
+held-le None = omega arith
+held-le (Some task) = omega arith
+
+works-append : (tasks : List (Option Work)) (ps qs : List ℕ) → works tasks (ps ++ qs) ≡ works tasks ps ++ works tasks qs
+works-append tasks [] qs = refl
+works-append tasks (p ∷ ps) qs =
+    ap (λ w. held_task (get_or tasks p None) ++ w) (works-append tasks ps qs)
+    ∙ sym (append_assoc (held_task (get_or tasks p None)) (works tasks ps) (works tasks qs))
+
+length-works-le : (tasks : List (Option Work)) (ps : List ℕ) → length (works tasks ps) ≤ length ps
+length-works-le tasks [] = omega arith
+length-works-le tasks (p ∷ ps) =
+    let slot = get_or tasks p None in
+    let rest = length-works-le tasks ps in
+    omega (arith, held-le slot, rest, length-append (held_task slot) (works tasks ps))
+
+-- a task that is put into another place is none of these
+works-other : (tasks : List (Option Work)) (place : ℕ) (slot : Option Work) (ps : List ℕ) → times place ps ≡ 0
+    → works (set tasks place slot) ps ≡ works tasks ps
+works-other tasks place slot [] none = refl
+works-other tasks place slot (p ∷ ps) none =
+    let parts = sum_by-cons (λ j. cond (nat_eq j place) 1 0) p ps in
+    let rest = works-other tasks place slot ps (omega (arith, parts, none)) in
+    elim (cases_eq p place) [
+      | inl same ↦
+          let one : bit (nat_eq p place) ≡ 1 = ap bit (eq-eqb p place same) in
+          absurd (omega (arith, parts, none, one))
+      | inr other ↦
+          ap (λ x. held_task x ++ works (set tasks place slot) ps) (get_or-set_other tasks place p slot None other)
+          ∙ ap (λ w. held_task (get_or tasks p None) ++ w) rest
+    ]
+
+-- where there are as many tasks as places, the first place holds one
+held_first : (slot : Option Work) (rest : List Work) (n : ℕ) → length rest ≤ n
+    → length (held_task slot ++ rest) ≡ suc n → (task : Work) × (slot ≡ Some task) × (length rest ≡ n)
+held_first None rest n most is = absurd (omega (arith, most, is))
+held_first (Some task) rest n most is = (task, refl, omega (arith, is))
+
+-- where there are as many tasks as places, a task stands where its place does
+pub works_at : (tasks : List (Option Work)) (ps : List ℕ) (k : ℕ) (d : Work) → length (works tasks ps) ≡ length ps
+    → k < length ps → get_or tasks (get_or ps k 0) None ≡ Some (get_or (works tasks ps) k d)
+works_at tasks [] k d held within = absurd (omega (arith, within))
+works_at tasks (p ∷ ps) zero d held within =
+    let first = held_first (get_or tasks p None) (works tasks ps) (length ps) (length-works-le tasks ps) held in
+    first.1 ∙ sym (ap (λ x. Some (get_or (held_task x ++ works tasks ps) zero d)) first.1)
+works_at tasks (p ∷ ps) (suc k) d held within =
+    let first = held_first (get_or tasks p None) (works tasks ps) (length ps) (length-works-le tasks ps) held in
+    works_at tasks ps k d first.2 (omega arith)
+    ∙ sym (ap (λ x. Some (get_or (held_task x ++ works tasks ps) (suc k) d)) first.1)
+
+works-remove : (tasks : List (Option Work)) (ps : List ℕ) (k : ℕ) → length (works tasks ps) ≡ length ps → k < length ps
+    → works tasks (remove ps k) ≡ remove (works tasks ps) k
+works-remove tasks [] k held within = absurd (omega (arith, within))
+works-remove tasks (p ∷ ps) zero held within =
+    let first = held_first (get_or tasks p None) (works tasks ps) (length ps) (length-works-le tasks ps) held in
+    sym (ap (λ x. remove (held_task x ++ works tasks ps) zero) first.1)
+works-remove tasks (p ∷ ps) (suc k) held within =
+    let first = held_first (get_or tasks p None) (works tasks ps) (length ps) (length-works-le tasks ps) held in
+    ap (λ w. held_task (get_or tasks p None) ++ w) (works-remove tasks ps k first.2 (omega arith))
+    ∙ ap (λ x. held_task x ++ remove (works tasks ps) k) first.1
+    ∙ sym (ap (λ x. remove (held_task x ++ works tasks ps) (suc k)) first.1)
+
+-- a place is one of them
+pub place_within : (places : List ℕ) → ((n : ℕ) → times n places ≡ cond (nat_lt n MAX_OWED) 1 0) → (k : ℕ)
+    → k < length places → get_or places k 0 < MAX_OWED
+place_within places once k within =
+    let place = get_or places k 0 in
+    let some = get_or-le-sum_by (λ j. cond (nat_eq j place) 1 0) places k 0 within in
+    let one : bit (nat_eq place place) ≡ 1 = ap bit (eq-eqb place place refl) in
+    let there = once place in
+    elim (cases_Bool (nat_lt place MAX_OWED)) [
+      | inl below ↦ ltb-true place MAX_OWED below
+      | inr above ↦
+          let none : bit (nat_lt place MAX_OWED) ≡ 0 = ap bit above in
+          absurd (omega (arith, some, one, there, none))
+    ]
+
+at_most_one : (b : Bool) → cond b 1 0 ≤ 1
+at_most_one true = omega arith
+at_most_one false = omega arith
+
+-- the place after those that hold tasks is none of them
+apart : (places : List ℕ) → ((n : ℕ) → times n places ≡ cond (nat_lt n MAX_OWED) 1 0) → (owed : ℕ)
+    → owed < length places → times (get_or places owed 0) (take owed places) ≡ 0
+apart places once owed within =
+    let place = get_or places owed 0 in
+    let f : ℕ → ℕ = λ j. cond (nat_eq j place) 1 0 in
+    let more = sum_by_more f places owed 0 within in
+    let le = sum_by-take-le f places (owed + 1) in
+    let one : bit (nat_eq place place) ≡ 1 = ap bit (eq-eqb place place refl) in
+    omega (arith, more, le, one, once place, at_most_one (nat_lt place MAX_OWED))
+
+-- a task is put into the next place
+pub works_posted : (tasks : List (Option Work)) (places : List ℕ) (owed : ℕ) (task : Work) → IsKept tasks places owed
+    → owed < MAX_OWED
+    → works (set tasks (get_or places owed 0) (Some task)) (take (owed + 1) places)
+    ≡ works tasks (take owed places) ++ task ∷ []
+works_posted tasks places owed task kept room =
+    let place = get_or places owed 0 in
+    let within : owed < length places = omega (arith, kept.all, room) in
+    let fits : place < length tasks = omega (arith, place_within places kept.once owed within, kept.size) in
+    let put = set tasks place (Some task) in
+    ap (works put) (take_more places owed 0 within)
+    ∙ works-append put (take owed places) (place ∷ [])
+    ∙ ap (λ w. w ++ (held_task (get_or put place None) ++ []))
+    (works-other tasks place (Some task) (take owed places) (apart places kept.once owed within))
+    ∙ ap (λ x. works tasks (take owed places) ++ (held_task x ++ [])) (get_or-set_same tasks place (Some task) None fits)
+
+pub kept_posted : (tasks : List (Option Work)) (places : List ℕ) (owed : ℕ) (task : Work) → IsKept tasks places owed
+    → owed < MAX_OWED
+    → IsKept (set tasks (get_or places owed 0) (Some task)) places (owed + 1)
+kept_posted tasks places owed task kept room = record {
+  size = length-set tasks (get_or places owed 0) (Some task) ∙ kept.size;
+  once = kept.once;
+  all = kept.all;
+  most = omega (arith, room);
+  held = ap length (works_posted tasks places owed task kept room)
+      ∙ length_push (works tasks (take owed places)) task ∙ ap (λ n. n + 1) kept.held;
+}
+
+-- the first places, once the one that stands here has been put behind all
+places_left : (places : List ℕ) (owed here : ℕ) → owed ≤ length places → here < owed
+    → take (owed - 1) (remove places here ++ get_or places here 0 ∷ []) ≡ remove (take owed places) here
+places_left places owed here most within =
+    let front = take owed places in
+    let behind = drop owed places in
+    let place = get_or places here 0 in
+    let len : length front ≡ owed = length-take-le owed places most in
+    let inside : here < length front = omega (arith, len, within) in
+    let short : length (remove front here) ≡ owed - 1 = omega (arith, length-remove front here inside, len) in
+    let whole : remove places here ≡ remove front here ++ behind =
+    ap (λ xs. remove xs here) (sym (take-append-drop owed places)) ∙ remove-append_left front behind here inside in
+    ap (λ xs. take (owed - 1) (xs ++ place ∷ [])) whole
+    ∙ ap (take (owed - 1)) (append_assoc (remove front here) behind (place ∷ []))
+    ∙ take-append-le (owed - 1) (remove front here) (behind ++ place ∷ []) (omega (arith, short))
+    ∙ ap (λ n. take n (remove front here)) (sym short)
+    ∙ take_whole (remove front here)
+  where
+    take_whole : {X : Type 0} (xs : List X) → take (length xs) xs ≡ xs
+    take_whole [] = refl
+    take_whole (x ∷ xs) = ap (λ ys. x ∷ ys) (take_whole xs)
+
+-- a task is taken off
+pub works_left : (tasks : List (Option Work)) (places : List ℕ) (owed here : ℕ) → IsKept tasks places owed → here < owed
+    → works tasks (take (owed - 1) (remove places here ++ get_or places here 0 ∷ []))
+    ≡ remove (works tasks (take owed places)) here
+works_left tasks places owed here kept within =
+    let most : owed ≤ length places = omega (arith, kept.all, kept.most) in
+    let len : length (take owed places) ≡ owed = length-take-le owed places most in
+    ap (works tasks) (places_left places owed here most within)
+    ∙ works-remove tasks (take owed places) here (kept.held ∙ sym len) (omega (arith, len, within))
+
+pub kept_left : (tasks : List (Option Work)) (places : List ℕ) (owed here : ℕ) → IsKept tasks places owed → here < owed
+    → IsKept tasks (remove places here ++ get_or places here 0 ∷ []) (owed - 1)
+kept_left tasks places owed here kept within =
+    let inside : here < length places = omega (arith, kept.all, kept.most, within) in
+    let place = get_or places here 0 in
+    let lost : here < length (works tasks (take owed places)) = omega (arith, kept.held, within) in
+    record {
+      size = kept.size;
+      once = λ n. let f : ℕ → ℕ = λ j. cond (nat_eq j n) 1 0 in
+          omega (arith, sum_by_push f (remove places here) place, sum_by-remove f places here 0 inside) ∙ kept.once n;
+      all = length_push (remove places here) place ∙ length-remove places here inside ∙ kept.all;
+      most = omega (arith, kept.most);
+      held = ap length (works_left tasks places owed here kept within)
+          ∙ omega (arith, length-remove (works tasks (take owed places)) here lost, kept.held);
+    }
+
+-- one place more is in the list
+pub once_more : (n place : ℕ) → cond (nat_lt n place) 1 0 + cond (nat_eq place n) 1 0 ≡ cond (nat_lt n (place + 1)) 1 0
+once_more n place = elim (cases_Bool (nat_lt n place)) [
+  | inl below ↦
+      let under : n < place = ltb-true n place below in
+      let a : bit (nat_lt n place) ≡ 1 = ap bit below in
+      let b : bit (nat_eq place n) ≡ 0 = ap bit (ne_eqb place n (λ e. absurd (omega (arith, under, e)))) in
+      let c : bit (nat_lt n (place + 1)) ≡ 1 = ap bit (lt-ltb n (place + 1) (omega (arith, under))) in
+      omega (arith, a, b, c)
+  | inr above ↦
+      let over : place ≤ n = ltb-false n place above in
+      let a : bit (nat_lt n place) ≡ 0 = ap bit above in
+      elim (cases_eq place n) [
+        | inl same ↦
+            let b : bit (nat_eq place n) ≡ 1 = ap bit (eq-eqb place n same) in
+            let c : bit (nat_lt n (place + 1)) ≡ 1 = ap bit (lt-ltb n (place + 1) (omega (arith, same))) in
+            omega (arith, a, b, c)
+        | inr other ↦
+            let b : bit (nat_eq place n) ≡ 0 = ap bit (ne_eqb place n other) in
+            let c : bit (nat_lt n (place + 1)) ≡ 0 = ap bit
+            (le-ltb n (place + 1) (omega (arith, over, other))) in
+            omega (arith, a, b, c)
+      ]
+]
+
+-- the task that stands where a place does
+pub task_at : (tasks : List (Option Work)) (places : List ℕ) (owed here : ℕ) → IsKept tasks places owed → here < owed
+    → (d : Work) → get_or tasks (get_or places here 0) None ≡ Some (get_or (works tasks (take owed places)) here d)
+task_at tasks places owed here kept within d =
+    let len : length (take owed places) ≡ owed = length-take-le owed places (omega (arith, kept.all, kept.most)) in
+    ap (λ k. get_or tasks k None) (sym (get_or-take owed places here 0 within))
+    ∙ works_at tasks (take owed places) here d (kept.held ∙ sym len) (omega (arith, len, within))
+
+-- the first such task is owed no more, and a result is counted
+pub taken_off : (task : Work) (old new : Seen) (here : ℕ) → IsFirst old.owed task here → new.owed ≡ remove old.owed here
+    → new.good ≡ one_more old.good → new.strays ≡ old.strays → TakesOff task old new
+taken_off task old new here first left good strays = record {
+  front = take here old.owed;
+  behind = drop (suc here) old.owed;
+  was = sym (take-append-drop here old.owed)
+      ∙ ap (λ xs. take here old.owed ++ xs) (drop-cons old.owed here task first.within)
+      ∙ ap (λ x. take here old.owed ++ x ∷ drop (suc here) old.owed) first.is;
+  first = λ there.
+      let len : length (take here old.owed) ≡ here = length-take-le here old.owed (omega (arith, first.within)) in
+      let under : there.0 < here = omega (arith, there.1, len) in
+      first.before there.0 under (sym (get_or-take here old.owed there.0 task under) ∙ there.2);
+  owed = left;
+  good = good;
+  strays = strays;
+}

@@ -1,0 +1,154 @@
+//! What an end of a pool is owed, and what it has counted.
+ghost use Rattle.std.specs.Prelude.{◌≡◌, ◌<◌, ◌≤◌, ◌↔◌, ℕ, cond, length, nat_lt, slice_index_or, true, IfSome, IfNone, IsTrue};
+ghost use Rattle.std.specs.List.{Contains, remove};
+ghost use Rattle.lj_pool.specs.Seen.{IsHandedOut, IsPosted, SameOwed, unseen};
+ghost use Rattle.lj_pool.specs.Gathering.{times};
+ghost use Rattle.lj_pool.specs.Accounts.{IsFirst};
+
+use crate::pool::MAX_OWED;
+use arrayvec::ArrayVec;
+use lj_tile::Task;
+use std::array;
+use std::marker::Model;
+
+/// The tasks that an end is owed, of which it keeps copies, and what it has counted. It takes no memory.
+#[derive(Drop)]
+pub struct Account {
+    tasks: [Option<Task>; MAX_OWED],
+    places: ArrayVec<u8, MAX_OWED>,
+    owed: usize,
+    good: u64,
+    strays: u64,
+    closed: bool,
+}
+
+impl Model for Account {
+    ghost use Rattle.std.specs.Prelude.{take};
+    ghost use Rattle.lj_pool.specs.Seen.{Seen};
+    ghost use Rattle.lj_pool.specs.Accounts.{IsKept, works};
+
+    ghost Value = { Seen };
+
+    ghost view = { λ a. record {
+      owed = works a.tasks (take a.owed a.places.items);
+      good = a.good;
+      strays = a.strays;
+      closed = a.closed;
+    } };
+
+    ghost invariant = { λ a. IsKept a.tasks a.places.items a.owed };
+}
+
+impl Account {
+    /// Nothing is owed and nothing is counted.
+    pub fn new() -> Account
+        ensures { result ≡ unseen }
+    {
+        Account {
+            tasks: array::from_fn(|_| None),
+            places: all_places(),
+            owed: 0,
+            good: 0,
+            strays: 0,
+            closed: false,
+        }
+    }
+
+    /// Notes that a task was posted.
+    pub fn post(&mut self, task: Task)
+        requires { length self.old.owed < MAX_OWED }
+        ensures posted { IsPosted task self.old self.new }
+        ensures closed { self.new.closed ≡ self.old.closed }
+    {
+        let place = usize::from(self.places[self.owed]);
+        self.tasks[place] = Some(task);
+        self.owed += 1;
+    }
+
+    /// Counts a result of this task, which is then owed no more if it was.
+    pub fn count(&mut self, task: &Task)
+        ensures handed_out { IsHandedOut task.now self.old self.new }
+        ensures closed { self.new.closed ≡ self.old.closed }
+    {
+        match self.find(task) {
+            Some(here) => {
+                self.take_off(here);
+                self.good = self.good.saturating_add(1);
+            }
+            None => self.strays = self.strays.saturating_add(1),
+        }
+    }
+
+    /// Notes that the pool was seen closed.
+    pub fn close(&mut self)
+        ensures same { SameOwed self.old self.new }
+        ensures closed { self.new.closed ≡ true }
+    {
+        self.closed = true;
+    }
+
+    /// How many tasks are owed.
+    pub fn owed(&self) -> usize
+        ensures value { result ≡ length self.now.owed }
+        ensures most { result ≤ MAX_OWED }
+    {
+        self.owed
+    }
+
+    /// Whether the pool was seen closed.
+    pub fn closed(&self) -> bool
+        ensures { result ≡ self.now.closed }
+    {
+        self.closed
+    }
+
+    /// Where the first task stands that is this one.
+    fn find(&self, task: &Task) -> Option<usize>
+        ensures some { IfSome result (IsFirst self.now.owed task.now) }
+        ensures none { IfNone result (Contains self.now.owed task.now → ⊥) }
+    {
+        for here in 0..self.owed() {
+            if self.is_at(here, task) {
+                return Some(here);
+            }
+        }
+        None
+    }
+
+    /// Whether the task that stands here is this one.
+    fn is_at(&self, here: usize, task: &Task) -> bool
+        requires { here < length self.now.owed }
+        ensures { IsTrue result ↔ (slice_index_or self.now.owed here task.now ≡ task.now) }
+    {
+        let place = usize::from(self.places[here]);
+        match &self.tasks[place] {
+            Some(owed) => owed.is(task),
+            None => false,
+        }
+    }
+
+    /// The task that stands here is owed no more.
+    fn take_off(&mut self, here: usize)
+        requires { here < length self.old.owed }
+        ensures owed { self.new.owed ≡ remove self.old.owed here }
+        ensures good { self.new.good ≡ self.old.good }
+        ensures strays { self.new.strays ≡ self.old.strays }
+        ensures closed { self.new.closed ≡ self.old.closed }
+    {
+        let place = self.places.remove(here);
+        self.places.push(place);
+        self.owed -= 1;
+    }
+}
+
+/// The places, each once.
+fn all_places() -> ArrayVec<u8, MAX_OWED>
+    ensures once { (place : ℕ) → times place result.items ≡ cond (nat_lt place MAX_OWED) 1 0 }
+    ensures all { length result.items ≡ MAX_OWED }
+{
+    let mut places = ArrayVec::new();
+    for place in 0..MAX_OWED as u8 {
+        places.push(place);
+    }
+    places
+}

@@ -1,0 +1,168 @@
+//! A pool behind a lock, whose workers run in threads of their own.
+ghost use Rattle.std.specs.Prelude.{◌≡◌, ◌+◌, ◌≤◌, true, vec_len, IfErr, IfOk, IfSome};
+ghost use Rattle.std.specs.List.{All};
+ghost use Rattle.lj_pool.specs.Refusals.{task_of, IsClosed};
+ghost use Rattle.lj_pool.specs.Seen.{unseen};
+
+use crate::desk::Desk;
+use crate::lock_end::LockEnd;
+use crate::pool::Refused;
+use crate::share::Share;
+use lj_book::{Book, Counts, Key};
+use lj_tile::{Done, Task};
+use std::alloc::{AllocError, Global};
+use std::sync::ledger::{self, Blank, Ledger};
+use std::sync::{Condvar, Mutex, Wait};
+
+/// A book of tasks behind a lock. Its ends post tasks and fetch results, each from a thread of its own, and workers
+/// compute them (`work`). The lock is never held while a task is computed.
+#[derive(Drop)]
+pub struct LockPool<L: Ledger> {
+    desk: Mutex<Desk<L>>,
+    moved: Condvar,
+}
+
+impl<L: Ledger> LockPool<L> {
+    /// An empty pool, with a share for each worker.
+    ///
+    /// # Errors
+    /// Out of memory.
+    pub fn new(
+        alloc: Global,
+        blank: Blank,
+        workers: usize,
+    ) -> Result<(LockPool<L>, Vec<Share<L>>), AllocError>
+        requires name { blank.name ≡ L.name }
+        requires parts { blank.parts ≡ L.parts }
+        requires one_each { blank.parts ≡ workers }
+        ensures one_each { IfOk result (λ made. vec_len made.1 ≡ workers) }
+        ensures nothing { IfOk result (λ made. All (λ count. count ≡ 0) made.1.items) }
+    {
+        let book = Book::new(alloc)?;
+        let (results, all) = blank.open::<L>();
+        let shares = shares_of(alloc, all, workers)?;
+        let pool = LockPool {
+            desk: Mutex::new(Desk::new(book, results)),
+            moved: Condvar::new(),
+        };
+        Ok((pool, shares))
+    }
+
+    /// An end of the pool, to which nothing is owed.
+    pub fn end<'p, R: Wait>(&'p self, rt: &'p R) -> LockEnd<'p, L, R>
+        ensures { result ≡ unseen }
+    {
+        LockEnd::new(rt, self)
+    }
+
+    /// Closes the pool: from now on no task is posted or taken and no result fetched.
+    pub fn close<R: Wait>(&self, rt: &R) {
+        self.desk.lock(rt).close();
+        self.moved.notify_all();
+    }
+
+    /// The counts of the book. What was posted has been fetched or withdrawn, or stands in the book.
+    pub fn counts<R: Wait>(&self, rt: &R) -> Counts
+        ensures balance { result.posted ≡ result.fetched + result.withdrawn + result.entries }
+        ensures given_posted { result.given ≤ result.posted }
+    {
+        self.desk.lock(rt).counts()
+    }
+
+    /// Withdraws every entry of the user, also of tasks that are out.
+    pub fn withdraw<R: Wait>(&self, rt: &R, user: u8) {
+        self.desk.lock(rt).withdraw(user);
+        self.moved.notify_all();
+    }
+
+    /// Posts a task. With `wait` it waits while the book is full.
+    pub(crate) fn post<R: Wait>(&self, rt: &R, task: Task, wait: bool) -> Result<(), Refused>
+        ensures handed_back { IfErr result (λ refused. task_of refused ≡ task) }
+        ensures full { wait ≡ true → IfErr result IsClosed }
+    {
+        let mut task = task;
+        for _ in rt.forever() {
+            let mut desk = self.desk.lock(rt);
+            match desk.post(task) {
+                Err(Refused::Full(refused)) if wait => task = refused,
+                posted => {
+                    drop(desk);
+                    self.moved.notify_all();
+                    return posted;
+                }
+            }
+            let _desk = self.moved.wait(rt, desk);
+        }
+        unreachable!()
+    }
+
+    /// Fetches a result of the user, and waits for one. None where the pool is closed.
+    pub(crate) fn fetch<R: Wait>(&self, rt: &R, user: u8) -> Option<Done>
+        ensures { IfSome result (λ done. done.name.label.user ≡ user) }
+    {
+        for _ in rt.forever() {
+            let mut desk = self.desk.lock(rt);
+            if desk.is_closed() {
+                return None;
+            }
+            if let Some(done) = desk.fetch(user) {
+                drop(desk);
+                self.moved.notify_all();
+                return Some(done);
+            }
+            let _desk = self.moved.wait(rt, desk);
+        }
+        unreachable!()
+    }
+
+    /// Takes an open task, and waits for one. None where the pool is closed.
+    pub(crate) fn take<R: Wait>(&self, rt: &R) -> Option<(Key, Task)> {
+        for _ in rt.forever() {
+            let mut desk = self.desk.lock(rt);
+            if desk.is_closed() {
+                return None;
+            }
+            if let Some(taken) = desk.take() {
+                return Some(taken);
+            }
+            let _desk = self.moved.wait(rt, desk);
+        }
+        unreachable!()
+    }
+
+    /// Gives a result, and credits it to the share if it is accepted.
+    pub(crate) fn give<R: Wait>(&self, rt: &R, key: Key, done: Done, share: &mut Share<L>)
+        ensures never_falls { share.old ≤ share.new }
+        ensures one_at_most { share.new ≤ share.old + 1 }
+    {
+        let _refused = self.desk.lock(rt).give(key, done, share);
+        self.moved.notify_all();
+    }
+
+    /// How many results were given, which is what all parts of the ledger have together.
+    pub(crate) fn audited<R: Wait>(&self, rt: &R, all: &mut ledger::Share<L>) -> u64
+        requires { all.old.parts ≡ L.parts }
+        ensures { result ≡ all.old.amount }
+    {
+        self.desk.lock(rt).audited(all)
+    }
+}
+
+/// A share for each worker.
+fn shares_of<L: Ledger>(
+    alloc: Global,
+    all: ledger::Share<L>,
+    workers: usize,
+) -> Result<Vec<Share<L>>, AllocError>
+    requires parts { all.parts ≡ workers }
+    requires nothing { all.amount ≡ 0 }
+    ensures one_each { IfOk result (λ shares. vec_len shares ≡ workers) }
+    ensures nothing { IfOk result (λ shares. All (λ count. count ≡ 0) shares.items) }
+{
+    let mut all = all;
+    let mut shares = Vec::with_capacity(alloc, workers)?;
+    for _ in 0..workers {
+        shares.push(Share::new(all.split_off(1, 0)))?;
+    }
+    Ok(shares)
+}

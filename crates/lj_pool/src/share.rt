@@ -1,0 +1,60 @@
+//! A worker's share of the results that a pool was given.
+ghost use Rattle.std.specs.Prelude.{◌≡◌, ◌<◌, ◌+◌, ◌-◌, ◌^◌};
+
+use std::marker::Model;
+use std::sync::ledger::{self, Book, Ledger};
+
+/// How many results of a worker were accepted. It has one part of the ledger whose book stands beside the count of all
+/// results: what all parts have is that count.
+#[derive(Drop)]
+pub struct Share<L: Ledger> {
+    part: ledger::Share<L>,
+    count: u64,
+}
+
+impl<L: Ledger> Model for Share<L> {
+    ghost use Rattle.std.specs.Prelude.{◌≡◌, ℕ};
+
+    ghost Value = { ℕ };
+
+    ghost view = { λ s. s.count };
+
+    ghost invariant = { λ s. (s.part.parts ≡ 1) × (s.part.amount ≡ s.count) };
+}
+
+impl<L: Ledger> Share<L> {
+    /// A share of one part, to which nothing is credited yet.
+    pub fn new(part: ledger::Share<L>) -> Share<L>
+        requires one { part.parts ≡ 1 }
+        requires nothing { part.amount ≡ 0 }
+        ensures { result ≡ 0 }
+    {
+        Share { part, count: 0 }
+    }
+
+    /// How many results of its worker were accepted.
+    pub fn count(&self) -> u64
+        ensures { result ≡ self.now }
+    {
+        self.count
+    }
+
+    /// Credits one result more, in the book of all results too.
+    pub fn credit(&mut self, results: &mut Book<L>)
+        requires { results.old.total < 2 ^ 64 - 1 }
+        ensures credited { self.new ≡ self.old + 1 }
+        ensures total { results.new.total ≡ results.old.total + 1 }
+    {
+        results.audit(&mut self.part);
+        results.add(&mut self.part, 1);
+        self.count += 1;
+    }
+
+    /// Its part of the ledger.
+    pub fn into_part(self) -> ledger::Share<L>
+        ensures one { result.parts ≡ 1 }
+        ensures amount { result.amount ≡ self }
+    {
+        self.part
+    }
+}
