@@ -1,5 +1,5 @@
 //! What an end of a pool is owed, and what it has counted.
-ghost use Rattle.std.specs.Prelude.{◌≡◌, ◌<◌, ◌≤◌, ◌↔◌, ℕ, cond, length, nat_lt, slice_index_or, true, IfSome, IfNone, IsTrue};
+ghost use Rattle.std.specs.Prelude.{◌≡◌, ◌<◌, ◌≤◌, ◌↔◌, ℕ, cond, length, nat_lt, slice_index_or, true, false, IfSome, IfNone, IsTrue};
 ghost use Rattle.std.specs.List.{Contains, remove};
 ghost use Rattle.lj_pool.specs.Seen.{IsHandedOut, IsPosted, SameOwed, unseen};
 ghost use Rattle.lj_pool.specs.Gathering.{times};
@@ -93,6 +93,14 @@ impl Account {
         ensures most { result ≤ MAX_OWED }
     {
         self.owed
+    }
+
+    /// Whether no more can be owed.
+    pub fn is_full(&self) -> bool
+        ensures room { result ≡ false → length self.now.owed < MAX_OWED }
+        ensures full { result ≡ true → length self.now.owed ≡ MAX_OWED }
+    {
+        self.owed == MAX_OWED
     }
 
     /// Whether the pool was seen closed.

@@ -1,5 +1,5 @@
 //! What lies under the lock of a pool.
-ghost use Rattle.std.specs.Prelude.{◌≡◌, ◌+◌, ◌≤◌, ◌↔◌, ℕ, Some, true, false, IsOk, IfErr, IfNone, IfSome, OnErr, OnOk};
+ghost use Rattle.std.specs.Prelude.{◌≡◌, ◌+◌, ◌≤◌, ◌↔◌, ℕ, Some, None, true, false, IsOk, IsTrue, IfErr, IfNone, IfSome, OnErr, OnOk};
 ghost use Rattle.lj_book.specs.declared.entries.Entry.TheVariants.{Out};
 ghost use Rattle.lj_book.specs.Held.{at, standing, Fetches, Gives, IsDoneAt, IsOpenAt, Posts, Takes, Withdraws};
 ghost use Rattle.lj_pool.specs.Refusals.{task_of, IsClosed};
@@ -7,7 +7,7 @@ ghost use Rattle.lj_pool.specs.Desks.{HasRoom};
 
 use crate::pool::Refused;
 use crate::share::Share;
-use lj_book::{Book, Counts, Full, Key};
+use lj_book::{Book, Counts, Full, Key, MAX_ENTRIES};
 use lj_tile::{Done, Task};
 use std::sync::ledger::{self, Ledger};
 
@@ -17,6 +17,8 @@ pub(crate) struct Desk<L: Ledger> {
     book: Book,
     results: ledger::Book<L>,
     next: Key,
+    /// How many tasks were posted since the workers were told of any.
+    untold: usize,
     closed: bool,
     ghost counted: { book.given ≡ results.total },
 }
@@ -32,6 +34,7 @@ impl<L: Ledger> Desk<L> {
             book,
             results,
             next: 0,
+            untold: 0,
             closed: false,
         }
     }
@@ -49,18 +52,37 @@ impl<L: Ledger> Desk<L> {
             return Err(Refused::Closed(task));
         }
         match self.book.post(task) {
-            Ok(()) => Ok(()),
+            Ok(()) => {
+                self.untold = self.untold.saturating_add(1);
+                Ok(())
+            }
             Err(Full { task }) => Err(Refused::Full(task)),
         }
     }
 
-    /// Takes an open task, in turn.
-    pub(crate) fn take(&mut self) -> Option<(Key, Task)>
-        ensures some { IfSome result (λ taken. Takes self.old.book self.new.book taken.0 taken.1) }
-        ensures none { IfNone result ((k : ℕ) → ¬ IsOpenAt self.old.book k) }
-        ensures unchanged { IfNone result (self.new.book ≡ self.old.book) }
+    /// Whether the workers are to be told of tasks, once so many were posted. They are told then.
+    pub(crate) fn tells(&mut self, least: usize) -> bool
+        ensures unchanged { self.new.book ≡ self.old.book }
         ensures stays { self.new.closed ≡ self.old.closed }
     {
+        let tells = self.untold >= least;
+        if tells {
+            self.untold = 0;
+        }
+        tells
+    }
+
+    /// Takes an open task, in turn. None where there is none, or the pool is closed.
+    pub(crate) fn take(&mut self) -> Option<(Key, Task)>
+        ensures some { IfSome result (λ taken. Takes self.old.book self.new.book taken.0 taken.1) }
+        ensures none { IfNone result (self.old.closed ≡ false → (k : ℕ) → ¬ IsOpenAt self.old.book k) }
+        ensures unchanged { IfNone result (self.new.book ≡ self.old.book) }
+        ensures closed { self.old.closed ≡ true → result ≡ None }
+        ensures stays { self.new.closed ≡ self.old.closed }
+    {
+        if self.closed {
+            return None;
+        }
         let (key, task) = self.book.take(self.next)?;
         self.next = key.wrapping_add(1);
         Some((key, task))
@@ -83,14 +105,18 @@ impl<L: Ledger> Desk<L> {
         Ok(())
     }
 
-    /// Fetches a result of the user.
+    /// Fetches a result of the user. None where there is none, or the pool is closed.
     pub(crate) fn fetch(&mut self, user: u8) -> Option<Done>
         ensures some { IfSome result (λ done. (key : ℕ) × Fetches self.old.book self.new.book done key) }
         ensures whose { IfSome result (λ done. done.name.label.user ≡ user) }
-        ensures none { IfNone result ((k : ℕ) → ¬ IsDoneAt user self.old.book k) }
+        ensures none { IfNone result (self.old.closed ≡ false → (k : ℕ) → ¬ IsDoneAt user self.old.book k) }
         ensures unchanged { IfNone result (self.new.book ≡ self.old.book) }
+        ensures closed { self.old.closed ≡ true → result ≡ None }
         ensures stays { self.new.closed ≡ self.old.closed }
     {
+        if self.closed {
+            return None;
+        }
         self.book.fetch(user, 0)
     }
 
@@ -115,6 +141,13 @@ impl<L: Ledger> Desk<L> {
         ensures { result ≡ self.now.closed }
     {
         self.closed
+    }
+
+    /// Whether no task can be posted before an entry leaves the book.
+    pub(crate) fn is_full(&self) -> bool
+        ensures { IsTrue result ↔ (standing self.now.book ≡ MAX_ENTRIES) }
+    {
+        self.book.counts().entries == MAX_ENTRIES as u64
     }
 
     /// The counts of the book.

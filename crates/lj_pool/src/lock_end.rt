@@ -4,7 +4,7 @@ ghost use Rattle.lj_pool.specs.Seen.{IsHandedOut, SameOwed, StaysClosed, unseen}
 
 use crate::account::Account;
 use crate::locked::LockPool;
-use crate::pool::{MAX_OWED, Pool, Refused};
+use crate::pool::{Pool, Refused};
 use lj_tile::{Done, Task};
 use std::marker::Model;
 use std::sync::Wait;
@@ -75,7 +75,7 @@ impl<'p, L: Ledger, R: Wait> Pool for LockEnd<'p, L, R> {
     }
 
     fn full(&self) -> bool {
-        self.account.owed() == MAX_OWED
+        self.account.is_full()
     }
 
     fn closed(&self) -> bool {

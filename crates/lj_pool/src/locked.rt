@@ -14,11 +14,18 @@ use std::alloc::{AllocError, Global};
 use std::sync::ledger::{self, Blank, Ledger};
 use std::sync::{Condvar, Mutex, Wait};
 
+/// So many tasks are posted before the workers are told of them, unless an end waits for a result; and so many results
+/// are given before the ends are told of them, while tasks are open.
+const TOLD_AT_ONCE: usize = 16;
+
 /// A book of tasks behind a lock. Its ends post tasks and fetch results, each from a thread of its own, and workers
 /// compute them (`work`). The lock is never held while a task is computed.
 #[derive(Drop)]
 pub struct LockPool<L: Ledger> {
     desk: Mutex<Desk<L>>,
+    /// A task was posted. Workers wait for it.
+    posted: Condvar,
+    /// Results were given, or there is room in the book. Ends wait for it.
     moved: Condvar,
 }
 
@@ -43,6 +50,7 @@ impl<L: Ledger> LockPool<L> {
         let shares = shares_of(alloc, all, workers)?;
         let pool = LockPool {
             desk: Mutex::new(Desk::new(book, results)),
+            posted: Condvar::new(),
             moved: Condvar::new(),
         };
         Ok((pool, shares))
@@ -58,6 +66,7 @@ impl<L: Ledger> LockPool<L> {
     /// Closes the pool: from now on no task is posted or taken and no result fetched.
     pub fn close<R: Wait>(&self, rt: &R) {
         self.desk.lock(rt).close();
+        self.posted.notify_all();
         self.moved.notify_all();
     }
 
@@ -81,17 +90,20 @@ impl<L: Ledger> LockPool<L> {
         ensures full { wait ≡ true → IfErr result IsClosed }
     {
         let mut task = task;
+        let mut desk = self.desk.lock(rt);
         for _ in rt.forever() {
-            let mut desk = self.desk.lock(rt);
             match desk.post(task) {
                 Err(Refused::Full(refused)) if wait => task = refused,
                 posted => {
+                    let tells = desk.tells(TOLD_AT_ONCE);
                     drop(desk);
-                    self.moved.notify_all();
+                    if tells {
+                        self.posted.notify_all();
+                    }
                     return posted;
                 }
             }
-            let _desk = self.moved.wait(rt, desk);
+            desk = self.moved.wait(rt, desk);
         }
         unreachable!()
     }
@@ -100,43 +112,79 @@ impl<L: Ledger> LockPool<L> {
     pub(crate) fn fetch<R: Wait>(&self, rt: &R, user: u8) -> Option<Done>
         ensures { IfSome result (λ done. done.name.label.user ≡ user) }
     {
+        let mut desk = self.desk.lock(rt);
         for _ in rt.forever() {
-            let mut desk = self.desk.lock(rt);
-            if desk.is_closed() {
-                return None;
-            }
-            if let Some(done) = desk.fetch(user) {
+            let was_full = desk.is_full();
+            let fetched = desk.fetch(user);
+            if fetched.is_some() || desk.is_closed() {
                 drop(desk);
-                self.moved.notify_all();
-                return Some(done);
+                if was_full {
+                    self.moved.notify_all();
+                }
+                return fetched;
             }
-            let _desk = self.moved.wait(rt, desk);
+            if desk.tells(1) {
+                self.posted.notify_all();
+            }
+            desk = self.moved.wait(rt, desk);
         }
         unreachable!()
     }
 
-    /// Takes an open task, and waits for one. None where the pool is closed.
-    pub(crate) fn take<R: Wait>(&self, rt: &R) -> Option<(Key, Task)> {
-        for _ in rt.forever() {
-            let mut desk = self.desk.lock(rt);
-            if desk.is_closed() {
-                return None;
-            }
-            if let Some(taken) = desk.take() {
-                return Some(taken);
-            }
-            let _desk = self.moved.wait(rt, desk);
-        }
-        unreachable!()
-    }
-
-    /// Gives a result, and credits it to the share if it is accepted.
-    pub(crate) fn give<R: Wait>(&self, rt: &R, key: Key, done: Done, share: &mut Share<L>)
+    /// Gives a result that was computed, if there is one, which is credited to the share if it is accepted. Then takes
+    /// an open task, and waits for one. None where the pool is closed.
+    pub(crate) fn exchange<R: Wait>(
+        &self,
+        rt: &R,
+        computed: Option<(Key, Done)>,
+        share: &mut Share<L>,
+    ) -> Option<(Key, Task)>
         ensures never_falls { share.old ≤ share.new }
         ensures one_at_most { share.new ≤ share.old + 1 }
     {
-        let _refused = self.desk.lock(rt).give(key, done, share);
-        self.moved.notify_all();
+        if let Some((key, done)) = computed {
+            let taken = self.give(rt, key, done, share);
+            if taken.is_some() {
+                return taken;
+            }
+        }
+        self.take(rt)
+    }
+
+    /// Gives a result, which is credited to the share if it is accepted, and takes an open task if there is one. The ends
+    /// are told of results once there are several, and where no task is open.
+    fn give<R: Wait>(
+        &self,
+        rt: &R,
+        key: Key,
+        done: Done,
+        share: &mut Share<L>,
+    ) -> Option<(Key, Task)>
+        ensures never_falls { share.old ≤ share.new }
+        ensures one_at_most { share.new ≤ share.old + 1 }
+    {
+        let mut desk = self.desk.lock(rt);
+        let _refused = desk.give(key, done, share);
+        let several = desk.counts().given % TOLD_AT_ONCE as u64 == 0;
+        let taken = desk.take();
+        drop(desk);
+        if several || taken.is_none() {
+            self.moved.notify_all();
+        }
+        taken
+    }
+
+    /// Takes an open task, and waits for one. None where the pool is closed.
+    fn take<R: Wait>(&self, rt: &R) -> Option<(Key, Task)> {
+        let mut desk = self.desk.lock(rt);
+        for _ in rt.forever() {
+            let taken = desk.take();
+            if taken.is_some() || desk.is_closed() {
+                return taken;
+            }
+            desk = self.posted.wait(rt, desk);
+        }
+        unreachable!()
     }
 
     /// How many results were given, which is what all parts of the ledger have together.

@@ -30,12 +30,13 @@ pub fn work<L: Ledger, G: Gate, R: Wait>(
     ensures { share ≤ result }
 {
     let mut share = share;
+    let mut computed = None;
     for _ in rt.forever() {
-        let Some((key, task)) = pool.take(rt) else {
+        let Some((key, task)) = pool.exchange(rt, computed, &mut share) else {
             break;
         };
         gate.between(task.name());
-        pool.give(rt, key, compute(task, table), &mut share);
+        computed = Some((key, compute(task, table)));
     }
     share
 }
