@@ -1,5 +1,5 @@
 //! Schedules: users, and what happens to their connections and to workers, each in a line.
-ghost use Rattle.std.specs.Prelude.{◌≡◌, ◌≤◌, ◌<◌, ◌+◌, length, IfOk};
+ghost use Rattle.std.specs.Prelude.{◌≤◌, ◌<◌, ◌+◌, length, IfOk};
 ghost use Rattle.ljserve.specs.Named.{AreUsers};
 
 use crate::fault::{LineFault, ScheduleFault};

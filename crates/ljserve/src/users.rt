@@ -1,5 +1,5 @@
 //! Users as the lines of a file give them.
-ghost use Rattle.std.specs.Prelude.{◌≡◌, ◌↔◌, ◌≤◌, ◌++◌, [], ◌∷◌, length, IsTrue, IfSome, OnOk, OnErr};
+ghost use Rattle.std.specs.Prelude.{◌≡◌, ◌↔◌, ◌≤◌, [], IsTrue, IfSome, OnErr};
 ghost use Rattle.ljserve.specs.Named.{AreUsers};
 
 use crate::fault::LineFault;

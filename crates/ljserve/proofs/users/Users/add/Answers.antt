@@ -1,4 +1,4 @@
-use Rattle.std.proofs.Common.{arith, rules, length, sym, ◌∙◌}
+use Rattle.std.proofs.Common.{arith, rules}
 use Rattle.std.proofs.lemmas.List.{length_push}
 use Rattle.lj_access.proofs.UserLemmas.{IsDistinct-names_push}
 use Rattle.ljserve.proofs.users.Users.add.Goals as goal

@@ -1,4 +1,4 @@
-use Rattle.std.proofs.Common.{arith, rules}
+use Rattle.std.proofs.Common.{arith}
 use Rattle.std.specs.List.{IsDistinct}
 use Rattle.ljserve.proofs.users.Users.new.Goals as goal
 
