@@ -16,5 +16,6 @@ pub mod Buffers
 pub mod Taking
 pub mod Passing
 pub mod Wholes
+pub mod Greeting
 pub mod Handed
 pub mod LineCounts

@@ -12,6 +12,7 @@ pub mod Laws
 pub mod Standings
 pub mod Ahead
 pub mod Steps
+pub mod Greetings
 pub mod Progress
 pub mod Played
 pub mod Worked

@@ -4,6 +4,7 @@
 mod command;
 mod displacement;
 mod ends;
+mod hello;
 mod item;
 mod laws;
 mod limits;
@@ -18,6 +19,7 @@ mod words;
 pub use ends::{
     CountedReading, CountedWriting, ReadFault, Reading, Sink, Source, WriteFault, Writing,
 };
+pub use hello::{Hello, TOKEN_WORD_BYTES, TokenWord};
 pub use item::{Fault, Item};
 pub use laws::{
     body_is_bounded, body_missing_is_marked, lines_are_the_text, mark_is_told, one_splitting,
@@ -28,5 +30,8 @@ pub use line::split_line;
 pub use put::put_all;
 pub use reader::{LineReader, Phase, handed_are_all, handed_come_first, lost_is_marked};
 pub use reading::{LineReading, parse_command, read_line};
-pub use replies::{Line, MAX_REPLY_LINE_BYTES, last_line, put_reply_line, reply_line};
+pub use replies::{
+    Line, MAX_REPLY_LINE_BYTES, last_line, put_refusal_line, put_reply_line, put_welcome_line,
+    reply_line,
+};
 pub use words::Words;

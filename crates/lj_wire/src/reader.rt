@@ -5,14 +5,17 @@ ghost use Rattle.lj_wire.specs.declared.reader.phase.Phase.TheVariants.{Open};
 
 mod body;
 mod buffer;
+mod greeting;
 mod input;
 mod items;
 mod laws;
 mod phase;
 
 use crate::ends::{ReadFault, Source};
+use crate::hello::Hello;
 use crate::item::{Fault, Item};
 use crate::limits::MAX_ITEMS;
+use greeting::read_hello;
 use input::Input;
 use items::read_item;
 pub use laws::{handed_are_all, handed_come_first, lost_is_marked};
@@ -54,6 +57,7 @@ impl<S: Source> Model for LineReader<S> {
 
 impl<S: Source> LineReader<S> {
     ghost use Rattle.lj_wire.specs.Standings.{HandsOut, HandsNone, HasFailed};
+    ghost use Rattle.lj_wire.specs.Greetings.{Greets, GreetsNone, HasFailedEarly};
 
     /// A reader of `source` that has read nothing.
     pub fn new(alloc: Global, source: S) -> Self
@@ -106,6 +110,28 @@ impl<S: Source> LineReader<S> {
                 self.phase = Phase::Failed;
                 read
             }
+        }
+    }
+
+    /// What the next line says as the first one of a connection. It is no item. `None` where the input
+    /// has ended in less than a line; nothing is read after that, nor after a fault.
+    pub fn hello(&mut self) -> Result<Option<Hello>, ReadFault>
+        ensures hello { IfOk result (λ hello. IfSome hello (Greets self.old self.new)) }
+        ensures none { IfOk result (λ hello. IfNone hello (GreetsNone self.old self.new)) }
+        ensures fault { OnErr result (HasFailedEarly self.old self.new) }
+    {
+        match self.phase {
+            Phase::Open => {
+                let hello = read_hello(&mut self.input);
+                match &hello {
+                    Ok(Some(_)) => {}
+                    Ok(None) => self.phase = Phase::Over,
+                    Err(ReadFault) => self.phase = Phase::Failed,
+                }
+                hello
+            }
+            Phase::Over => Ok(None),
+            Phase::Failed => Err(ReadFault),
         }
     }
 

@@ -126,6 +126,13 @@ fn name_line(line: &mut Line, verb: &[u8], name: &Name)
     end(line);
 }
 
+/// `OK HELLO name`: the user of this name is let in.
+pub fn put_welcome_line(line: &mut Line, name: &Name)
+    ensures { line.new.items ≡ ok (codes "HELLO" ∷ name.now ∷ []) }
+{
+    name_line(line, b"HELLO", name);
+}
+
 /// `OK`, the word of a command, a session, and a name under which something is saved in it.
 fn names_line(line: &mut Line, verb: &[u8], name: &Name, branch: &Name)
     requires { length verb.now ≤ 16 }
@@ -206,7 +213,7 @@ fn frame_line(line: &mut Line, text: &FrameLine)
 }
 
 /// The line of a refusal.
-fn refused_line(line: &mut Line, refusal: Refusal)
+pub fn put_refusal_line(line: &mut Line, refusal: Refusal)
     ensures { line.new.items ≡ ended (refusal_text refusal) }
 {
     line.clear();
@@ -343,7 +350,7 @@ fn only_line(line: &mut Line, reply: &Reply)
         } => shown_line(line, name, *step, *atom, place),
         Reply::Unloaded { name } => name_line(line, b"DROP", name),
         Reply::Bye => bye_line(line),
-        Reply::Refused(refusal) => refused_line(line, *refusal),
+        Reply::Refused(refusal) => put_refusal_line(line, *refusal),
         Reply::Dumped { .. } | Reply::Listed | Reply::ListedBranches { .. } => unreachable!(),
     }
 }

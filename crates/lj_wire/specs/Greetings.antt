@@ -1,0 +1,108 @@
+-- The first line of a connection: what it says, and what reading it does to how a reader stands.
+use Rattle.std.specs.Prelude.{◌≡◌, ℕ, ◌==◌, ◌≤◌, List, [], ◌∷◌, ◌++◌, length, Option, Some, None, ◌⊎◌}
+use Rattle.std.specs.Prelude.{if◌then◌else◌, codes}
+use Rattle.std.specs.Io.KnownBytes.{Consumes, IsAtEnd}
+use Rattle.std.specs.Option.{unwrap_or}
+use Rattle.std.specs.Str.{bytes_eq}
+use Rattle.lj_tile.specs.Names.{name_of}
+use Rattle.lj_wire.specs.declared.hello.TheConstants.{TOKEN_WORD_BYTES}
+use Rattle.lj_wire.specs.declared.hello.Hello.{Hello}
+use Rattle.lj_wire.specs.declared.hello.Hello.TheVariants.{Asked, Other}
+use Rattle.lj_wire.specs.declared.limits.TheConstants.{LONG_LINE_BYTES}
+use Rattle.lj_wire.specs.declared.reader.phase.Phase.TheVariants.{Open, Over, Failed}
+use Rattle.lj_wire.specs.Ahead.{Ahead, untaken, Takes, TakesPart, ReadsFor}
+use Rattle.lj_wire.specs.Commands.{◌>>=◌, Words, is_over, words_in}
+use Rattle.lj_wire.specs.Ends.{Rises}
+use Rattle.lj_wire.specs.Standings.{Standing}
+use Rattle.lj_wire.specs.Streams.{LacksLineFeed, IsLine}
+
+-- a word of 32 bytes
+abbrev pub token_word : List ℕ → Option (List ℕ)
+token_word word = if length word == TOKEN_WORD_BYTES then Some word else None
+
+-- the words after HELLO: a name and a token
+abbrev pub asked : Words → Option Hello
+asked (name ∷ token ∷ []) = do
+  name ← name_of name
+  token ← token_word token
+  Some (Asked name token)
+asked words = None
+
+-- the words of a line that greets: HELLO, a name and a token
+abbrev pub greeting : Words → Option Hello
+greeting [] = None
+greeting (word ∷ words) = if bytes_eq word (codes "HELLO") then asked words else None
+
+-- what a first line says
+abbrev pub hello_of : List ℕ → Hello
+hello_of line = if is_over line then Other else unwrap_or (greeting (words_in line)) Other
+
+-- a first line with its line feed
+pub record IsHelloLine (bytes : List ℕ) (hello : Hello) : Type 0 where
+  pub line : List ℕ
+  pub whole : bytes ≡ line ++ 10 ∷ []
+  pub is_line : IsLine line
+  pub means : hello ≡ hello_of line
+
+-- as many bytes without a line feed as no line has
+pub record IsHelloTooLong (bytes : List ℕ) (hello : Hello) : Type 0 where
+  pub one_line : LacksLineFeed bytes
+  pub long : length bytes ≡ LONG_LINE_BYTES
+  pub means : hello ≡ Other
+
+-- the first line of a connection, or what is too long for a line
+abbrev pub IsFirstLine : List ℕ → Hello → Type 0
+IsFirstLine bytes hello = IsHelloLine bytes hello ⊎ IsHelloTooLong bytes hello
+
+-- the first line was taken
+pub record TakesHello (old new : Ahead) (hello : Hello) : Type 0 where
+  pub front : List ℕ
+  pub taken : Takes old new front
+  pub is_first : IsFirstLine front hello
+  pub reads_for : ReadsFor old new (length front)
+
+-- the first line was taken, or the input has ended in less than a line
+abbrev pub ReadsHello : Ahead → Option Hello → Ahead → Type 0
+ReadsHello old (Some hello) new = TakesHello old new hello
+ReadsHello old None new = TakesPart old new × IsAtEnd (untaken new)
+
+-- The first line was taken, which is no item, and the reader goes on. Nothing is read for a line that is held already.
+pub record Greets (old new : Standing) (hello : Hello) : Type 0 where
+  pub was_open : old.phase ≡ Open
+  pub front : List ℕ
+  pub taken : Consumes old.left new.left front
+  pub is_first : IsFirstLine front hello
+  pub items_is : new.items ≡ old.items
+  pub errors_is : new.errors ≡ old.errors
+  pub unread_is : length front ≤ length old.held → new.unread ≡ old.unread
+  pub phase_is : new.phase ≡ Open
+
+-- the input has ended in less than a line, which was taken
+pub record CeasesEarly (old new : Standing) : Type 0 where
+  pub was_open : old.phase ≡ Open
+  pub part : List ℕ
+  pub taken : Consumes old.left new.left part
+  pub is_line : IsLine part
+  pub at_end : IsAtEnd new.left
+  pub items_is : new.items ≡ old.items
+  pub errors_is : new.errors ≡ old.errors
+  pub phase_is : new.phase ≡ Over
+
+-- a read has failed in less than a line, which was taken: of the bytes read none is left
+pub record FailsEarly (old new : Standing) : Type 0 where
+  pub was_open : old.phase ≡ Open
+  pub part : List ℕ
+  pub taken : Consumes old.left new.left part
+  pub is_line : IsLine part
+  pub all_taken : new.held ≡ []
+  pub items_is : new.items ≡ old.items
+  pub errors_rise : Rises old.errors new.errors
+  pub phase_is : new.phase ≡ Failed
+
+-- no line comes: the reader was over already and nothing has changed, or the input has ended
+abbrev pub GreetsNone : Standing → Standing → Type 0
+GreetsNone old new = (old.phase ≡ Over) × (new ≡ old) ⊎ CeasesEarly old new
+
+-- a fault: the reader had failed already and nothing has changed, or a read has failed
+abbrev pub HasFailedEarly : Standing → Standing → Type 0
+HasFailedEarly old new = (old.phase ≡ Failed) × (new ≡ old) ⊎ FailsEarly old new

@@ -1,0 +1,32 @@
+//! The first line of a connection, read whole.
+ghost use Rattle.std.specs.Prelude.{◌≡◌, [], IfOk, OnOk, OnErr};
+ghost use Rattle.lj_wire.specs.Ahead.{TakesPart};
+ghost use Rattle.lj_wire.specs.Ends.{Rises};
+ghost use Rattle.lj_wire.specs.Greetings.{ReadsHello};
+
+use super::input::{Front, Input, Passed};
+use crate::ends::{ReadFault, Source};
+use crate::hello::{Hello, parse_hello};
+
+/// Reads the first line, whatever its length. `None` where the input ends in less than one.
+pub(crate) fn read_hello<S: Source>(input: &mut Input<S>) -> Result<Option<Hello>, ReadFault>
+    ensures hello { IfOk result (λ hello. ReadsHello input.old hello input.new) }
+    ensures counted { OnOk result (input.new.errors ≡ input.old.errors) }
+    ensures part { OnErr result (TakesPart input.old input.new) }
+    ensures emptied { OnErr result (input.new.held ≡ []) }
+    ensures risen { OnErr result (Rises input.old.errors input.new.errors) }
+{
+    match input.find_line()? {
+        Front::Line(count) => {
+            let (line, _) = input.held().split_at(count);
+            let hello = parse_hello(line);
+            input.take(count + 1);
+            Ok(Some(hello))
+        }
+        Front::Long => match input.pass_line()? {
+            Passed::Line | Passed::Long => Ok(Some(Hello::Other)),
+            Passed::End => Ok(None),
+        },
+        Front::End => Ok(None),
+    }
+}
