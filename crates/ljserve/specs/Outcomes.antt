@@ -5,9 +5,13 @@ use Rattle.lj_pool.specs.declared.served.Served.TheVariants.{End, Bye, Ended, Re
 use Rattle.clap.specs.declared.error.kind.ErrorKind.{ErrorKind}
 use Rattle.clap.specs.declared.error.kind.ErrorKind.TheVariants.{DisplayHelp, DisplayVersion, OutOfMemory}
 use Rattle.ljserve.specs.declared.fault.Fault.{Fault}
-use Rattle.ljserve.specs.declared.fault.Fault.TheVariants.{Run, Replay, Unreadable}
+use Rattle.ljserve.specs.declared.fault.Fault.TheVariants.{Run, Replay, Serve, Unreadable}
 use Rattle.ljserve.specs.declared.fault.ReplayFault.{ReplayFault}
 use Rattle.ljserve.specs.declared.fault.ReplayFault.TheVariants as replays
+use Rattle.ljserve.specs.declared.fault.ServeFault.{ServeFault}
+use Rattle.ljserve.specs.declared.fault.ServeFault.TheVariants as serves
+use Rattle.ljserve.specs.declared.fault.UsersFault.{UsersFault}
+use Rattle.ljserve.specs.declared.fault.UsersFault.TheVariants as users
 use Rattle.ljserve.specs.declared.fault.ScheduleFault.{ScheduleFault}
 use Rattle.ljserve.specs.declared.fault.ScheduleFault.TheVariants as schedules
 use Rattle.ljserve.specs.declared.fault.RunFault.{RunFault}
@@ -35,10 +39,18 @@ replay_status_of (replays.Line number) = 2
 replay_status_of replays.Memory = 3
 replay_status_of replays.Write = 1
 
+-- the exit status of a server that failed
+abbrev pub serve_status_of : ServeFault → ℕ
+serve_status_of (serves.Line number) = 2
+serve_status_of serves.Memory = 3
+serve_status_of serves.Listen = 1
+serve_status_of serves.Write = 1
+
 -- the exit status of a program that failed
 abbrev pub status_of : Fault → ℕ
 status_of (Run fault) = run_status_of fault
 status_of (Replay fault) = replay_status_of fault
+status_of (Serve fault) = serve_status_of fault
 status_of (Unreadable file) = 2
 
 -- the exit status of the program
@@ -50,6 +62,11 @@ exit_of (Err fault) = status_of fault
 abbrev pub replay_fault_of : ScheduleFault → ReplayFault
 replay_fault_of (schedules.Line number) = replays.Line number
 replay_fault_of schedules.Memory = replays.Memory
+
+-- why a server does not serve whose users are not read
+abbrev pub serve_fault_of : UsersFault → ServeFault
+serve_fault_of (users.Line number) = serves.Line number
+serve_fault_of users.Memory = serves.Memory
 
 -- the exit status where the words of the command line are no commands to run: 0 where help or the version is asked for,
 -- 3 where there is no memory, and 2 at a usage fault

@@ -3,7 +3,7 @@ ghost use Rattle.std.specs.Prelude.{◌≡◌, IfOk};
 ghost use Rattle.clap.specs.Values.{kind_of};
 ghost use Rattle.clap.specs.declared.error.kind.ErrorKind.TheVariants.{InvalidValue};
 
-use crate::limits::{MAX_ATOMS, MAX_BRANCHES, MAX_SESSIONS};
+use crate::limits::{MAX_ATOMS, MAX_BRANCHES, MAX_CONNECTIONS, MAX_SESSIONS, MAX_WORKERS};
 use clap::error::ErrorKind;
 use clap::{Arg, ArgMatches, Command, Error, value_parser};
 use lj_quota::Quota;
@@ -16,6 +16,21 @@ pub enum Job<'a> {
     Run(Quota),
     /// Replays the schedule in the file of this name.
     Replay(&'a str),
+    /// Serves many users.
+    Serve(Service<'a>),
+}
+
+/// What a server is to serve.
+#[derive(Clone, Copy, Debug)]
+pub struct Service<'a> {
+    /// The address to listen on.
+    pub address: &'a str,
+    /// The name of the file of its users.
+    pub users: &'a str,
+    /// How many threads compute, 1 to 16.
+    pub workers: u64,
+    /// How many connections are accepted, 1 to 1,000,000.
+    pub connections: u64,
 }
 
 /// What the words of the command line ask for. The first word is the program's name.
@@ -27,6 +42,12 @@ pub fn parse_arguments<'a>(alloc: Global, words: &'a [String]) -> Result<Job<'a>
     if let Some(matches) = matches.subcommand_matches("replay") {
         return match matches.get_str("file") {
             Some(file) => Ok(Job::Replay(file)),
+            None => Err(no_file(alloc)?),
+        };
+    }
+    if let Some(matches) = matches.subcommand_matches("serve") {
+        return match service_of(matches) {
+            Some(service) => Ok(Job::Serve(service)),
             None => Err(no_file(alloc)?),
         };
     }
@@ -59,7 +80,8 @@ fn program<'a>(alloc: Global) -> Result<Command<'a>, AllocError> {
         )
         .disable_help_subcommand(true)
         .subcommand(run_command(alloc)?)?
-        .subcommand(replay_command(alloc)?)
+        .subcommand(replay_command(alloc)?)?
+        .subcommand(serve_command(alloc)?)
 }
 
 fn run_command<'a>(alloc: Global) -> Result<Command<'a>, AllocError> {
@@ -87,6 +109,33 @@ fn replay_command<'a>(alloc: Global) -> Result<Command<'a>, AllocError> {
         )
 }
 
+fn serve_command<'a>(alloc: Global) -> Result<Command<'a>, AllocError> {
+    Command::new(alloc, "serve")
+        .about("Serves many users over TCP, one connection of a user after the other")
+        .arg(required(alloc, "listen", "ADDR").help("The address to listen on, as 127.0.0.1:4000"))?
+        .arg(required(alloc, "users", "FILE").help(
+            "The users: name, token, sessions, atoms and branches of each in a line",
+        ))?
+        .arg(
+            required(alloc, "workers", "N")
+                .value_parser(value_parser!(u64).range(1..=MAX_WORKERS as i64))
+                .help("How many threads compute, 1 to 16"),
+        )?
+        .arg(
+            required(alloc, "connections", "N")
+                .value_parser(value_parser!(u64).range(1..=MAX_CONNECTIONS as i64))
+                .help("How many connections are accepted before the server ends, 1 to 1000000"),
+        )
+}
+
+/// An option that has to be given.
+fn required<'a>(alloc: Global, name: &'a str, value: &'a str) -> Arg<'a> {
+    Arg::new(alloc, name)
+        .long(name)
+        .value_name(value)
+        .required(true)
+}
+
 /// An option whose value is a whole number from 0 to `most`.
 fn limit<'a>(alloc: Global, name: &'a str, usual: &'a str, most: i64) -> Arg<'a> {
     Arg::new(alloc, name)
@@ -94,6 +143,15 @@ fn limit<'a>(alloc: Global, name: &'a str, usual: &'a str, most: i64) -> Arg<'a>
         .value_name("N")
         .value_parser(value_parser!(u64).range(0..=most))
         .default_value(usual)
+}
+
+fn service_of<'a>(matches: &ArgMatches<'a>) -> Option<Service<'a>> {
+    Some(Service {
+        address: matches.get_str("listen")?,
+        users: matches.get_str("users")?,
+        workers: matches.get_one("workers")?,
+        connections: matches.get_one("connections")?,
+    })
 }
 
 fn quota(matches: &ArgMatches<'_>) -> Quota {

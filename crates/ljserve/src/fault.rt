@@ -1,9 +1,11 @@
 //! Why the program fails.
 ghost use Rattle.std.specs.Prelude.{◌≡◌};
 ghost use Rattle.ljserve.specs.Outcomes.{status_of, run_status_of, replay_status_of, replay_fault_of};
-ghost use Rattle.ljserve.specs.declared.fault.Fault.TheVariants.{Run, Replay};
+ghost use Rattle.ljserve.specs.Outcomes.{serve_status_of, serve_fault_of};
+ghost use Rattle.ljserve.specs.declared.fault.Fault.TheVariants.{Run, Replay, Serve};
 ghost use Rattle.ljserve.specs.declared.fault.LineFault.TheVariants.{Memory as LineMemory};
 ghost use Rattle.ljserve.specs.declared.fault.ReplayFault.TheVariants.{Memory, Write};
+ghost use Rattle.ljserve.specs.declared.fault.ServeFault.TheVariants.{Memory as NoMemory};
 
 use lj_wire::WriteFault;
 use lj_world::OutOfMemory;
@@ -19,6 +21,9 @@ pub enum Fault<'a> {
     /// A schedule was not replayed.
     #[error("{0}")]
     Replay(ReplayFault),
+    /// A server did not serve.
+    #[error("{0}")]
+    Serve(ServeFault),
     /// A file of this name could not be read.
     #[error("cannot read {0}")]
     Unreadable(&'a str),
@@ -52,6 +57,32 @@ pub enum ReplayFault {
     Write,
 }
 
+/// Why a server does not serve, or does not tell what it has served.
+#[derive(Clone, Copy, Debug, PartialEq, Eq, Error)]
+pub enum ServeFault {
+    /// The first line of the users that is bad, counted from 1.
+    #[error("users line {0}")]
+    Line(u64),
+    /// There was no memory, or no thread for a worker.
+    #[error("no memory")]
+    Memory,
+    /// The address cannot be listened on.
+    #[error("cannot listen")]
+    Listen,
+    /// The output could not be written.
+    #[error("write fault")]
+    Write,
+}
+
+/// Why users are not read.
+#[derive(Clone, Copy, Debug, PartialEq, Eq)]
+pub enum UsersFault {
+    /// The first line that is bad, counted from 1.
+    Line(u64),
+    /// There was no memory for them.
+    Memory,
+}
+
 /// Why a schedule is not read.
 #[derive(Clone, Copy, Debug, PartialEq, Eq)]
 pub enum ScheduleFault {
@@ -78,6 +109,7 @@ impl Fault<'_> {
         match self {
             Fault::Run(fault) => fault.status(),
             Fault::Replay(fault) => fault.status(),
+            Fault::Serve(fault) => fault.status(),
             Fault::Unreadable(_) => 2,
         }
     }
@@ -108,6 +140,19 @@ impl ReplayFault {
     }
 }
 
+impl ServeFault {
+    /// The exit status of the program.
+    pub fn status(self) -> u8
+        ensures { result ≡ serve_status_of self }
+    {
+        match self {
+            ServeFault::Listen | ServeFault::Write => 1,
+            ServeFault::Line(_) => 2,
+            ServeFault::Memory => 3,
+        }
+    }
+}
+
 impl From<RunFault> for Fault<'_> {
     ghost from_gives = { λ fault result. result ≡ Run fault };
 
@@ -121,6 +166,33 @@ impl From<ReplayFault> for Fault<'_> {
 
     fn from(fault: ReplayFault) -> Self {
         Fault::Replay(fault)
+    }
+}
+
+impl From<ServeFault> for Fault<'_> {
+    ghost from_gives = { λ fault result. result ≡ Serve fault };
+
+    fn from(fault: ServeFault) -> Self {
+        Fault::Serve(fault)
+    }
+}
+
+impl From<UsersFault> for ServeFault {
+    ghost from_gives = { λ fault result. result ≡ serve_fault_of fault };
+
+    fn from(fault: UsersFault) -> ServeFault {
+        match fault {
+            UsersFault::Line(number) => ServeFault::Line(number),
+            UsersFault::Memory => ServeFault::Memory,
+        }
+    }
+}
+
+impl From<OutOfMemory> for ServeFault {
+    ghost from_gives = { λ _ result. result ≡ NoMemory };
+
+    fn from(_error: OutOfMemory) -> ServeFault {
+        ServeFault::Memory
     }
 }
 

@@ -8,6 +8,7 @@ ghost use Rattle.clap.specs.declared.error.kind.ErrorKind.TheVariants.{OutOfMemo
 ghost use Rattle.ljserve.specs.Outcomes.{exit_of, usage_status};
 
 mod arguments;
+mod door;
 mod ends;
 mod fault;
 mod happening;
@@ -15,21 +16,33 @@ mod limits;
 mod replay;
 mod run;
 mod schedule;
+mod seats;
+mod server;
 #[cfg(test)]
 mod tests;
+mod text;
 mod users;
+mod visit;
 
-use arguments::{Job, no_text, parse_arguments};
+use arguments::{Job, Service, no_text, parse_arguments};
 use clap::Error;
 use clap::error::ErrorKind;
 use ends::Outlet;
-use fault::{Fault, ReplayFault, RunFault};
+use fault::{Fault, ReplayFault, RunFault, ServeFault};
 use lj_quota::Quota;
+use log::sink::Discard;
+use log::{LevelFilter, Log, Logged};
 use replay::replay;
 use run::run;
-use std::alloc::AllocError;
+use server::serve_on;
+use std::alloc::{AllocError, Global};
+use std::net::{Net, TcpListener, TcpStream};
 use std::process::ExitCode;
+use std::rt::{Clock, Files};
+use std::sync::Wait;
+use std::thread::Threads;
 use std::{env, fs, io};
+use users::read_users;
 
 fn main(rt: HostRuntime) -> ExitCode {
     let words: Vec<String> = match words_of(&rt) {
@@ -39,6 +52,10 @@ fn main(rt: HostRuntime) -> ExitCode {
     match parse_arguments(rt.alloc(), words.as_slice()) {
         Ok(Job::Run(quota)) => ended(&rt, run_input(&rt, quota)),
         Ok(Job::Replay(file)) => ended(&rt, replay_file(&rt, file)),
+        Ok(Job::Serve(service)) => {
+            let quiet = Logged::new(rt, LevelFilter::Off, Discard);
+            ended(&rt, serve_users(&quiet, service))
+        }
         Err(error) => usage(&rt, &error),
     }
 }
@@ -51,17 +68,59 @@ fn run_input<'a>(rt: &HostRuntime, quota: Quota) -> Result<(), Fault<'a>> {
 
 /// Replays the schedule in the file of this name on standard output.
 fn replay_file<'a>(rt: &HostRuntime, file: &'a str) -> Result<(), Fault<'a>> {
-    let bytes = match fs::read(rt, file) {
-        Ok(bytes) => bytes,
-        Err(error) if error.kind() == io::ErrorKind::OutOfMemory => {
-            return Err(Fault::Replay(ReplayFault::Memory));
-        }
-        Err(_) => return Err(Fault::Unreadable(file)),
-    };
+    let bytes = read_file(rt, file, Fault::Replay(ReplayFault::Memory))?;
     let mut outlet = Outlet::new(io::writer(rt));
     replay(rt.alloc(), bytes.as_slice(), &mut outlet)?;
     outlet.flush().map_err(ReplayFault::from)?;
     Ok(())
+}
+
+/// Serves the users of a file, and prints how many connections and tiles there were.
+fn serve_users<'a, R>(rt: &R, service: Service<'a>) -> Result<(), Fault<'a>>
+where
+    R: Files
+        + Alloc<A = Global>
+        + Print
+        + Net<Listener = TcpListener, Stream = TcpStream>
+        + Threads
+        + Wait
+        + Clock
+        + Log
+        + Sync,
+{
+    let Service {
+        address,
+        users,
+        workers,
+        connections,
+    } = service;
+    let bytes = read_file(rt, users, Fault::Serve(ServeFault::Memory))?;
+    let users = read_users(rt.alloc(), bytes.as_slice()).map_err(ServeFault::from)?;
+    let listener = TcpListener::bind(rt, address).map_err(|_| ServeFault::Listen)?;
+    let tiles = serve_on(
+        rt,
+        rt.alloc(),
+        &listener,
+        users,
+        workers as usize,
+        connections,
+    )
+    .map_err(ServeFault::from)?;
+    println!(rt; "served {connections} connections, {tiles} tiles").map_err(|_| ServeFault::Write)?;
+    Ok(())
+}
+
+/// The bytes of a file, or this fault where there is no memory for them.
+fn read_file<'a, R: Files + Alloc<A = Global>>(
+    rt: &R,
+    file: &'a str,
+    no_memory: Fault<'a>,
+) -> Result<Vec<u8>, Fault<'a>> {
+    match fs::read(rt, file) {
+        Ok(bytes) => Ok(bytes),
+        Err(error) if error.kind() == io::ErrorKind::OutOfMemory => Err(no_memory),
+        Err(_) => Err(Fault::Unreadable(file)),
+    }
 }
 
 /// The words of the command line. They fail where there is no memory, or where one is no text.

@@ -1,13 +1,14 @@
 //! Schedules: users, and what happens to their connections and to workers, each in a line.
-ghost use Rattle.std.specs.Prelude.{◌≤◌, ◌<◌, ◌+◌, length, IfOk};
+ghost use Rattle.std.specs.Prelude.{◌≤◌, ◌<◌, length, IfOk};
 ghost use Rattle.ljserve.specs.Named.{AreUsers};
 
 use crate::fault::{LineFault, ScheduleFault};
 use crate::happening::{parse_arrival, parse_event};
+use crate::text::{first_line, line_after, line_after_all};
 use crate::users::Users;
 use lj_access::User;
 use lj_session::{Body, Command, LoadBody};
-use lj_wire::{Item, LineReading, Words, read_line, split_line};
+use lj_wire::{Item, LineReading, Words, read_line};
 use lj_world::Event;
 use lj_xyz::split_word;
 use std::alloc::{AllocError, Global};
@@ -45,21 +46,6 @@ pub fn read_schedule(alloc: Global, bytes: &[u8]) -> Result<Schedule, ScheduleFa
         users: draft.users.into_vec(),
         events: draft.events,
     })
-}
-
-/// The number of the line that begins after these bytes.
-fn line_after(before: &[u8]) -> u64
-    ensures { result ≤ length before.now + 1 }
-{
-    before.iter().filter(|byte| **byte == b'\n').count() as u64 + 1
-}
-
-/// The number after that of the last line, which may end without a line feed.
-fn line_after_all(bytes: &[u8]) -> u64 {
-    match bytes.last() {
-        Some(b'\n') | None => line_after(bytes),
-        Some(_) => line_after(bytes) + 1,
-    }
 }
 
 /// What a schedule says so far.
@@ -133,17 +119,6 @@ impl Draft {
         let item = with_bytes(self.alloc, item, bytes)?;
         self.events.push(Event::Arrive { connection, item })?;
         Ok(body)
-    }
-}
-
-/// The first line of some bytes, without its line feed, and what follows it. The last line may have no line feed.
-fn first_line(bytes: &[u8]) -> (&[u8], &[u8])
-    requires { 1 ≤ length bytes.now }
-    ensures { length result.1.now < length bytes.now }
-{
-    match split_line(bytes) {
-        Some(parts) => parts,
-        None => bytes.split_at(bytes.len()),
     }
 }
 

@@ -1,16 +1,44 @@
 //! Users as the lines of a file give them.
-ghost use Rattle.std.specs.Prelude.{◌≡◌, ◌↔◌, ◌≤◌, [], IsTrue, IfSome, OnErr};
+ghost use Rattle.std.specs.Prelude.{◌≡◌, ◌↔◌, ◌≤◌, [], length, IsTrue, IfOk, IfSome, OnErr};
 ghost use Rattle.ljserve.specs.Named.{AreUsers};
 
-use crate::fault::LineFault;
+use crate::fault::{LineFault, UsersFault};
 use crate::limits::{MAX_ATOMS, MAX_BRANCHES, MAX_SESSIONS};
+use crate::text::{first_line, line_after, line_after_all};
 use lj_access::{MAX_USERS, Token, User, is_named};
 use lj_fixed::parse_number;
 use lj_quota::Quota;
 use lj_tile::Name;
 use lj_wire::Words;
+use lj_xyz::split_word;
 use std::alloc::Global;
 use std::marker::Model;
+
+/// Reads the users of a server: a line for each, with a name, a token, and how many sessions, atoms and branches. Lines
+/// without a word, and lines that begin with `#`, are passed over.
+///
+/// # Errors
+/// The number of the first bad line, counted from 1; that after the last line where there is no user; or out of memory.
+pub fn read_users(alloc: Global, bytes: &[u8]) -> Result<Vec<User>, UsersFault>
+    ensures users { IfOk result (λ users. AreUsers users.items) }
+    ensures some { IfOk result (λ users. 1 ≤ length users.items) }
+{
+    let mut users = Users::new(alloc);
+    let mut at = 0;
+    while at < bytes.len() {
+        let (before, rest) = bytes.split_at(at);
+        let (line, after) = first_line(rest);
+        match users.read(line) {
+            Ok(()) => at = bytes.len() - after.len(),
+            Err(LineFault::Form) => return Err(UsersFault::Line(line_after(before))),
+            Err(LineFault::Memory) => return Err(UsersFault::Memory),
+        }
+    }
+    if users.is_empty() {
+        return Err(UsersFault::Line(line_after_all(bytes)));
+    }
+    Ok(users.into_vec())
+}
 
 /// Users with different names, at most `MAX_USERS`.
 #[derive(Debug, Drop)]
@@ -45,6 +73,14 @@ impl Users {
         ensures { IsTrue result ↔ (self.now ≡ []) }
     {
         self.users.is_empty()
+    }
+
+    /// Adds the user that a line says, unless it has no word or begins with `#`.
+    fn read(&mut self, line: &[u8]) -> Result<(), LineFault> {
+        if line.starts_with(b"#") || split_word(line).is_none() {
+            return Ok(());
+        }
+        self.add(Words::new(line))
     }
 
     /// Adds the user that these words say: a name that no user has yet, a token, and how many sessions, atoms and
