@@ -11,5 +11,7 @@ mod refusals;
 mod replays;
 mod results;
 mod schedules;
+mod servers;
 mod serving;
 mod streams;
+mod workers;
