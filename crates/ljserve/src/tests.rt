@@ -14,4 +14,3 @@ mod schedules;
 mod servers;
 mod serving;
 mod streams;
-mod workers;
