@@ -32,9 +32,11 @@ impl Block {
         requires { length places.now ≤ BLOCK }
         ensures { result ≡ places.now }
     {
-        let mut kept = ArrayVec::new();
-        let _fits = kept.try_extend_from_slice(places);
-        Block { places: kept }
+        let mut block = Block {
+            places: ArrayVec::new(),
+        };
+        let _fits = block.places.try_extend_from_slice(places);
+        block
     }
 
     /// Its places, in order.
@@ -51,6 +53,14 @@ impl Block {
         ensures { result ≡ self.now }
     {
         Block::new(self.places())
+    }
+
+    /// Makes this block equal to the other.
+    pub fn copy_from(&mut self, other: &Block)
+        ensures { self.new ≡ other.now }
+    {
+        self.places.clear();
+        let _fits = self.places.try_extend_from_slice(other.places());
     }
 
     /// Whether these are its places.

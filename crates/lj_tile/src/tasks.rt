@@ -89,6 +89,16 @@ impl Task {
         }
     }
 
+    /// Makes this task equal to the other.
+    pub fn copy_from(&mut self, other: &Task)
+        ensures { self.new ≡ other.now }
+    {
+        self.name = other.name.copy();
+        self.scale = other.scale;
+        self.first.copy_from(&other.first);
+        self.second.copy_from(&other.second);
+    }
+
     /// Whether the other task is equal: its name, its scale and its two blocks.
     pub fn is(&self, other: &Task) -> bool
         ensures { IsTrue result ↔ (self.now ≡ other.now) }
