@@ -10,7 +10,7 @@ mod simulations;
 mod snapshots;
 
 pub use frames::{Frame, Frames, MAX_ATOMS};
-pub use simulations::{Displacement, MAX_STEP, Sim, Stray};
+pub use simulations::{Displacement, MAX_STEP, NotAwaited, Sim, Stray};
 pub use snapshots::Snapshot;
 
 #[cfg(test)]

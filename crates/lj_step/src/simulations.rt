@@ -64,6 +64,10 @@ pub struct Displacement {
     pub z: i32,
 }
 
+/// A result is of no tile that the open step awaits.
+#[derive(Clone, Copy, PartialEq, Eq, Debug)]
+pub struct NotAwaited;
+
 /// A result that the open step does not await, handed back.
 #[derive(Debug, Drop)]
 pub struct Stray {
@@ -236,11 +240,25 @@ impl Sim {
         ensures stray { IfErr result (λ s. s.done ≡ done) }
         ensures unchanged { OnErr result (self.new ≡ self.old) }
     {
+        match self.take_in(label, &done) {
+            Ok(()) => Ok(()),
+            Err(NotAwaited) => Err(Stray { done }),
+        }
+    }
+
+    /// Takes in a result as `accept` does, and copies nothing of it.
+    pub fn take_in(&mut self, label: &Label, done: &Done) -> Result<(), NotAwaited>
+        ensures accepted { IsOk result ↔ steps.IsAwaitedTask self.old label.now done.now }
+        ensures kind { steps.kind_of self.new.part ≡ steps.kind_of self.old.part }
+        ensures taken { OnOk result
+            (self.new ≡ record self.old { part = steps.with_tile (steps.tile_number_of done.now) self.old.part }) }
+        ensures unchanged { OnErr result (self.new ≡ self.old) }
+    {
         if !self.is_awaited(label, done.task()) {
-            return Err(Stray { done });
+            return Err(NotAwaited);
         }
         let places = self.block(usize::from(done.task().name().bi)).len();
-        self.partial.add(&done, places);
+        self.partial.add(done, places);
         Ok(())
     }
 
