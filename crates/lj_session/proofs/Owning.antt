@@ -7,7 +7,7 @@ use Rattle.lj_tile.specs.declared.names.Kind.TheVariants.{Force}
 use Rattle.lj_step.specs.Motion.{Simulation}
 use Rattle.lj_step.specs.Live.{OpenStep}
 use Rattle.lj_step.specs.OpenSteps.{kind_of, with_tile}
-use Rattle.lj_step.specs.declared.simulations.Stray.{Stray}
+use Rattle.lj_step.specs.declared.simulations.NotAwaited.{NotAwaited}
 use Rattle.lj_session.specs.declared.command.Command.{Command}
 use Rattle.lj_session.specs.declared.command.Command.TheVariants as commands
 use Rattle.lj_session.specs.declared.reply.Reply.{Reply}
@@ -183,11 +183,11 @@ label_of state user (Advance name n) = refl
 label_of state user (Measure name) = refl
 
 -- it runs on where a result is taken in, and where it is handed back
-pub runs_accepted : (state new : Owned) (user : ℕ) (running : Option Running) (label : Label) (k : ℕ) (result : Result (Unit {0}) Stray)
+pub runs_accepted : (state new : Owned) (user : ℕ) (running : Option Running) (label : Label) (k : ℕ) (result : Result (Unit {0}) NotAwaited)
     → Some label ≡ label_in (record { state = state; number = user; rest = option_map command_of running }) → IfSome running (Runs state)
     → OnOk result (new ≡ changed label.session (with_tile_in k) state) → OnErr result (new ≡ state) → IfSome running (Runs new)
 runs_accepted state new user None label k result e r taken same = tt
-runs_accepted state new user (Some running) label k (Err stray) e r taken same = subst (λ (owned : Owned). Runs owned running) (sym same) r
+runs_accepted state new user (Some running) label k (Err refused) e r taken same = subst (λ (owned : Owned). Runs owned running) (sym same) r
 runs_accepted state new user (Some running) label k (Ok done) e r taken same =
     let named : label.session ≡ session_name running = ap (λ (l : Label). l.session) (same_Some label (record { user = user; session = session_name running }) (e ∙ label_of state user running)) in
     subst (λ (owned : Owned). Runs owned running) (sym (taken ∙ ap (λ name. changed name (with_tile_in k) state) named)) (runs_taken state running k r)

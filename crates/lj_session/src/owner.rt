@@ -11,7 +11,7 @@ use crate::refusal::Refusal;
 use crate::reply::Reply;
 use crate::running::{Running, Turned};
 use crate::state::UserState;
-use lj_step::Stray;
+use lj_step::{NotAwaited, Stray};
 use lj_tile::{Done, Label, Task};
 use std::marker::Model;
 
@@ -108,10 +108,23 @@ impl Owner {
         ensures stray { IfErr result (λ s. s.done ≡ done) }
         ensures unchanged { OnErr result (self.new ≡ self.old) }
     {
+        match self.take_in(&done) {
+            Ok(()) => Ok(()),
+            Err(NotAwaited) => Err(Stray { done }),
+        }
+    }
+
+    /// Takes in a result as `accept` does, and copies nothing of it.
+    pub fn take_in(&mut self, done: &Done) -> Result<(), NotAwaited>
+        ensures accepted { IsOk result ↔ IsAwaitedIn self.old done.now }
+        ensures taken { OnOk result (self.new ≡ with_task_in done.now self.old) }
+        ensures user { user_in self.new ≡ user_in self.old }
+        ensures unchanged { OnErr result (self.new ≡ self.old) }
+    {
         let Some(label) = self.label() else {
-            return Err(Stray { done });
+            return Err(NotAwaited);
         };
-        self.state.accept(&label, done)
+        self.state.take_in(&label, done)
     }
 
     /// Whether a command runs and all tiles of its step are in.

@@ -1,5 +1,5 @@
 //! A session as it is held.
-ghost use Rattle.std.specs.Prelude.{◌≡◌, ◌↔◌, ◌<◌, ◌+◌, ◌^◌, [], length, slice_get, Some, IsOk, IsSome, IsErrOf, IfErr};
+ghost use Rattle.std.specs.Prelude.{◌≡◌, ◌↔◌, ◌<◌, ◌+◌, ◌^◌, [], length, slice_get, Some, IsOk, IsSome, IsErrOf};
 ghost use Rattle.std.specs.Prelude.{IfSome, OnOk, OnErr, ◌≤◌, unsigned_abs, IsTrue, IfOk};
 ghost use Rattle.lj_tile.specs.declared.names.Kind.TheVariants.{Energy};
 ghost use Rattle.lj_branch.specs.declared.faults.SaveFault.TheVariants.{Exists};
@@ -12,7 +12,7 @@ ghost use Rattle.lj_session.specs.States as states;
 ghost use Rattle.lj_session.specs.States.{as_session, moved_to, keeping, IsWhole, CanTurn};
 
 use lj_branch::{Branches, NoBranch, SaveFault};
-use lj_step::{Displacement, Sim, Stray};
+use lj_step::{Displacement, NotAwaited, Sim};
 use lj_tile::{Done, Kind, Label, Name, Task};
 use lj_xyz::Symbol;
 use std::marker::Model;
@@ -186,14 +186,13 @@ impl Session {
         self.passed = i + 1;
     }
 
-    /// Takes in the result of a tile that the open step awaits. Another is handed back, and nothing has changed.
-    pub fn accept(&mut self, label: &Label, done: Done) -> Result<(), Stray>
-        ensures accepted { IsOk result ↔ steps.IsAwaitedTask self.old.live label.now done }
-        ensures taken { OnOk result (self.new ≡ states.with_tile_in (steps.tile_number_of done) self.old) }
-        ensures stray { IfErr result (λ s. s.done ≡ done) }
+    /// Takes in the result of a tile that the open step awaits. At another nothing changes.
+    pub fn take_in(&mut self, label: &Label, done: &Done) -> Result<(), NotAwaited>
+        ensures accepted { IsOk result ↔ steps.IsAwaitedTask self.old.live label.now done.now }
+        ensures taken { OnOk result (self.new ≡ states.with_tile_in (steps.tile_number_of done.now) self.old) }
         ensures unchanged { OnErr result (self.new ≡ self.old) }
     {
-        self.sim.accept(label, done)
+        self.sim.take_in(label, done)
     }
 
     /// Turns the whole force step: the motion goes one step on, and no step is open.

@@ -1,6 +1,6 @@
 //! The state of a user, which every command goes through.
 ghost use Rattle.std.specs.Prelude.{◌≡◌, ◌↔◌, ◌<◌, ℕ, Bool, IsTrue, true, Some, Ok, length, slice_get, position};
-ghost use Rattle.std.specs.Prelude.{option_map, IsOk, IsSome, IfSome, IfErr, OnOk, OnErr};
+ghost use Rattle.std.specs.Prelude.{option_map, IsOk, IsSome, IfSome, OnOk, OnErr};
 ghost use Rattle.std.specs.List.{IsDistinct};
 ghost use Rattle.std.specs.Option.{ForSome};
 ghost use Rattle.std.specs.Str.{bytes_eq};
@@ -20,7 +20,7 @@ use crate::sessions::Sessions;
 use lj_branch::Branches;
 use lj_quota::{Quota, Used};
 use lj_ring::Edge;
-use lj_step::{Sim, Stray};
+use lj_step::{NotAwaited, Sim};
 use lj_tile::{Done, Kind, Label, Name, Task};
 use lj_xyz::Symbol;
 use std::alloc::Global;
@@ -167,16 +167,15 @@ impl UserState {
         self.sessions.post(name);
     }
 
-    /// Takes in the result of a tile that a session's open step awaits. Another is handed back, and nothing changes.
-    pub(crate) fn accept(&mut self, label: &Label, done: Done) -> Result<(), Stray>
-        ensures accepted { IsOk result ↔ IsAwaited self.old label.now done }
+    /// Takes in the result of a tile that a session's open step awaits. At another nothing changes.
+    pub(crate) fn take_in(&mut self, label: &Label, done: &Done) -> Result<(), NotAwaited>
+        ensures accepted { IsOk result ↔ IsAwaited self.old label.now done.now }
         ensures taken { OnOk result
-            (self.new ≡ changed label.now.session (with_tile_in (tile_number_of done)) self.old) }
+            (self.new ≡ changed label.now.session (with_tile_in (tile_number_of done.now)) self.old) }
         ensures user { user_of self.new ≡ user_of self.old }
-        ensures stray { IfErr result (λ s. s.done ≡ done) }
         ensures unchanged { OnErr result (self.new ≡ self.old) }
     {
-        self.sessions.accept(label, done)
+        self.sessions.take_in(label, done)
     }
 
     /// Whether a step is open in a session and all its tiles are in.

@@ -1,5 +1,5 @@
 //! The open step of a session.
-ghost use Rattle.std.specs.Prelude.{◌≡◌, ◌↔◌, ℕ, IsOk, IsSome, IfErr, OnOk, OnErr};
+ghost use Rattle.std.specs.Prelude.{◌≡◌, ◌↔◌, ℕ, IsOk, IsSome, OnOk, OnErr};
 ghost use Rattle.std.specs.Option.{ForSome};
 ghost use Rattle.lj_step.specs.OpenSteps.{tile_number_of};
 ghost use Rattle.lj_session.specs.declared.command.Command.TheVariants.{Advance};
@@ -9,7 +9,7 @@ ghost use Rattle.lj_session.specs.States.{with_tile_in, turned_on, is_whole_in};
 ghost use Rattle.lj_session.specs.States as states;
 
 use crate::sessions::Sessions;
-use lj_step::Stray;
+use lj_step::NotAwaited;
 use lj_tile::{Done, Kind, Label, Name, Task};
 
 impl Sessions {
@@ -42,19 +42,18 @@ impl Sessions {
         session.post();
     }
 
-    /// Takes in the result of a tile that a session's open step awaits. Another is handed back, and nothing changes.
-    pub fn accept(&mut self, label: &Label, done: Done) -> Result<(), Stray>
-        ensures accepted { IsOk result ↔ IsAwaited self.old label.now done }
+    /// Takes in the result of a tile that a session's open step awaits. At another nothing changes.
+    pub fn take_in(&mut self, label: &Label, done: &Done) -> Result<(), NotAwaited>
+        ensures accepted { IsOk result ↔ IsAwaited self.old label.now done.now }
         ensures taken { OnOk result
-            (self.new ≡ changed label.now.session (with_tile_in (tile_number_of done)) self.old) }
+            (self.new ≡ changed label.now.session (with_tile_in (tile_number_of done.now)) self.old) }
         ensures user { user_of self.new ≡ user_of self.old }
-        ensures stray { IfErr result (λ s. s.done ≡ done) }
         ensures unchanged { OnErr result (self.new ≡ self.old) }
     {
         let Some(session) = self.sessions.get_mut(&label.session) else {
-            return Err(Stray { done });
+            return Err(NotAwaited);
         };
-        session.accept(label, done)
+        session.take_in(label, done)
     }
 
     /// Whether a step is open in a session and all its tiles are in.
