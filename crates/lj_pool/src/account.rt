@@ -1,5 +1,5 @@
 //! What an end of a pool is owed, and what it has counted.
-ghost use Rattle.std.specs.Prelude.{◌≡◌, ◌<◌, ◌≤◌, ◌↔◌, ℕ, cond, length, nat_lt, slice_index_or, true, false, IfSome, IfNone, IsTrue};
+ghost use Rattle.std.specs.Prelude.{◌≡◌, ◌<◌, ◌≤◌, ◌-◌, ◌↔◌, ℕ, Some, cond, length, nat_lt, slice_index_or, true, false, IfSome, IfNone, IsTrue};
 ghost use Rattle.std.specs.List.{Contains, remove};
 ghost use Rattle.lj_pool.specs.Seen.{IsHandedOut, IsPosted, SameOwed, unseen};
 ghost use Rattle.lj_pool.specs.Gathering.{times};
@@ -55,14 +55,26 @@ impl Account {
     }
 
     /// Notes that a task was posted.
-    pub fn post(&mut self, task: Task)
+    pub fn post(&mut self, task: &Task)
         requires { length self.old.owed < MAX_OWED }
-        ensures posted { IsPosted task self.old self.new }
+        ensures posted { IsPosted task.now self.old self.new }
         ensures closed { self.new.closed ≡ self.old.closed }
     {
         let place = usize::from(self.places[self.owed]);
-        self.tasks[place] = Some(task);
+        keep(&mut self.tasks[place], task);
         self.owed += 1;
+    }
+
+    /// Notes that the task which was posted last was not.
+    pub fn take_back(&mut self)
+        requires { 0 < length self.old.owed }
+        ensures owed { self.new.owed ≡ remove self.old.owed (length self.old.owed - 1) }
+        ensures good { self.new.good ≡ self.old.good }
+        ensures strays { self.new.strays ≡ self.old.strays }
+        ensures closed { self.new.closed ≡ self.old.closed }
+    {
+        let last = self.owed() - 1;
+        self.take_off(last);
     }
 
     /// Counts a result of this task, which is then owed no more if it was.
@@ -146,6 +158,16 @@ impl Account {
         let place = self.places.remove(here);
         self.places.push(place);
         self.owed -= 1;
+    }
+}
+
+/// Keeps a copy of the task, in the room of an older one where there is one.
+fn keep(kept: &mut Option<Task>, task: &Task)
+    ensures { kept.new ≡ Some task.now }
+{
+    match kept {
+        Some(older) => older.copy_from(task),
+        None => *kept = Some(task.copy()),
     }
 }
 

@@ -1,15 +1,27 @@
 //! What lies under the lock of a pool.
-ghost use Rattle.std.specs.Prelude.{◌≡◌, ◌+◌, ◌≤◌, ◌↔◌, ℕ, Some, None, true, false, IsOk, IsTrue, IfErr, IfNone, IfSome, OnErr, OnOk};
+ghost use Rattle.std.specs.Prelude.{◌≡◌, ◌+◌, ◌-◌, ◌≤◌, ◌<◌, ◌↔◌, ℕ, cond, max, nat_eq, nat_lt, Some, None, true, false, IsOk, IsTrue, IfErr, IfNone, IfSome, OnErr, OnOk};
 ghost use Rattle.lj_book.specs.declared.entries.Entry.TheVariants.{Out};
 ghost use Rattle.lj_book.specs.Held.{at, standing, Fetches, Gives, IsDoneAt, IsOpenAt, Posts, Takes, Withdraws};
 ghost use Rattle.lj_pool.specs.Refusals.{task_of, IsClosed};
-ghost use Rattle.lj_pool.specs.Desks.{HasRoom};
+ghost use Rattle.lj_pool.specs.Desks.{HasRoom, bell_of, due_at};
 
 use crate::pool::Refused;
 use crate::share::Share;
 use lj_book::{Book, Counts, Full, Key, MAX_ENTRIES};
 use lj_tile::{Done, Task};
+use std::mem;
 use std::sync::ledger::{self, Ledger};
+
+/// The number of bells at which ends wait for results. Users whose numbers are equal modulo this share one.
+pub(crate) const BELLS: usize = 64;
+
+/// The bell of a user.
+pub(crate) fn bell_of(user: u8) -> usize
+    ensures value { result ≡ bell_of user }
+    ensures within { result < BELLS }
+{
+    usize::from(user) % BELLS
+}
 
 /// The book of a pool, and the ledger's book of the results that it was given.
 #[derive(Drop)]
@@ -19,6 +31,8 @@ pub(crate) struct Desk<L: Ledger> {
     next: Key,
     /// How many tasks were posted since the workers were told of any.
     untold: usize,
+    /// After how many more results each bell is rung; 0 where nobody waits for it.
+    due: [usize; BELLS],
     closed: bool,
     ghost counted: { book.given ≡ results.total },
 }
@@ -35,6 +49,7 @@ impl<L: Ledger> Desk<L> {
             results,
             next: 0,
             untold: 0,
+            due: [0; BELLS],
             closed: false,
         }
     }
@@ -47,6 +62,7 @@ impl<L: Ledger> Desk<L> {
         ensures closed { IfErr result (λ refused. IsClosed refused ↔ (self.old.closed ≡ true)) }
         ensures unchanged { OnErr result (self.new.book ≡ self.old.book) }
         ensures stays { self.new.closed ≡ self.old.closed }
+        ensures untold { OnOk result (1 ≤ self.new.untold) }
     {
         if self.closed {
             return Err(Refused::Closed(task));
@@ -60,16 +76,44 @@ impl<L: Ledger> Desk<L> {
         }
     }
 
-    /// Whether the workers are to be told of tasks, once so many were posted. They are told then.
-    pub(crate) fn tells(&mut self, least: usize) -> bool
+    /// How many tasks the workers are to be told of, once there are so many that they were not told of.
+    pub(crate) fn tells(&mut self, least: usize) -> usize
+        ensures value { result ≡ cond (nat_lt self.old.untold least) 0 self.old.untold }
+        ensures left { self.old.untold ≡ self.new.untold + result }
+        ensures due { self.new.due ≡ self.old.due }
         ensures unchanged { self.new.book ≡ self.old.book }
         ensures stays { self.new.closed ≡ self.old.closed }
     {
-        let tells = self.untold >= least;
-        if tells {
-            self.untold = 0;
+        if self.untold < least {
+            return 0;
         }
-        tells
+        mem::take(&mut self.untold)
+    }
+
+    /// Notes that an end waits at the user's bell, which is to be rung after so many results, or earlier where another
+    /// waits at it.
+    pub(crate) fn awaits(&mut self, user: u8, results: usize)
+        ensures due { due_at self.new.due user ≡ cond (nat_eq (due_at self.old.due user) 0) (max results 1) 1 }
+        ensures untold { self.new.untold ≡ self.old.untold }
+        ensures unchanged { self.new.book ≡ self.old.book }
+        ensures stays { self.new.closed ≡ self.old.closed }
+    {
+        let due = &mut self.due[bell_of(user)];
+        *due = if *due == 0 { results.max(1) } else { 1 };
+    }
+
+    /// Counts a result of the user that was given. Whether the user's bell is to be rung for it.
+    pub(crate) fn rings(&mut self, user: u8) -> bool
+        ensures rings { IsTrue result ↔ (due_at self.old.due user ≡ 1) }
+        ensures counted { due_at self.new.due user ≡ due_at self.old.due user - 1 }
+        ensures untold { self.new.untold ≡ self.old.untold }
+        ensures unchanged { self.new.book ≡ self.old.book }
+        ensures stays { self.new.closed ≡ self.old.closed }
+    {
+        let due = &mut self.due[bell_of(user)];
+        let rings = *due == 1;
+        *due = due.saturating_sub(1);
+        rings
     }
 
     /// Takes an open task, in turn. None where there is none, or the pool is closed.
@@ -83,26 +127,29 @@ impl<L: Ledger> Desk<L> {
         if self.closed {
             return None;
         }
-        let (key, task) = self.book.take(self.next)?;
-        self.next = key.wrapping_add(1);
-        Some((key, task))
+        let taken = self.book.take(self.next);
+        if let Some((key, _)) = &taken {
+            self.next = key.wrapping_add(1);
+        }
+        taken
     }
 
-    /// Gives a result, and credits it to the share of its worker if it is accepted.
-    pub(crate) fn give(&mut self, key: Key, done: Done, share: &mut Share<L>) -> Result<(), Done>
-        ensures accepted { IsOk result ↔ (at self.old.book key ≡ Some (Out done)) }
-        ensures gives { OnOk result (Gives self.old.book self.new.book key done) }
-        ensures credited { OnOk result (share.new ≡ share.old + 1) }
-        ensures handed_back { IfErr result (λ refused. refused ≡ done) }
-        ensures unchanged { OnErr result (self.new.book ≡ self.old.book) }
-        ensures not_credited { OnErr result (share.new ≡ share.old) }
+    /// Gives a result, and credits it to the share of its worker if it is accepted. Whether it is.
+    pub(crate) fn give(&mut self, key: Key, done: Done, share: &mut Share<L>) -> bool
+        ensures accepted { IsTrue result ↔ (at self.old.book key ≡ Some (Out done)) }
+        ensures gives { result ≡ true → Gives self.old.book self.new.book key done }
+        ensures credited { result ≡ true → share.new ≡ share.old + 1 }
+        ensures unchanged { result ≡ false → self.new.book ≡ self.old.book }
+        ensures not_credited { result ≡ false → share.new ≡ share.old }
         ensures stays { self.new.closed ≡ self.old.closed }
     {
         let Desk { book, results, .. } = self;
-        book.give(key, done)?;
+        if book.give(key, done).is_err() {
+            return false;
+        }
         let _given = book.counts().given;
         share.credit(results);
-        Ok(())
+        true
     }
 
     /// Fetches a result of the user. None where there is none, or the pool is closed.

@@ -45,12 +45,15 @@ impl<'p, L: Ledger, R: Wait> Pool for LockEnd<'p, L, R> {
     ghost for_others = { λ _ _. 0 };
 
     fn post(&mut self, task: Task, wait: bool) -> Result<(), Refused> {
-        let copy = task.copy();
+        self.account.post(&task);
         let posted = self.pool.post(self.rt, task, wait);
         match &posted {
-            Ok(()) => self.account.post(copy),
-            Err(Refused::Full(_)) => {}
-            Err(Refused::Closed(_)) => self.account.close(),
+            Ok(()) => {}
+            Err(Refused::Full(_)) => self.account.take_back(),
+            Err(Refused::Closed(_)) => {
+                self.account.take_back();
+                self.account.close();
+            }
         }
         posted
     }
@@ -62,7 +65,8 @@ impl<'p, L: Ledger, R: Wait> Pool for LockEnd<'p, L, R> {
         ensures closed { IfNone result (self.new.closed ≡ true) }
         ensures stays_closed { StaysClosed self.old self.new }
     {
-        let fetched = self.pool.fetch(self.rt, user);
+        let owed = self.account.owed();
+        let fetched = self.pool.fetch(self.rt, user, owed);
         match &fetched {
             Some(done) => self.account.count(done.task()),
             None => self.account.close(),

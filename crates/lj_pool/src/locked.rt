@@ -4,19 +4,22 @@ ghost use Rattle.std.specs.List.{All};
 ghost use Rattle.lj_pool.specs.Refusals.{task_of, IsClosed};
 ghost use Rattle.lj_pool.specs.Seen.{unseen};
 
-use crate::desk::Desk;
+use crate::desk::{BELLS, Desk, bell_of};
 use crate::lock_end::LockEnd;
 use crate::pool::Refused;
 use crate::share::Share;
 use lj_book::{Book, Counts, Key};
 use lj_tile::{Done, Task};
 use std::alloc::{AllocError, Global};
+use std::array;
 use std::sync::ledger::{self, Blank, Ledger};
 use std::sync::{Condvar, Mutex, Wait};
 
-/// So many tasks are posted before the workers are told of them, unless an end waits for a result; and so many results
-/// are given before the ends are told of them, while tasks are open.
-const TOLD_AT_ONCE: usize = 16;
+/// So many tasks are posted before workers that wait are told of them, unless an end waits for a result.
+const TASKS_AT_ONCE: usize = 16;
+
+/// An end that waits is told once so many results of its user were given, or all that it is owed.
+const RESULTS_AT_ONCE: usize = 16;
 
 /// A book of tasks behind a lock. Its ends post tasks and fetch results, each from a thread of its own, and workers
 /// compute them (`work`). The lock is never held while a task is computed.
@@ -25,8 +28,10 @@ pub struct LockPool<L: Ledger> {
     desk: Mutex<Desk<L>>,
     /// A task was posted. Workers wait for it.
     posted: Condvar,
-    /// Results were given, or there is room in the book. Ends wait for it.
-    moved: Condvar,
+    /// An entry left a full book. Ends that have a task to post wait for it.
+    room: Condvar,
+    /// Results were given, at each bell to the users who share it. Their ends wait for it.
+    given: [Condvar; BELLS],
 }
 
 impl<L: Ledger> LockPool<L> {
@@ -51,7 +56,8 @@ impl<L: Ledger> LockPool<L> {
         let pool = LockPool {
             desk: Mutex::new(Desk::new(book, results)),
             posted: Condvar::new(),
-            moved: Condvar::new(),
+            room: Condvar::new(),
+            given: array::from_fn(|_| Condvar::new()),
         };
         Ok((pool, shares))
     }
@@ -67,7 +73,10 @@ impl<L: Ledger> LockPool<L> {
     pub fn close<R: Wait>(&self, rt: &R) {
         self.desk.lock(rt).close();
         self.posted.notify_all();
-        self.moved.notify_all();
+        self.room.notify_all();
+        for bell in &self.given {
+            bell.notify_all();
+        }
     }
 
     /// The counts of the book. What was posted has been fetched or withdrawn, or stands in the book.
@@ -81,7 +90,7 @@ impl<L: Ledger> LockPool<L> {
     /// Withdraws every entry of the user, also of tasks that are out.
     pub fn withdraw<R: Wait>(&self, rt: &R, user: u8) {
         self.desk.lock(rt).withdraw(user);
-        self.moved.notify_all();
+        self.room.notify_all();
     }
 
     /// Posts a task. With `wait` it waits while the book is full.
@@ -95,21 +104,29 @@ impl<L: Ledger> LockPool<L> {
             match desk.post(task) {
                 Err(Refused::Full(refused)) if wait => task = refused,
                 posted => {
-                    let tells = desk.tells(TOLD_AT_ONCE);
+                    let tasks = desk.tells(TASKS_AT_ONCE);
                     drop(desk);
-                    if tells {
-                        self.posted.notify_all();
-                    }
+                    self.tell(tasks);
                     return posted;
                 }
             }
-            desk = self.moved.wait(rt, desk);
+            desk = self.room.wait(rt, desk);
         }
         unreachable!()
     }
 
-    /// Fetches a result of the user, and waits for one. None where the pool is closed.
-    pub(crate) fn fetch<R: Wait>(&self, rt: &R, user: u8) -> Option<Done>
+    /// Tells workers that wait of so many tasks.
+    fn tell(&self, tasks: usize) {
+        match tasks {
+            0 => {}
+            1 => self.posted.notify_one(),
+            _ => self.posted.notify_all(),
+        }
+    }
+
+    /// Fetches a result of the user, and waits for one. None where the pool is closed. So many are owed to the end that
+    /// asks.
+    pub(crate) fn fetch<R: Wait>(&self, rt: &R, user: u8, owed: usize) -> Option<Done>
         ensures { IfSome result (λ done. done.name.label.user ≡ user) }
     {
         let mut desk = self.desk.lock(rt);
@@ -119,41 +136,20 @@ impl<L: Ledger> LockPool<L> {
             if fetched.is_some() || desk.is_closed() {
                 drop(desk);
                 if was_full {
-                    self.moved.notify_all();
+                    self.room.notify_all();
                 }
                 return fetched;
             }
-            if desk.tells(1) {
-                self.posted.notify_all();
-            }
-            desk = self.moved.wait(rt, desk);
+            self.tell(desk.tells(1));
+            desk.awaits(user, owed.min(RESULTS_AT_ONCE));
+            desk = self.given[bell_of(user)].wait(rt, desk);
         }
         unreachable!()
     }
 
-    /// Gives a result that was computed, if there is one, which is credited to the share if it is accepted. Then takes
-    /// an open task, and waits for one. None where the pool is closed.
+    /// Gives a result, which is credited to the share if it is accepted. Then takes an open task, and waits for one.
+    /// None where the pool is closed.
     pub(crate) fn exchange<R: Wait>(
-        &self,
-        rt: &R,
-        computed: Option<(Key, Done)>,
-        share: &mut Share<L>,
-    ) -> Option<(Key, Task)>
-        ensures never_falls { share.old ≤ share.new }
-        ensures one_at_most { share.new ≤ share.old + 1 }
-    {
-        if let Some((key, done)) = computed {
-            let taken = self.give(rt, key, done, share);
-            if taken.is_some() {
-                return taken;
-            }
-        }
-        self.take(rt)
-    }
-
-    /// Gives a result, which is credited to the share if it is accepted, and takes an open task if there is one. The ends
-    /// are told of results once there are several, and where no task is open.
-    fn give<R: Wait>(
         &self,
         rt: &R,
         key: Key,
@@ -163,19 +159,22 @@ impl<L: Ledger> LockPool<L> {
         ensures never_falls { share.old ≤ share.new }
         ensures one_at_most { share.new ≤ share.old + 1 }
     {
+        let user = done.task().name().label.user;
         let mut desk = self.desk.lock(rt);
-        let _refused = desk.give(key, done, share);
-        let several = desk.counts().given % TOLD_AT_ONCE as u64 == 0;
+        let rings = desk.give(key, done, share) && desk.rings(user);
         let taken = desk.take();
         drop(desk);
-        if several || taken.is_none() {
-            self.moved.notify_all();
+        if rings {
+            self.given[bell_of(user)].notify_all();
+        }
+        if taken.is_none() {
+            return self.take(rt);
         }
         taken
     }
 
     /// Takes an open task, and waits for one. None where the pool is closed.
-    fn take<R: Wait>(&self, rt: &R) -> Option<(Key, Task)> {
+    pub(crate) fn take<R: Wait>(&self, rt: &R) -> Option<(Key, Task)> {
         let mut desk = self.desk.lock(rt);
         for _ in rt.forever() {
             let taken = desk.take();

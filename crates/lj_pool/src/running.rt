@@ -138,8 +138,9 @@ fn fetch_next<P: Pool>(owner: &mut Owner, user: u8, pool: &mut P) -> Result<bool
     ensures halted { IfErr result (λ halt. IsHalted halt (P.seen pool.old) (P.seen pool.new)) }
     ensures own { P.for_others pool.new user ≡ P.for_others pool.old user }
 {
-    let Some(done) = pool.fetch(user) else {
+    let fetched = pool.fetch(user);
+    let Some(done) = &fetched else {
         return Err(Halt::PoolClosed);
     };
-    Ok(owner.accept(done).is_ok())
+    Ok(owner.take_in(done).is_ok())
 }

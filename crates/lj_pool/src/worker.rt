@@ -30,13 +30,13 @@ pub fn work<L: Ledger, G: Gate, R: Wait>(
     ensures { share ≤ result }
 {
     let mut share = share;
-    let mut computed = None;
+    let mut taken = pool.take(rt);
     for _ in rt.forever() {
-        let Some((key, task)) = pool.exchange(rt, computed, &mut share) else {
+        let Some((key, task)) = taken else {
             break;
         };
         gate.between(task.name());
-        computed = Some((key, compute(task, table)));
+        taken = pool.exchange(rt, key, compute(task, table), &mut share);
     }
     share
 }

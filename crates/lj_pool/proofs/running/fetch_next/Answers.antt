@@ -1,32 +1,38 @@
-use Rattle.std.proofs.Common.{sym, ◌∙◌, refl, arith}
+use Rattle.std.proofs.Common.{◌≡◌, Option, Some, IfSome, sym, ◌∙◌, refl, subst, arith}
+use Rattle.lj_tile.specs.Tasks.{Work}
 use Rattle.lj_pool.proofs.Gathering.{comes_gathers, comes_unposted, comes_fewer, comes_stray}
 use Rattle.lj_pool.proofs.running.fetch_next.Goals as goal
+
+-- what is said of a result that was fetched
+told : (P : Work → Type 0) (fetched : Option Work) (done : Work) → fetched ≡ Some done → IfSome fetched P → P done
+told P fetched done is given = subst (λ x. IfSome x P) is given
 
 pub returns-clause-gathers : goal.returns-clause-gathers
 returns-clause-gathers g c =
     comes_gathers c.args.owner.now (g.P.Pool.seen c.args.pool.now).owed c.requires.gathers c.in-Some.done
-    (g.P.Pool.seen c.args.pool.now) (g.P.Pool.seen c.fetch.new.self) refl
-    c.in-Some.ensures.handed_out c.accept.new.self c.accept.result c.accept.ensures.accepted
-    c.accept.ensures.taken c.accept.ensures.unchanged
+    (g.P.Pool.seen c.args.pool.now) (g.P.Pool.seen c.fetch-fetched.new.self) refl
+    (told _ c.fetch-fetched.result c.in-Some.done c.in-Some.is c.fetch-fetched.ensures.handed_out)
+    c.take_in.new.self c.take_in.result c.take_in.ensures.accepted c.take_in.ensures.taken c.take_in.ensures.unchanged
 
 pub returns-clause-unposted : goal.returns-clause-unposted
 returns-clause-unposted g c =
     comes_unposted c.args.owner.now (g.P.Pool.seen c.args.pool.now).owed c.requires.gathers c.in-Some.done
-    (g.P.Pool.seen c.args.pool.now) (g.P.Pool.seen c.fetch.new.self) refl
-    c.in-Some.ensures.handed_out c.accept.new.self c.accept.result c.accept.ensures.accepted
-    c.accept.ensures.taken c.accept.ensures.unchanged
+    (g.P.Pool.seen c.args.pool.now) (g.P.Pool.seen c.fetch-fetched.new.self) refl
+    (told _ c.fetch-fetched.result c.in-Some.done c.in-Some.is c.fetch-fetched.ensures.handed_out)
+    c.take_in.new.self c.take_in.result c.take_in.ensures.accepted c.take_in.ensures.taken c.take_in.ensures.unchanged
 
 pub returns-clause-fewer : goal.returns-clause-fewer
 returns-clause-fewer g c taken =
     comes_fewer c.args.owner.now (g.P.Pool.seen c.args.pool.now).owed c.requires.gathers c.in-Some.done
-    (g.P.Pool.seen c.args.pool.now) (g.P.Pool.seen c.fetch.new.self) refl
-    c.in-Some.ensures.handed_out c.accept.new.self c.accept.result c.accept.ensures.accepted c.accept.ensures.taken
+    (g.P.Pool.seen c.args.pool.now) (g.P.Pool.seen c.fetch-fetched.new.self) refl
+    (told _ c.fetch-fetched.result c.in-Some.done c.in-Some.is c.fetch-fetched.ensures.handed_out)
+    c.take_in.new.self c.take_in.result c.take_in.ensures.accepted c.take_in.ensures.taken
     (sym c.is_ok.ensures.value ∙ taken)
 
 pub returns-clause-stray : goal.returns-clause-stray
 returns-clause-stray g c taken below =
     let up = comes_stray c.args.owner.now (g.P.Pool.seen c.args.pool.now).owed c.requires.gathers c.in-Some.done
-    (g.P.Pool.seen c.args.pool.now) (g.P.Pool.seen c.fetch.new.self) refl
-    c.in-Some.ensures.handed_out c.accept.new.self c.accept.result c.accept.ensures.accepted
-    (sym c.is_ok.ensures.value ∙ taken) in
+    (g.P.Pool.seen c.args.pool.now) (g.P.Pool.seen c.fetch-fetched.new.self) refl
+    (told _ c.fetch-fetched.result c.in-Some.done c.in-Some.is c.fetch-fetched.ensures.handed_out)
+    c.take_in.new.self c.take_in.result c.take_in.ensures.accepted (sym c.is_ok.ensures.value ∙ taken) in
     omega (arith, up, below)

@@ -23,8 +23,9 @@ invariant_of-self c =
     let places = c.self.inside.places.items in
     let room : owed < MAX_OWED = omega (arith, c.requires, kept.held, ap (λ s. length s.owed) c.self.view_is) in
     let is = c.from-place.ensures ∙ ap (λ xs. get_or xs owed 0) c.deref.ensures.0 in
-    subst (λ k. IsKept (set c.self.inside.tasks k (Some c.args.task)) places (owed + 1)) (sym is)
-    (kept_posted c.self.inside.tasks places owed c.args.task kept room)
+    subst (λ slot. IsKept (set c.self.inside.tasks c.from-place.result slot) places (owed + 1)) (sym c.keep.ensures)
+    (subst (λ k. IsKept (set c.self.inside.tasks k (Some c.args.task.now)) places (owed + 1)) (sym is)
+    (kept_posted c.self.inside.tasks places owed c.args.task.now kept room))
 
 pub returns-clause-posted : goal.returns-clause-posted
 returns-clause-posted c =
@@ -35,10 +36,11 @@ returns-clause-posted c =
     let room : owed < MAX_OWED = omega (arith, c.requires, kept.held, ap (λ s. length s.owed) c.self.view_is) in
     let is = c.from-place.ensures ∙ ap (λ xs. get_or xs owed 0) c.deref.ensures.0 in
     record {
-      owed = subst (λ k. works (set tasks k (Some c.args.task)) (take (owed + 1) places)
-          ≡ works tasks (take owed places) ++ c.args.task ∷ []) (sym is)
-          (works_posted tasks places owed c.args.task kept room)
-          ∙ ap (λ s. s.owed ++ c.args.task ∷ []) c.self.view_is;
+      owed = ap (λ slot. works (set tasks c.from-place.result slot) (take (owed + 1) places)) c.keep.ensures
+          ∙ subst (λ k. works (set tasks k (Some c.args.task.now)) (take (owed + 1) places)
+          ≡ works tasks (take owed places) ++ c.args.task.now ∷ []) (sym is)
+          (works_posted tasks places owed c.args.task.now kept room)
+          ∙ ap (λ s. s.owed ++ c.args.task.now ∷ []) c.self.view_is;
       good = ap (λ s. s.good) c.self.view_is;
       strays = ap (λ s. s.strays) c.self.view_is;
     }
