@@ -20,7 +20,7 @@ const USERS: &str = "# name, token, sessions, atoms, branches\n\
     A aaaaaaaaaaaaaaaaaaaaaaaaaaaaaaaa 4 100 4\n\n\
     B bbbbbbbbbbbbbbbbbbbbbbbbbbbbbbbb 4 64 4\n";
 
-const HELLO: &str = "HELLO A aaaaaaaaaaaaaaaaaaaaaaaaaaaaaaaa\n";
+pub const HELLO: &str = "HELLO A aaaaaaaaaaaaaaaaaaaaaaaaaaaaaaaa\n";
 
 const LOAD: &str = "LOAD a 256 1 131072 rest 28\n2\ndimer\nAr 0 0 0\nAr 1.5 0 0\n";
 
@@ -29,13 +29,13 @@ type Told = ArrayVec<u8, 1024>;
 
 /// A client of a server.
 #[derive(Drop)]
-struct Client {
-    stream: TcpStream,
+pub struct Client {
+    pub stream: TcpStream,
     told: Told,
 }
 
 impl Client {
-    fn new<R: Net<Stream = TcpStream> + Abort>(rt: &R, address: SocketAddr) -> Client {
+    pub fn new<R: Net<Stream = TcpStream> + Abort>(rt: &R, address: SocketAddr) -> Client {
         let stream = TcpStream::connect(rt, address);
         Client {
             stream: stream.ok().expect(rt, "a connection"),
@@ -44,7 +44,7 @@ impl Client {
     }
 
     /// Sends a text.
-    fn say(&mut self, rt: &impl Abort, text: &str) {
+    pub fn say(&mut self, rt: &impl Abort, text: &str) {
         assert!(rt;
             self.stream.write_all(text.as_bytes()).is_ok(),
             "{text} is sent"
@@ -52,7 +52,7 @@ impl Client {
     }
 
     /// Reads until so many bytes were told, or the server ends. Answers all that was told.
-    fn hear(&mut self, count: usize) -> &[u8] {
+    pub fn hear(&mut self, count: usize) -> &[u8] {
         let mut room = [0; 256];
         for _ in 0..1024 {
             if self.told.len() >= count {
@@ -81,7 +81,7 @@ impl Client {
 }
 
 /// Serves so many connections, with two workers. Answers how many tiles were computed.
-fn serve<R: Threads + Wait + Clock + Log + Sync>(
+pub fn serve<R: Threads + Wait + Clock + Log + Sync>(
     rt: &R,
     alloc: Global,
     listener: &TcpListener,
@@ -203,8 +203,8 @@ fn tug_eight_times<R: Net<Stream = TcpStream> + Abort>(
     Ok(())
 }
 
-/// Whether these replies have this line.
-fn has(told: &[u8], line: &str) -> bool {
+/// Whether these bytes have this text.
+pub fn has(told: &[u8], line: &str) -> bool {
     told.windows(line.len().max(1))
         .any(|text| text == line.as_bytes())
 }

@@ -1,0 +1,225 @@
+//! Workers of a pool behind a lock: a task that is held back at the gate holds back nobody else.
+ghost use Rattle.std.specs.Prelude.{◌≡◌};
+
+use super::streams::{Sheet, Stream};
+use lj_pool::{Gate, LockPool, Share, gather, serve, work};
+use lj_quota::Quota;
+use lj_session::UserState;
+use lj_table::Table;
+use lj_tile::{Kind, TaskName};
+use lj_wire::{Reading, Writing};
+use std::alloc::{AllocError, AllocGlobal, Global};
+use std::io::Write;
+use std::marker::Brand;
+use std::rt::Clock;
+use std::sync::Wait;
+use std::sync::atomic::{AtomicU64, Ordering};
+use std::sync::ledger::{Blank, Ledger};
+use std::test::Fail;
+use std::thread::Threads;
+use std::time::Duration;
+use std::{io, thread};
+
+/// How often the gate looks at most before it lets the task pass.
+const TURNS: u64 = 1_000_000;
+
+/// How long it waits after each look, so that the other user's threads get on.
+const TURN_MICROS: u64 = 20;
+
+/// The user whose step is held back.
+const HELD: u8 = 0;
+
+/// A gate that holds the steps of one user until another user is answered.
+#[derive(Drop)]
+struct Hold<'a, C> {
+    clock: &'a C,
+    /// How often the one that is held was answered its ADVANCE, and the other its MEASURE.
+    advanced: AtomicU64,
+    measured: AtomicU64,
+    /// How often the gate saw the second answer, and not the first.
+    seen: AtomicU64,
+}
+
+impl<C: Clock> Gate for Hold<'_, C> {
+    fn between(&self, name: &TaskName) {
+        if name.label.user != HELD || name.kind != Kind::Force {
+            return;
+        }
+        for _ in 0..TURNS {
+            if self.measured.load(Ordering::SeqCst) > 0 {
+                if self.advanced.load(Ordering::SeqCst) == 0 {
+                    self.seen.fetch_add(1, Ordering::SeqCst);
+                }
+                return;
+            }
+            thread::sleep(self.clock, Duration::from_micros(TURN_MICROS));
+        }
+    }
+}
+
+/// A writer that counts the replies that begin so.
+#[derive(Drop)]
+struct Counted<'a> {
+    sheet: &'a mut Sheet,
+    begins: &'a [u8],
+    count: &'a AtomicU64,
+}
+
+impl Write for Counted<'_> {
+    fn write(&mut self, buf: &[u8]) -> io::Result<usize> {
+        let written = self.sheet.write(buf)?;
+        if buf.starts_with(self.begins) {
+            self.count.fetch_add(1, Ordering::SeqCst);
+        }
+        Ok(written)
+    }
+
+    fn flush(&mut self) -> io::Result<()> {
+        self.sheet.flush()
+    }
+}
+
+impl<'a, C: Clock> Hold<'a, C> {
+    fn new(clock: &'a C) -> Self {
+        Hold {
+            clock,
+            advanced: AtomicU64::new(0),
+            measured: AtomicU64::new(0),
+            seen: AtomicU64::new(0),
+        }
+    }
+}
+
+/// What the two users are told, the workers' shares, and how many results they were given.
+#[derive(Drop)]
+struct Told {
+    held: Sheet,
+    other: Sheet,
+    given: u64,
+    seen: u64,
+}
+
+/// Serves a stream to a new user over an end of a pool.
+fn served<L: Ledger, R: Wait>(
+    rt: &R,
+    alloc: Global,
+    pool: &LockPool<L>,
+    user: u8,
+    input: &str,
+    begins: &[u8],
+    count: &AtomicU64,
+) -> Sheet {
+    let mut sheet = Sheet::new(usize::MAX);
+    let mut writer = Writing::new(Counted {
+        sheet: &mut sheet,
+        begins,
+        count,
+    });
+    let parts = [(input.as_bytes(), 1)];
+    let reader = Reading::new(Stream::new(&parts, usize::MAX));
+    let state = UserState::new(alloc, Quota::USUAL);
+    let (state, _, _) = serve(alloc, state, user, reader, &mut writer, &mut pool.end(rt));
+    drop(state);
+    drop(writer);
+    sheet
+}
+
+/// Serves both users at once, beside two workers.
+fn serve_both<'a, L: Ledger + Send + Sync, R: Threads + Wait + Clock + Sync>(
+    rt: &'a R,
+    alloc: Global,
+    pool: &'a LockPool<L>,
+    hold: &'a Hold<'a, R>,
+    table: &'a Table,
+    shares: Vec<Share<L>>,
+) -> Result<(Sheet, Sheet, Vec<Share<L>>), AllocError> {
+    let mut threads = Vec::with_capacity(alloc, 2)?;
+    let mut done = Vec::with_capacity(alloc, 2)?;
+    Ok(thread::scope(thread::scope_env(), rt, move |scope| {
+        for share in shares {
+            if let Ok(worker) = scope.spawn(move || work(rt, pool, share, hold, table)) {
+                let _ = threads.push(worker);
+            }
+        }
+        let (held, other) = thread::join(
+            rt,
+            move || served(
+                rt,
+                alloc,
+                pool,
+                HELD,
+                ADVANCES,
+                b"OK ADVANCE",
+                &hold.advanced,
+            ),
+            move || served(rt, alloc, pool, 1, MEASURES, b"OK MEASURE", &hold.measured),
+        );
+        pool.close(rt);
+        for worker in threads {
+            let _ = done.push(worker.join(rt));
+        }
+        (held, other, done)
+    }))
+}
+
+fn run_both<L: Ledger + Send + Sync, R: Threads + Wait + Clock + Sync>(
+    rt: &R,
+    alloc: Global,
+    blank: Blank,
+) -> Result<Told, AllocError>
+    requires name { blank.name ≡ L.name }
+    requires parts { blank.parts ≡ L.parts }
+    requires one_each { blank.parts ≡ 2 }
+{
+    let (pool, shares) = LockPool::<L>::new(alloc, blank, 2)?;
+    let (hold, table) = (Hold::new(rt), Table::new());
+    let (held, other, done) = serve_both(rt, alloc, &pool, &hold, &table, shares)?;
+    if done.len() != 2 {
+        return Err(AllocError);
+    }
+    Ok(Told {
+        held,
+        other,
+        given: gather(rt, &pool, done),
+        seen: hold.seen.load(Ordering::SeqCst),
+    })
+}
+
+/// Whether some growth was refused.
+fn lacks_memory(told: &Told) -> bool {
+    [&told.held, &told.other].iter().any(|sheet| {
+        sheet
+            .output
+            .as_slice()
+            .windows(6)
+            .any(|text| text == b"ERR 90".as_slice())
+    })
+}
+
+fn run_once(rt: &(impl Threads + Wait + Clock + Sync), alloc: Global) -> Result<Told, AllocError> {
+    run_both::<Brand, _>(rt, alloc, Blank::new(2))
+}
+
+/// What the user is asked whose step is held back, and what the other one is.
+const ADVANCES: &str = "LOAD a 256 1 131072 rest 28\n2\ndimer\nAr 0 0 0\nAr 1.5 0 0\nADVANCE a 1\n";
+
+const MEASURES: &str = "LOAD a 256 1 131072 rest 28\n2\ndimer\nAr 0 0 0\nAr 1.5 0 0\nMEASURE a\n";
+
+/// The second worker computes for the other user while the first one is held at the gate.
+#[test]
+fn a_held_task_holds_back_nobody_else(rt: HostRuntime) -> Result<(), Fail> {
+    let told = match run_once(&rt, rt.alloc()) {
+        Ok(told) if !lacks_memory(&told) => told,
+        _ => run_once(&rt, rt.alloc())?,
+    };
+    assert_eq!(rt;
+        told.held.output.as_slice(),
+        b"OK LOAD a 0 2\nOK ADVANCE a 1\n".as_slice()
+    );
+    assert_eq!(rt;
+        told.other.output.as_slice(),
+        b"OK LOAD a 0 2\nOK MEASURE a 0 2 0 0 0 0 -5349132\n".as_slice()
+    );
+    assert_eq!(rt; (told.seen, told.given), (1, 2));
+    Ok(())
+}
