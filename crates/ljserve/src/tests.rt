@@ -1,5 +1,6 @@
 //! Tests of the engine and of what it stands on: worked dialogues, orders of refusals, limits, and what fails in turn.
 
+mod closing;
 mod dialogues;
 mod failures;
 mod limits;

@@ -16,7 +16,7 @@ use std::thread;
 use std::thread::Threads;
 use std::time::Duration;
 
-const USERS: &str = "# name, token, sessions, atoms, branches\n\
+pub const USERS: &str = "# name, token, sessions, atoms, branches\n\
     A aaaaaaaaaaaaaaaaaaaaaaaaaaaaaaaa 4 100 4\n\n\
     B bbbbbbbbbbbbbbbbbbbbbbbbbbbbbbbb 4 64 4\n";
 
@@ -69,7 +69,7 @@ impl Client {
     }
 
     /// Whether the server is silent for a while.
-    fn hears_nothing(&mut self) -> bool {
+    pub fn hears_nothing(&mut self) -> bool {
         let mut room = [0; 1];
         let patience = Some(Duration::from_millis(200));
         if self.stream.set_read_timeout(patience).is_err() {
