@@ -1,2 +1,3 @@
+pub mod ArcLemmas
 pub mod RingLemmas
 pub mod ScaleLemmas

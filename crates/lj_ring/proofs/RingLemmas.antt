@@ -7,11 +7,11 @@ use Rattle.std.specs.Int.{cast_signed, w32}
 use Rattle.lj_ring.specs.Ring.{image, IsLeastImage}
 
 -- a residue in the upper half of the ring, as a signed number
-upper_half : (n : ℕ) → 2 ^ 31 ≤ n → n < 2 ^ 32 → cast_signed w32 n ≡ negsuc (2 ^ 32 - 1 - n)
+pub upper_half : (n : ℕ) → 2 ^ 31 ≤ n → n < 2 ^ 32 → cast_signed w32 n ≡ negsuc (2 ^ 32 - 1 - n)
 upper_half n far in_n = grind (arith, nat_tests)
 
 -- an image is the difference but for whole turns
-turns : (a b : ℕ) → a < 2 ^ 32 → b < 2 ^ 32 → (k : ℤ) × (image a b ≡ pos a -ℤ pos b +ℤ k *ℤ pos (2 ^ 32))
+pub turns : (a b : ℕ) → a < 2 ^ 32 → b < 2 ^ 32 → (k : ℤ) × (image a b ≡ pos a -ℤ pos b +ℤ k *ℤ pos (2 ^ 32))
 turns a b in_a in_b =
     elim (cases_lt a b) [
       | inl under ↦

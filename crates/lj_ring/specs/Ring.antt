@@ -1,8 +1,22 @@
 -- Coordinates on the ring of 2^32 units that one axis of the periodic box is, and sums on it.
-use Rattle.std.specs.Prelude.{ℕ, zero, suc, ◌+◌, ◌-◌, ◌*◌, ◌%◌, ◌^◌, ℤ, pos, ◌+ℤ◌, ◌-ℤ◌, ◌*ℤ◌, neg_ℤ, ◌≤ℤ◌, ◌<ℤ◌, ◌≡◌}
-use Rattle.std.specs.Prelude.{unsigned_abs}
+use Rattle.std.specs.Prelude.{ℕ, zero, suc, ◌+◌, ◌-◌, ◌*◌, ◌%◌, ◌^◌, ℤ, pos, ◌+ℤ◌, ◌-ℤ◌, ◌*ℤ◌, neg_ℤ, ◌≤ℤ◌, ◌<ℤ◌}
+use Rattle.std.specs.Prelude.{unsigned_abs, ◌<◌, ◌≡◌, List, slice_index_or}
 use Rattle.std.specs.Int.{cast_signed, int_rem_euclid, w32}
 use Rattle.lj_ring.specs.declared.coordinates.Place.{Place}
+
+-- a place whose three coordinates lie on the ring
+pub record IsOnRing (p : Place) : Type 0 where
+  pub x : p.x < 2 ^ 32
+  pub y : p.y < 2 ^ 32
+  pub z : p.z < 2 ^ 32
+
+-- the place of atom i in a list of places
+abbrev pub place_at : List Place → ℕ → Place
+place_at places i = slice_index_or places i (record { x = 0; y = 0; z = 0 })
+
+-- a difference on the ring
+abbrev pub ring_sub : ℕ → ℕ → ℕ
+ring_sub a b = (a + (2 ^ 32 - b)) % 2 ^ 32
 
 -- the coordinate that a whole number of units comes to, once round the ring as often as need be
 abbrev pub in_ring : ℤ → ℕ

@@ -1,6 +1,6 @@
 -- The scale of a simulation, and the bins of squared distance that its tables stand on.
 use Rattle.std.specs.Prelude.{ℕ, ◌*◌, ◌/◌, ◌^◌, ℤ, pos, ◌&&◌, Bool, int_le, nat_le, nat_lt, if◌then◌else◌, max}
-use Rattle.std.specs.Prelude.{unsigned_abs, Result, Ok, Err}
+use Rattle.std.specs.Prelude.{unsigned_abs, Result, Ok, Err, ◌<◌, ◌≡◌, true}
 use Rattle.lj_ring.specs.declared.units.TheConstants.{MIN_EDGE, MAX_EDGE, MIN_SIGMA, MAX_STEP_FACTOR, BINS, MIN_BIN}
 use Rattle.lj_ring.specs.declared.units.ScaleFault.{ScaleFault}
 use Rattle.lj_ring.specs.declared.units.ScaleFault.TheVariants.{Edge, Sigma, StepFactor}
@@ -44,6 +44,10 @@ bin u s = 128 * s / (u.sigma * u.sigma)
 -- a pair at this squared distance interacts: it lies within the cutoff of 2.5 sigma, bin 800
 abbrev pub interacts : Units → ℕ → Bool
 interacts u s = nat_lt (bin u s) BINS
+
+-- a scale by which no pair that interacts lies half the box apart
+pub record IsScale (u : Units) : Type 0 where
+  pub near : (s : ℕ) → interacts u s ≡ true → s < 2 ^ 62
 
 -- the bin whose entry a pair in bin k uses: the closest pairs use that of bin 64
 abbrev pub entry : ℕ → ℕ

@@ -1,6 +1,7 @@
--- Scales at their limits, and the bins where pairs stop to interact, worked out.
-use Rattle.std.specs.Prelude.{◌≡◌, ◌+◌, ◌-◌, ◌*◌, ◌^◌, true, false, pos, negsuc, Ok, Err, refl}
+-- Scales at their limits, the bins where pairs stop to interact, and arcs and their gaps, worked out.
+use Rattle.std.specs.Prelude.{◌≡◌, ◌+◌, ◌-◌, ◌*◌, ◌^◌, true, false, pos, negsuc, [], ◌∷◌, Ok, Err, refl}
 use Rattle.lj_ring.specs.declared.units.ScaleFault.TheVariants.{Edge, Sigma, StepFactor}
+use Rattle.lj_ring.specs.Arcs.{arcs_of, gap, squared_gap}
 use Rattle.lj_ring.specs.Scales.{Units, scale_of, interacts, entry}
 
 least_edge : scale_of (pos (10 ^ 6)) (pos (10 ^ 5)) 1 ≡ Ok (record { edge = 10 ^ 6; sigma = 429496729; strength = 1 })
@@ -48,3 +49,35 @@ close_bin = refl
 
 next_bin : entry 65 ≡ 65
 next_bin = refl
+
+-- two atoms, 10 units apart round the end of the ring
+round_the_end : arcs_of
+    (record { x = 4294967290; y = 7; z = 4 } ∷ record { x = 4; y = 7; z = 4294967290 } ∷ [])
+    ≡ record {
+      x = record { start = 4294967290; len = 10 };
+      y = record { start = 7; len = 0 };
+      z = record { start = 4294967290; len = 10 };
+    }
+unfolding arcs_of
+round_the_end = refl
+
+gap_the_short_way : gap (record { start = 4294967000; len = 200 }) (record { start = 100; len = 50 }) ≡ 196
+gap_the_short_way = refl
+
+gap_the_short_way_back : gap (record { start = 100; len = 50 }) (record { start = 4294967000; len = 200 }) ≡ 196
+gap_the_short_way_back = refl
+
+gap_of_overlapping : gap (record { start = 100; len = 50 }) (record { start = 150; len = 50 }) ≡ 0
+gap_of_overlapping = refl
+
+gap_of_one_on_the_other : gap (record { start = 100; len = 50 }) (record { start = 110; len = 5 }) ≡ 0
+gap_of_one_on_the_other = refl
+
+gap_of_one_round_the_other : gap (record { start = 110; len = 5 }) (record { start = 100; len = 50 }) ≡ 0
+gap_of_one_round_the_other = refl
+
+-- the gaps along the axes are 3, 4 and 12
+squared_gap_of_two : squared_gap (arcs_of (record { x = 1; y = 1; z = 1 } ∷ record { x = 5; y = 0; z = 9 } ∷ []))
+    (arcs_of (record { x = 8; y = 5; z = 4294967285 } ∷ [])) ≡ 169
+unfolding arcs_of
+squared_gap_of_two = refl

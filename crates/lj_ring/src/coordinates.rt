@@ -37,6 +37,8 @@ fn square(image: i32) -> u64
 #[inline]
 pub fn dist2(a: &Place, b: &Place) -> u64
     ensures value { result ≡ ring.distance a.now b.now }
+    ensures first { ring.IsOnRing a.now }
+    ensures second { ring.IsOnRing b.now }
     ensures bound { result ≤ 3 * 2 ^ 62 }
 {
     square(image(a.x, b.x)) + square(image(a.y, b.y)) + square(image(a.z, b.z))

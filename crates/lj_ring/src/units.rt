@@ -2,7 +2,7 @@
 ghost use Rattle.std.specs.Prelude.{ℕ, ◌≡◌, ◌≤◌, ◌<◌, ◌+◌, ◌*◌, ◌/◌, ◌^◌, ◌⊎◌, IsTrue, IsFalse, IfSome, MatchOption};
 ghost use Rattle.std.specs.Prelude.{SomeIff, unsigned_abs, nat_lt, true, false};
 ghost use Rattle.lj_ring.specs.Places.{units_of};
-ghost use Rattle.lj_ring.specs.Scales.{edge_fits, sigma_fits, strength_fits, scale_of, bin, interacts};
+ghost use Rattle.lj_ring.specs.Scales.{edge_fits, sigma_fits, strength_fits, scale_of, bin, interacts, IsScale};
 
 use lj_fixed::{MAX_NANO, Nano};
 use std::fmt;
@@ -151,11 +151,12 @@ impl Scale {
         self.edge
     }
 
-    /// The step factor in units of 2^-32.
+    /// The step factor in units of 2^-32. No pair that interacts lies half the box apart.
     #[inline]
     pub fn strength(&self) -> u32
         ensures value { result ≡ self.now.strength }
         ensures most { result ≤ MAX_STEP_FACTOR }
+        ensures near { IsScale self.now }
     {
         self.strength
     }

@@ -1,0 +1,44 @@
+-- How far the images of some places from the first one reach on both sides of 0, as the code keeps it.
+use Rattle.std.specs.Prelude.{ℕ, pos, ◌+ℤ◌, ◌-ℤ◌, unsigned_abs, List}
+use Rattle.std.specs.Int.{int_min, int_max}
+use Rattle.lj_ring.specs.declared.coordinates.Place.{Place}
+use Rattle.lj_ring.specs.declared.arcs.Arc.{Arc}
+use Rattle.lj_ring.specs.declared.arcs.Span.{Span}
+use Rattle.lj_ring.specs.declared.arcs.Spans.{Spans}
+use Rattle.lj_ring.specs.Arcs.{greatest_below, least_below, offset}
+use Rattle.lj_ring.specs.Ring.{image, in_ring}
+
+-- what the first n places come to along an axis
+abbrev pub span_below : ℕ → (Place → ℕ) → List Place → Span
+span_below n axis places = record {
+  least = least_below n (offset axis places);
+  greatest = greatest_below n (offset axis places);
+}
+
+-- what they come to along each
+abbrev pub spans_below : ℕ → List Place → Spans
+spans_below n places = record {
+  x = span_below n (λ p. p.x) places;
+  y = span_below n (λ p. p.y) places;
+  z = span_below n (λ p. p.z) places;
+}
+
+-- with an image more
+abbrev pub reaching : Span → ℕ → ℕ → Span
+reaching span to from = record {
+  least = int_min span.least (image to from);
+  greatest = int_max span.greatest (image to from);
+}
+
+-- with a place more
+abbrev pub widened : Spans → Place → Place → Spans
+widened spans place first = record {
+  x = reaching spans.x place.x first.x;
+  y = reaching spans.y place.y first.y;
+  z = reaching spans.z place.z first.z;
+}
+
+-- the arc that reaches so far on both sides of a coordinate
+abbrev pub arc_over : Span → ℕ → Arc
+arc_over span middle =
+    record { start = in_ring (pos middle +ℤ span.least); len = unsigned_abs (span.greatest -ℤ span.least) }

@@ -1,0 +1,148 @@
+//! Arcs of the ring that the atoms of a block lie on, and how far apart two blocks are by them.
+ghost use Rattle.std.specs.Prelude.{ℕ, ◌≡◌, ◌≤◌, ◌<◌, ◌^◌, ◌*◌, length, unsigned_abs};
+ghost use Rattle.lj_ring.specs.Arcs as arcs;
+ghost use Rattle.lj_ring.specs.Ring.{IsOnRing, image, place_at};
+ghost use Rattle.lj_ring.specs.Spans.{arc_over, reaching, spans_below, widened};
+
+use crate::coordinates::{self, Place};
+
+/// An arc of the ring: from `start` on, so many ring units; both ends belong to it.
+#[derive(Clone, Copy, PartialEq, Eq, Debug)]
+pub struct Arc {
+    pub start: u32,
+    pub len: u32,
+}
+
+/// The arcs that the atoms of a block lie on, one on each axis.
+#[derive(Clone, Copy, PartialEq, Eq, Debug)]
+pub struct Arcs {
+    pub x: Arc,
+    pub y: Arc,
+    pub z: Arc,
+}
+
+impl Arcs {
+    /// The arcs of some places, at least one: along each axis from the least image of their coordinates from the first
+    /// one's to the greatest.
+    pub fn of(places: &[Place]) -> Arcs
+        requires { 1 ≤ length places.now }
+        ensures value { result ≡ arcs.arcs_of places.now }
+        ensures on { arcs.AreOn result places.now }
+        ensures on_ring { (i : ℕ) → i < length places.now → IsOnRing (place_at places.now i) }
+    {
+        let first = places[0];
+        let spans = Spans::of(places, first);
+        Arcs {
+            x: spans.x.arc(first.x),
+            y: spans.y.arc(first.y),
+            z: spans.z.arc(first.z),
+        }
+    }
+
+    /// The squared gap of two blocks by their arcs, in square ring units: the sum of the squares of the gaps along each
+    /// axis, at most 3 * 2^62.
+    #[inline]
+    pub fn squared_gap(&self, other: &Arcs) -> u64
+        ensures value { result ≡ arcs.squared_gap self.now other.now }
+        ensures bound { result ≤ 3 * 2 ^ 62 }
+    {
+        squared(gap(&self.x, &other.x))
+            + squared(gap(&self.y, &other.y))
+            + squared(gap(&self.z, &other.z))
+    }
+}
+
+/// The gap between two arcs, in ring units, the shorter way round: 0 where they meet, and at most 2^31.
+#[inline]
+pub fn gap(a: &Arc, b: &Arc) -> u32
+    ensures value { result ≡ arcs.gap a.now b.now }
+    ensures least { (p q : ℕ) → p < 2 ^ 32 → q < 2 ^ 32 → arcs.IsOnArc a.now p → arcs.IsOnArc b.now q
+        → result ≤ unsigned_abs (image p q) }
+    ensures bound { result ≤ 2 ^ 31 }
+{
+    let after_a = b.start.wrapping_sub(a.start).saturating_sub(a.len);
+    let after_b = a.start.wrapping_sub(b.start).saturating_sub(b.len);
+    after_a.min(after_b)
+}
+
+#[inline]
+fn squared(gap: u32) -> u64
+    requires { gap ≤ 2 ^ 31 }
+    ensures value { result ≡ gap * gap }
+    ensures bound { result ≤ 2 ^ 62 }
+{
+    u64::from(gap) * u64::from(gap)
+}
+
+/// How far some images reach on both sides of 0, in ring units.
+#[derive(Clone, Copy)]
+struct Span {
+    least: i32,
+    greatest: i32,
+}
+
+impl Span {
+    /// It, with the image of a coordinate more.
+    #[inline(always)]
+    fn with(self, to: u32, from: u32) -> Span
+        ensures { result ≡ reaching self to from }
+    {
+        let image = coordinates::image(to, from);
+        Span {
+            least: self.least.min(image),
+            greatest: self.greatest.max(image),
+        }
+    }
+
+    /// The arc that reaches so far on both sides of a coordinate.
+    fn arc(self, middle: u32) -> Arc
+        ensures { result ≡ arc_over self middle }
+    {
+        Arc {
+            start: middle.wrapping_add(self.least.cast_unsigned()),
+            len: self.greatest.abs_diff(self.least),
+        }
+    }
+}
+
+/// How far the images of some places from the first one reach, axis by axis.
+#[derive(Clone, Copy)]
+struct Spans {
+    x: Span,
+    y: Span,
+    z: Span,
+}
+
+impl Spans {
+    fn of(places: &[Place], first: Place) -> Spans
+        requires { first ≡ place_at places.now 0 }
+        ensures value { result ≡ spans_below (length places.now) places.now }
+        ensures on_ring { (i : ℕ) → i < length places.now → IsOnRing (place_at places.now i) }
+    {
+        let here = Span {
+            least: 0,
+            greatest: 0,
+        };
+        let mut spans = Spans {
+            x: here,
+            y: here,
+            z: here,
+        };
+        for place in places {
+            spans = spans.with(*place, first);
+        }
+        spans
+    }
+
+    #[inline(always)]
+    fn with(self, place: Place, first: Place) -> Spans
+        ensures value { result ≡ widened self place first }
+        ensures on_ring { IsOnRing place }
+    {
+        Spans {
+            x: self.x.with(place.x, first.x),
+            y: self.y.with(place.y, first.y),
+            z: self.z.with(place.z, first.z),
+        }
+    }
+}
