@@ -5,7 +5,7 @@ use Rattle.lj_tile.specs.declared.names.Kind.{Kind}
 use Rattle.lj_step.specs.OpenSteps.{cover}
 use Rattle.lj_session.specs.declared.command.Command.{Command}
 use Rattle.lj_branch.specs.Named.{named}
-use Rattle.lj_session.specs.Users.{Session, User, atoms_of}
+use Rattle.lj_session.specs.Users.{Session, User}
 use Rattle.lj_session.specs.Turns.{turns, turned, rest_of}
 use Rattle.lj_session.specs.Owners.{step_of}
 use Rattle.lj_wire.specs.declared.item.Item.{Item}
@@ -13,13 +13,13 @@ use Rattle.lj_wire.specs.declared.item.Item.TheVariants.{Command as Ordered, Bad
 use Rattle.lj_wire.specs.Told.{told, first_mark, other_marks}
 use Rattle.lj_pool.specs.Seen.{Seen, last_count}
 
--- how many tiles a step of a kind has over the frame of a session
-abbrev pub frame_tiles : Kind → Session → ℕ
-frame_tiles kind session = length (cover kind (atoms_of session))
+-- how many tiles a step has over the frame of a session
+abbrev pub frame_tiles : Session → ℕ
+frame_tiles session = length (cover session.units session.sim.cur)
 
 abbrev pub step_tiles : User → Option (List ℕ × Kind) → ℕ
 step_tiles user None = 0
-step_tiles user (Some step) = option_map_or (frame_tiles step.1) (named step.0 user.sessions) 0
+step_tiles user (Some step) = option_map_or frame_tiles (named step.0 user.sessions) 0
 
 -- how many tiles the next turn of a command has
 abbrev pub turn_tiles : User → Command → ℕ

@@ -90,7 +90,7 @@ changed name change owned = changed_to name change (held_in owned name) owned
 -- a step of a kind opened, of which no tile is posted or in
 abbrev pub with_step : Kind → Held → Held
 with_step kind held =
-    record held { live = record held.live { part = Some (opened kind (length held.live.sim.cur)) }; passed = 0 }
+    record held { live = record held.live { part = Some (opened kind held.live.units held.live.sim.cur) }; passed = 0 }
 
 -- the position in the cover of the first tile that is neither posted nor in
 abbrev pub next_tile : Held → Option ℕ

@@ -21,11 +21,11 @@ use Rattle.lj_step.specs.Motion.{Simulation, place_at, push_of, force, next_plac
 use Rattle.lj_step.specs.Laws.{tiles_force, stepped_by, tiles_energy}
 use Rattle.lj_step.proofs.RingSums.{sum_same, ring_sum_same, ring_sum_zero, sum_plus}
 use Rattle.lj_step.proofs.BlockSums.{int_sum_same, int_sum_none, int_sum_plus}
-use Rattle.lj_step.proofs.Opposites.{entry_far, along_none}
+use Rattle.lj_tile.proofs.Opposites.{entry_far, along_none}
 use Rattle.lj_step.proofs.Drift.{same_push}
 
 -- a pair that does not interact neither pushes nor has an energy
-push_far : (u : Units) (p q : Place) → interacts u (distance p q) ≡ false → push u p q ≡ no_push
+pub push_far : (u : Units) (p q : Place) → interacts u (distance p q) ≡ false → push u p q ≡ no_push
 unfolding push
 push_far u p q far =
     let none = entry_far u (distance p q) far in
@@ -34,7 +34,7 @@ push_far u p q far =
     (ap (λ e. push_along u e (image p.y q.y)) none ∙ along_none u (image p.y q.y))
     (ap (λ e. push_along u e (image p.z q.z)) none ∙ along_none u (image p.z q.z))
 
-energy_far : (u : Units) (p q : Place) → interacts u (distance p q) ≡ false → energy u p q ≡ pos 0
+pub energy_far : (u : Units) (p q : Place) → interacts u (distance p q) ≡ false → energy u p q ≡ pos 0
 energy_far u p q far = ap (λ (b : Bool). if b then energy_entry (entry (bin u (distance p q))) else pos 0) far
 
 count_more : (i j : ℕ) (tile : Tile) (tiles : List Tile)

@@ -12,7 +12,7 @@ use Rattle.lj_step.specs.Motion.{Simulation, place_at, push_of, force, next_coor
 use Rattle.lj_step.specs.Motion.{reversed}
 use Rattle.lj_step.specs.Laws.{IsOnRing, IsWhole, IsScale, ring_sub, drift_along, drift, opposite}
 use Rattle.lj_step.proofs.RingSums.{ring_sum_same, ring_sum_zero, sum_plus, square_zero}
-use Rattle.lj_step.proofs.Opposites.{AddToNone, pushes_opposite}
+use Rattle.lj_tile.proofs.Opposites.{AddToNone, pushes_opposite}
 use Rattle.lj_step.proofs.Undone.{next_frame_at, next_frame_length, stepped_whole}
 
 no_pushes : AddToNone no_push no_push

@@ -1,9 +1,9 @@
 -- The energies of the tiles that are in.
-use Rattle.std.proofs.Common.{ℕ, ◌+◌, ◌*◌, ◌/◌, ◌<◌, ◌≤◌, ◌≡◌, ◌≢◌, ◌==◌, ℤ, pos, ◌+ℤ◌, Bool, true, false, nat_lt, List}
+use Rattle.std.proofs.Common.{ℕ, ◌+◌, ◌*◌, ◌/◌, ◌<◌, ◌≤◌, ◌≡◌, ◌≢◌, ◌==◌, ◌⊎◌, ℤ, pos, ◌+ℤ◌, Bool, true, false, nat_lt, List}
 use Rattle.std.proofs.Common.{length, slice_index_or, slice_set, count_by, if◌then◌else◌, inl, inr, refl, sym, ap, ◌∙◌}
 use Rattle.std.proofs.Common.{arith}
 use Rattle.std.proofs.Math.IntN.{+ℤ_idl, +ℤ_idr}
-use Rattle.std.proofs.lemmas.Bool.{cases_eq, cases_Bool, eqb-true, eqb-false}
+use Rattle.std.proofs.lemmas.Bool.{cases_eq, cases_Bool, eqb-true, eqb-false, true≢false}
 use Rattle.std.proofs.lemmas.Bool.Decides.{nat_tests}
 use Rattle.lj_ring.specs.declared.coordinates.Place.{Place}
 use Rattle.lj_ring.specs.Ring.{int_sum_below}
@@ -13,10 +13,11 @@ use Rattle.lj_tile.specs.Tiles.{chosen_energy}
 use Rattle.lj_tile.specs.Tasks.{Work, task_energy}
 use Rattle.lj_step.specs.Motion.{place_at, potential}
 use Rattle.lj_step.specs.OpenSteps.{block, tile_number}
-use Rattle.lj_step.specs.Sums.{pair_awaited, energy_so_far_of, energy_so_far}
+use Rattle.lj_step.specs.Sums.{pair_number, pair_awaited, energy_so_far_of, energy_so_far}
 use Rattle.lj_step.proofs.BlockSums.{length_in, int_block_sum, int_sum_same, int_sum_none, int_sum_plus, int_sum_cut}
 use Rattle.lj_step.proofs.BlockPlaces.{block_length, block_place, atom_within}
-use Rattle.lj_step.proofs.Flags.{flag_in, flag_before, flag_first_other, flag_second_other, none_left}
+use Rattle.lj_step.proofs.Flags.{pair_in, pair_first_apart, pair_second_apart, flag_in, flag_before, flag_other}
+use Rattle.lj_step.proofs.Flags.{none_left}
 
 -- the energy of a pair of atoms of a frame
 pair : Units → List Place → ℕ → ℕ → ℤ
@@ -160,8 +161,9 @@ energy_task_is u frame work units a b =
     second : length work.b ≡ length_in work.name.bj (length frame)
     second = ap length b ∙ block_length frame work.name.bj
 
-module _ (u : Units) (frame : List Place) (flags : List Bool) (bi bj : ℕ) (few : length frame ≤ 4096) (second : bj < 64)
-    (within : tile_number bi bj < length flags) (awaited : slice_index_or flags (tile_number bi bj) false ≡ true) where
+module _ (u : Units) (frame : List Place) (flags : List Bool) (bi bj : ℕ) (few : length frame ≤ 4096) (ordered : bi ≤ bj)
+    (second : bj < 64) (within : tile_number bi bj < length flags)
+    (awaited : slice_index_or flags (tile_number bi bj) false ≡ true) where
   -- an energy tile that comes in adds its sum
   pub energy_more : energy_so_far u frame (slice_set flags (tile_number bi bj) false)
       ≡ energy_so_far u frame flags +ℤ block_energy u frame bi bj
@@ -169,9 +171,13 @@ module _ (u : Units) (frame : List Place) (flags : List Bool) (bi bj : ℕ) (few
   energy_more =
       rows (pair u frame) bi bj (length frame) (pair_awaited flags)
       (pair_awaited (slice_set flags (tile_number bi bj) false))
-      (λ i j h k ei ej. (flag_before flags bi bj i j ei ej awaited, flag_in flags bi bj i j ei ej within))
-      (λ i j h k other. let small : j < 4096 = omega arith in flag_first_other flags bi bj i j other small second)
-      (λ i j h k other. let small : j < 4096 = omega arith in flag_second_other flags bi bj i j other small second)
+      (λ i j h k ei ej.
+      let same = pair_in bi bj i j ordered ei ej in
+      (flag_before flags (tile_number bi bj) i j same awaited, flag_in flags (tile_number bi bj) i j same within))
+      (λ i j h k other. flag_other flags (tile_number bi bj) i j
+      (pair_first_apart bi bj i j second h (omega (arith, k, few)) other))
+      (λ i j h k other. flag_other flags (tile_number bi bj) i j
+      (pair_second_apart bi bj i j second h (omega (arith, k, few)) other))
 
 -- a whole step has the energies of all pairs
 pub energy_whole : (u : Units) (frame : List Place) (flags : List Bool) → count_by (λ awaited. awaited) flags ≡ 0
@@ -183,13 +189,21 @@ energy_whole u frame flags whole =
     (λ j h. int_sum_same j (λ i. energy_so_far_of u frame flags i j)
     (λ i. energy u (place_at frame i) (place_at frame j))
     (λ i k. ap (λ (b : Bool). if b then pos 0 else energy u (place_at frame i) (place_at frame j))
-    (none_left flags (tile_number (i / 64) (j / 64)) whole)))
+    (none_left flags (pair_number i j) whole)))
 
--- a step with all pairs awaited has none
+-- a pair that is awaited, or has no energy, adds nothing
+nothing_yet : (b : Bool) (e : ℤ) → (b ≡ true) ⊎ (e ≡ pos 0) → (if b then pos 0 else e) ≡ pos 0
+nothing_yet true e h = refl
+nothing_yet false e (inl set) = absurd (true≢false (sym set))
+nothing_yet false e (inr none) = none
+
+-- a step that awaits each pair that has an energy has none
 pub energy_none : (u : Units) (frame : List Place) (flags : List Bool)
-    → ((i j : ℕ) → i < j → j < length frame → pair_awaited flags i j ≡ true) → energy_so_far u frame flags ≡ pos 0
+    → ((i j : ℕ) → i < j → j < length frame
+    → (pair_awaited flags i j ≡ true) ⊎ (energy u (place_at frame i) (place_at frame j) ≡ pos 0))
+    → energy_so_far u frame flags ≡ pos 0
 unfolding energy_so_far
 energy_none u frame flags all =
     int_sum_none (length frame) (λ j. int_sum_below j (λ i. energy_so_far_of u frame flags i j))
     (λ j h. int_sum_none j (λ i. energy_so_far_of u frame flags i j)
-    (λ i k. ap (λ (b : Bool). if b then pos 0 else energy u (place_at frame i) (place_at frame j)) (all i j k h)))
+    (λ i k. nothing_yet (pair_awaited flags i j) (energy u (place_at frame i) (place_at frame j)) (all i j k h)))

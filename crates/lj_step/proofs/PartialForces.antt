@@ -1,8 +1,8 @@
 -- The pushes of the tiles that are in.
-use Rattle.std.proofs.Common.{ℕ, ◌+◌, ◌*◌, ◌/◌, ◌%◌, ◌^◌, ◌<◌, ◌≤◌, ◌≡◌, ◌≢◌, ◌==◌, Bool, true, false, not, List}
+use Rattle.std.proofs.Common.{ℕ, ◌+◌, ◌*◌, ◌/◌, ◌%◌, ◌^◌, ◌<◌, ◌≤◌, ◌≡◌, ◌≢◌, ◌==◌, ◌⊎◌, Bool, true, false, not, List}
 use Rattle.std.proofs.Common.{length, slice_index_or, slice_set, count_by, if◌then◌else◌, inl, inr, refl, sym, ap, ◌∙◌}
 use Rattle.std.proofs.Common.{zero-add, add-zero, arith}
-use Rattle.std.proofs.lemmas.Bool.{cases_eq, cases_Bool, eqb-true, eqb-false}
+use Rattle.std.proofs.lemmas.Bool.{cases_Bool, eqb-true, eqb-false, true≢false}
 use Rattle.std.proofs.lemmas.Bool.Decides.{nat_tests}
 use Rattle.lj_ring.specs.declared.coordinates.Place.{Place}
 use Rattle.lj_ring.specs.Ring.{sum_below, ring_sum}
@@ -10,15 +10,16 @@ use Rattle.lj_ring.specs.Scales.{Units}
 use Rattle.lj_tile.specs.declared.pairs.Push.{Push}
 use Rattle.lj_tile.specs.Pushes.{push, no_push, plus}
 use Rattle.lj_tile.specs.Tiles.{chosen_push, push_sum}
-use Rattle.lj_tile.specs.Tasks.{Work, task_force}
+use Rattle.lj_tile.specs.Tasks.{Work, task_force, task_second}
 use Rattle.lj_step.specs.Motion.{place_at, push_of, force}
 use Rattle.lj_step.specs.OpenSteps.{block, tile_number}
-use Rattle.lj_step.specs.Sums.{pair_awaited, push_so_far, force_so_far}
+use Rattle.lj_step.specs.Sums.{pair_number, pair_awaited, push_so_far, force_so_far}
 use Rattle.lj_step.proofs.RingSums.{sum_same, ring_sum_zero, sum_plus}
 use Rattle.lj_step.proofs.Drift.{same_push}
 use Rattle.lj_step.proofs.BlockSums.{length_in, block_sum}
 use Rattle.lj_step.proofs.BlockPlaces.{block_length, block_place}
-use Rattle.lj_step.proofs.Flags.{flag_in, flag_before, flag_first_other, flag_second_other, none_left}
+use Rattle.lj_step.proofs.Flags.{pair_in, pair_in_turned, pair_second_other, pair_turned_other, pair_outside, flag_in}
+use Rattle.lj_step.proofs.Flags.{flag_before, flag_other, none_left}
 
 -- what a tile that comes in adds, along one axis
 module _ (axis : Push → ℕ) (none : axis no_push ≡ 0) where
@@ -80,86 +81,114 @@ block_force u frame i b = record {
   z = ring_sum (length_in b (length frame)) (λ s. (push_of u frame i (64 * b + s)).z);
 }
 
+not_chosen : (u : Units) (b : Bool) (p q : Place) → chosen_push u (not b) p q ≡ (if b then no_push else push u p q)
+not_chosen u true p q = refl
+not_chosen u false p q = refl
+
+same_test : (i j : ℕ) → (i == j) ≡ (j == i)
+same_test i j = grind (arith, nat_tests)
+
 pub chosen_is : (u : Units) (frame : List Place) (i j : ℕ)
     → chosen_push u (not (i == j)) (place_at frame i) (place_at frame j) ≡ push_of u frame i j
 chosen_is u frame i j =
-    elim (cases_eq j i) [
-      | inl same ↦
-          let e : (j == i) ≡ true = grind (arith, nat_tests) in
-          let f : (i == j) ≡ true = grind (arith, nat_tests) in
-          ap (λ (b : Bool). chosen_push u (not b) (place_at frame i) (place_at frame j)) f
-          ∙ sym (ap (λ (b : Bool). if b then no_push else push u (place_at frame i) (place_at frame j)) e)
-      | inr other ↦
-          let e : (j == i) ≡ false = grind (arith, nat_tests) in
-          let f : (i == j) ≡ false = grind (arith, nat_tests) in
-          ap (λ (b : Bool). chosen_push u (not b) (place_at frame i) (place_at frame j)) f
-          ∙ sym (ap (λ (b : Bool). if b then no_push else push u (place_at frame i) (place_at frame j)) e)
-    ]
+    ap (λ (b : Bool). chosen_push u (not b) (place_at frame i) (place_at frame j)) (same_test i j)
+    ∙ not_chosen u (j == i) (place_at frame i) (place_at frame j)
 
--- the value of the force task of two blocks
+-- a sum over the places of a block
+sum_is : (u v : Units) (frame : List Place) (p : Place) (places : List Place) (chosen : ℕ → Bool) (i b : ℕ) → v ≡ u
+    → p ≡ place_at frame i → places ≡ block frame b
+    → ((s : ℕ) → chosen_push u (chosen s) (place_at frame i) (place_at frame (64 * b + s))
+    ≡ push_of u frame i (64 * b + s))
+    → push_sum v p places chosen ≡ block_force u frame i b
+unfolding push_sum block_force
+sum_is u v frame p places chosen i b units here block_is terms =
+    same_push (push_sum v p places chosen) (block_force u frame i b) (along (λ p. p.x) refl)
+    (along (λ p. p.y) refl) (along (λ p. p.z) refl)
+  where
+    along : (axis : Push → ℕ) → axis no_push ≡ 0
+        → ring_sum (length places) (λ s. axis (chosen_push v (chosen s) p (place_at places s)))
+        ≡ ring_sum (length_in b (length frame)) (λ s. axis (push_of u frame i (64 * b + s)))
+    along axis none =
+        ap (λ m. ring_sum m (λ s. axis (chosen_push v (chosen s) p (place_at places s))))
+        (ap length block_is ∙ block_length frame b)
+        ∙ same_on_ring axis none (length_in b (length frame))
+        (λ s. chosen_push v (chosen s) p (place_at places s)) (λ s. push_of u frame i (64 * b + s))
+        (λ s below.
+        ap (λ w. chosen_push w (chosen s) p (place_at places s)) units
+        ∙ ap (λ r. chosen_push u (chosen s) r (place_at places s)) here
+        ∙ ap (λ q. chosen_push u (chosen s) (place_at frame i) q)
+        (ap (λ list. place_at list s) block_is ∙ block_place frame b s below)
+        ∙ terms s)
+
+-- the value of the force task of two blocks, for an atom of the first
 pub task_is : (u : Units) (frame : List Place) (work : Work) (t : ℕ) → work.units ≡ u
     → work.a ≡ block frame work.name.bi → work.b ≡ block frame work.name.bj
     → t < length_in work.name.bi (length frame) → task_force work t
     ≡ block_force u frame (64 * work.name.bi + t) work.name.bj
-unfolding push_sum block_force
 task_is u frame work t units a b within =
-    same_push (task_force work t) (block_force u frame i work.name.bj) (along (λ p. p.x) refl)
-    (along (λ p. p.y) refl) (along (λ p. p.z) refl)
-  where
-    i : ℕ
-    i = 64 * work.name.bi + t
+    sum_is u work.units frame (place_at work.a t) work.b (λ s. not (64 * work.name.bi + t == 64 * work.name.bj + s))
+    (64 * work.name.bi + t) work.name.bj units
+    (ap (λ places. place_at places t) a ∙ block_place frame work.name.bi t within) b
+    (λ s. chosen_is u frame (64 * work.name.bi + t) (64 * work.name.bj + s))
 
-    here : place_at work.a t ≡ place_at frame (64 * work.name.bi + t)
-    here = ap (λ places. place_at places t) a ∙ block_place frame work.name.bi t within
+-- and for an atom of the second
+pub second_is : (u : Units) (frame : List Place) (work : Work) (s : ℕ) → work.units ≡ u
+    → work.a ≡ block frame work.name.bi → work.b ≡ block frame work.name.bj
+    → s < length_in work.name.bj (length frame) → task_second work s
+    ≡ block_force u frame (64 * work.name.bj + s) work.name.bi
+second_is u frame work s units a b within =
+    sum_is u work.units frame (place_at work.b s) work.a (λ t. not (64 * work.name.bi + t == 64 * work.name.bj + s))
+    (64 * work.name.bj + s) work.name.bi units
+    (ap (λ places. place_at places s) b ∙ block_place frame work.name.bj s within) a
+    (λ t. not_chosen u (64 * work.name.bi + t == 64 * work.name.bj + s) (place_at frame (64 * work.name.bj + s))
+    (place_at frame (64 * work.name.bi + t)))
 
-    along : (axis : Push → ℕ) → axis no_push ≡ 0
-        → ring_sum (length work.b) (λ s. axis (chosen_push work.units
-        (not (64 * work.name.bi + t == 64 * work.name.bj + s)) (place_at work.a t) (place_at work.b s)))
-        ≡ ring_sum (length_in work.name.bj (length frame))
-        (λ s. axis (push_of u frame (64 * work.name.bi + t) (64 * work.name.bj + s)))
-    along axis none =
-        ap (λ m. ring_sum m (λ s. axis (chosen_push work.units (not (64 * work.name.bi + t == 64 * work.name.bj + s))
-        (place_at work.a t) (place_at work.b s))))
-        (ap length b ∙ block_length frame work.name.bj)
-        ∙ same_on_ring axis none (length_in work.name.bj (length frame))
-        (λ s. chosen_push work.units (not (64 * work.name.bi + t == 64 * work.name.bj + s))
-        (place_at work.a t) (place_at work.b s))
-        (λ s. push_of u frame (64 * work.name.bi + t) (64 * work.name.bj + s))
-        (λ s below.
-        ap (λ w. chosen_push w (not (64 * work.name.bi + t == 64 * work.name.bj + s))
-        (place_at work.a t) (place_at work.b s)) units
-        ∙ ap (λ p. chosen_push u (not (64 * work.name.bi + t == 64 * work.name.bj + s)) p (place_at work.b s)) here
-        ∙ ap (λ q. chosen_push u (not (64 * work.name.bi + t == 64 * work.name.bj + s))
-        (place_at frame (64 * work.name.bi + t)) q)
-        (ap (λ places. place_at places s) b ∙ block_place frame work.name.bj s below)
-        ∙ chosen_is u frame (64 * work.name.bi + t) (64 * work.name.bj + s))
-
-module _ (u : Units) (frame : List Place) (flags : List Bool) (bi bj : ℕ) (few : length frame ≤ 4096) (second : bj < 64)
-    (within : tile_number bi bj < length flags) (awaited : slice_index_or flags (tile_number bi bj) false ≡ true) where
-  -- an atom of the first block gets the sums of the tile
-  pub force_more : (i : ℕ) → i / 64 ≡ bi → force_so_far u frame (slice_set flags (tile_number bi bj) false) i
-      ≡ plus (force_so_far u frame flags i) (block_force u frame i bj)
+module _ (u : Units) (frame : List Place) (flags : List Bool) (bi bj : ℕ) (few : length frame ≤ 4096) (ordered : bi ≤ bj)
+    (second : bj < 64) (within : tile_number bi bj < length flags)
+    (awaited : slice_index_or flags (tile_number bi bj) false ≡ true) where
+  -- an atom all whose pairs in the tile have their other atom in one block gets the sum over this block
+  more_of_block : (i b : ℕ) → ((j : ℕ) → j < length frame → j / 64 ≡ b → pair_number i j ≡ tile_number bi bj)
+      → ((j : ℕ) → j < length frame → j / 64 ≢ b → pair_number i j ≢ tile_number bi bj)
+      → force_so_far u frame (slice_set flags (tile_number bi bj) false) i
+      ≡ plus (force_so_far u frame flags i) (block_force u frame i b)
   unfolding force_so_far block_force
-  force_more i first =
+  more_of_block i b same other =
       same_push (force_so_far u frame (slice_set flags (tile_number bi bj) false) i)
-      (plus (force_so_far u frame flags i) (block_force u frame i bj))
+      (plus (force_so_far u frame flags i) (block_force u frame i b))
       (along (λ p. p.x) refl) (along (λ p. p.y) refl) (along (λ p. p.z) refl)
     where
       along : (axis : Push → ℕ) → axis no_push ≡ 0
           → ring_sum (length frame) (λ j. axis (push_so_far u frame (slice_set flags (tile_number bi bj) false) i j))
           ≡ (ring_sum (length frame) (λ j. axis (push_so_far u frame flags i j))
-          + ring_sum (length_in bj (length frame)) (λ s. axis (push_of u frame i (64 * bj + s)))) % 2 ^ 32
+          + ring_sum (length_in b (length frame)) (λ s. axis (push_of u frame i (64 * b + s)))) % 2 ^ 32
       along axis none =
-          more_on_ring axis none (length frame) bj (push_of u frame i) (pair_awaited flags i)
+          more_on_ring axis none (length frame) b (push_of u frame i) (pair_awaited flags i)
           (pair_awaited (slice_set flags (tile_number bi bj) false) i)
-          (λ j h e. (flag_before flags bi bj i j first e awaited, flag_in flags bi bj i j first e within))
-          (λ j h e. let small : j < 4096 = omega arith in flag_second_other flags bi bj i j e small second)
+          (λ j h e. (
+            flag_before flags (tile_number bi bj) i j (same j h e) awaited,
+            flag_in flags (tile_number bi bj) i j (same j h e) within,
+          ))
+          (λ j h e. flag_other flags (tile_number bi bj) i j (other j h e))
+
+  -- an atom of the first block gets the sums over the second
+  pub force_more : (i : ℕ) → i / 64 ≡ bi → force_so_far u frame (slice_set flags (tile_number bi bj) false) i
+      ≡ plus (force_so_far u frame flags i) (block_force u frame i bj)
+  force_more i first =
+      more_of_block i bj (λ j h e. pair_in bi bj i j ordered first e)
+      (λ j h e. pair_second_other bi bj i j ordered second first e (omega (arith, h, few)))
+
+  -- an atom of the second block gets the sums over the first
+  pub force_more_second : (i : ℕ) → i / 64 ≡ bj → force_so_far u frame (slice_set flags (tile_number bi bj) false) i
+      ≡ plus (force_so_far u frame flags i) (block_force u frame i bi)
+  force_more_second i here =
+      more_of_block i bi (λ j h e. pair_in_turned bi bj i j ordered here e)
+      (λ j h e. pair_turned_other bi bj i j ordered second here e (omega (arith, h, few)))
 
   -- another atom keeps its sums
-  pub force_same : (i : ℕ) → i / 64 ≢ bi → force_so_far u frame (slice_set flags (tile_number bi bj) false) i
-      ≡ force_so_far u frame flags i
+  pub force_same : (i : ℕ) → i < length frame → i / 64 ≢ bi → i / 64 ≢ bj
+      → force_so_far u frame (slice_set flags (tile_number bi bj) false) i ≡ force_so_far u frame flags i
   unfolding force_so_far
-  force_same i other =
+  force_same i below first other =
       same_push (force_so_far u frame (slice_set flags (tile_number bi bj) false) i) (force_so_far u frame flags i)
       (along (λ p. p.x) refl) (along (λ p. p.y) refl) (along (λ p. p.z) refl)
     where
@@ -169,8 +198,9 @@ module _ (u : Units) (frame : List Place) (flags : List Bool) (bi bj : ℕ) (few
       along axis none =
           same_on_ring axis none (length frame) (push_so_far u frame (slice_set flags (tile_number bi bj) false) i)
           (push_so_far u frame flags i)
-          (λ j h. let small : j < 4096 = omega arith in ap (λ (b : Bool). if b then no_push else push_of u frame i j)
-          (flag_first_other flags bi bj i j other small second))
+          (λ j h. ap (λ (b : Bool). if b then no_push else push_of u frame i j)
+          (flag_other flags (tile_number bi bj) i j
+          (pair_outside bi bj i j second first other (omega (arith, below, few)) (omega (arith, h, few)))))
 
 -- a whole step has all pushes
 pub force_whole : (u : Units) (frame : List Place) (flags : List Bool) (i : ℕ) → count_by (λ awaited. awaited) flags ≡ 0
@@ -186,11 +216,18 @@ force_whole u frame flags i whole =
     along axis none =
         same_on_ring axis none (length frame) (push_so_far u frame flags i) (push_of u frame i)
         (λ j h. ap (λ (b : Bool). if b then no_push else push_of u frame i j)
-        (none_left flags (tile_number (i / 64) (j / 64)) whole))
+        (none_left flags (pair_number i j) whole))
 
--- a step with all pairs awaited has none
+-- a pair that is awaited, or does not push, adds nothing
+nothing_yet : (b : Bool) (p : Push) → (b ≡ true) ⊎ (p ≡ no_push) → (if b then no_push else p) ≡ no_push
+nothing_yet true p h = refl
+nothing_yet false p (inl set) = absurd (true≢false (sym set))
+nothing_yet false p (inr none) = none
+
+-- a step that awaits each pair that pushes has no pushes
 pub force_none : (u : Units) (frame : List Place) (flags : List Bool) (i : ℕ)
-    → ((j : ℕ) → j < length frame → pair_awaited flags i j ≡ true) → force_so_far u frame flags i ≡ no_push
+    → ((j : ℕ) → j < length frame → (pair_awaited flags i j ≡ true) ⊎ (push_of u frame i j ≡ no_push))
+    → force_so_far u frame flags i ≡ no_push
 unfolding force_so_far
 force_none u frame flags i all =
     same_push (force_so_far u frame flags i) no_push (along (λ p. p.x) refl)
@@ -200,5 +237,5 @@ force_none u frame flags i all =
         (λ j. axis (push_so_far u frame flags i j)) ≡ 0
     along axis none =
         ring_sum_zero (length frame) (λ j. axis (push_so_far u frame flags i j))
-        (λ j h. ap (λ (b : Bool). axis (if b then no_push else push_of u frame i j) % 2 ^ 32) (all j h)
+        (λ j h. ap (λ p. axis p % 2 ^ 32) (nothing_yet (pair_awaited flags i j) (push_of u frame i j) (all j h))
         ∙ ap (λ m. m % 2 ^ 32) none)

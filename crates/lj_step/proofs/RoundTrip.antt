@@ -18,8 +18,8 @@ use Rattle.lj_step.proofs.Undone.{undone}
 
 -- each tile of the cover has a task
 pub task_some : (live : Live) (label : Label) (kind : Kind) (i : ℕ) (o : Option Work)
-    → AwaitsFrom kind (length live.sim.cur) i live.part → o ≡ task_at live label i
-    → i < length (cover kind (length live.sim.cur)) → IsSome o
+    → AwaitsFrom kind live.units live.sim.cur i live.part → o ≡ task_at live label i
+    → i < length (cover live.units live.sim.cur) → IsSome o
 task_some live label kind i None h e within = absurd (omega (arith, none_past live label kind i None h e refl))
 task_some live label kind i (Some work) h e within = refl
 

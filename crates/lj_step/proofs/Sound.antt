@@ -15,7 +15,7 @@ use Rattle.lj_step.specs.Laws.{AreOnRing}
 use Rattle.lj_step.specs.Live.{Live}
 use Rattle.lj_step.specs.OpenSteps.{blocks, tile_number_of, task_of, IsAwaitedTask}
 use Rattle.lj_step.specs.Sums.{HasAdded, HasRoom, IsPartial}
-use Rattle.lj_step.proofs.Steps.{awaited_at, left_some, size_fits, partial_after}
+use Rattle.lj_step.proofs.TakenIn.{awaited_at, left_some, size_fits, partial_after}
 
 -- with another open step
 pub with_partial : (a : Inside) (p : Partial) → IsSound a → HasRoom (length a.cur.items) p
@@ -49,7 +49,7 @@ with_frames a b sound prev count cur step last partial =
       step_bound = step;
       last_bound = last;
       room = subst (HasRoom (length b.cur.items)) (sym partial)
-          (record { pushes = room.pushes; awaited = room.awaited; tiles = room.tiles });
+          (record { pushes = room.pushes; awaited = room.awaited; tiles = room.tiles; arcs = room.arcs });
       partial = subst (λ p. IsPartial b.scale b.cur.items p p.kind) (sym partial) tt;
     }
 
@@ -68,18 +68,20 @@ module _ (a : Inside) (now : Live) (label : Label) (asked work : Work) (sound : 
     size_fits (live_of a) label work a.partial sound.most sound.room sound.partial wanted,
   )
 
-  pub with_result : (q : Partial) → q.kind ≡ a.partial.kind → q.tiles.items ≡ a.partial.tiles.items
+  pub with_result : (q : Partial) → q.kind ≡ a.partial.kind → vec_capacity q.arcs ≡ vec_capacity a.partial.arcs
+      → q.tiles.items ≡ a.partial.tiles.items
       → vec_capacity q.tiles ≡ vec_capacity a.partial.tiles
       → q.awaited.items ≡ slice_set a.partial.awaited.items (tile_number_of work) false → q.left + 1 ≡ a.partial.left
       → HasAdded work a.partial.pushes.items q.pushes.items
       → (work.name.kind ≡ Energy → q.energy ≡ a.partial.energy +ℤ task_energy work)
       → unsigned_abs q.energy ≤ unsigned_abs a.partial.energy + 2 ^ 63 → IsSound (record a { partial = q })
-  with_result q kind tiles capacity flags less added energy size =
+  with_result q kind arcs tiles capacity flags less added energy size =
       with_partial a q sound
       (record {
         pushes = added.count ∙ sound.room.pushes;
         awaited = ap length flags ∙ simp length-set sound.room.awaited;
         tiles = subst (λ n. 64 * blocks (length a.cur.items) ≤ n) (sym capacity) sound.room.tiles;
+        arcs = subst (λ n. blocks (length a.cur.items) ≤ n) (sym arcs) sound.room.arcs;
       })
       (partial_after (live_of a) label work a.partial sound.most sound.room sound.partial wanted q kind tiles
       flags less added energy size)

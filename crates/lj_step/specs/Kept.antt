@@ -1,5 +1,9 @@
 -- What a simulation in the code stands for, and what is true of it.
-use Rattle.std.specs.Prelude.{◌≤◌, ◌≡◌, Bool, ℤ, pos, negsuc, ◌-ℤ◌, unsigned_abs, List, length, Option, Some, None}
+use Rattle.std.specs.Prelude.{ℕ, ◌≤◌, ◌≡◌, Bool, false, slice_index_or, ℤ, pos, negsuc, ◌-ℤ◌, unsigned_abs, List, length, Option, Some, None}
+use Rattle.std.specs.List.{range_with_len, filter}
+use Rattle.lj_ring.specs.declared.coordinates.Place.{Place}
+use Rattle.lj_ring.specs.declared.arcs.Arcs.{Arcs}
+use Rattle.lj_ring.specs.Arcs.{arcs_of}
 use Rattle.lj_tile.specs.declared.names.Kind.{Kind}
 use Rattle.lj_step.specs.declared.frames.TheConstants.{MAX_ATOMS}
 use Rattle.lj_step.specs.declared.simulations.TheConstants.{MAX_STEP}
@@ -8,7 +12,16 @@ use Rattle.lj_step.specs.declared.simulations.Direction.TheVariants.{Forward, Ba
 use Rattle.lj_step.specs.declared.simulations.Sim.TheInside.{Inside}
 use Rattle.lj_step.specs.Laws.{AreOnRing}
 use Rattle.lj_step.specs.Live.{Live, OpenStep}
+use Rattle.lj_step.specs.OpenSteps.{block}
 use Rattle.lj_step.specs.Sums.{HasRoom, IsPartial}
+
+-- the arcs of a block of a frame
+abbrev pub block_arcs : List Place → ℕ → Arcs
+block_arcs frame b = arcs_of (block frame b)
+
+-- the numbers of the flags that are set
+abbrev pub set_numbers : List Bool → List ℕ
+set_numbers flags = filter (λ k. slice_index_or flags k false) (range_with_len 0 (length flags))
 
 -- the direction as a number
 abbrev pub sign_of : Direction → ℤ

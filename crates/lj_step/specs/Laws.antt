@@ -1,18 +1,15 @@
 -- What the laws of the motion are stated of.
-use Rattle.std.specs.Prelude.{ℕ, ◌+◌, ◌-◌, ◌%◌, ◌^◌, ◌<◌, ◌≡◌, true, ℤ, pos, ◌+ℤ◌, List, [], ◌∷◌, length, map, sum_by}
+use Rattle.std.specs.Prelude.{ℕ, ◌%◌, ◌^◌, ◌<◌, ◌≡◌, ℤ, pos, ◌+ℤ◌, List, [], ◌∷◌, length, map, sum_by}
 use Rattle.std.specs.List.{range_with_len}
 use Rattle.lj_ring.specs.declared.coordinates.Place.{Place}
 use Rattle.lj_ring.specs.Ring.{ring_sum}
-use Rattle.lj_ring.specs.Scales.{Units, interacts}
+pub use Rattle.lj_ring.specs.Ring.{IsOnRing, ring_sub}
+use Rattle.lj_ring.specs.Scales.{Units}
+pub use Rattle.lj_ring.specs.Scales.{IsScale}
 use Rattle.lj_tile.specs.declared.pairs.Push.{Push}
+pub use Rattle.lj_tile.specs.Pushes.{opposite}
 use Rattle.lj_tile.specs.Tiles.{Tile, tile_force, tile_energy}
 use Rattle.lj_step.specs.Motion.{Simulation, place_at, next_place}
-
--- a place whose three coordinates lie on the ring
-pub record IsOnRing (p : Place) : Type 0 where
-  pub x : p.x < 2 ^ 32
-  pub y : p.y < 2 ^ 32
-  pub z : p.z < 2 ^ 32
 
 -- each place of a frame lies on the ring
 abbrev pub AreOnRing : List Place → Type 0
@@ -24,14 +21,6 @@ pub record IsWhole (sim : Simulation) : Type 0 where
   pub prev : AreOnRing sim.prev
   pub cur : AreOnRing sim.cur
 
--- a scale by which no pair that interacts lies half the box apart
-pub record IsScale (u : Units) : Type 0 where
-  pub near : (s : ℕ) → interacts u s ≡ true → s < 2 ^ 62
-
--- a difference on the ring
-abbrev pub ring_sub : ℕ → ℕ → ℕ
-ring_sub a b = (a + (2 ^ 32 - b)) % 2 ^ 32
-
 -- the drift along one axis: the sum on the ring of cur - prev over all atoms
 abbrev pub drift_along : (Place → ℕ) → Simulation → ℕ
 drift_along axis sim =
@@ -40,10 +29,6 @@ drift_along axis sim =
 -- the drift along each axis
 unfoldable pub drift : Simulation → Push
 drift sim = record { x = drift_along (λ p. p.x) sim; y = drift_along (λ p. p.y) sim; z = drift_along (λ p. p.z) sim }
-
--- the same displacement the other way
-abbrev pub opposite : Push → Push
-opposite d = record { x = ring_sub 0 d.x; y = ring_sub 0 d.y; z = ring_sub 0 d.z }
 
 -- the sum on the ring of the values of tiles, for atom i
 unfoldable pub tiles_force : Units → List Place → List Tile → ℕ → Push

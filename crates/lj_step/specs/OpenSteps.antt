@@ -1,9 +1,11 @@
 -- An open step: its cover by tiles of two blocks, the tasks of these tiles, and which of them are still awaited.
-use Rattle.std.specs.Prelude.{ℕ, ◌+◌, ◌*◌, ◌/◌, ◌%◌, ◌≡◌, ◌&&◌, Bool, true, false, nat_le, nat_lt, min, List, length}
+use Rattle.std.specs.Prelude.{ℕ, ◌+◌, ◌*◌, ◌/◌, ◌%◌, ◌≡◌, ◌&&◌, ◌==◌, not, if◌then◌else◌, Bool, true, false, nat_le, nat_lt, min, List, length}
 use Rattle.std.specs.Prelude.{map, count_by, slice_index_or, slice_set, slice_range, slice_get, Option, Some, None}
 use Rattle.std.specs.List.{range_with_len, filter}
 use Rattle.std.specs.Option.{option_map, option_map_or}
 use Rattle.lj_ring.specs.declared.coordinates.Place.{Place}
+use Rattle.lj_ring.specs.Scales.{Units, interacts}
+use Rattle.lj_ring.specs.Arcs.{arcs_of, squared_gap}
 use Rattle.lj_tile.specs.declared.names.Label.{Label}
 use Rattle.lj_tile.specs.declared.names.Kind.{Kind}
 use Rattle.lj_tile.specs.declared.names.Kind.TheVariants.{Force, Energy}
@@ -26,26 +28,37 @@ first_block k = k / 64
 abbrev pub second_block : ℕ → ℕ
 second_block k = k % 64
 
--- each ordered pair of blocks has a force task, and each pair bi <= bj an energy task
-abbrev pub in_order : Kind → ℕ → Bool
-in_order Force k = true
-in_order Energy k = nat_le (first_block k) (second_block k)
+-- the places of a block of a frame
+abbrev pub block : List Place → ℕ → List Place
+block frame b = slice_range frame (64 * b) (min (64 * b + 64) (length frame))
 
--- a step over so many atoms has a tile of this number
-abbrev pub is_tile : Kind → ℕ → ℕ → Bool
-is_tile kind count k = nat_lt (second_block k) (blocks count) && in_order kind k
+-- a number is that of two blocks in order, the last of them one of so many atoms
+abbrev pub is_in_order : ℕ → ℕ → Bool
+is_in_order count k = nat_lt (second_block k) (blocks count) && nat_le (first_block k) (second_block k)
+
+-- no pair of atoms of two blocks can interact: the gaps between their arcs are out of reach, or it is one block twice,
+-- and that is of one atom
+unfoldable pub is_out_of_reach : Units → List Place → ℕ → Bool
+is_out_of_reach u frame k =
+    let a = block frame (first_block k) in
+    let b = block frame (second_block k) in
+    if first_block k == second_block k then length a == 1 else not (interacts u (squared_gap (arcs_of a) (arcs_of b)))
+
+-- a step over a frame has a tile of this number
+abbrev pub is_tile : Units → List Place → ℕ → Bool
+is_tile u frame k = is_in_order (length frame) k && not (is_out_of_reach u frame k)
 
 -- the cover of a step: the numbers of its tiles, in order of the first block, then of the second
-abbrev pub cover : Kind → ℕ → List ℕ
-cover kind count = filter (is_tile kind count) (range_with_len 0 (64 * blocks count))
+abbrev pub cover : Units → List Place → List ℕ
+cover u frame = filter (is_tile u frame) (range_with_len 0 (64 * blocks (length frame)))
 
 -- how many tiles the open step has
-abbrev pub tiles_in : ℕ → Option OpenStep → ℕ
-tiles_in count None = 0
-tiles_in count (Some p) = length (cover p.kind count)
+abbrev pub tiles_in : Units → List Place → Option OpenStep → ℕ
+tiles_in u frame None = 0
+tiles_in u frame (Some p) = length (cover u frame)
 
 abbrev pub tiles_of : Live → ℕ
-tiles_of live = tiles_in (length live.sim.cur) live.part
+tiles_of live = tiles_in live.units live.sim.cur live.part
 
 -- the pairs of atoms that a tile covers
 abbrev pub tile_of : Kind → ℕ → Tile
@@ -53,12 +66,8 @@ tile_of Force k = force_tile (first_block k) (second_block k)
 tile_of Energy k = energy_tile (first_block k) (second_block k)
 
 -- the tiles of a step, in the order of its tasks
-abbrev pub cover_tiles : Kind → ℕ → List Tile
-cover_tiles kind count = map (tile_of kind) (cover kind count)
-
--- the places of a block of a frame
-abbrev pub block : List Place → ℕ → List Place
-block frame b = slice_range frame (64 * b) (min (64 * b + 64) (length frame))
+abbrev pub cover_tiles : Kind → Units → List Place → List Tile
+cover_tiles kind u frame = map (tile_of kind) (cover u frame)
 
 -- the task of a tile of the present step
 abbrev pub task_of : Live → Label → Kind → ℕ → Work
@@ -77,26 +86,27 @@ tile_number_of work = tile_number work.name.bi work.name.bj
 abbrev pub task_in : Live → Label → ℕ → Option OpenStep → Option Work
 task_in live label i None = None
 task_in live label i (Some p) =
-    option_map (task_of live label p.kind) (slice_get (cover p.kind (length live.sim.cur)) i)
+    option_map (task_of live label p.kind) (slice_get (cover live.units live.sim.cur) i)
 
 abbrev pub task_at : Live → Label → ℕ → Option Work
 task_at live label i = task_in live label i live.part
 
 -- an open step that awaits all its tiles
-abbrev pub opened : Kind → ℕ → OpenStep
-opened kind count = record { kind = kind; awaited = map (is_tile kind count) (range_with_len 0 (64 * blocks count)) }
+abbrev pub opened : Kind → Units → List Place → OpenStep
+opened kind u frame =
+    record { kind = kind; awaited = map (is_tile u frame) (range_with_len 0 (64 * blocks (length frame))) }
 
 -- the open step awaits the tile of this number
 abbrev pub awaits_number : OpenStep → ℕ → Bool
 awaits_number p k = slice_index_or p.awaited k false
 
 -- the open step awaits the i-th tile of its cover
-abbrev pub awaits_tile_in : ℕ → ℕ → Option OpenStep → Bool
-awaits_tile_in count i None = false
-awaits_tile_in count i (Some p) = option_map_or (awaits_number p) (slice_get (cover p.kind count) i) false
+abbrev pub awaits_tile_in : Units → List Place → ℕ → Option OpenStep → Bool
+awaits_tile_in u frame i None = false
+awaits_tile_in u frame i (Some p) = option_map_or (awaits_number p) (slice_get (cover u frame) i) false
 
 abbrev pub awaits_tile : Live → ℕ → Bool
-awaits_tile live i = awaits_tile_in (length live.sim.cur) i live.part
+awaits_tile live i = awaits_tile_in live.units live.sim.cur i live.part
 
 -- the task is that of a tile that the open step awaits: none is where no step is open
 abbrev pub IsAwaitedTaskIn : Live → Label → Work → Option OpenStep → Type 0

@@ -1,6 +1,6 @@
 -- The sums of an open step: those of the tiles that are in.
 use Rattle.std.specs.Prelude.{ℕ, ◌+◌, ◌*◌, ◌^◌, ◌<◌, ◌≤◌, ◌≡◌, ◌/◌, ◌⊎◌, Bool, true, false, ℤ, pos, unsigned_abs, List}
-use Rattle.std.specs.Prelude.{length, slice_index_or, vec_capacity, count_by, Option, Some, None, if◌then◌else◌}
+use Rattle.std.specs.Prelude.{length, slice_index_or, vec_capacity, count_by, min, max, Option, Some, None, if◌then◌else◌}
 use Rattle.lj_ring.specs.declared.coordinates.Place.{Place}
 use Rattle.lj_ring.specs.Ring.{ring_sum, int_sum_below}
 use Rattle.lj_ring.specs.Scales.{Units}
@@ -8,14 +8,18 @@ use Rattle.lj_tile.specs.declared.pairs.Push.{Push}
 use Rattle.lj_tile.specs.declared.names.Kind.{Kind}
 use Rattle.lj_tile.specs.declared.names.Kind.TheVariants.{Force, Energy}
 use Rattle.lj_tile.specs.Pushes.{no_push, plus, energy}
-use Rattle.lj_tile.specs.Tasks.{Work, task_force}
+use Rattle.lj_tile.specs.Tasks.{Work, task_force, task_second}
 use Rattle.lj_step.specs.Motion.{place_at, push_of}
 use Rattle.lj_step.specs.declared.partial.Partial.{Partial}
 use Rattle.lj_step.specs.OpenSteps.{blocks, tile_number, is_tile, cover}
 
--- the flag of the tile of a pair of atoms
+-- the number of the tile of a pair of atoms, in either order
+abbrev pub pair_number : ℕ → ℕ → ℕ
+pair_number i j = tile_number (min (i / 64) (j / 64)) (max (i / 64) (j / 64))
+
+-- its flag
 abbrev pub pair_awaited : List Bool → ℕ → ℕ → Bool
-pair_awaited awaited i j = slice_index_or awaited (tile_number (i / 64) (j / 64)) false
+pair_awaited awaited i j = slice_index_or awaited (pair_number i j) false
 
 -- what atom j adds to the push on atom i so far: nothing where the tile of the pair is still awaited
 abbrev pub push_so_far : Units → List Place → List Bool → ℕ → ℕ → Push
@@ -44,11 +48,12 @@ pub record HasRoom (count : ℕ) (p : Partial) : Type 0 where
   pub pushes : length p.pushes.items ≡ count
   pub awaited : length p.awaited.items ≡ 64 * blocks count
   pub tiles : 64 * blocks count ≤ vec_capacity p.tiles
+  pub arcs : blocks count ≤ vec_capacity p.arcs
 
 -- the tiles, flags and sums of an open step are those of the tiles that are in
 pub record IsOpen (u : Units) (frame : List Place) (p : Partial) (kind : Kind) : Type 0 where
-  pub tiles : p.tiles.items ≡ cover kind (length frame)
-  pub within : (k : ℕ) → slice_index_or p.awaited.items k false ≡ true → is_tile kind (length frame) k ≡ true
+  pub tiles : p.tiles.items ≡ cover u frame
+  pub within : (k : ℕ) → slice_index_or p.awaited.items k false ≡ true → is_tile u frame k ≡ true
   pub left : p.left ≡ count_by (λ awaited. awaited) p.awaited.items
   pub pushes : kind ≡ Force → (i : ℕ) → i < length frame
       → slice_index_or p.pushes.items i no_push ≡ force_so_far u frame p.awaited.items i
@@ -59,11 +64,26 @@ abbrev pub IsPartial : Units → List Place → Partial → Option Kind → Type
 IsPartial u frame p None = Unit {0}
 IsPartial u frame p (Some kind) = IsOpen u frame p kind
 
--- the sums of a force task are added to those of its first block's atoms, and the others are as they were
+-- the atom stands in no place of a block, which has so many
+abbrev pub IsOutside : ℕ → ℕ → ℕ → Type 0
+IsOutside b places i = (i < tile_number b 0) ⊎ (tile_number b places ≤ i)
+
+-- sums are added to those of the atoms of a block, one for each of its places, and the others are as they were
+pub record HasBlockAdded (b places : ℕ) (sums : ℕ → Push) (old new : List Push) : Type 0 where
+  pub count : length new ≡ length old
+  pub block : (t : ℕ) → t < places → slice_index_or new (tile_number b t) no_push
+      ≡ plus (slice_index_or old (tile_number b t) no_push) (sums t)
+  pub others : (i : ℕ) → IsOutside b places i → slice_index_or new i no_push ≡ slice_index_or old i no_push
+
+-- the sums of a force task are added to those of its two blocks' atoms, once where they are one block, and the others
+-- are as they were
 pub record HasAdded (work : Work) (old new : List Push) : Type 0 where
   pub count : length new ≡ length old
-  pub block : work.name.kind ≡ Force → (t : ℕ) → t < length work.a
+  pub first : work.name.kind ≡ Force → (t : ℕ) → t < length work.a
       → slice_index_or new (tile_number work.name.bi t) no_push
       ≡ plus (slice_index_or old (tile_number work.name.bi t) no_push) (task_force work t)
-  pub others : (i : ℕ) → (i < tile_number work.name.bi 0) ⊎ (tile_number work.name.bi (length work.a) ≤ i)
+  pub second : work.name.kind ≡ Force → work.name.bi < work.name.bj → (s : ℕ) → s < length work.b
+      → slice_index_or new (tile_number work.name.bj s) no_push
+      ≡ plus (slice_index_or old (tile_number work.name.bj s) no_push) (task_second work s)
+  pub others : (i : ℕ) → IsOutside work.name.bi (length work.a) i → IsOutside work.name.bj (length work.b) i
       → slice_index_or new i no_push ≡ slice_index_or old i no_push

@@ -1,22 +1,25 @@
 -- What the tasks of a step are to the tiles of its cover.
-use Rattle.std.specs.Prelude.{ℕ, ◌<◌, ◌≤◌, ◌≡◌, ◌⊎◌, false, List, length, slice_index_or, Option, Some, None}
+use Rattle.std.specs.Prelude.{ℕ, ◌<◌, ◌≡◌, false, List, length, slice_index_or, Option, Some, None}
 use Rattle.lj_ring.specs.declared.coordinates.Place.{Place}
 use Rattle.lj_ring.specs.Scales.{Units}
 use Rattle.lj_tile.specs.declared.names.Kind.{Kind}
 use Rattle.lj_tile.specs.declared.names.Kind.TheVariants.{Force, Energy}
 use Rattle.lj_tile.specs.Pushes.{no_push}
 use Rattle.lj_tile.specs.Tiles.{Tile, tile_force, tile_energy, IsForceCover, IsEnergyCover}
-use Rattle.lj_tile.specs.Tasks.{Work, atom, task_force, task_energy}
+use Rattle.lj_tile.specs.Tasks.{Work, atom, task_force, task_second, task_energy}
 use Rattle.lj_step.specs.Live.{Live, OpenStep}
 use Rattle.lj_step.specs.OpenSteps.{cover_tiles, tiles_of}
+use Rattle.lj_step.specs.Sums.{IsOutside}
 
--- a task has the value of a force tile on a frame: at each place of its first block the sum that its result keeps is
+-- a task has the value of a force tile on a frame: at each place of its two blocks the sum that its result keeps is
 -- the tile's push on that atom, and the tile pushes no other atom
 pub record HasForces (u : Units) (frame : List Place) (tile : Tile) (work : Work) : Type 0 where
   pub kind : work.name.kind ≡ Force
-  pub block : (t : ℕ) → t < length work.a → task_force work t ≡ tile_force u frame tile (atom work.name.bi t)
-  pub others : (i : ℕ) → i < length frame → (i < atom work.name.bi 0) ⊎ (atom work.name.bi (length work.a) ≤ i)
-      → tile_force u frame tile i ≡ no_push
+  pub first : (t : ℕ) → t < length work.a → task_force work t ≡ tile_force u frame tile (atom work.name.bi t)
+  pub second : work.name.bi < work.name.bj → (s : ℕ) → s < length work.b
+      → task_second work s ≡ tile_force u frame tile (atom work.name.bj s)
+  pub others : (i : ℕ) → i < length frame → IsOutside work.name.bi (length work.a) i
+      → IsOutside work.name.bj (length work.b) i → tile_force u frame tile i ≡ no_push
 
 -- a task has the value of an energy tile on a frame: the sum that its result keeps is the tile's energy
 pub record HasEnergy (u : Units) (frame : List Place) (tile : Tile) (work : Work) : Type 0 where
@@ -41,15 +44,15 @@ tile_at tiles i = slice_index_or tiles i (λ i j. false)
 abbrev pub HasValueIn : Live → ℕ → Work → Option OpenStep → Type 0
 HasValueIn live i work None = ⊥
 HasValueIn live i work (Some p) =
-    HasValue p.kind live.units live.sim.cur (tile_at (cover_tiles p.kind (length live.sim.cur)) i) work
+    HasValue p.kind live.units live.sim.cur (tile_at (cover_tiles p.kind live.units live.sim.cur) i) work
 
 abbrev pub HasTileValue : Live → ℕ → Work → Type 0
 HasTileValue live i work = HasValueIn live i work live.part
 
 -- the tiles of the open step, as many as its tasks, are a cover of its kind
 pub record IsStepCover (live : Live) (p : OpenStep) : Type 0 where
-  pub count : length (cover_tiles p.kind (length live.sim.cur)) ≡ tiles_of live
-  pub cover : IsCover p.kind live.units live.sim.cur (cover_tiles p.kind (length live.sim.cur))
+  pub count : length (cover_tiles p.kind live.units live.sim.cur) ≡ tiles_of live
+  pub cover : IsCover p.kind live.units live.sim.cur (cover_tiles p.kind live.units live.sim.cur)
 
 abbrev pub IsCoveredIn : Live → Option OpenStep → Type 0
 IsCoveredIn live None = Unit {0}

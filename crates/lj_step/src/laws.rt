@@ -10,7 +10,7 @@ ghost use Rattle.lj_step.specs.declared.frames.TheConstants.{MAX_ATOMS};
 ghost use Rattle.lj_step.specs.Live.{Live};
 ghost use Rattle.lj_step.specs.OpenSteps.{cover_tiles, task_of, tile_of};
 ghost use Rattle.lj_step.specs.TileTasks.{HasEnergy, HasForces};
-ghost use Rattle.lj_step.specs.Laws.{IsWhole, IsScale, drift, opposite, stepped_by, tiles_energy};
+ghost use Rattle.lj_step.specs.Laws.{AreOnRing, IsWhole, IsScale, drift, opposite, stepped_by, tiles_energy};
 
 /// Any number of steps can be undone: reversed, walked back as many steps and reversed again, a simulation is as it
 /// was, bit for bit.
@@ -35,12 +35,12 @@ pub fn covers_are_all_pairs()
         → tiles_energy u frame tiles ≡ potential u frame }
 {}
 
-/// The tiles of a step of up to `MAX_ATOMS` atoms are a cover, of each kind.
+/// The tiles of a step of up to `MAX_ATOMS` atoms, all on the ring, are a cover, of each kind.
 pub fn tasks_are_a_cover()
-    ensures force { (u : Units) (frame : List Place) → length frame ≤ MAX_ATOMS
-        → IsForceCover u frame (cover_tiles Force (length frame)) }
-    ensures energy { (u : Units) (frame : List Place) → length frame ≤ MAX_ATOMS
-        → IsEnergyCover u frame (cover_tiles Energy (length frame)) }
+    ensures force { (u : Units) (frame : List Place) → AreOnRing frame → length frame ≤ MAX_ATOMS
+        → IsForceCover u frame (cover_tiles Force u frame) }
+    ensures energy { (u : Units) (frame : List Place) → AreOnRing frame → length frame ≤ MAX_ATOMS
+        → IsEnergyCover u frame (cover_tiles Energy u frame) }
 {}
 
 /// The task of a tile has the value of that tile: what its result keeps is what the tile adds to each atom, or its

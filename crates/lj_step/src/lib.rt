@@ -1,6 +1,7 @@
 //! The simulation: two frames of places, stepped reversibly, each step cut into tasks.
 #![tactic(auto)]
 
+mod cover;
 mod frames;
 pub mod laws;
 mod measures;

@@ -5,11 +5,14 @@ ghost use Rattle.std.specs.List.{range_with_len};
 ghost use Rattle.std.proofs.Common.{replicate};
 ghost use Rattle.lj_tile.specs.declared.names.Kind.TheVariants.{Force, Energy};
 ghost use Rattle.lj_tile.specs.Pushes.{no_push};
-ghost use Rattle.lj_tile.specs.Tasks.{task_energy};
+ghost use Rattle.lj_tile.specs.Tasks.{task_force, task_second, task_energy};
 ghost use Rattle.lj_step.specs.declared.frames.TheConstants.{MAX_ATOMS};
 ghost use Rattle.lj_step.specs.OpenSteps as steps;
-ghost use Rattle.lj_step.specs.Sums.{HasRoom, HasAdded};
+ghost use Rattle.lj_step.specs.Sums.{HasRoom, HasAdded, HasBlockAdded};
+ghost use Rattle.lj_step.specs.Kept.{block_arcs, set_numbers};
 
+use crate::cover::{block, blocks, is_tile};
+use lj_ring::{Arcs, Place, Scale};
 use lj_tile::{BLOCK, Done, Kind, Push};
 use std::alloc::{AllocError, Global};
 
@@ -18,6 +21,8 @@ use std::alloc::{AllocError, Global};
 pub(crate) struct Partial {
     /// What the open step sums; none is open where there is none.
     pub kind: Option<Kind>,
+    /// The arcs of each block of the frame.
+    pub arcs: Vec<Arcs>,
     /// The numbers of the cover's tiles, in order.
     pub tiles: Vec<u16>,
     /// Of each tile, by its number, whether it is still awaited.
@@ -30,32 +35,6 @@ pub(crate) struct Partial {
     pub energy: i128,
 }
 
-/// How many blocks so many atoms have.
-pub(crate) fn blocks(count: usize) -> usize
-    requires { count ≤ MAX_ATOMS }
-    ensures value { result ≡ steps.blocks count }
-    ensures most { result ≤ 64 }
-{
-    count.div_ceil(BLOCK)
-}
-
-/// Whether a step of so many atoms has a tile of this number.
-fn is_tile(kind: Kind, count: usize, number: usize) -> bool
-    requires { count ≤ MAX_ATOMS }
-    ensures { result ≡ steps.is_tile kind count number }
-{
-    number % BLOCK < blocks(count) && in_order(kind, number)
-}
-
-fn in_order(kind: Kind, number: usize) -> bool
-    ensures { result ≡ steps.in_order kind number }
-{
-    match kind {
-        Kind::Force => true,
-        Kind::Energy => number / BLOCK <= number % BLOCK,
-    }
-}
-
 impl Partial {
     /// Room for steps of so many atoms, with no step open.
     pub fn new(alloc: Global, count: usize) -> Result<Partial, AllocError>
@@ -63,9 +42,11 @@ impl Partial {
         ensures room { IfOk result (λ p. HasRoom count p) }
         ensures closed { IfOk result (λ p. p.kind ≡ None) }
     {
-        let numbers = BLOCK * blocks(count);
+        let blocks = blocks(count);
+        let numbers = BLOCK * blocks;
         Ok(Partial {
             kind: None,
+            arcs: Vec::with_capacity(alloc, blocks)?,
             tiles: Vec::with_capacity(alloc, numbers)?,
             awaited: vec![in alloc; false; numbers]?,
             left: 0,
@@ -74,35 +55,39 @@ impl Partial {
         })
     }
 
-    /// Opens a step that awaits all its tiles.
-    pub fn open(&mut self, kind: Kind, count: usize)
-        requires room { HasRoom count self.old }
-        requires most { count ≤ MAX_ATOMS }
-        ensures room { HasRoom count self.new }
+    /// Opens a step over a frame that awaits all its tiles.
+    pub fn open(&mut self, kind: Kind, scale: &Scale, frame: &[Place])
+        requires room { HasRoom (length frame.now) self.old }
+        requires most { length frame.now ≤ MAX_ATOMS }
+        ensures room { HasRoom (length frame.now) self.new }
         ensures kind { self.new.kind ≡ Some kind }
-        ensures tiles { self.new.tiles.items ≡ steps.cover kind count }
+        ensures tiles { self.new.tiles.items ≡ steps.cover scale.now frame.now }
         ensures awaited { self.new.awaited.items
-            ≡ map (steps.is_tile kind count) (range_with_len 0 (64 * steps.blocks count)) }
-        ensures left { self.new.left ≡ length (steps.cover kind count) }
-        ensures pushes { self.new.pushes.items ≡ replicate count no_push }
+            ≡ map (steps.is_tile scale.now frame.now) (range_with_len 0 (64 * steps.blocks (length frame.now))) }
+        ensures left { self.new.left ≡ length (steps.cover scale.now frame.now) }
+        ensures pushes { self.new.pushes.items ≡ replicate (length frame.now) no_push }
         ensures energy { self.new.energy ≡ pos 0 }
     {
-        list_tiles(&mut self.tiles, kind, count);
-        await_tiles(&mut self.awaited, kind, count);
+        list_arcs(&mut self.arcs, frame);
+        await_tiles(&mut self.awaited, self.arcs.as_slice(), scale, frame);
+        list_tiles(&mut self.tiles, self.awaited.as_slice());
         clear(&mut self.pushes);
         self.left = self.tiles.as_slice().len();
         self.energy = 0;
         self.kind = Some(kind);
     }
 
-    /// Adds the sums of a tile that is awaited, and awaits it no more.
-    pub fn add(&mut self, done: &Done, places: usize)
-        requires places { places ≡ length done.now.a }
+    /// Adds the sums of a tile that is awaited, of blocks of so many places, and awaits it no more.
+    pub fn add(&mut self, done: &Done, first: usize, second: usize)
+        requires first { first ≡ length done.now.a }
+        requires second { second ≡ length done.now.b }
         requires awaited { steps.tile_number_of done.now < length self.old.awaited.items }
         requires left { 1 ≤ self.old.left }
-        requires count { steps.tile_number done.now.name.bi 0 + length done.now.a ≤ length self.old.pushes.items }
+        requires first_count { steps.tile_number done.now.name.bi first ≤ length self.old.pushes.items }
+        requires second_count { steps.tile_number done.now.name.bj second ≤ length self.old.pushes.items }
         requires size { unsigned_abs self.old.energy + 2 ^ 63 ≤ 2 ^ 75 }
         ensures kind { self.new.kind ≡ self.old.kind }
+        ensures arcs { vec_capacity self.new.arcs ≡ vec_capacity self.old.arcs }
         ensures tiles { self.new.tiles.items ≡ self.old.tiles.items }
         ensures capacity { vec_capacity self.new.tiles ≡ vec_capacity self.old.tiles }
         ensures awaited { self.new.awaited.items
@@ -113,10 +98,9 @@ impl Partial {
         ensures size { unsigned_abs self.new.energy ≤ unsigned_abs self.old.energy + 2 ^ 63 }
     {
         let name = done.task().name();
-        let first = BLOCK * usize::from(name.bi);
-        let number = first + usize::from(name.bj);
+        let number = BLOCK * usize::from(name.bi) + usize::from(name.bj);
         match name.kind {
-            Kind::Force => add_pushes(&mut self.pushes, done, first, places),
+            Kind::Force => add_pushes(&mut self.pushes, done, first, second),
             Kind::Energy => self.energy = plus_energy(self.energy, done),
         }
         self.awaited[number] = false;
@@ -124,29 +108,44 @@ impl Partial {
     }
 }
 
-/// Lists the cover of a step in the room made for it.
-fn list_tiles(tiles: &mut Vec<u16>, kind: Kind, count: usize)
-    requires room { 64 * steps.blocks count ≤ vec_capacity tiles.old }
-    requires most { count ≤ MAX_ATOMS }
-    ensures tiles { tiles.new.items ≡ steps.cover kind count }
-    ensures room { vec_capacity tiles.new ≡ vec_capacity tiles.old }
+/// Lists the arcs of the blocks of a frame in the room made for them.
+fn list_arcs(arcs: &mut Vec<Arcs>, frame: &[Place])
+    requires room { steps.blocks (length frame.now) ≤ vec_capacity arcs.old }
+    requires most { length frame.now ≤ MAX_ATOMS }
+    ensures arcs { arcs.new.items ≡ map (block_arcs frame.now) (range_with_len 0 (steps.blocks (length frame.now))) }
+    ensures room { vec_capacity arcs.new ≡ vec_capacity arcs.old }
 {
-    tiles.clear();
-    for number in 0..BLOCK * blocks(count) {
-        if is_tile(kind, count, number) {
-            tiles.push_reserved(number as u16);
-        }
+    arcs.clear();
+    for index in 0..blocks(frame.len()) {
+        arcs.push_reserved(Arcs::of(block(frame, index)));
     }
 }
 
 /// Awaits each tile of the cover, and no other number.
-fn await_tiles(awaited: &mut Vec<bool>, kind: Kind, count: usize)
-    requires room { length awaited.old.items ≡ 64 * steps.blocks count }
-    requires most { count ≤ MAX_ATOMS }
-    ensures { awaited.new.items ≡ map (steps.is_tile kind count) (range_with_len 0 (64 * steps.blocks count)) }
+fn await_tiles(awaited: &mut Vec<bool>, arcs: &[Arcs], scale: &Scale, frame: &[Place])
+    requires room { length awaited.old.items ≡ 64 * steps.blocks (length frame.now) }
+    requires most { length frame.now ≤ MAX_ATOMS }
+    requires arcs { arcs.now ≡ map (block_arcs frame.now) (range_with_len 0 (steps.blocks (length frame.now))) }
+    ensures { awaited.new.items
+        ≡ map (steps.is_tile scale.now frame.now) (range_with_len 0 (64 * steps.blocks (length frame.now))) }
 {
-    for number in 0..BLOCK * blocks(count) {
-        awaited[number] = is_tile(kind, count, number);
+    for number in 0..BLOCK * blocks(frame.len()) {
+        awaited[number] = is_tile(number, arcs, scale, frame);
+    }
+}
+
+/// Lists the numbers of the tiles that are awaited in the room made for them.
+fn list_tiles(tiles: &mut Vec<u16>, awaited: &[bool])
+    requires room { length awaited.now ≤ vec_capacity tiles.old }
+    requires most { length awaited.now ≤ 64 * 64 }
+    ensures tiles { tiles.new.items ≡ set_numbers awaited.now }
+    ensures room { vec_capacity tiles.new ≡ vec_capacity tiles.old }
+{
+    tiles.clear();
+    for (number, is_awaited) in awaited.iter().enumerate() {
+        if *is_awaited {
+            tiles.push_reserved(number as u16);
+        }
     }
 }
 
@@ -156,17 +155,48 @@ fn clear(pushes: &mut Vec<Push>)
     pushes.as_mut_slice().fill(Push::NONE);
 }
 
-/// Adds the sums of a force task to those of its first block's atoms, of which `first` is the first.
-fn add_pushes(pushes: &mut Vec<Push>, done: &Done, first: usize, places: usize)
-    requires places { places ≡ length done.now.a }
+/// Adds the sums of a force task to those of its two blocks' atoms, once where they are one block.
+fn add_pushes(pushes: &mut Vec<Push>, done: &Done, first: usize, second: usize)
     requires kind { done.now.name.kind ≡ Force }
-    requires first { first ≡ steps.tile_number done.now.name.bi 0 }
-    requires count { first + length done.now.a ≤ length pushes.old.items }
+    requires first { first ≡ length done.now.a }
+    requires second { second ≡ length done.now.b }
+    requires first_count { steps.tile_number done.now.name.bi first ≤ length pushes.old.items }
+    requires second_count { steps.tile_number done.now.name.bj second ≤ length pushes.old.items }
     ensures { HasAdded done.now pushes.old.items pushes.new.items }
 {
+    let name = done.task().name();
+    add_first(pushes, done, first);
+    if name.bi < name.bj {
+        add_second(pushes, done, second);
+    }
+}
+
+/// Adds its sums for the places of the first block.
+fn add_first(pushes: &mut Vec<Push>, done: &Done, places: usize)
+    requires kind { done.now.name.kind ≡ Force }
+    requires places { places ≡ length done.now.a }
+    requires count { steps.tile_number done.now.name.bi places ≤ length pushes.old.items }
+    ensures { HasBlockAdded done.now.name.bi places (task_force done.now) pushes.old.items pushes.new.items }
+{
+    let start = BLOCK * usize::from(done.task().name().bi);
     for place in 0..places {
         let [x, y, z] = done.sum_at(place);
-        pushes[first + place] = pushes[first + place].plus(Push { x, y, z });
+        pushes[start + place] = pushes[start + place].plus(Push { x, y, z });
+    }
+}
+
+/// Adds its sums for the places of the second block, where that is another one.
+fn add_second(pushes: &mut Vec<Push>, done: &Done, places: usize)
+    requires kind { done.now.name.kind ≡ Force }
+    requires apart { done.now.name.bi < done.now.name.bj }
+    requires places { places ≡ length done.now.b }
+    requires count { steps.tile_number done.now.name.bj places ≤ length pushes.old.items }
+    ensures { HasBlockAdded done.now.name.bj places (task_second done.now) pushes.old.items pushes.new.items }
+{
+    let start = BLOCK * usize::from(done.task().name().bj);
+    for place in 0..places {
+        let [x, y, z] = done.second_at(place);
+        pushes[start + place] = pushes[start + place].plus(Push { x, y, z });
     }
 }
 

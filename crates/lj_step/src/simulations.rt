@@ -12,6 +12,7 @@ ghost use Rattle.lj_step.specs.OpenSteps as steps;
 ghost use Rattle.lj_step.specs.Laws.{IsScale, IsWhole};
 ghost use Rattle.lj_step.specs.TileTasks.{HasTileValue, IsCovered};
 
+use crate::cover;
 use crate::frames::{Frames, next_place, overwrite};
 use crate::measures::{self, Momentum};
 use crate::partial::Partial;
@@ -189,11 +190,13 @@ impl Sim {
         partial.kind
     }
 
-    /// Opens a step of a kind, which awaits the results of all its tiles. A step that was open is dropped.
+    /// Opens a step of a kind, which awaits the results of all its tiles: one for each two blocks of 64 atoms that may
+    /// lie within reach of each other, and for each block of two atoms and more. A step without tiles is whole at once.
+    /// A step that was open is dropped.
     pub fn open_step(&mut self, kind: Kind)
-        ensures { self.new ≡ record self.old { part = Some (steps.opened kind (length self.old.sim.cur)) } }
+        ensures { self.new ≡ record self.old { part = Some (steps.opened kind self.old.units self.old.sim.cur) } }
     {
-        self.partial.open(kind, self.cur.as_slice().len());
+        self.partial.open(kind, &self.scale, self.cur.as_slice());
     }
 
     /// How many tiles the open step has; 0 where no step is open.
@@ -257,8 +260,10 @@ impl Sim {
         if !self.is_awaited(label, done.task()) {
             return Err(NotAwaited);
         }
-        let places = self.block(usize::from(done.task().name().bi)).len();
-        self.partial.add(done, places);
+        let name = done.task().name();
+        let first = self.block(usize::from(name.bi)).len();
+        let second = self.block(usize::from(name.bj)).len();
+        self.partial.add(done, first, second);
         Ok(())
     }
 
@@ -312,7 +317,7 @@ impl Sim {
 
     /// Whether this is the task of a tile of the present step. It copies no places.
     fn is_task_of(&self, task: &Task, label: &Label, kind: Kind, number: usize) -> bool
-        requires tile { steps.is_tile kind (length self.now.sim.cur) number ≡ true }
+        requires tile { steps.is_tile self.now.units self.now.sim.cur number ≡ true }
         requires within { number < 64 * steps.blocks (length self.now.sim.cur) }
         ensures { IsTrue result ↔ (task.now ≡ steps.task_of self.now label.now kind number) }
     {
@@ -324,7 +329,7 @@ impl Sim {
 
     /// The task of a tile of the present step.
     fn task_of(&self, label: &Label, kind: Kind, number: usize) -> Task
-        requires tile { steps.is_tile kind (length self.now.sim.cur) number ≡ true }
+        requires tile { steps.is_tile self.now.units self.now.sim.cur number ≡ true }
         requires within { number < 64 * steps.blocks (length self.now.sim.cur) }
         ensures { result ≡ steps.task_of self.now label.now kind number }
     {
@@ -353,10 +358,7 @@ impl Sim {
         requires { index < steps.blocks (length self.now.sim.cur) }
         ensures { result.now ≡ steps.block self.now.sim.cur index }
     {
-        let places = self.cur.as_slice();
-        let start = BLOCK * index;
-        let end = (start + BLOCK).min(places.len());
-        &places[start..end]
+        cover::block(self.cur.as_slice(), index)
     }
 
     /// The present place of atom `i`.

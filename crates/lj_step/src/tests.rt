@@ -1,6 +1,8 @@
 //! Vectors by hand, tiles in many orders, strays, and want of memory.
 ghost use Rattle.std.specs.Prelude.{◌≤◌, ◌<◌, length};
 
+mod frames;
+
 use crate::round_trip::{go, there_and_back};
 use crate::{Displacement, Frame, Frames, Sim, Snapshot};
 use lj_fixed::Nano;
@@ -11,13 +13,13 @@ use std::alloc::{AllocError, AllocGlobal};
 use std::process::Abort;
 use std::test::Fail;
 
-const ORIGIN: Place = Place { x: 0, y: 0, z: 0 };
+pub(super) const ORIGIN: Place = Place { x: 0, y: 0, z: 0 };
 
 /// 1.5 sigma, where sigma is a 256th of the edge.
 const APART: u32 = 25_165_824;
 
 /// An edge in nano, sigma 1 and a step factor of `strength` in units of 2^-32.
-fn scale_of(edge: i64, strength: u64, rt: &impl Abort) -> Result<Scale, ScaleFault> {
+pub(super) fn scale_of(edge: i64, strength: u64, rt: &impl Abort) -> Result<Scale, ScaleFault> {
     let edge = Nano::new(edge).expect(rt, "an edge");
     let sigma = Nano::new(1_000_000_000).expect(rt, "a sigma");
     Scale::new(edge, sigma, strength)
@@ -66,7 +68,7 @@ fn accept(sim: &mut Sim, i: usize, rt: &impl Abort) {
 }
 
 /// Turns a step that must be a whole force step.
-fn turn(sim: &mut Sim, rt: &impl Abort) {
+pub(super) fn turn(sim: &mut Sim, rt: &impl Abort) {
     assert!(rt; matches!(sim.open_kind(), Some(Kind::Force)));
     assert!(rt; sim.is_whole());
     let step = sim.step();
@@ -95,7 +97,7 @@ fn potential(sim: &mut Sim, tasks: usize, rt: &impl Abort) -> i128 {
     sim.potential()
 }
 
-fn place(sim: &Sim, i: usize, rt: &impl Abort) -> Place {
+pub(super) fn place(sim: &Sim, i: usize, rt: &impl Abort) -> Place {
     assert!(rt; i < sim.count());
     sim.place(i)
 }
@@ -221,7 +223,8 @@ fn another_scale_is_a_stray(rt: HostRuntime) -> Result<(), Fail> {
     Ok(())
 }
 
-/// One atom moves over the end of the box, 5 units on from 6 and 1 below it.
+/// One atom moves over the end of the box, 5 units on from 6 and 1 below it. Its steps have no tiles, and are whole once
+/// they are open.
 #[test]
 fn the_way_goes_round_the_box(rt: HostRuntime) -> Result<(), Fail> {
     let frames = Frames {
@@ -229,12 +232,15 @@ fn the_way_goes_round_the_box(rt: HostRuntime) -> Result<(), Fail> {
         cur: Frame::new(Vec::from_slice(rt.alloc(), &[along_x(4_294_967_295)])?),
     };
     let mut sim = Sim::new(rt.alloc(), frames, scale(1, &rt))?;
-    step(&mut sim, 1, &rt);
+    sim.open_step(Kind::Force);
+    assert_eq!(rt; sim.tiles(), 0);
+    assert!(rt; sim.task(0, &label(&rt)).is_none() && !sim.awaits(0));
+    turn(&mut sim, &rt);
     assert_eq!(rt; place(&sim, 0, &rt), along_x(4));
     assert_eq!(rt; (sim.step(), sim.count()), (1, 1));
     assert_eq!(rt; sim.momentum(), [5, 0, 0]);
     assert_eq!(rt; sim.kinetic(), 25);
-    assert_eq!(rt; potential(&mut sim, 1, &rt), 0);
+    assert_eq!(rt; potential(&mut sim, 0, &rt), 0);
     Ok(())
 }
 
@@ -321,7 +327,7 @@ fn simulations_of_many_counts_are_made_and_copied(rt: HostRuntime) -> Result<(),
 }
 
 /// The results of all tasks of the open step, in the order of its cover.
-fn results(sim: &Sim, rt: &(impl Abort + AllocGlobal)) -> Result<Vec<Done>, AllocError> {
+pub(super) fn results(sim: &Sim, rt: &(impl Abort + AllocGlobal)) -> Result<Vec<Done>, AllocError> {
     let table = Table::new();
     let mut results = Vec::new(rt.alloc());
     for i in 0..4096 {
@@ -349,7 +355,7 @@ fn awaited(sim: &Sim, n: u64, tiles: usize, rt: &impl Abort) -> usize {
 
 /// Takes in all results of the open step. The order is a number: its digits, to the base of how many tiles are still
 /// awaited, tell which of these is next. The numbers below the factorial of their count are all orders.
-fn accept_in_order(sim: &mut Sim, results: &[Done], order: u64, rt: &impl Abort) {
+pub(super) fn accept_in_order(sim: &mut Sim, results: &[Done], order: u64, rt: &impl Abort) {
     let mut rest = order;
     for taken in 0..results.len() {
         let left = (results.len() - taken) as u64;
@@ -358,20 +364,6 @@ fn accept_in_order(sim: &mut Sim, results: &[Done], order: u64, rt: &impl Abort)
         assert!(rt; i < results.len());
         assert!(rt; !sim.is_whole());
         let accepted = sim.accept(&label(rt), results[i].copy()).is_ok();
-        assert!(rt; accepted);
-    }
-}
-
-/// Takes in the nine results of the open step from the `first` on, each time that many on, round from the last to the
-/// first.
-fn accept_by_strides(sim: &mut Sim, results: &[Done], first: usize, stride: usize, rt: &impl Abort)
-    requires first { first < 9 }
-    requires stride { stride < 9 }
-{
-    assert!(rt; results.len() == 9);
-    for i in 0..9 {
-        let done = results[(first + i * stride) % 9].copy();
-        let accepted = sim.accept(&label(rt), done).is_ok();
         assert!(rt; accepted);
     }
 }
@@ -387,49 +379,118 @@ fn turn_and_compare(sim: &mut Sim, start: &Snapshot, next: &Sim, rt: &impl Abort
     sim.restore(start);
 }
 
-/// Each rotation of the cover forward and backward, the same by other strides, and each thousandth of all orders.
+/// Three blocks, of which the first and the third lie 3 sigma apart. The places come out the same in all 120 orders.
 #[test]
-fn nine_force_tiles_in_many_orders(rt: HostRuntime) -> Result<(), Fail> {
+fn five_force_tiles_in_each_order(rt: HostRuntime) -> Result<(), Fail> {
     let mut next = crystal(130, &rt)?;
-    step(&mut next, 9, &rt);
+    step(&mut next, 5, &rt);
     let mut sim = crystal(130, &rt)?;
     let start = sim.snapshot()?;
     sim.open_step(Kind::Force);
-    assert!(rt; sim.task(9, &label(&rt)).is_none());
-    assert_eq!(rt; sim.tiles(), 9);
+    assert!(rt; sim.task(5, &label(&rt)).is_none());
+    assert_eq!(rt; sim.tiles(), 5);
     let results = results(&sim, &rt)?;
-    for stride in [1, 2, 4, 5, 7, 8] {
-        for first in 0..9 {
-            sim.open_step(Kind::Force);
-            accept_by_strides(&mut sim, results.as_slice(), first, stride, &rt);
-            turn_and_compare(&mut sim, &start, &next, &rt);
-        }
-    }
-    for thousand in 0..363 {
+    assert_eq!(rt; results.len(), 5);
+    for order in 0..120 {
         sim.open_step(Kind::Force);
-        accept_in_order(&mut sim, results.as_slice(), 1000 * thousand, &rt);
+        accept_in_order(&mut sim, results.as_slice(), order, &rt);
         turn_and_compare(&mut sim, &start, &next, &rt);
     }
     Ok(())
 }
 
-/// The sum comes out the same in all 720 orders.
+/// The sum comes out the same in all 120 orders.
 #[test]
-fn six_energy_tiles_in_each_order(rt: HostRuntime) -> Result<(), Fail> {
+fn five_energy_tiles_in_each_order(rt: HostRuntime) -> Result<(), Fail> {
     let mut sim = crystal(130, &rt)?;
-    let whole = potential(&mut sim, 6, &rt);
+    let whole = potential(&mut sim, 5, &rt);
     assert!(rt; whole != 0);
     sim.open_step(Kind::Energy);
-    assert!(rt; sim.task(6, &label(&rt)).is_none());
+    assert!(rt; sim.task(5, &label(&rt)).is_none());
     let results = results(&sim, &rt)?;
-    assert_eq!(rt; results.len(), 6);
-    for order in 0..720 {
+    assert_eq!(rt; results.len(), 5);
+    for order in 0..120 {
         sim.open_step(Kind::Energy);
         accept_in_order(&mut sim, results.as_slice(), order, &rt);
         assert!(rt; matches!(sim.open_kind(), Some(Kind::Energy)));
         assert!(rt; sim.is_whole());
         assert_eq!(rt; sim.potential(), whole, "order {order}");
     }
+    Ok(())
+}
+
+/// A block of 4 x 4 x 4 atoms 1.5 sigma apart, from `x` on, put after these places.
+fn add_block(places: &mut Vec<Place>, x: u32) -> Result<(), AllocError> {
+    for i in 0..64 {
+        places.push(Place {
+            x: x.wrapping_add(i % 4 * APART),
+            y: i / 4 % 4 * APART,
+            z: i / 16 % 4 * APART,
+        })?;
+    }
+    Ok(())
+}
+
+/// Two such blocks at rest, the one from `first` and the other from `second` on along x.
+fn two_blocks(first: u32, second: u32, rt: &(impl Abort + AllocGlobal)) -> Result<Sim, AllocError> {
+    let mut places = Vec::new(rt.alloc());
+    add_block(&mut places, first)?;
+    add_block(&mut places, second)?;
+    assert!(rt; places.len() == 128);
+    at_rest(places.as_slice(), rt)
+}
+
+/// How many tiles a step over two such blocks has.
+fn tiles_of_two(
+    first: u32,
+    second: u32,
+    rt: &(impl Abort + AllocGlobal),
+) -> Result<usize, AllocError> {
+    let mut sim = two_blocks(first, second, rt)?;
+    sim.open_step(Kind::Force);
+    let forces = sim.tiles();
+    sim.open_step(Kind::Energy);
+    assert_eq!(rt; sim.tiles(), forces);
+    Ok(forces)
+}
+
+/// A block is 4.5 sigma long, so that one 7 sigma on begins 2.5 sigma past its end: its atoms are out of reach, and one
+/// unit nearer they are not. The first block stands at the start of the box or across its edge, and the second one
+/// after it or, round the ring, before it.
+#[test]
+fn blocks_at_the_cutoff_have_no_tile_of_both(rt: HostRuntime) -> Result<(), Fail> {
+    let seven_sigma: u32 = 117_440_512;
+    for first in [0, 4_244_635_648] {
+        let after = seven_sigma.wrapping_add(first);
+        assert_eq!(rt; tiles_of_two(first, after, &rt)?, 2);
+        assert_eq!(rt; tiles_of_two(first, after.wrapping_sub(1), &rt)?, 3);
+        let before = first.wrapping_sub(seven_sigma);
+        assert_eq!(rt; tiles_of_two(first, before, &rt)?, 2);
+        assert_eq!(rt; tiles_of_two(first, before.wrapping_add(1), &rt)?, 3);
+        let half_the_box = first.wrapping_add(2_147_483_648);
+        assert_eq!(rt; tiles_of_two(first, half_the_box, &rt)?, 2);
+    }
+    let mut places = Vec::new(rt.alloc());
+    add_block(&mut places, 0)?;
+    assert!(rt; places.len() == 64);
+    let one = potential(&mut at_rest(places.as_slice(), &rt)?, 1, &rt);
+    let both = potential(&mut two_blocks(0, seven_sigma, &rt)?, 2, &rt);
+    assert_eq!(rt; Some(both), one.checked_add(one));
+    Ok(())
+}
+
+/// A block of one atom has no tile with itself, and none where it lies far from the others.
+#[test]
+fn a_block_of_one_atom_has_no_tile_of_its_own(rt: HostRuntime) -> Result<(), Fail> {
+    let mut near = crystal(65, &rt)?;
+    near.open_step(Kind::Force);
+    assert_eq!(rt; near.tiles(), 2);
+    let mut places = lattice(64, &rt)?;
+    places.push(along_x(2_147_483_648))?;
+    assert!(rt; places.len() == 65);
+    let mut far = at_rest(places.as_slice(), &rt)?;
+    step(&mut far, 1, &rt);
+    assert_eq!(rt; place(&far, 64, &rt), along_x(2_147_483_648));
     Ok(())
 }
 

@@ -1,5 +1,7 @@
 pub mod PushLemmas
+pub mod Opposites
 pub mod NameLemmas
 pub mod SumLemmas
+pub mod RowLemmas
 pub mod SameLemmas
 pub mod NearLemmas

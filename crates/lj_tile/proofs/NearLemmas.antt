@@ -1,15 +1,18 @@
 -- The quick test of which places are near, lane by lane.
-use Rattle.std.proofs.Common.{ℕ, zero, suc, ◌+◌, ◌-◌, ◌*◌, ◌/◌, ◌%◌, ◌^◌, ◌<◌, ◌≤◌, ◌≡◌, min, Bool, true, false, cond, ltb, nat_lt, unsigned_abs, List, length, get_or, map, replicate, refl, sym, ap, ◌∙◌, w32, arith}
+use Rattle.std.proofs.Common.{ℕ, zero, suc, ◌+◌, ◌-◌, ◌*◌, ◌/◌, ◌%◌, ◌^◌, ◌<◌, ◌≤◌, ◌≡◌, min, Bool, true, false, cond, ltb, nat_lt, unsigned_abs, List, length, get_or, map, replicate, refl, sym, ap, ◌∙◌, bit_and, pow_pos, ◌⊎◌, inl, inr, w32, arith}
 use Rattle.std.specs.Simd.Lanes.{zip2, mask_l}
 use Rattle.std.specs.Int.{cast_signed, bit_at, div_ceil}
 use Rattle.std.proofs.lemmas.List.{get_or-map, get_or-replicate, length-replicate}
-use Rattle.std.proofs.lemmas.Bool.{ltb-false, ltb-true, le-ltb}
+use Rattle.std.proofs.lemmas.Bool.{cases_eq, ltb-false, ltb-true, le-ltb}
 use Rattle.std.proofs.lemmas.Int.{ints}
-use Rattle.std.proofs.lemmas.Nat.{mul-le, mod-mul-add}
+use Rattle.std.proofs.lemmas.Nat.{mul-le, mod-mul-add, pow-add, le-div}
+use Rattle.std.proofs.Math.Nat.{div-mul-le_self, mod-add-div, mod-lt, div-lt_iff_lt-mul, div-div-eq-div-mul}
+use Rattle.std.proofs.lemmas.Grind.{pow_more, div_ceil_times}
+use Rattle.std.proofs.lemmas.Nat.Bits.{bit_at_and}
 use Rattle.std.proofs.lemmas.Simd.{get_or-zip2, length-zip2, bit_mask_l}
 use Rattle.lj_ring.specs.Ring.{image}
 use Rattle.lj_ring.specs.Scales.{Units, interacts}
-use Rattle.lj_tile.specs.Near.{IsReach}
+use Rattle.lj_tile.specs.Near.{grains, square_unit, SpansFew}
 
 -- each lane with one number
 pub splat_lanes : (f : ℕ → ℕ → ℕ) (v : List ℕ) (n : ℕ) → length v ≡ 64 → (k : ℕ) → k < 64 → get_or (zip2 f v (replicate 64 n)) k 0 ≡ f (get_or v k 0) n
@@ -47,7 +50,7 @@ sum_lanes x y z p q r x_small y_small z_small k l =
 cast_size : (d : ℕ) → d < 2 ^ 32 → min d (2 ^ 32 - d) ≤ unsigned_abs (cast_signed w32 d)
 cast_size d h = grind (arith, ints)
 
--- a difference in whole units of 2^16 as a number with a sign, modulo 2^32
+-- a difference in grains as a number with a sign, modulo 2^32
 abbrev pub signed_value : ℕ → ℕ
 signed_value d = ((d + 2 ^ 15) % 2 ^ 16 + (2 ^ 32 - 2 ^ 15)) % 2 ^ 32
 
@@ -78,41 +81,111 @@ square_either false d h e =
 pub square_is : (d : ℕ) → d < 2 ^ 16 → signed_value d * signed_value d % 2 ^ 32 ≡ min d (2 ^ 16 - d) * min d (2 ^ 16 - d)
 square_is d h = square_either (ltb d (2 ^ 15)) d h refl
 
--- the difference of two coordinates in whole units of 2^16
+-- the difference of two coordinates in grains, round the ring of 2^16
 abbrev pub coarse_difference : ℕ → ℕ → ℕ
 coarse_difference b a = (b + (2 ^ 16 - a)) % 2 ^ 16
 
--- the shorter way round the ring, in whole units of 2^16
+-- the shorter way round that ring
 abbrev pub coarse_size : ℕ → ℕ → ℕ
 coarse_size b a = min (coarse_difference b a) (2 ^ 16 - coarse_difference b a)
 
--- the coarse size is at most the size of the image, but for the units that were cut off
-size_least : (a b : ℕ) → a < 2 ^ 32 → b < 2 ^ 32 → coarse_size (b / 2 ^ 16) (a / 2 ^ 16) * 2 ^ 16 < unsigned_abs (image a b) + 2 ^ 16
-size_least a b p q =
-    let d : ℕ = (a + (2 ^ 32 - b)) % 2 ^ 32 in
-    let size : min d (2 ^ 32 - d) ≤ unsigned_abs (image a b) = cast_size d (omega arith) in
-    let cut : coarse_size (b / 2 ^ 16) (a / 2 ^ 16) * 2 ^ 16 + 1 ≤ min d (2 ^ 32 - d) + 2 ^ 16 = omega arith in
-    omega (arith, size, cut)
+-- the ring of 2^16 makes no way longer
+size_up : (a b n w : ℕ) → a + n ≡ b + w * 2 ^ 16 → coarse_size (b % 2 ^ 16) (a % 2 ^ 16) ≤ n
+size_up a b n w e = omega (arith, e)
 
-square_least : (c z : ℕ) → c ≤ 2 ^ 15 → c * 2 ^ 16 < z + 2 ^ 16 → c * c * 2 ^ 32 < z * z + 2 ^ 48
-square_least zero z small h = omega arith
-square_least (suc c) z small h =
-    let w : ℕ = c * 2 ^ 16 + 1 in
-    let least : w * w ≤ z * z = mul-le w w z z (omega arith) (omega arith) in
-    omega (arith, least, small)
+size_down : (a b n w : ℕ) → b + n ≡ a + w * 2 ^ 16 → coarse_size (b % 2 ^ 16) (a % 2 ^ 16) ≤ n
+size_down a b n w e = omega (arith, e)
 
--- the square of a difference with a sign, in whole units of 2^48
+scaled : (a n b m u : ℕ) → a + n ≡ b + m → a * u + n * u ≡ b * u + m * u
+scaled a n b m u e = let right : (a + n) * u ≡ (b + m) * u = ap (λ s. s * u) e in omega (arith, right)
+
+-- a coordinate between the grain that it is in and the next
+cut_least : (a u : ℕ) → a / u * u ≤ a
+cut_least a u = div-mul-le_self a u
+
+cut_most : (a u : ℕ) → 1 ≤ u → a < a / u * u + u
+cut_most a u some = omega (arith, mod-add-div a u, mod-lt a some)
+
+-- one way from a up to b, of n grains
+way_up : (a b n w u z : ℕ) → 1 ≤ u → a / u + n ≡ b / u + w * 2 ^ 16 → a + z ≡ b + w * 2 ^ 16 * u
+    → coarse_size (b / u % 2 ^ 16) (a / u % 2 ^ 16) * u < z + u
+way_up a b n w u z some e whole =
+    let c : ℕ = coarse_size (b / u % 2 ^ 16) (a / u % 2 ^ 16) in
+    let few : c * u ≤ n * u = mul-le c u n u (size_up (a / u) (b / u) n w e) (omega arith) in
+    omega (arith, few, scaled (a / u) n (b / u) (w * 2 ^ 16) u e, cut_most a u some, cut_least b u, whole)
+
+way_down : (a b n w u z : ℕ) → 1 ≤ u → b / u + n ≡ a / u + w * 2 ^ 16 → b + z ≡ a + w * 2 ^ 16 * u
+    → coarse_size (b / u % 2 ^ 16) (a / u % 2 ^ 16) * u < z + u
+way_down a b n w u z some e whole =
+    let c : ℕ = coarse_size (b / u % 2 ^ 16) (a / u % 2 ^ 16) in
+    let few : c * u ≤ n * u = mul-le c u n u (size_down (a / u) (b / u) n w e) (omega arith) in
+    omega (arith, few, scaled (b / u) n (a / u) (w * 2 ^ 16) u e, cut_most b u some, cut_least a u, whole)
+
+-- the ring units of the box, by turns of the ring of 2^16 grains
+turns_are : (grain : ℕ) → grain ≤ 16 → 2 ^ (16 - grain) * 2 ^ 16 * 2 ^ grain ≡ 2 ^ 32
+turns_are grain most =
+    let all : 16 - grain + grain ≡ 16 = omega (arith, most) in
+    let power : 2 ^ (16 - grain) * 2 ^ grain ≡ 2 ^ 16 = sym (pow-add 2 (16 - grain) grain) ∙ ap (λ e. 2 ^ e) all in
+    omega (arith, power)
+
+-- the image's size is the way from the one to the other, on this side or round the box
+image_ways : (a b : ℕ) → a < 2 ^ 32 → b < 2 ^ 32 → let z = unsigned_abs (image a b) in
+    ((a ≡ b + z) ⊎ (b ≡ a + z)) ⊎ ((a + z ≡ b + 2 ^ 32) ⊎ (b + z ≡ a + 2 ^ 32))
+image_ways a b p q = grind (arith, ints)
+
+-- the size in grains is at most that of the image, but for the grain that was cut off
+size_least : (grain a b : ℕ) → grain ≤ 16 → a < 2 ^ 32 → b < 2 ^ 32
+    → coarse_size (grains grain b) (grains grain a) * 2 ^ grain < unsigned_abs (image a b) + 2 ^ grain
+size_least grain a b most p q =
+    let u : ℕ = 2 ^ grain in
+    let w : ℕ = 2 ^ (16 - grain) in
+    let z : ℕ = unsigned_abs (image a b) in
+    let some : 1 ≤ u = omega (arith, pow_pos grain) in
+    let box : w * 2 ^ 16 * u ≡ 2 ^ 32 = turns_are grain most in
+    let a_in : a / u < w * 2 ^ 16 = (div-lt_iff_lt-mul {x = a} {y = w * 2 ^ 16} some).1 (omega (arith, p, box)) in
+    let b_in : b / u < w * 2 ^ 16 = (div-lt_iff_lt-mul {x = b} {y = w * 2 ^ 16} some).1 (omega (arith, q, box)) in
+    elim (image_ways a b p q) [
+      | inl direct ↦ elim direct [
+        | inl e ↦
+            let up : b / u ≤ a / u = le-div (b / u) a u some (omega (arith, cut_least b u, e)) in
+            way_down a b (a / u - b / u) 0 u z some (omega (arith, up)) (omega (arith, e))
+        | inr e ↦
+            let up : a / u ≤ b / u = le-div (a / u) b u some (omega (arith, cut_least a u, e)) in
+            way_up a b (b / u - a / u) 0 u z some (omega (arith, up)) (omega (arith, e))
+      ]
+      | inr round ↦ elim round [
+        | inl e ↦ way_up a b (b / u + w * 2 ^ 16 - a / u) w u z some (omega (arith, a_in)) (omega (arith, e, box))
+        | inr e ↦ way_down a b (a / u + w * 2 ^ 16 - b / u) w u z some (omega (arith, b_in)) (omega (arith, e, box))
+      ]
+    ]
+
+square_least : (c z u : ℕ) → 1 ≤ u → c ≤ 2 ^ 15 → c * u < z + u → c * c * (u * u) < z * z + 2 ^ 16 * (u * u)
+square_least zero z u some small h = let square : 1 * 1 ≤ u * u = mul-le 1 1 u u some some in omega (arith, square)
+square_least (suc c) z u some small h =
+    let w : ℕ = c * u + 1 in
+    let least : w * w ≤ z * z = mul-le w w z z (omega (arith, h)) (omega (arith, h)) in
+    let cut : (2 * c + 1) * (u * u) ≤ 65535 * (u * u) = mul-le (2 * c + 1) (u * u) 65535 (u * u) (omega (arith, small)) (omega arith) in
+    let square : 1 * 1 ≤ u * u = mul-le 1 1 u u some some in
+    omega (arith, least, cut, square)
+
+-- the square of a difference with a sign, in units of 2^16 square grains
 abbrev pub coarse_square : ℕ → ℕ
 coarse_square d = signed_value d * signed_value d % 2 ^ 32 / 2 ^ 16
 
 -- the coarse square is less than the square of the image and one unit
-pub coarse_least : (a b : ℕ) → a < 2 ^ 32 → b < 2 ^ 32
-    → coarse_square (coarse_difference (b / 2 ^ 16) (a / 2 ^ 16)) * 2 ^ 48 < unsigned_abs (image a b) * unsigned_abs (image a b) + 2 ^ 48
-coarse_least a b p q =
-    let c : ℕ = coarse_size (b / 2 ^ 16) (a / 2 ^ 16) in
-    let least : c * c * 2 ^ 32 < unsigned_abs (image a b) * unsigned_abs (image a b) + 2 ^ 48 =
-    square_least c (unsigned_abs (image a b)) (omega arith) (size_least a b p q) in
-    rw (square_is (coarse_difference (b / 2 ^ 16) (a / 2 ^ 16)) (omega arith)) (omega (arith, least))
+pub coarse_least : (grain a b : ℕ) → grain ≤ 16 → a < 2 ^ 32 → b < 2 ^ 32
+    → coarse_square (coarse_difference (grains grain b) (grains grain a)) * square_unit grain
+    < unsigned_abs (image a b) * unsigned_abs (image a b) + square_unit grain
+coarse_least grain a b most p q =
+    let u : ℕ = 2 ^ grain in
+    let z : ℕ = unsigned_abs (image a b) in
+    let d : ℕ = coarse_difference (grains grain b) (grains grain a) in
+    let c : ℕ = coarse_size (grains grain b) (grains grain a) in
+    let least : c * c * (u * u) < z * z + 2 ^ 16 * (u * u) =
+    square_least c z u (omega (arith, pow_pos grain)) (omega arith) (size_least grain a b most p q) in
+    let whole : c * c / 2 ^ 16 * 2 ^ 16 * (u * u) ≤ c * c * (u * u) =
+    mul-le (c * c / 2 ^ 16 * 2 ^ 16) (u * u) (c * c) (u * u) (omega arith) (omega arith) in
+    rw (square_is d (omega arith)) (omega (arith, least, whole))
 
 pub coarse_small : (d : ℕ) → d < 2 ^ 16 → coarse_square d ≤ 2 ^ 14
 coarse_small d h =
@@ -121,11 +194,72 @@ coarse_small d h =
     rw (square_is d h) (omega (arith, small))
 
 -- a sum of coarse squares is at most the squared distance and three units
-pub distance_least : (reach cx cy cz x y z : ℕ) → reach ≤ cx + cy + cz
-    → cx * 2 ^ 48 < x * x + 2 ^ 48 → cy * 2 ^ 48 < y * y + 2 ^ 48 → cz * 2 ^ 48 < z * z + 2 ^ 48
-    → reach * 2 ^ 48 ≤ x * x + y * y + z * z + 3 * 2 ^ 48
-distance_least reach cx cy cz x y z h p q r = omega arith
+pub distance_least : (reach cx cy cz x y z unit : ℕ) → reach ≤ cx + cy + cz
+    → cx * unit < x * x + unit → cy * unit < y * y + unit → cz * unit < z * z + unit
+    → reach * unit ≤ x * x + y * y + z * z + 3 * unit
+distance_least reach cx cy cz x y z unit h p q r =
+    let whole : reach * unit ≤ (cx + cy + cz) * unit = mul-le reach unit (cx + cy + cz) unit h (omega arith) in
+    omega (arith, whole, p, q, r)
 
--- from the rounded reach, less three, on no pair interacts
-pub reach_rounded : (u : Units) (reach : ℕ) → ((s : ℕ) → interacts u s ≡ nat_lt s reach) → IsReach u (div_ceil reach (2 ^ 48) + 3)
-reach_rounded u reach exact s h = exact s ∙ le-ltb s reach (omega arith)
+-- one image as long as a span makes the distance so
+pub far_x : (s x y z : ℕ) → s ≤ x → s * s ≤ x * x + y * y + z * z
+far_x s x y z h = let least : s * s ≤ x * x = mul-le s s x x h h in omega (arith, least)
+
+pub far_y : (s x y z : ℕ) → s ≤ y → s * s ≤ x * x + y * y + z * z
+far_y s x y z h = let least : s * s ≤ y * y = mul-le s s y y h h in omega (arith, least)
+
+pub far_z : (s x y z : ℕ) → s ≤ z → s * s ≤ x * x + y * y + z * z
+far_z s x y z h = let least : s * s ≤ z * z = mul-le s s z z h h in omega (arith, least)
+
+-- a bit that two masks have not both
+pub bit_of_either : (a b k : ℕ) → bit_at (bit_and a b) k ≡ 0 → (bit_at a k ≡ 0) ⊎ (bit_at b k ≡ 0)
+bit_of_either a b k e =
+    let both : min (bit_at a k) (bit_at b k) ≡ 0 = sym (bit_at_and a b k) ∙ e in
+    elim (cases_eq (bit_at a k) 0) [
+      | inl none ↦ inl none
+      | inr some ↦ inr (omega (arith, both, some))
+    ]
+
+-- from the reach on, no pair interacts
+pub reach_out : (u : Units) (reach : ℕ) → ((s : ℕ) → interacts u s ≡ nat_lt s reach) → (s : ℕ) → reach ≤ s → interacts u s ≡ false
+reach_out u reach exact s h = exact s ∙ le-ltb s reach h
+
+-- a grain whose reach spans few of them
+pub few_grains : (u : Units) (reach grain : ℕ) → ((s : ℕ) → interacts u s ≡ nat_lt s reach)
+    → reach < 2 ^ 22 * (2 ^ grain * 2 ^ grain) → SpansFew u grain
+few_grains u reach grain exact few s h = reach_out u reach exact s (omega (arith, few, h))
+
+one_more : (q d n : ℕ) → q < n → q * d + d ≤ n * d
+one_more q d n h = let more : (q + 1) * d ≤ n * d = mul-le (q + 1) d n d (omega (arith, h)) (omega arith) in omega (arith, more)
+
+-- a reach that is few grains has yet fewer than four times as many of the next
+pub finer : (reach grain : ℕ) → 0 < grain → reach / 2 ^ grain / 2 ^ grain < 2 ^ 20
+    → reach < 2 ^ 22 * (2 ^ (grain - 1) * 2 ^ (grain - 1))
+finer reach zero some h = absurd (omega (arith, some))
+finer reach (suc grain) some h =
+    let u : ℕ = 2 ^ grain in
+    let v : ℕ = 2 ^ suc grain in
+    let twice : v ≡ 2 * u = omega (arith, pow_more 2 grain) in
+    let square : 1 * 1 ≤ v * v = mul-le 1 1 v v (omega (arith, pow_pos (suc grain))) (omega (arith, pow_pos (suc grain))) in
+    let few : reach / (v * v) < 2 ^ 20 = rw (div-div-eq-div-mul reach v v) at h in
+    let below : reach < 2 ^ 20 * (v * v) =
+    omega (arith, one_more (reach / (v * v)) (v * v) (2 ^ 20) few, cut_most reach (v * v) square) in
+    let squares : v * v ≡ 4 * (u * u) = rw twice (omega arith) in
+    let before : suc grain - 1 ≡ grain = omega arith in
+    rw before (omega (arith, below, squares))
+
+-- a quotient rounded up, times what was divided by, and three of that
+pub rounded_up : (reach side grain_side : ℕ) → side ≡ grain_side → 1 ≤ side → side ≤ 2 ^ 16
+    → reach + 3 * (2 ^ 16 * (grain_side * grain_side))
+    ≤ (div_ceil reach (side * side * 65536 % 2 ^ 64) + 3) * (2 ^ 16 * (grain_side * grain_side))
+rounded_up reach side grain_side e some most =
+    let least : 1 * 1 ≤ side * side = mul-le 1 1 side side some some in
+    let small : side * side ≤ 2 ^ 16 * 2 ^ 16 = mul-le side side (2 ^ 16) (2 ^ 16) most most in
+    let unit : side * side * 65536 % 2 ^ 64 ≡ side * side * 65536 = omega (arith, small) in
+    let up : reach ≤ div_ceil reach (side * side * 65536) * (side * side * 65536) =
+    (div_ceil_times reach (side * side * 65536) (omega (arith, least))).0 in
+    rw (unit, sym e) (omega (arith, up))
+
+-- the square of a longer side
+pub square_most : (a b s : ℕ) → a ≤ b → b * b ≤ s → a * a ≤ s
+square_most a b s h k = let most : a * a ≤ b * b = mul-le a a b b h h in omega (arith, most, k)

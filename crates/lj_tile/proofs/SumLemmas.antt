@@ -1,68 +1,28 @@
 -- Sums of pushes and of energies, place by place, and the bits of a mask.
-use Rattle.std.proofs.Common.{ℕ, zero, suc, ◌+◌, ◌-◌, ◌*◌, ◌/◌, ◌%◌, ◌^◌, ◌<◌, ◌≤◌, ◌≡◌, ◌≢◌, ◌==◌, Bool, true, false}
-use Rattle.std.proofs.Common.{ℤ, pos, ◌+ℤ◌, unsigned_abs, FitsSigned, w64, to_z, of_z, length, refl, sym, ap, min, ◌∙◌}
-use Rattle.std.proofs.Common.{inl, inr, ◌⊎◌, add-one, arith}
+use Rattle.std.proofs.Common.{ℕ, zero, suc, ◌+◌, ◌-◌, ◌*◌, ◌/◌, ◌%◌, ◌^◌, ◌<◌, ◌≤◌, ◌≡◌, ◌≢◌, Bool, true, false}
+use Rattle.std.proofs.Common.{ℤ, pos, ◌+ℤ◌, unsigned_abs, FitsSigned, w64, to_z, of_z, length, refl, sym, ap, ◌∙◌}
+use Rattle.std.proofs.Common.{inl, inr, add-one, if◌then◌else◌, arith}
 use Rattle.std.specs.Int.{bit_at, trailing_zeros}
-use Rattle.std.proofs.lemmas.Nat.{shr-shr}
+use Rattle.std.proofs.lemmas.Nat.{shr-shr, mod-pow-add, div-mul-add, pow_pos}
+use Rattle.std.proofs.Math.Pow.{mod-mod-pow}
+use Rattle.std.proofs.Math.Nat.{mod-lt}
 use Rattle.std.proofs.lemmas.Nat.Bits.{bit_at-trailing_zeros, bit_at_above, bit_at-zero}
 use Rattle.std.proofs.Math.IntN.{+ℤ_idr}
 use Rattle.std.proofs.lemmas.Bool.{cases_eq, cases_lt}
 use Rattle.std.proofs.lemmas.Nat.{mul-le}
 use Rattle.std.proofs.lemmas.Bool.Decides.{nat_tests}
 use Rattle.std.proofs.lemmas.Int.{ints, fits_signed_from_abs, to_z-of_z}
-use Rattle.lj_ring.specs.Ring.{sum_below, ring_sum, int_sum_below, distance}
-use Rattle.lj_ring.specs.Scales.{interacts}
-use Rattle.lj_table.specs.Entries.{push_at}
-use Rattle.lj_tile.specs.declared.pairs.Push.{Push}
-use Rattle.lj_tile.specs.Pushes.{push, no_push, plus, energy}
+use Rattle.lj_ring.specs.Ring.{int_sum_below, distance}
+use Rattle.lj_ring.specs.Ring.{IsOnRing}
+use Rattle.lj_ring.specs.Scales.{Units, interacts, bin, entry}
+use Rattle.lj_ring.specs.declared.coordinates.Place.{Place}
+use Rattle.lj_table.specs.Entries.{energy_entry}
+use Rattle.lj_tile.proofs.Opposites.{distance_symmetric}
+use Rattle.lj_tile.specs.Pushes.{energy}
 use Rattle.lj_tile.specs.declared.names.Kind.TheVariants.{Energy}
-use Rattle.lj_tile.specs.Near.{IsReach}
-use Rattle.lj_tile.proofs.PushLemmas.{nothing_is}
-use Rattle.lj_tile.specs.Tiles.{place_at, chosen_energy, push_sum}
-use Rattle.lj_tile.specs.Tasks.{Work, IsTask, atom, are_apart, are_in_order, push_of, force_below, task_force}
+use Rattle.lj_tile.specs.Tiles.{place_at, chosen_energy}
+use Rattle.lj_tile.specs.Tasks.{Work, IsTask, atom, are_in_order}
 use Rattle.lj_tile.specs.Tasks.{task_energy}
-
-pub force_all : (w : Work) (t : ℕ) → force_below w t (length w.b) ≡ task_force w t
-unfolding push_sum
-force_all w t = refl
-
--- atoms of equal number stand in one place of one block
-same_atom : (bi bj t s : ℕ) → t < 64 → s < 64 → atom bi t ≡ atom bj s → (bi ≡ bj) × (t ≡ s)
-same_atom bi bj t s t_small s_small e = (omega arith, omega arith)
-
-pub same_place : (w : Work) (t s : ℕ) → IsTask w → t < length w.a → s < length w.b → atom w.name.bi t ≡ atom w.name.bj s
-    → place_at w.a t ≡ place_at w.b s
-same_place w t s sound t_in s_in e =
-    let both =
-    same_atom w.name.bi w.name.bj t s (omega (arith, sound.most_first)) (omega (arith, sound.most_second)) e in
-    let blocks : w.a ≡ w.b = sound.diagonal both.0 in
-    rw (blocks, both.1) refl
-
--- a pair's push is what the pair adds, also where it is one atom twice
-pub push_counts : (w : Work) (t s : ℕ) (p : Push) → IsTask w → t < length w.a → s < length w.b
-    → p ≡ push w.units (place_at w.a t) (place_at w.b s)
-    → (place_at w.a t ≡ place_at w.b s → p ≡ no_push) → p ≡ push_of w t s
-push_counts w t s p sound t_in s_in value itself =
-    elim (cases_eq (atom w.name.bi t) (atom w.name.bj s)) [
-      | inl same ↦
-          let e : (atom w.name.bi t == atom w.name.bj s) ≡ true = grind (arith, nat_tests) in
-          rw e (itself (same_place w t s sound t_in s_in same))
-      | inr other ↦
-          let e : (atom w.name.bi t == atom w.name.bj s) ≡ false = grind (arith, nat_tests) in
-          rw e value
-    ]
-
-sum_more : (f : ℕ → ℕ) (n p : ℕ) → p ≡ f n → (ring_sum n f + p) % 2 ^ 32 ≡ ring_sum (n + 1) f
-sum_more f n p e = rw (add-one, e) (omega arith)
-
--- one place more
-pub force_below_more : (w : Work) (t n : ℕ) (p : Push) → p ≡ push_of w t n
-    → plus (force_below w t n) p ≡ force_below w t (n + 1)
-force_below_more w t n p counts =
-    let x = sum_more (λ s. (push_of w t s).x) n p.x (ap (λ (q : Push). q.x) counts) in
-    let y = sum_more (λ s. (push_of w t s).y) n p.y (ap (λ (q : Push). q.y) counts) in
-    let z = sum_more (λ s. (push_of w t s).z) n p.z (ap (λ (q : Push). q.z) counts) in
-    cc (x, y, z)
 
 -- the energy that places t of the first block and s of the second add
 abbrev pub energy_of : Work → ℕ → ℕ → ℤ
@@ -77,7 +37,7 @@ unfolding task_energy
 energy_all w = refl
 
 -- a sum whose later terms are 0 is the sum of the earlier ones
-sum_front : (n m : ℕ) (f g : ℕ → ℤ) → m ≤ n → ((t : ℕ) → t < m → f t ≡ g t) → ((t : ℕ) → t < n → m ≤ t → g t ≡ pos 0)
+pub sum_front : (n m : ℕ) (f g : ℕ → ℤ) → m ≤ n → ((t : ℕ) → t < m → f t ≡ g t) → ((t : ℕ) → t < n → m ≤ t → g t ≡ pos 0)
     → int_sum_below m f ≡ int_sum_below n g
 sum_front zero zero f g le same none = refl
 sum_front zero (suc m) f g le same none = absurd (omega arith)
@@ -111,7 +71,7 @@ pub energy_row_is : (w : Work) (s count : ℕ) (sum : ℤ) → IsTask w → w.na
     → (w.name.bi ≡ w.name.bj → count ≡ s) → (w.name.bi ≢ w.name.bj → count ≡ length w.a)
     → sum ≡ int_sum_below count (λ t. energy w.units (place_at w.a t) (place_at w.b s)) → sum ≡ energy_row w s
 energy_row_is w s count sum sound kind s_in same other value =
-    let ordered : w.name.bi ≤ w.name.bj = sound.in_order kind in
+    let ordered : w.name.bi ≤ w.name.bj = sound.in_order in
     elim (cases_eq w.name.bi w.name.bj) [
       | inl e ↦
           let first : count ≡ s = same e in
@@ -149,60 +109,6 @@ pub int_sum_more : (f : ℕ → ℤ) (n : ℕ) (sum term : ℤ) → sum ≡ int_
     → sum +ℤ term ≡ int_sum_below (n + 1) f
 int_sum_more f n sum term p q = rw (add-one, p, q) refl
 
-m_zero : (m : ℕ) → m ≤ 0 → m ≡ 0
-m_zero m h = omega arith
-
-bool_cases : (b : Bool) → (b ≡ true) ⊎ (b ≡ false)
-bool_cases true = inl refl
-bool_cases false = inr refl
-
--- a sum whose terms from m on are 0
-sum_far : (f : ℕ → ℕ) (m n : ℕ) → m ≤ n → ((s : ℕ) → m ≤ s → s < n → f s ≡ 0) → sum_below m f ≡ sum_below n f
-sum_far f m zero le none = rw (m_zero m le) refl
-sum_far f m (suc n) le none =
-    elim (cases_lt n m) [
-      | inl end ↦ let e : m ≡ suc n = omega arith in rw e refl
-      | inr more ↦
-          let last : f n ≡ 0 = none n more (omega arith) in
-          let before = sum_far f m n more (λ s h k. none s h (omega arith)) in
-          omega (arith, last, before)
-    ]
-
--- places that do not push leave the sum as it is
-pub force_below_far : (w : Work) (t m n : ℕ) → m ≤ n → ((s : ℕ) → m ≤ s → s < n → push_of w t s ≡ no_push)
-    → force_below w t m ≡ force_below w t n
-force_below_far w t m n le none =
-    let x = sum_far (λ s. (push_of w t s).x) m n le (λ s h k. ap (λ (p : Push). p.x) (none s h k)) in
-    let y = sum_far (λ s. (push_of w t s).y) m n le (λ s h k. ap (λ (p : Push). p.y) (none s h k)) in
-    let z = sum_far (λ s. (push_of w t s).z) m n le (λ s h k. ap (λ (p : Push). p.z) (none s h k)) in
-    rw (x, y, z) refl
-
--- a pair out of reach does not push
-pub far_pair : (w : Work) (t s : ℕ) → interacts w.units (distance (place_at w.a t) (place_at w.b s)) ≡ false
-    → push_of w t s ≡ no_push
-far_pair w t s far =
-    let none : push_at w.units (distance (place_at w.a t) (place_at w.b s)) ≡ pos 0 = rw far refl in
-    let silent : push w.units (place_at w.a t) (place_at w.b s) ≡ no_push =
-    sym (nothing_is w.units (place_at w.a t) (place_at w.b s) none) in
-    elim (bool_cases (are_apart w t s)) [
-      | inl apart ↦ rw (apart, silent) refl
-      | inr same ↦ rw same refl
-    ]
-
--- a place from the reach on does not push
-pub far_silent : (w : Work) (t reach s : ℕ) → IsReach w.units reach
-    → reach * 2 ^ 48 ≤ distance (place_at w.a t) (place_at w.b s) + 3 * 2 ^ 48 → push_of w t s ≡ no_push
-far_silent w t reach s out far = far_pair w t s (out (distance (place_at w.a t) (place_at w.b s)) far)
-
--- places whose bits are not set leave the sum as it is
-pub force_below_unset : (w : Work) (t near from to : ℕ)
-    → ((s : ℕ) → s < length w.b → bit_at near s ≡ 0 → push_of w t s ≡ no_push)
-    → from ≤ to → ((s : ℕ) → from ≤ s → s < to → bit_at near s ≡ 0)
-    → force_below w t (min from (length w.b)) ≡ force_below w t (min to (length w.b))
-force_below_unset w t near from to silent le unset =
-    force_below_far w t (min from (length w.b)) (min to (length w.b)) (omega arith)
-    (λ s h k. silent s (omega arith) (unset s (omega arith) (omega arith)))
-
 -- the bits that are left above the lowest n + 1
 bits_left : (rest n k : ℕ) → bit_at (rest / 2 ^ n / 2) k ≡ bit_at rest (n + 1 + k)
 bits_left rest n k =
@@ -215,6 +121,7 @@ IsFrom mask s rest = (k : ℕ) → bit_at rest k ≡ bit_at mask (s + k)
 -- the lowest bit that is set in the rest of a mask of 64
 pub record HasNext (mask s n : ℕ) : Type 0 where
   pub within : s + n < 64
+  pub set : bit_at mask (s + n) ≡ 1
   pub before : (k : ℕ) → s ≤ k → k < s + n → bit_at mask k ≡ 0
 
 pub next_set : (mask s rest : ℕ) → mask < 2 ^ 64 → rest < 2 ^ 64 → 0 < rest → IsFrom mask s rest
@@ -228,6 +135,7 @@ next_set mask s rest small rest_small some from =
         | inl less ↦ less
         | inr more ↦ absurd (omega (arith, set, bit_at_above mask 64 (s + n) small more))
       ];
+      set = set;
       before = λ k least less.
           let e : s + (k - s) ≡ k = omega arith in
           ap (bit_at mask) (sym e) ∙ sym (from (k - s)) ∙ found.2 (k - s) (omega arith);
@@ -242,3 +150,35 @@ pub from_empty : (mask s rest : ℕ) → IsFrom mask s rest → rest ≡ 0 → (
 from_empty mask s rest from empty k least =
     let e : s + (k - s) ≡ k = omega arith in
     ap (bit_at mask) (sym e) ∙ sym (from (k - s)) ∙ ap (λ r. bit_at r (k - s)) empty ∙ bit_at-zero (k - s)
+
+-- a mask cut to the bits below n has those bits
+pub bit_below : (mask n k : ℕ) → k < n → bit_at (mask % 2 ^ n) k ≡ bit_at mask k
+bit_below mask n k less =
+    let j : ℕ = n - k - 1 in
+    let high : ℕ = mask / 2 ^ k % 2 ^ (j + 1) in
+    let size : n ≡ j + 1 + k = omega arith in
+    let parts : mask % 2 ^ n ≡ high * 2 ^ k + mask % 2 ^ k = ap (λ m. mask % 2 ^ m) size ∙ mod-pow-add mask (j + 1) k in
+    ap (λ m. m / 2 ^ k % 2) parts
+    ∙ ap (λ m. m % 2) (div-mul-add high (2 ^ k) (mask % 2 ^ k) (mod-lt mask (pow_pos k)))
+    ∙ mod-mod-pow (mask / 2 ^ k) j 1
+
+-- a bit that is set in it lies below n
+pub set_below : (mask n k : ℕ) → bit_at (mask % 2 ^ n) k ≡ 1 → k < n
+set_below mask n k set =
+    elim (cases_lt k n) [
+      | inl less ↦ less
+      | inr more ↦ absurd (omega (arith, set, bit_at_above (mask % 2 ^ n) n k (mod-lt mask (pow_pos n)) more))
+    ]
+
+-- places without energy leave the sum as it is
+pub sum_past : (f : ℕ → ℤ) (from to : ℕ) → from ≤ to → ((t : ℕ) → from ≤ t → t < to → f t ≡ pos 0)
+    → int_sum_below from f ≡ int_sum_below to f
+sum_past f from to le none = sum_front to from f f le (λ t h. refl) (λ t h k. none t k h)
+
+-- a pair out of reach has no energy
+pub far_energy : (u : Units) (here there : Place) → IsOnRing here → IsOnRing there
+    → interacts u (distance there here) ≡ false → energy u here there ≡ pos 0
+far_energy u here there on also none =
+    let same : interacts u (distance here there) ≡ false =
+    ap (interacts u) (sym (distance_symmetric here there on also)) ∙ none in
+    ap (λ (b : Bool). if b then energy_entry (entry (bin u (distance here there))) else pos 0) same

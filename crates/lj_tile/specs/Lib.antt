@@ -3,6 +3,7 @@ pub mod Names
 pub mod Blocks
 pub mod Tiles
 pub mod Tasks
+pub mod Rows
 pub mod Results
 pub mod Near
 pub mod Worked

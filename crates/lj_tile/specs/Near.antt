@@ -1,26 +1,43 @@
--- A quick test of which places are out of reach, by the coordinates of a block axis by axis in whole units of 2^16.
-use Rattle.std.specs.Prelude.{ℕ, ◌+◌, ◌*◌, ◌/◌, ◌^◌, ◌≡◌, ◌<◌, ◌≤◌, false, List, length, slice_index}
+-- A quick test of which places are out of reach, by the coordinates of a block in grains of a few ring units.
+use Rattle.std.specs.Prelude.{ℕ, ◌+◌, ◌*◌, ◌/◌, ◌%◌, ◌^◌, ◌≡◌, ◌<◌, ◌≤◌, false, List, length, slice_index}
 use Rattle.lj_ring.specs.declared.coordinates.Place.{Place}
+use Rattle.lj_ring.specs.Ring.{IsOnRing, place_at}
 use Rattle.lj_ring.specs.Scales.{Units, interacts}
 use Rattle.lj_tile.specs.declared.near.Columns.{Columns}
-use Rattle.lj_tile.specs.Tiles.{place_at}
+use Rattle.lj_tile.specs.declared.near.Lanes.{Lanes}
 
--- the place whose coordinates are the s-th of each axis
-abbrev pub column_place : Columns → ℕ → Place
-column_place columns s = record {
-  x = slice_index columns.x s;
-  y = slice_index columns.y s;
-  z = slice_index columns.z s;
-}
+-- a coordinate in whole grains of 2^grain ring units, round a ring of 2^16 grains
+abbrev pub grains : ℕ → ℕ → ℕ
+grains grain coordinate = coordinate / 2 ^ grain % 2 ^ 16
 
--- a place in whole units of 2^16
-abbrev pub coarse_place : Place → Place
-coarse_place p = record { x = p.x / 2 ^ 16; y = p.y / 2 ^ 16; z = p.z / 2 ^ 16 }
+-- 2^16 square grains, in square ring units
+abbrev pub square_unit : ℕ → ℕ
+square_unit grain = 2 ^ 16 * (2 ^ grain * 2 ^ grain)
 
--- the columns are those of the places
-abbrev pub HasColumns : Columns → List Place → Type 0
-HasColumns columns places = (s : ℕ) → s < length places → column_place columns s ≡ coarse_place (place_at places s)
+-- the s-th lanes have the place in grains
+pub record IsLane (grain : ℕ) (lanes : Lanes) (s : ℕ) (p : Place) : Type 0 where
+  pub x : slice_index lanes.x s ≡ grains grain p.x
+  pub y : slice_index lanes.y s ≡ grains grain p.y
+  pub z : slice_index lanes.z s ≡ grains grain p.z
+  pub ring : IsOnRing p
 
--- no pair interacts whose squared distance is `reach` less 3, in units of 2^48, or more
-abbrev pub IsReach : Units → ℕ → Type 0
-IsReach u reach = (s : ℕ) → reach * 2 ^ 48 ≤ s + 3 * 2 ^ 48 → interacts u s ≡ false
+-- the lanes have the places in grains
+abbrev pub HasLanes : ℕ → Lanes → List Place → Type 0
+HasLanes grain lanes places = (s : ℕ) → s < length places → IsLane grain lanes s (place_at places s)
+
+-- no pair interacts whose squared distance is `reach` less 3, in units of 2^16 square grains, or more
+abbrev pub IsReach : Units → ℕ → ℕ → Type 0
+IsReach u grain reach = (s : ℕ) → reach * square_unit grain ≤ s + 3 * square_unit grain → interacts u s ≡ false
+
+-- no pair interacts that is 2048 grains apart, or more
+abbrev pub SpansFew : Units → ℕ → Type 0
+SpansFew u grain = (s : ℕ) → 2 ^ 11 * 2 ^ grain * (2 ^ 11 * 2 ^ grain) ≤ s → interacts u s ≡ false
+
+-- the columns are those of the places, and what they take for out of reach is
+pub record HasColumns (u : Units) (columns : Columns) (places : List Place) : Type 0 where
+  pub grain : columns.grain ≤ 16
+  pub reach : IsReach u columns.grain columns.reach
+  pub few : columns.grain < 16 → SpansFew u columns.grain
+  pub most : length places ≤ 64
+  pub fine : HasLanes columns.grain columns.fine places
+  pub whole : HasLanes 16 columns.whole places

@@ -1,7 +1,7 @@
 -- The push and the energy of a pair of atoms.
 use Rattle.std.specs.Prelude.{ℕ, ◌+◌, ◌%◌, ◌^◌, ℤ, pos, ◌*ℤ◌, int_div}
 use Rattle.lj_ring.specs.declared.coordinates.Place.{Place}
-use Rattle.lj_ring.specs.Ring.{image, distance, in_ring}
+use Rattle.lj_ring.specs.Ring.{image, distance, in_ring, ring_sub}
 use Rattle.lj_ring.specs.Scales.{Units}
 use Rattle.lj_table.specs.Entries.{push_at, energy_at}
 use Rattle.lj_tile.specs.declared.pairs.Push.{Push}
@@ -27,6 +27,10 @@ push u p q =
 -- the energy of the pair, in units of 2^-24 ε: 0 where it does not interact
 abbrev pub energy : Units → Place → Place → ℤ
 energy u p q = energy_at u (distance p q)
+
+-- the same push the other way
+abbrev pub opposite : Push → Push
+opposite p = record { x = ring_sub 0 p.x; y = ring_sub 0 p.y; z = ring_sub 0 p.z }
 
 -- the sum of two pushes on the ring
 abbrev pub plus : Push → Push → Push

@@ -1,13 +1,12 @@
 -- What a task stands for, and its value.
 use Rattle.std.specs.Prelude.{ℕ, ◌+◌, ◌*◌, ◌==◌, ◌≡◌, ◌<◌, ◌≤◌, Bool, not, nat_lt, ℤ, List, length}
 use Rattle.lj_ring.specs.declared.coordinates.Place.{Place}
-use Rattle.lj_ring.specs.Ring.{ring_sum, int_sum_below}
+use Rattle.lj_ring.specs.Ring.{int_sum_below}
 use Rattle.lj_ring.specs.Scales.{Units}
 use Rattle.lj_tile.specs.declared.pairs.Push.{Push}
 use Rattle.lj_tile.specs.declared.names.TaskName.{TaskName}
-use Rattle.lj_tile.specs.declared.names.Kind.TheVariants.{Energy}
 use Rattle.lj_tile.specs.declared.blocks.TheConstants.{BLOCK}
-use Rattle.lj_tile.specs.Tiles.{place_at, push_sum, chosen_push, chosen_energy}
+use Rattle.lj_tile.specs.Tiles.{place_at, push_sum, chosen_energy}
 
 -- the value of a task: its name, the scale of its simulation, and the places of its two blocks
 pub record Work : Type 0 where
@@ -32,17 +31,9 @@ are_in_order w t s = nat_lt (atom w.name.bi t) (atom w.name.bj s)
 abbrev pub task_force : Work → ℕ → Push
 task_force w t = push_sum w.units (place_at w.a t) w.b (are_apart w t)
 
--- what place s of the second block adds to it
-abbrev pub push_of : Work → ℕ → ℕ → Push
-push_of w t s = chosen_push w.units (are_apart w t s) (place_at w.a t) (place_at w.b s)
-
--- the ring sum of what the first n places of the second block add to it
-abbrev pub force_below : Work → ℕ → ℕ → Push
-force_below w t n = record {
-  x = ring_sum n (λ s. (push_of w t s).x);
-  y = ring_sum n (λ s. (push_of w t s).y);
-  z = ring_sum n (λ s. (push_of w t s).z);
-}
+-- its value for place s of its second block: the ring sum of the pushes of the first's other atoms
+abbrev pub task_second : Work → ℕ → Push
+task_second w s = push_sum w.units (place_at w.b s) w.a (λ t. are_apart w t s)
 
 -- the value of an energy task: the sum of the energies of the pairs i < j, i in the first block and j in the second
 unfoldable pub task_energy : Work → ℤ
@@ -50,8 +41,8 @@ task_energy w =
     int_sum_below (length w.b) (λ s.
     int_sum_below (length w.a) (λ t. chosen_energy w.units (are_in_order w t s) (place_at w.a t) (place_at w.b s)))
 
--- what is true of each task: its blocks have 1 to 64 places, those of one block are the same twice, and an energy task
--- has its blocks in order
+-- what is true of each task: its blocks have 1 to 64 places, those of one block are the same twice, and the blocks
+-- are in order
 pub record IsTask (w : Work) : Type 0 where
   pub some_first : 1 ≤ length w.a
   pub some_second : 1 ≤ length w.b
@@ -60,4 +51,4 @@ pub record IsTask (w : Work) : Type 0 where
   pub first_index : w.name.bi < 64
   pub second_index : w.name.bj < 64
   pub diagonal : w.name.bi ≡ w.name.bj → w.a ≡ w.b
-  pub in_order : w.name.kind ≡ Energy → w.name.bi ≤ w.name.bj
+  pub in_order : w.name.bi ≤ w.name.bj

@@ -1,16 +1,13 @@
 -- Tiles, which a step over all pairs of atoms is cut into, and covers: lists of tiles that leave no pair out.
-use Rattle.std.specs.Prelude.{ℕ, ◌/◌, ◌==◌, ◌&&◌, ◌≡◌, ◌≢◌, ◌<◌, ◌≤◌, Bool, true, false, not, nat_lt, ℤ, pos, List}
-use Rattle.std.specs.Prelude.{length, slice_index_or, count_by, if◌then◌else◌}
+use Rattle.std.specs.Prelude.{ℕ, ◌/◌, ◌==◌, ◌&&◌, ◌||◌, ◌≡◌, ◌≢◌, ◌<◌, ◌≤◌, Bool, true, false, not, nat_lt, ℤ, pos, List}
+use Rattle.std.specs.Prelude.{length, count_by, if◌then◌else◌}
 use Rattle.lj_ring.specs.declared.coordinates.Place.{Place}
 use Rattle.lj_ring.specs.Ring.{distance, ring_sum, int_sum_below}
+pub use Rattle.lj_ring.specs.Ring.{place_at}
 use Rattle.lj_ring.specs.Scales.{Units, interacts}
 use Rattle.lj_tile.specs.declared.blocks.TheConstants.{BLOCK}
 use Rattle.lj_tile.specs.declared.pairs.Push.{Push}
 use Rattle.lj_tile.specs.Pushes.{push, no_push, energy}
-
--- the place of atom i in a list of places
-abbrev pub place_at : List Place → ℕ → Place
-place_at places i = slice_index_or places i (record { x = 0; y = 0; z = 0 })
 
 -- the push on an atom at p of the atom at q where the two are a chosen pair, and none where they are not
 abbrev pub chosen_push : Units → Bool → Place → Place → Push
@@ -73,9 +70,13 @@ pub record IsEnergyCover (u : Units) (frame : List Place) (tiles : List Tile) : 
 abbrev pub block_of : ℕ → ℕ
 block_of i = i / BLOCK
 
--- the force tile of an ordered pair of blocks: the pairs of different atoms, one in each
+-- one atom stands in the one block, and the other in the other
+abbrev pub are_between : ℕ → ℕ → ℕ → ℕ → Bool
+are_between bi bj i j = block_of i == bi && block_of j == bj || block_of i == bj && block_of j == bi
+
+-- the force tile of two blocks: the pairs of different atoms, one in each, in both orders
 abbrev pub force_tile : ℕ → ℕ → Tile
-force_tile bi bj i j = block_of i == bi && block_of j == bj && not (i == j)
+force_tile bi bj i j = are_between bi bj i j && not (i == j)
 
 -- the energy tile of two blocks: the pairs i < j, i in the first and j in the second
 abbrev pub energy_tile : ℕ → ℕ → Tile

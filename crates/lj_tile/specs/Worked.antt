@@ -1,5 +1,5 @@
 -- Two atoms 1.5 sigma apart in a box of 256 sigma, as one block and as two: values of tasks as theorems by computation.
-use Rattle.std.specs.Prelude.{◌≡◌, ◌∷◌, [], ℕ, pos, negsuc, List, refl}
+use Rattle.std.specs.Prelude.{◌≡◌, ◌∷◌, [], ℕ, true, pos, negsuc, List, refl}
 use Rattle.lj_ring.specs.declared.coordinates.Place.{Place}
 use Rattle.lj_ring.specs.Scales.{Units}
 use Rattle.lj_table.specs.Entries.{push_entry, energy_entry}
@@ -7,7 +7,8 @@ use Rattle.lj_tile.specs.declared.names.Kind.{Kind}
 use Rattle.lj_tile.specs.declared.names.Kind.TheVariants.{Force, Energy}
 use Rattle.lj_tile.specs.Pushes.{push}
 use Rattle.lj_tile.specs.Tiles.{push_sum, tile_force, tile_energy, force_tile, energy_tile}
-use Rattle.lj_tile.specs.Tasks.{Work, task_force, task_energy}
+use Rattle.lj_tile.specs.Tasks.{Work, task_force, task_second, task_energy}
+use Rattle.lj_tile.specs.Rows.{on_first, on_second}
 
 -- an edge of 256, sigma 1, and a step factor of 2^17 in units of 2^-32
 abbrev pub dimer_units : Units
@@ -47,10 +48,32 @@ pub one_block_right : task_force (task_of Force 0 0 both both) 1 ≡ record { x 
 unfolding push_sum push push_entry
 one_block_right = refl
 
--- a force task gives the sums of its first block
-pub two_blocks : task_force (task_of Force 3 1 left right) 0 ≡ record { x = 589; y = 0; z = 0 }
+-- a force task of two blocks gives the sums of the first, and those of the second
+pub two_blocks : task_force (task_of Force 1 3 left right) 0 ≡ record { x = 589; y = 0; z = 0 }
 unfolding push_sum push push_entry
 two_blocks = refl
+
+pub second_block : task_second (task_of Force 1 3 left right) 0 ≡ record { x = 4294966707; y = 0; z = 0 }
+unfolding push_sum push push_entry
+second_block = refl
+
+-- of one block twice the two are the same
+pub one_block_second : task_second (task_of Force 0 0 both both) 1 ≡ record { x = 4294966707; y = 0; z = 0 }
+unfolding push_sum push push_entry
+one_block_second = refl
+
+-- so they are sums over the pairs i < j: of one block those of an atom with the later ones, and with the earlier ones
+pub row_left : on_first (task_of Force 0 0 both both) 0 2 ≡ record { x = 589; y = 0; z = 0 }
+unfolding push push_entry
+row_left = refl
+
+pub row_right : on_second (task_of Force 0 0 both both) 1 2 ≡ record { x = 4294966707; y = 0; z = 0 }
+unfolding push push_entry
+row_right = refl
+
+pub row_right_later : on_first (task_of Force 0 0 both both) 1 2 ≡ record { x = 0; y = 0; z = 0 }
+unfolding push push_entry
+row_right_later = refl
 
 -- the pair counts once, whether its atoms stand in one block or in two
 pub one_block_energy : task_energy (task_of Energy 0 0 both both) ≡ negsuc 5349131
@@ -60,6 +83,10 @@ one_block_energy = refl
 pub two_blocks_energy : task_energy (task_of Energy 0 1 left right) ≡ negsuc 5349131
 unfolding task_energy energy_entry
 two_blocks_energy = refl
+
+-- a tile of two blocks has its pairs in both orders
+pub tile_both_ways : force_tile 0 1 70 3 ≡ true
+tile_both_ways = refl
 
 -- on a frame of these two atoms the tile of their block with itself, and that of another block, with no pair of them
 pub tile_left : tile_force dimer_units both (force_tile 0 0) 0 ≡ record { x = 589; y = 0; z = 0 }

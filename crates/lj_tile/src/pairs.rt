@@ -29,13 +29,27 @@ impl Push {
             z: self.z.wrapping_add(other.z),
         }
     }
+
+    /// This push and the opposite of the other.
+    #[inline]
+    pub fn minus(self, other: Push) -> Push
+        ensures { result ≡ pushes.plus self (pushes.opposite other) }
+    {
+        Push {
+            x: self.x.wrapping_sub(other.x),
+            y: self.y.wrapping_sub(other.y),
+            z: self.z.wrapping_sub(other.z),
+        }
+    }
 }
 
-/// The push of the atom at `there` on the atom at `here`. Most pairs are out of reach: they end at the table's 0.
+/// The push of the atom at `there` on the atom at `here`, which is the opposite of the push of the atom at `here` on the
+/// atom at `there`. Most pairs are out of reach: they end at the table's 0.
 #[inline]
 pub fn pair_push(table: &Table, scale: &Scale, here: &Place, there: &Place) -> Push
     ensures value { result ≡ pushes.push scale.now here.now there.now }
     ensures itself { here.now ≡ there.now → result ≡ pushes.no_push }
+    ensures back { pushes.push scale.now there.now here.now ≡ pushes.opposite result }
 {
     let entry = table.push(dist2(here, there), scale);
     if entry == 0 {

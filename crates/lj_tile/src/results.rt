@@ -1,21 +1,21 @@
 //! Results of tasks.
 ghost use Rattle.std.specs.Prelude.{◌≡◌, ◌<◌, length, ◌∷◌, []};
 ghost use Rattle.lj_tile.specs.declared.names.Kind.TheVariants.{Force, Energy};
-ghost use Rattle.lj_tile.specs.Tasks.{task_force, task_energy};
-ghost use Rattle.lj_tile.specs.Results.{kept_push, kept_energy};
+ghost use Rattle.lj_tile.specs.Tasks.{task_force, task_second, task_energy};
+ghost use Rattle.lj_tile.specs.Results.{kept_push, kept_second, kept_energy};
 
 use crate::blocks::BLOCK;
 use crate::names::Kind;
 use crate::pairs::Push;
-use crate::sums::{energy_sum, force_sums};
+use crate::sums::{ForceSums, energy_sum, force_sums};
 use crate::tasks::Task;
 use lj_table::Table;
 use std::marker::Model;
 
-/// The sums of a task: of pushes for each place of its first block, or of energies.
+/// The sums of a task: of pushes for each place of its blocks, or of energies.
 #[derive(Clone, Copy, Debug)]
 enum Sums {
-    Pushes([Push; BLOCK]),
+    Pushes(ForceSums),
     Energies(i64),
 }
 
@@ -25,7 +25,17 @@ impl Sums {
         ensures { result ≡ kept_push self.now t }
     {
         match self {
-            Sums::Pushes(pushes) => pushes[t],
+            Sums::Pushes(sums) => sums.first[t],
+            Sums::Energies(_) => Push::NONE,
+        }
+    }
+
+    fn second_at(&self, s: usize) -> Push
+        requires { s < BLOCK }
+        ensures { result ≡ kept_second self.now s }
+    {
+        match self {
+            Sums::Pushes(sums) => sums.second[s],
             Sums::Energies(_) => Push::NONE,
         }
     }
@@ -77,6 +87,18 @@ impl Done {
         [sum.x, sum.y, sum.z]
     }
 
+    /// The sum of the pushes on place `s` of the second block, along each axis, in ring units modulo 2^32. Of a task of
+    /// one block twice `sum_at` has it all.
+    pub fn second_at(&self, s: usize) -> [u32; 3]
+        requires force { self.now.name.kind ≡ Force }
+        requires apart { self.now.name.bi < self.now.name.bj }
+        requires within { s < length self.now.b }
+        ensures { let sum = task_second self.now s in result ≡ sum.x ∷ sum.y ∷ sum.z ∷ [] }
+    {
+        let other = self.sums.second_at(s);
+        [other.x, other.y, other.z]
+    }
+
     /// The sum of the energies of the task's pairs, in units of 2^-24 ε.
     pub fn energy_sum(&self) -> i64
         requires { self.now.name.kind ≡ Energy }
@@ -100,9 +122,20 @@ impl Done {
 pub fn compute(task: Task, table: &Table) -> Done
     ensures { result ≡ task }
 {
-    let sums = match task.name().kind {
-        Kind::Force => Sums::Pushes(force_sums(&task, table)),
-        Kind::Energy => Sums::Energies(energy_sum(&task, table)),
-    };
-    Done { task, sums }
+    match task.name().kind {
+        Kind::Force => {
+            let sums = force_sums(&task, table);
+            Done {
+                task,
+                sums: Sums::Pushes(sums),
+            }
+        }
+        Kind::Energy => {
+            let sum = energy_sum(&task, table);
+            Done {
+                task,
+                sums: Sums::Energies(sum),
+            }
+        }
+    }
 }

@@ -8,8 +8,8 @@ use crate::names::TaskName;
 use lj_ring::{Place, Scale};
 use std::marker::Model;
 
-/// A task: one tile of a step, with all that it takes to compute it. Its first block has the atoms whose sums a force
-/// task gives; place t of block n is atom 64 n + t.
+/// A task: one tile of a step, with all that it takes to compute it. A force task gives the sums of the atoms of both
+/// its blocks; place t of block n is atom 64 n + t.
 #[derive(PartialEq, Eq, Debug, Drop)]
 pub struct Task {
     name: TaskName,
@@ -38,7 +38,7 @@ impl Task {
         requires first_index { name.bi < 64 }
         requires second_index { name.bj < 64 }
         requires diagonal { name.bi ≡ name.bj → a ≡ b }
-        requires in_order { name.kind ≡ Energy → name.bi ≤ name.bj }
+        requires in_order { name.bi ≤ name.bj }
         ensures { result ≡ record { name = name; units = scale; a = a; b = b } }
     {
         Task {

@@ -16,4 +16,5 @@ mod schedules;
 mod servers;
 mod serving;
 mod streams;
+mod tiles;
 mod workers;

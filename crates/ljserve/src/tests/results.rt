@@ -141,8 +141,8 @@ fn begin_advance(owner: &mut Owner, rt: &(impl Abort + AllocGlobal), line: &str)
 /// Posts all tasks of the step, and computes them.
 fn post_all(owner: &mut Owner, rt: &impl AllocGlobal) -> Result<Vec<Done>, AllocError> {
     let table = Table::new();
-    let room = Vec::with_capacity(rt.alloc(), 9);
-    let mut results = room.or_else(|_| Vec::with_capacity(rt.alloc(), 9))?;
+    let room = Vec::with_capacity(rt.alloc(), 6);
+    let mut results = room.or_else(|_| Vec::with_capacity(rt.alloc(), 6))?;
     for _ in 0..4096 {
         let Some(task) = owner.next_task() else {
             return Ok(results);
@@ -183,7 +183,7 @@ fn stand_alike(one: &Owner, other: &Owner, rt: &impl Abort) {
 
 /// Takes in the results of a step from the last to the first, each of which is handed back the second time.
 fn take_in_reverse(owner: &mut Owner, mut results: Vec<Done>, rt: &impl Abort) {
-    assert_eq!(rt; results.len(), 9);
+    assert_eq!(rt; results.len(), 6);
     while let Some(done) = results.pop() {
         assert!(rt; !owner.ready());
         takes(owner, &done, rt);
@@ -214,7 +214,7 @@ fn stale_results(rt: &(impl Abort + AllocGlobal)) -> Result<Vec<Done>, Fail> {
     let mut owner = chain_owner(rt, 65, 0)?;
     begin_advance(&mut owner, rt, "ADVANCE c 1\n");
     let results = post_all(&mut owner, rt)?;
-    assert_eq!(rt; results.len(), 4);
+    assert_eq!(rt; results.len(), 2);
     owner.abandon();
     Ok(results)
 }

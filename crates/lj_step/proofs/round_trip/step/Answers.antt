@@ -12,7 +12,7 @@ use Rattle.lj_step.proofs.round_trip.step.Goals as goal
 pub unwrap-task-requires : goal.unwrap-task-requires
 unwrap-task-requires c =
     let live = c.loop-i.sim in
-    let within : c.loop-i.i < length (cover Force (length live.sim.cur)) = omega arith in
+    let within : c.loop-i.i < length (cover live.units live.sim.cur) = omega arith in
     task_some live c.args.label.now Force c.loop-i.i c.task.result c.loop-i.invariant.tiles c.task.ensures.value within
 
 pub loop-i-init : goal.loop-i-init
@@ -22,9 +22,9 @@ loop-i-init c =
       units = ap (λ (v : Live). v.units) opened;
       motion = ap (λ (v : Live). v.sim) opened;
       end = c.tiles-i-end.ensures.value ∙ ap tiles_of opened
-          ∙ sym (ap (λ (v : Live). length (cover Force (length v.sim.cur))) opened);
-      tiles = subst (λ (v : Live). AwaitsFrom Force (length v.sim.cur) 0 v.part) (sym opened)
-          (opened_awaits Force (length c.args.sim.now.sim.cur) _ refl);
+          ∙ sym (ap (λ (v : Live). length (cover v.units v.sim.cur)) opened);
+      tiles = subst (λ (v : Live). AwaitsFrom Force v.units v.sim.cur 0 v.part) (sym opened)
+          (opened_awaits Force c.args.sim.now.units c.args.sim.now.sim.cur _ refl);
     }
 
 pub loop-i-preserved : goal.loop-i-preserved
@@ -41,17 +41,17 @@ loop-i-preserved c =
     record {
       units = ap (λ (v : Live). v.units) taken ∙ c.loop-i.invariant.units;
       motion = ap (λ (v : Live). v.sim) taken ∙ c.loop-i.invariant.motion;
-      end = c.loop-i.invariant.end ∙ sym (ap (λ (v : Live). length (cover Force (length v.sim.cur))) taken);
-      tiles = subst (λ (v : Live). AwaitsFrom Force (length v.sim.cur) (c.loop-i.i + 1) v.part) (sym taken) next;
+      end = c.loop-i.invariant.end ∙ sym (ap (λ (v : Live). length (cover v.units v.sim.cur)) taken);
+      tiles = subst (λ (v : Live). AwaitsFrom Force v.units v.sim.cur (c.loop-i.i + 1) v.part) (sym taken) next;
     }
 
 pub turn-requires : goal.turn-requires
 turn-requires c =
     let live = c.loop-i.sim in
-    let past : length (cover Force (length live.sim.cur)) ≤ c.loop-i.i = omega arith in
+    let past : length (cover live.units live.sim.cur) ≤ c.loop-i.i = omega arith in
     record {
-      kind = kind_is Force (length live.sim.cur) c.loop-i.i live.part c.loop-i.invariant.tiles;
-      whole = all_taken Force (length live.sim.cur) c.loop-i.i live.part c.loop-i.invariant.tiles past;
+      kind = kind_is Force live.units live.sim.cur c.loop-i.i live.part c.loop-i.invariant.tiles;
+      whole = all_taken Force live.units live.sim.cur c.loop-i.i live.part c.loop-i.invariant.tiles past;
       step = subst (λ (s : Simulation). unsigned_abs (s.step +ℤ s.dir) ≤ 10 ^ 12)
           (sym c.loop-i.invariant.motion) c.requires;
     }

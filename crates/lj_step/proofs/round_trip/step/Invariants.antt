@@ -8,6 +8,6 @@ abbrev pub invariant-loop-i : goal.invariant-loop-i
 invariant-loop-i l = record {
   units : l.sim.units ≡ l.fn.sim.units;
   motion : l.sim.sim ≡ l.fn.sim.sim;
-  end : l.i-end ≡ length (cover Force (length l.sim.sim.cur));
-  tiles : AwaitsFrom Force (length l.sim.sim.cur) l.i l.sim.part;
+  end : l.i-end ≡ length (cover l.sim.units l.sim.sim.cur);
+  tiles : AwaitsFrom Force l.sim.units l.sim.sim.cur l.i l.sim.part;
 }

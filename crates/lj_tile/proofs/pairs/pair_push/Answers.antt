@@ -1,6 +1,8 @@
 use Rattle.std.proofs.Common.{FitsSigned, w64, w32, rules, sym, ◌∙◌, ap}
 use Rattle.std.proofs.lemmas.Int.{to_z-of_z}
 use Rattle.lj_table.specs.Entries.{push_at}
+use Rattle.lj_tile.specs.Pushes.{opposite}
+use Rattle.lj_tile.proofs.Opposites.{push_back_is, nothing_back}
 use Rattle.lj_tile.proofs.PushLemmas.{push_is, push_self, nothing_is, zero_bits}
 use Rattle.lj_tile.proofs.pairs.pair_push.Goals as goal
 
@@ -34,3 +36,16 @@ returns-clause-itself c same =
     ∙ push_self c.args.scale.now c.args.here.now c.args.there.now c.image.result c.image-2.result c.image-3.result
     c.image.ensures.value c.image-2.ensures.value c.image-3.ensures.value c.image.ensures.least
     c.image-2.ensures.least c.image-3.ensures.least same
+
+pub returns-then-entry-eq0-clause-back : goal.returns-then-entry-eq0-clause-back
+returns-then-entry-eq0-clause-back c =
+    let e : FitsSigned w64 c.push-entry.result = search rules in
+    nothing_back c.args.scale.now c.args.here.now c.args.there.now c.dist2.ensures.first c.dist2.ensures.second
+    (ap (push_at c.args.scale.now) (sym c.dist2.ensures.value) ∙ sym c.push-entry.ensures.value
+    ∙ zero_bits c.push-entry.result e c.if-entry-eq0.true)
+
+pub returns-clause-back : goal.returns-clause-back
+returns-clause-back c =
+    push_back_is c.args.scale.now c.args.here.now c.args.there.now c.strength.ensures.near c.dist2.ensures.first
+    c.dist2.ensures.second
+    ∙ ap opposite (sym (returns-clause-value c))

@@ -13,7 +13,7 @@ index-requires c =
     let found =
     tile_found a.scale a.cur.items a.partial c.in-Some.field-0 c.as_slice.result.now c.args.self.now c.args.i
     c.in-Some-get.number.now c.from.result c.in-Some.is c.self.invariant.partial
-    c.as_slice.ensures.value frame read.3.0 read.1 c.from.ensures in
+    c.as_slice.ensures.value (ap (λ (v : Live). v.units) c.self.view_is) frame read.3.0 read.1 c.from.ensures in
     omega (arith, found.1, c.self.invariant.room.awaited, ap length frame, a.partial.awaited.ok.0)
 
 pub returns : goal.returns
@@ -27,7 +27,7 @@ returns c =
     let found =
     tile_found a.scale a.cur.items a.partial c.in-Some.field-0 c.as_slice.result.now c.args.self.now c.args.i
     c.in-Some-get.number.now c.from.result c.in-Some.is c.self.invariant.partial
-    c.as_slice.ensures.value frame read.3.0 read.1 c.from.ensures in
+    c.as_slice.ensures.value (ap (λ (v : Live). v.units) c.self.view_is) frame read.3.0 read.1 c.from.ensures in
     let within : c.from.result < length a.partial.awaited.items =
     omega (arith, found.1, c.self.invariant.room.awaited, ap length frame) in
     c.index.ensures

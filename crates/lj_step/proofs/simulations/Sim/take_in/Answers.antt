@@ -16,4 +16,4 @@ invariant_of-self c =
     let added = c.add.ensures in
     with_result c.self.inside c.args.self.now c.args.label.now c.task.result.now c.args.done.now c.self.invariant
     c.self.view_is c.task.ensures (c.is_awaited.ensures.0 c.if-not-is_awaited.false)
-    c.add.new.self added.kind added.tiles added.capacity added.awaited added.left added.pushes added.energy added.size
+    c.add.new.self added.kind added.arcs added.tiles added.capacity added.awaited added.left added.pushes added.energy added.size

@@ -13,7 +13,8 @@ task_of-requires c =
     let found =
     tile_found a.scale a.cur.items a.partial c.in_ok-kind.kind c.as_slice.result.now c.args.self.now c.args.i
     c.in_ok-number.field-0.now c.from.result c.in_ok-kind.was
-    c.self.invariant.partial c.as_slice.ensures.value (ap (λ (v : Live). v.sim.cur) c.self.view_is)
+    c.self.invariant.partial c.as_slice.ensures.value
+    (ap (λ (v : Live). v.units) c.self.view_is) (ap (λ (v : Live). v.sim.cur) c.self.view_is)
     read.3.0 read.1 c.from.ensures in
     record { tile = found.0; within = found.1 }
 
@@ -28,7 +29,8 @@ returns c =
     let found =
     tile_found a.scale a.cur.items a.partial c.in_ok-kind.kind c.as_slice.result.now c.args.self.now c.args.i
     c.in_ok-number.field-0.now c.from.result c.in_ok-kind.was
-    c.self.invariant.partial c.as_slice.ensures.value (ap (λ (v : Live). v.sim.cur) c.self.view_is)
+    c.self.invariant.partial c.as_slice.ensures.value
+    (ap (λ (v : Live). v.units) c.self.view_is) (ap (λ (v : Live). v.sim.cur) c.self.view_is)
     read.3.0 read.1 c.from.ensures in
     record {
       value = ap Some c.task_of.ensures ∙ task_found c.args.self.now c.args.label.now open_step

@@ -1,0 +1,173 @@
+-- The sums of a step as a result comes in.
+use Rattle.std.proofs.Common.{ℕ, ◌+◌, ◌-◌, ◌*◌, ◌/◌, ◌^◌, ◌<◌, ◌≤◌, ◌≡◌, ◌≢◌, ◌+ℤ◌, unsigned_abs, Bool, true}
+use Rattle.std.proofs.Common.{false, not, nat_le, nat_lt, cond, List, length, slice_index_or, slice_set, count_by, inl}
+use Rattle.std.proofs.Common.{inr, sym, ap, ◌∙◌, get_or-set_same, get_or-set_other, arith}
+use Rattle.std.proofs.lemmas.Bool.{cases_eq, cases_lt, true≢false, and_parts, leb-true}
+use Rattle.std.proofs.lemmas.List.Sums.{sum_by-set, get_or-le-sum_by}
+use Rattle.lj_ring.specs.declared.coordinates.Place.{Place}
+use Rattle.lj_ring.specs.Scales.{Units}
+use Rattle.lj_tile.specs.declared.pairs.Push.{Push}
+use Rattle.lj_tile.specs.declared.names.Kind.{Kind}
+use Rattle.lj_tile.specs.declared.names.Kind.TheVariants.{Force, Energy}
+use Rattle.lj_tile.specs.Pushes.{no_push, plus}
+use Rattle.lj_tile.specs.Tasks.{Work, task_force, task_second, task_energy}
+use Rattle.lj_step.specs.declared.partial.Partial.{Partial}
+use Rattle.lj_step.specs.OpenSteps.{blocks, block, tile_number_of, first_block, second_block, is_in_order, is_tile}
+use Rattle.lj_step.specs.OpenSteps.{is_out_of_reach}
+use Rattle.lj_step.specs.Sums.{HasRoom, HasAdded, IsOpen, IsOutside, force_so_far, energy_so_far}
+use Rattle.lj_step.proofs.BlockSums.{length_in}
+use Rattle.lj_step.proofs.BlockPlaces.{block_length, place_in}
+use Rattle.lj_step.proofs.PartialForces.{block_force, task_is, second_is, force_more, force_more_second, force_same}
+use Rattle.lj_step.proofs.PartialEnergies.{energy_task_is, energy_more}
+
+-- a tile more is in
+module _ (u : Units) (frame : List Place) (p q : Partial) (kind : Kind) (work : Work) (few : length frame ≤ 4096)
+    (open_before : IsOpen u frame p kind) (room : HasRoom (length frame) p)
+    (units : work.units ≡ u) (a : work.a ≡ block frame work.name.bi) (b : work.b ≡ block frame work.name.bj)
+    (kind_is : work.name.kind ≡ kind)
+    (second : work.name.bj < 64) (within : tile_number_of work < length p.awaited.items)
+    (awaited : slice_index_or p.awaited.items (tile_number_of work) false ≡ true) where
+  pub one_left : 1 ≤ p.left
+  one_left =
+      let one : cond (slice_index_or p.awaited.items (tile_number_of work) false) 1 0
+      ≤ count_by (λ awaited. awaited) p.awaited.items =
+      get_or-le-sum_by (λ (awaited : Bool). cond awaited 1 0) p.awaited.items (tile_number_of work) false within in
+      omega (arith, open_before.left, rw awaited at one)
+
+  pub size_before : unsigned_abs p.energy + 2 ^ 63 ≤ 2 ^ 75
+  size_before = omega (arith, open_before.size, one_left)
+
+  left_after : (m : ℕ) → m + 1 ≡ p.left → m ≡ count_by
+      (λ awaited. awaited) (slice_set p.awaited.items (tile_number_of work) false)
+  left_after m less =
+      let set : count_by (λ awaited. awaited) (slice_set p.awaited.items (tile_number_of work) false)
+      + cond (slice_index_or p.awaited.items (tile_number_of work) false) 1 0
+      ≡ count_by (λ awaited. awaited) p.awaited.items + 0 =
+      sum_by-set (λ (awaited : Bool). cond awaited 1 0) p.awaited.items (tile_number_of work) false false within in
+      omega (arith, less, open_before.left, rw awaited at set)
+
+  within_after : (k : ℕ) → slice_index_or (slice_set p.awaited.items (tile_number_of work) false) k false ≡ true
+      → is_tile u frame k ≡ true
+  within_after k set =
+      elim (cases_eq k (tile_number_of work)) [
+        | inl same ↦
+            absurd (true≢false
+            (sym set ∙ ap (λ n. slice_index_or (slice_set p.awaited.items (tile_number_of work) false) n false) same
+            ∙ get_or-set_same p.awaited.items (tile_number_of work) false false within))
+        | inr other ↦
+            open_before.within k (sym (get_or-set_other p.awaited.items (tile_number_of work) k false false other)
+            ∙ set)
+      ]
+
+  -- the two blocks are in order
+  in_order : work.name.bi ≤ work.name.bj
+  in_order =
+      let tile = and_parts (is_in_order (length frame) (tile_number_of work))
+      (not (is_out_of_reach u frame (tile_number_of work))) (open_before.within (tile_number_of work) awaited) in
+      let parts = and_parts (nat_lt (second_block (tile_number_of work)) (blocks (length frame)))
+      (nat_le (first_block (tile_number_of work)) (second_block (tile_number_of work))) tile.0 in
+      let ordered : first_block (tile_number_of work) ≤ second_block (tile_number_of work) =
+      leb-true (first_block (tile_number_of work)) (second_block (tile_number_of work)) parts.1 in
+      omega (arith, ordered, second)
+
+  first_length : length work.a ≡ length_in work.name.bi (length frame)
+  first_length = ap length a ∙ block_length frame work.name.bi
+
+  second_length : length work.b ≡ length_in work.name.bj (length frame)
+  second_length = ap length b ∙ block_length frame work.name.bj
+
+  -- what is added to an atom at a place of a block
+  pushes_at : (b n : ℕ) (sum : ℕ → Push) → n ≡ length_in b (length frame) → kind ≡ Force
+      → ((t : ℕ) → t < n → slice_index_or q.pushes.items (64 * b + t) no_push
+      ≡ plus (slice_index_or p.pushes.items (64 * b + t) no_push) (sum t))
+      → (i : ℕ) → i < length frame → i / 64 ≡ b
+      → (after : (t : ℕ) → t < length_in b (length frame) → 64 * b + t ≡ i
+      → plus (force_so_far u frame p.awaited.items i) (sum t)
+      ≡ force_so_far u frame (slice_set p.awaited.items (tile_number_of work) false) i)
+      → slice_index_or q.pushes.items i no_push
+      ≡ force_so_far u frame (slice_set p.awaited.items (tile_number_of work) false) i
+  pushes_at b n sum count force added i h here after =
+      let place : (i - 64 * b < length_in b (length frame)) × (64 * b + (i - 64 * b) ≡ i) =
+      rw here at (place_in (length frame) i h) in
+      let below : i - 64 * b < n = rw count place.0 in
+      ap (λ n. slice_index_or q.pushes.items n no_push) (sym place.1)
+      ∙ added (i - 64 * b) below
+      ∙ ap (λ n. plus (slice_index_or p.pushes.items n no_push) (sum (i - 64 * b))) place.1
+      ∙ ap (λ s. plus s (sum (i - 64 * b))) (open_before.pushes force i h)
+      ∙ after (i - 64 * b) place.0 place.1
+
+  pushes_in : kind ≡ Force → HasAdded work p.pushes.items q.pushes.items → (i : ℕ)
+      → i < length frame → i / 64 ≡ work.name.bi
+      → slice_index_or q.pushes.items i no_push
+      ≡ force_so_far u frame (slice_set p.awaited.items (tile_number_of work) false) i
+  pushes_in force added i h here =
+      pushes_at work.name.bi (length work.a) (task_force work) first_length force (added.first (kind_is ∙ force)) i h here
+      (λ t below e.
+      ap (λ s. plus (force_so_far u frame p.awaited.items i) s)
+      (task_is u frame work t units a b below ∙ ap (λ n. block_force u frame n work.name.bj) e)
+      ∙ sym (force_more u frame p.awaited.items work.name.bi work.name.bj few in_order second within awaited i here))
+
+  pushes_in_second : kind ≡ Force → HasAdded work p.pushes.items q.pushes.items → (i : ℕ)
+      → i < length frame → i / 64 ≢ work.name.bi → i / 64 ≡ work.name.bj
+      → slice_index_or q.pushes.items i no_push
+      ≡ force_so_far u frame (slice_set p.awaited.items (tile_number_of work) false) i
+  pushes_in_second force added i h other here =
+      let before : work.name.bi < work.name.bj = omega (arith, in_order, other, here) in
+      pushes_at work.name.bj (length work.b) (task_second work) second_length force
+      (added.second (kind_is ∙ force) before) i h here
+      (λ s below e.
+      ap (λ m. plus (force_so_far u frame p.awaited.items i) m)
+      (second_is u frame work s units a b below ∙ ap (λ n. block_force u frame n work.name.bi) e)
+      ∙ sym (force_more_second u frame p.awaited.items work.name.bi work.name.bj few in_order second within
+      awaited i here))
+
+  apart : (b n i : ℕ) → n ≡ length_in b (length frame) → i < length frame → i / 64 ≢ b → IsOutside b n i
+  unfolding length_in
+  apart b n i count h other =
+      elim (cases_lt i (64 * b + 0)) [
+        | inl before ↦ inl before
+        | inr after ↦ inr (omega (arith, count, after, other))
+      ]
+
+  pushes_out : kind ≡ Force → HasAdded work p.pushes.items q.pushes.items → (i : ℕ)
+      → i < length frame → i / 64 ≢ work.name.bi → i / 64 ≢ work.name.bj
+      → slice_index_or q.pushes.items i no_push
+      ≡ force_so_far u frame (slice_set p.awaited.items (tile_number_of work) false) i
+  pushes_out force added i h first other =
+      added.others i (apart work.name.bi (length work.a) i first_length h first)
+      (apart work.name.bj (length work.b) i second_length h other)
+      ∙ open_before.pushes force i h
+      ∙ sym (force_same u frame p.awaited.items work.name.bi work.name.bj few in_order second within awaited
+      i h first other)
+
+  pushes_after : kind ≡ Force → HasAdded work p.pushes.items q.pushes.items → (i : ℕ) → i < length frame
+      → slice_index_or q.pushes.items i no_push
+      ≡ force_so_far u frame (slice_set p.awaited.items (tile_number_of work) false) i
+  pushes_after force added i h =
+      elim (cases_eq (i / 64) work.name.bi) [
+        | inl first ↦ pushes_in force added i h first
+        | inr other ↦
+            elim (cases_eq (i / 64) work.name.bj) [
+              | inl second ↦ pushes_in_second force added i h other second
+              | inr neither ↦ pushes_out force added i h other neither
+            ]
+      ]
+
+  pub accepted_is : q.tiles.items ≡ p.tiles.items → q.awaited.items
+      ≡ slice_set p.awaited.items (tile_number_of work) false → q.left + 1 ≡ p.left
+      → HasAdded work p.pushes.items q.pushes.items
+      → (work.name.kind ≡ Energy → q.energy ≡ p.energy +ℤ task_energy work)
+      → unsigned_abs q.energy ≤ unsigned_abs p.energy + 2 ^ 63 → IsOpen u frame q kind
+  accepted_is tiles flags less added energy size = record {
+    tiles = tiles ∙ open_before.tiles;
+    within = λ k set. within_after k (sym (ap (λ xs. slice_index_or xs k false) flags) ∙ set);
+    left = left_after q.left less ∙ sym (ap (count_by (λ awaited. awaited)) flags);
+    pushes = λ e i h. pushes_after e added i h ∙ sym (ap (λ xs. force_so_far u frame xs i) flags);
+    energy = λ e.
+        energy (kind_is ∙ e)
+        ∙ ap (λ s. s +ℤ task_energy work) (open_before.energy e)
+        ∙ ap (λ s. energy_so_far u frame p.awaited.items +ℤ s) (energy_task_is u frame work units a b)
+        ∙ sym (ap (energy_so_far u frame) flags ∙ energy_more u frame p.awaited.items work.name.bi
+        work.name.bj few in_order second within awaited);
+    size = omega (arith, size, less, open_before.size);
+  }

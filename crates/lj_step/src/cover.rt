@@ -1,0 +1,63 @@
+//! The blocks of a frame, and which pairs of them a step has tiles of.
+ghost use Rattle.std.specs.Prelude.{◌≡◌, ◌≤◌, ◌<◌, ◌*◌, length, map};
+ghost use Rattle.std.specs.List.{range_with_len};
+ghost use Rattle.lj_step.specs.declared.frames.TheConstants.{MAX_ATOMS};
+ghost use Rattle.lj_step.specs.OpenSteps as steps;
+ghost use Rattle.lj_step.specs.Kept.{block_arcs};
+
+use lj_ring::{Arcs, Place, Scale};
+use lj_tile::BLOCK;
+
+/// How many blocks so many atoms have.
+pub(crate) fn blocks(count: usize) -> usize
+    requires { count ≤ MAX_ATOMS }
+    ensures value { result ≡ steps.blocks count }
+    ensures most { result ≤ 64 }
+{
+    count.div_ceil(BLOCK)
+}
+
+/// The places of a block of a frame.
+pub(crate) fn block(frame: &[Place], index: usize) -> &[Place]
+    requires within { index < steps.blocks (length frame.now) }
+    requires most { length frame.now ≤ MAX_ATOMS }
+    ensures { result.now ≡ steps.block frame.now index }
+{
+    let start = BLOCK * index;
+    let end = (start + BLOCK).min(frame.len());
+    &frame[start..end]
+}
+
+/// Whether a step over a frame has a tile of this number, by the arcs of its blocks.
+pub(crate) fn is_tile(number: usize, arcs: &[Arcs], scale: &Scale, frame: &[Place]) -> bool
+    requires within { number < 64 * steps.blocks (length frame.now) }
+    requires most { length frame.now ≤ MAX_ATOMS }
+    requires arcs { arcs.now ≡ map (block_arcs frame.now) (range_with_len 0 (steps.blocks (length frame.now))) }
+    ensures { result ≡ steps.is_tile scale.now frame.now number }
+{
+    let (first, second) = (number / BLOCK, number % BLOCK);
+    second < blocks(frame.len())
+        && first <= second
+        && !is_out_of_reach(first, second, arcs, scale, frame)
+}
+
+/// Whether no pair of atoms of two blocks can interact, by the arcs of the blocks.
+fn is_out_of_reach(
+    first: usize,
+    second: usize,
+    arcs: &[Arcs],
+    scale: &Scale,
+    frame: &[Place],
+) -> bool
+    requires first { first < steps.blocks (length frame.now) }
+    requires second { second < steps.blocks (length frame.now) }
+    requires most { length frame.now ≤ MAX_ATOMS }
+    requires arcs { arcs.now ≡ map (block_arcs frame.now) (range_with_len 0 (steps.blocks (length frame.now))) }
+    ensures { result ≡ steps.is_out_of_reach scale.now frame.now (steps.tile_number first second) }
+{
+    if first == second {
+        block(frame, first).len() == 1
+    } else {
+        scale.reach() <= arcs[first].squared_gap(&arcs[second])
+    }
+}

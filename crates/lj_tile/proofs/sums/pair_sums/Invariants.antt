@@ -1,0 +1,11 @@
+use Rattle.std.proofs.Common.{◌≡◌, ◌<◌, ℕ, length, slice_index_or}
+use Rattle.lj_tile.specs.Pushes.{no_push}
+use Rattle.lj_tile.specs.Rows.{on_first, AreRows}
+use Rattle.lj_tile.proofs.sums.pair_sums.Given as goal
+
+abbrev pub invariant-loop-t : goal.invariant-loop-t
+invariant-loop-t l = record {
+  room : length l.sums.first ≡ 64;
+  done : (k : ℕ) → k < l.t → slice_index_or l.sums.first k no_push ≡ on_first l.task k (length l.task.b);
+  rows : AreRows l.task l.t 0 l.sums.second;
+}
