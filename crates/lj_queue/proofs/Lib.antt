@@ -1,4 +1,0 @@
-pub mod Moves
-pub mod Pops
-pub mod Refusals
-pub mod Settling

@@ -1,4 +1,0 @@
-pub mod Balance
-pub mod Passes
-pub mod Halls
-pub mod Settling
