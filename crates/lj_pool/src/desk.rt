@@ -1,7 +1,7 @@
 //! What lies under the lock of a pool.
 ghost use Rattle.std.specs.Prelude.{◌≡◌, ◌+◌, ◌-◌, ◌≤◌, ◌<◌, ◌↔◌, ℕ, cond, max, nat_eq, nat_lt, Some, None, true, false, IsOk, IsTrue, IfErr, IfNone, IfSome, OnErr, OnOk};
 ghost use Rattle.lj_book.specs.declared.entries.Entry.TheVariants.{Out};
-ghost use Rattle.lj_book.specs.Held.{at, standing, Fetches, Gives, IsDoneAt, IsOpenAt, Posts, Takes, Withdraws};
+ghost use Rattle.lj_book.specs.Held.{at, standing, Fetches, Gives, HandsBack, IsDoneAt, IsOpenAt, Posts, Takes, Withdraws};
 ghost use Rattle.lj_pool.specs.Refusals.{task_of, IsClosed};
 ghost use Rattle.lj_pool.specs.Desks.{HasRoom, bell_of, due_at};
 
@@ -149,6 +149,24 @@ impl<L: Ledger> Desk<L> {
         }
         let _given = book.counts().given;
         share.credit(results);
+        true
+    }
+
+    /// Hands back a task that was taken, of which the workers are to be told as of one that was posted. Whether it was out;
+    /// it is not where its user's entries were withdrawn.
+    pub(crate) fn hand_back(&mut self, key: Key, task: &Task) -> bool
+        ensures was_out { IsTrue result ↔ (at self.old.book key ≡ Some (Out task.now)) }
+        ensures hands_back { result ≡ true → HandsBack self.old.book self.new.book key task.now }
+        ensures untold { result ≡ true → 1 ≤ self.new.untold }
+        ensures unchanged { result ≡ false → self.new.book ≡ self.old.book }
+        ensures not_told { result ≡ false → self.new.untold ≡ self.old.untold }
+        ensures due { self.new.due ≡ self.old.due }
+        ensures stays { self.new.closed ≡ self.old.closed }
+    {
+        if self.book.hand_back(key, task).is_err() {
+            return false;
+        }
+        self.untold = self.untold.saturating_add(1);
         true
     }
 

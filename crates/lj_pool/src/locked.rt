@@ -173,6 +173,17 @@ impl<L: Ledger> LockPool<L> {
         taken
     }
 
+    /// Hands a task back, which is then open again, and tells workers that wait of it. Then takes an open task, which may
+    /// be the same, and waits for one. None where the pool is closed.
+    pub(crate) fn hand_back<R: Wait>(&self, rt: &R, key: Key, task: Task) -> Option<(Key, Task)> {
+        let mut desk = self.desk.lock(rt);
+        desk.hand_back(key, &task);
+        let tasks = desk.tells(1);
+        drop(desk);
+        self.tell(tasks);
+        self.take(rt)
+    }
+
     /// Takes an open task, and waits for one. None where the pool is closed.
     pub(crate) fn take<R: Wait>(&self, rt: &R) -> Option<(Key, Task)> {
         let mut desk = self.desk.lock(rt);

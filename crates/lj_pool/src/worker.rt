@@ -1,5 +1,6 @@
 //! What a worker of a pool does, and the sum of what all have done.
-ghost use Rattle.std.specs.Prelude.{◌≡◌, ◌≤◌, sum, vec_len};
+ghost use Rattle.std.specs.Prelude.{◌≡◌, ◌≤◌, sum, vec_len, true, ⊤};
+ghost use Rattle.lj_tile.specs.declared.names.TaskName.{TaskName};
 
 use crate::locked::LockPool;
 use crate::share::Share;
@@ -10,16 +11,30 @@ use std::sync::ledger::Ledger;
 
 /// What a worker passes between taking a task and computing it. No lock is held then.
 pub trait Gate {
+    // Which tasks it may send back.
+    ghost sends_back: { Self → TaskName → Type 0 } = { λ _ _. ⊤ };
+
+    /// Called with a task that is to be computed.
     fn between(&self, name: &TaskName);
+
+    /// Whether a task that was taken is handed back, so that it is open again. It is asked before `between`, which is
+    /// not called then.
+    fn back(&self, _name: &TaskName) -> bool
+        ensures { result ≡ true → sends_back self.now _name.now }
+    {
+        false
+    }
 }
 
 /// A gate that stands open.
 impl Gate for () {
+    ghost sends_back = { λ _ _. ⊥ };
+
     fn between(&self, _name: &TaskName) {}
 }
 
-/// Computes tasks of the pool until it is closed. The share that is handed back has been credited each result that was
-/// accepted.
+/// Computes tasks of the pool until it is closed, but those that the gate sends back, which it hands back. The share
+/// that is handed back has been credited each result that was accepted.
 pub fn work<L: Ledger, G: Gate, R: Wait>(
     rt: &R,
     pool: &LockPool<L>,
@@ -35,8 +50,12 @@ pub fn work<L: Ledger, G: Gate, R: Wait>(
         let Some((key, task)) = taken else {
             break;
         };
-        gate.between(task.name());
-        taken = pool.exchange(rt, key, compute(task, table), &mut share);
+        if gate.back(task.name()) {
+            taken = pool.hand_back(rt, key, task);
+        } else {
+            gate.between(task.name());
+            taken = pool.exchange(rt, key, compute(task, table), &mut share);
+        }
     }
     share
 }
