@@ -1,0 +1,4 @@
+pub mod Moves
+pub mod Pops
+pub mod Refusals
+pub mod Settling

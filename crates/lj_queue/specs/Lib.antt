@@ -1,0 +1,4 @@
+pub mod Balance
+pub mod Passes
+pub mod Halls
+pub mod Settling

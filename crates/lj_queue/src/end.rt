@@ -1,0 +1,153 @@
+//! One connection's end of a pool with a queue.
+ghost use Rattle.std.specs.Prelude.{◌≡◌, ◌<◌, true, length, IfErr, IfNone, IfSome, OnErr, OnOk};
+ghost use Rattle.lj_pool.specs.Refusals.{task_of, IsClosed};
+ghost use Rattle.lj_pool.specs.Seen.{IsHandedOut, IsPosted, SameOwed, StaysClosed, unseen};
+ghost use Rattle.lj_queue.specs.Passes.{pushing, ticket_of};
+
+use crate::pass::{PoolPass, Room};
+use crate::pool::QueuePool;
+use crate::ticket::Ticket;
+use lj_pool::{Account, MAX_OWED, Pool, Refused};
+use lj_tile::{Done, Task};
+use std::marker::Model;
+use std::sync::Wait;
+
+/// So many tasks are posted before workers that wait are told of them, unless a result is fetched.
+const TASKS_AT_ONCE: usize = 16;
+
+/// An end of a pool for one user, with a pass. It keeps a copy of each task that it is owed, and takes no memory.
+#[derive(Drop)]
+pub struct QueueEnd<'p, L: Room, R: Wait> {
+    rt: &'p R,
+    pool: &'p QueuePool<L>,
+    account: Account,
+    pass: PoolPass<L>,
+    number: u64,
+    user: u8,
+    /// How many tasks were posted since the workers were told of any.
+    untold: usize,
+}
+
+impl<'p, L: Room, R: Wait> Model for QueueEnd<'p, L, R> {
+    ghost use Rattle.lj_queue.specs.Passes.{Ending};
+
+    ghost Value = { Ending };
+
+    ghost view = { λ end. record { seen = end.account; pass = end.pass; number = end.number; user = end.user } };
+}
+
+impl<'p, L: Room, R: Wait> QueueEnd<'p, L, R> {
+    /// An end of this number, to which nothing is owed.
+    pub(crate) fn new(
+        rt: &'p R,
+        pool: &'p QueuePool<L>,
+        pass: PoolPass<L>,
+        number: u64,
+        user: u8,
+    ) -> QueueEnd<'p, L, R>
+        ensures seen { result.seen ≡ unseen }
+        ensures pass { result.pass ≡ pass }
+        ensures number { result.number ≡ number }
+        ensures user { result.user ≡ user }
+    {
+        QueueEnd {
+            rt,
+            pool,
+            account: Account::new(),
+            pass,
+            number,
+            user,
+            untold: 0,
+        }
+    }
+
+    /// Gives its pass back. Results that it is owed may still come for its user.
+    pub fn finish(self) -> PoolPass<L>
+        ensures { result ≡ self.entry.pass }
+    {
+        self.pool.tell(self.rt, self.untold);
+        self.pass
+    }
+}
+
+impl<'p, L: Room, R: Wait> Pool for QueueEnd<'p, L, R> {
+    ghost seen = { λ end. end.seen };
+
+    ghost for_others = { λ _ _. 0 };
+
+    fn post(&mut self, task: Task, wait: bool) -> Result<(), Refused>
+        requires room { length self.old.seen.owed < MAX_OWED }
+        ensures pushed { OnOk result (self.new.pass ≡ pushing self.old.pass (ticket_of self.old.number self.old.user task)) }
+        ensures nothing { OnErr result (self.new.pass ≡ self.old.pass) }
+        ensures number { self.new.number ≡ self.old.number }
+        ensures user { self.new.user ≡ self.old.user }
+        ensures posted { OnOk result (IsPosted task self.old.seen self.new.seen) }
+        ensures handed_back { IfErr result (λ refused. task_of refused ≡ task) }
+        ensures unchanged { OnErr result (SameOwed self.old.seen self.new.seen) }
+        ensures full { wait ≡ true → IfErr result IsClosed }
+        ensures closed { IfErr result (λ refused. IsClosed refused → self.new.seen.closed ≡ true) }
+        ensures stays_closed { StaysClosed self.old.seen self.new.seen }
+    {
+        self.account.post(&task);
+        let ticket = Ticket {
+            end: self.number,
+            user: self.user,
+            task,
+        };
+        let posted = self.pool.post(self.rt, &mut self.pass, ticket, wait);
+        match &posted {
+            Ok(()) => self.count(),
+            Err(Refused::Full(_)) => self.account.take_back(),
+            Err(Refused::Closed(_)) => {
+                self.account.take_back();
+                self.account.close();
+            }
+        }
+        posted
+    }
+
+    fn fetch(&mut self, _user: u8) -> Option<Done>
+        ensures pass { self.new.pass ≡ self.old.pass }
+        ensures number { self.new.number ≡ self.old.number }
+        ensures user { self.new.user ≡ self.old.user }
+        ensures handed_out { IfSome result (λ done. IsHandedOut done self.old.seen self.new.seen) }
+        ensures unchanged { IfNone result (SameOwed self.old.seen self.new.seen) }
+        ensures closed { IfNone result (self.new.seen.closed ≡ true) }
+        ensures stays_closed { StaysClosed self.old.seen self.new.seen }
+    {
+        self.pool.tell(self.rt, self.untold);
+        self.untold = 0;
+        let owed = self.account.owed();
+        let fetched = self.pool.fetch(self.rt, self.user, owed);
+        match &fetched {
+            Some(done) => self.account.count(done.task()),
+            None => self.account.close(),
+        }
+        fetched
+    }
+
+    fn owed(&self) -> usize {
+        self.account.owed()
+    }
+
+    fn full(&self) -> bool {
+        self.account.is_full()
+    }
+
+    fn closed(&self) -> bool {
+        self.account.closed()
+    }
+}
+
+impl<'p, L: Room, R: Wait> QueueEnd<'p, L, R> {
+    /// Counts a task that was posted, and tells workers that wait once there are enough of them.
+    fn count(&mut self)
+        ensures { self.new ≡ self.old }
+    {
+        self.untold = self.untold.saturating_add(1);
+        if self.untold >= TASKS_AT_ONCE {
+            self.pool.tell(self.rt, self.untold);
+            self.untold = 0;
+        }
+    }
+}

@@ -1,0 +1,125 @@
+//! Passes of the queue of open tasks, each counted.
+ghost use Rattle.std.specs.Prelude.{◌≡◌, ◌-◌, ◌^◌, ℕ, length, OnErr, OnOk, IfErr, IfNone, IfSome};
+ghost use Rattle.atomic_table.specs.Seated.{TableId};
+ghost use Rattle.lj_queue.specs.Passes.{IsCounted, pushing, popping, trace_of};
+
+use crate::rule::{OpenTasks, Popped, Pushed, TaskPass};
+use crate::ticket::Ticket;
+use std::marker::{Brand, Model, PhantomData};
+use std::sync::Wait;
+use std::sync::ledger::Ledger;
+
+/// Which pool a pass is of, and how many passes that pool has.
+pub trait Room: Ledger {
+    ghost table: { TableId };
+
+    ghost passes: { ℕ };
+}
+
+impl Room for Brand {
+    ghost use Rattle.std.specs.Prelude.{[]};
+    ghost use Rattle.lj_queue.specs.Passes.{no_table};
+
+    ghost table = { no_table };
+
+    ghost passes = { 0 };
+}
+
+/// What one thread at a time may push and pop by. It counts up to 2^64 - 1 tasks each.
+#[derive(Drop)]
+pub struct PoolPass<L: Room> {
+    pass: TaskPass,
+    number: usize,
+    pushed: u64,
+    popped: u64,
+    of: PhantomData<L>,
+}
+
+impl<L: Room> Model for PoolPass<L> {
+    ghost use Rattle.lj_queue.specs.Passes.{IsCounted, Trace, trace_of};
+
+    ghost Value = { Trace };
+
+    ghost view = { λ p. trace_of p.number p.pass };
+
+    ghost invariant = { λ p. IsCounted L.table p.pass p.pushed p.popped };
+}
+
+impl<L: Room> PoolPass<L> {
+    /// A pass that has pushed and popped nothing.
+    pub(crate) fn new(pass: TaskPass, number: usize) -> PoolPass<L>
+        requires { IsCounted L.table pass 0 0 }
+        ensures { result ≡ trace_of number pass }
+    {
+        PoolPass {
+            pass,
+            number,
+            pushed: 0,
+            popped: 0,
+            of: PhantomData,
+        }
+    }
+
+    /// Its number: which of its pool's passes it is, from 0.
+    pub fn number(&self) -> usize
+        ensures { result ≡ self.now.number }
+    {
+        self.number
+    }
+
+    /// How many tasks it has pushed.
+    pub fn pushed(&self) -> u64
+        ensures { result ≡ length self.now.pushed }
+    {
+        self.pushed
+    }
+
+    /// How many tasks it has popped.
+    pub fn popped(&self) -> u64
+        ensures { result ≡ length self.now.popped }
+    {
+        self.popped
+    }
+
+    /// Pushes a ticket, unless there is no room or it has pushed 2^64 - 1.
+    pub(crate) fn push<R: Wait>(
+        &mut self,
+        rt: &R,
+        queue: &OpenTasks,
+        ticket: Ticket,
+    ) -> Result<(), Ticket>
+        requires { queue.now.table.shared.table_id ≡ L.table }
+        ensures pushed { OnOk result (self.new ≡ pushing self.old ticket) }
+        ensures unchanged { OnErr result (self.new ≡ self.old) }
+        ensures handed_back { IfErr result (λ refused. refused ≡ ticket) }
+    {
+        if self.pushed == u64::MAX {
+            return Err(ticket);
+        }
+        queue.push_as::<Pushed, R>(rt, &mut self.pass, ticket)?;
+        self.pushed += 1;
+        Ok(())
+    }
+
+    /// Pops a ticket. None where there is none, or it has popped 2^64 - 1.
+    pub(crate) fn pop<R: Wait>(&mut self, rt: &R, queue: &OpenTasks) -> Option<Ticket>
+        requires { queue.now.table.shared.table_id ≡ L.table }
+        ensures popped { IfSome result (λ ticket. self.new ≡ popping self.old ticket) }
+        ensures unchanged { IfNone result (self.new ≡ self.old) }
+    {
+        if self.popped == u64::MAX {
+            return None;
+        }
+        let ticket = queue.pop_as::<Popped, R>(rt, &mut self.pass)?;
+        self.popped += 1;
+        Some(ticket)
+    }
+
+    /// The pass of the queue.
+    pub(crate) fn into_pass(self) -> TaskPass
+        ensures pass { trace_of self.number result ≡ self }
+        ensures counted { IsCounted L.table result (length self.pushed) (length self.popped) }
+    {
+        self.pass
+    }
+}

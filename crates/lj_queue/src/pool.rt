@@ -1,0 +1,349 @@
+//! A pool whose open tasks lie in a queue that no lock guards, and whose results lie under a lock.
+ghost use Rattle.std.specs.Prelude.{◌≡◌, ◌+◌, ◌≤◌, ◌<◌, true, ℕ, length, vec_len, slice_index_or, IfErr, IfNone, IfOk, IfSome, OnErr, OnOk};
+ghost use Rattle.std.specs.List.{All};
+ghost use Rattle.lj_pool.specs.Seen.{unseen};
+ghost use Rattle.lj_pool.specs.Refusals.{task_of, IsClosed};
+ghost use Rattle.lj_queue.specs.Passes.{IsRest, pushing, popping, untouched};
+
+use crate::end::QueueEnd;
+use crate::hall::{Hall, USERS, place_of};
+use crate::pass::{PoolPass, Room};
+use crate::rest::{Rest, passes_of};
+use crate::rule::{OpenTasks, TaskPass};
+use crate::ticket::Ticket;
+use lj_pool::{Refused, Share};
+use lj_tile::Done;
+use std::alloc::{AllocError, Global};
+use std::array;
+use std::marker::Model;
+use std::sync::atomic::{AtomicBool, AtomicUsize, Ordering};
+use std::sync::ledger::{self, Blank};
+use std::sync::{Condvar, Mutex, Wait};
+
+/// The most tasks that are open at once.
+pub const MAX_OPEN: usize = 1024;
+
+/// The number of passes for connections. Those of the workers come after them.
+pub const CONNECTIONS: usize = 64;
+
+/// An end that waits is told once so many results of its user were kept, or all that it is owed.
+const RESULTS_AT_ONCE: usize = 16;
+
+/// What a pool is made of: an empty queue, its first pass and a blank ledger.
+#[derive(Drop)]
+pub struct QueueBlank {
+    queue: OpenTasks,
+    first: TaskPass,
+    ledger: Blank,
+}
+
+impl Model for QueueBlank {
+    ghost use Rattle.lj_queue.specs.Passes.{IsRest, Names};
+    ghost use Rattle.lj_queue.specs.declared.pool.TheConstants.{MAX_OPEN};
+    ghost use Rattle.std.specs.Prelude.{◌≡◌};
+    ghost use Rattle.crossbeam_queue.specs.Passes.{ruled_capacity};
+
+    ghost Value = { Names };
+
+    ghost view = { λ b. record { name = b.ledger.name; parts = b.ledger.parts; table = b.queue.table.shared.table_id } };
+
+    ghost invariant = { λ b. IsRest b.queue.table.shared.table_id 0 b.first × (ruled_capacity b.queue ≡ MAX_OPEN) };
+}
+
+impl QueueBlank {
+    /// What a pool of so many workers is made of.
+    ///
+    /// # Errors
+    /// Out of memory.
+    pub fn new(alloc: Global, workers: u64) -> Result<QueueBlank, AllocError>
+        ensures { IfOk result (λ blank. blank.parts ≡ workers) }
+    {
+        let (queue, first) = OpenTasks::ruled(alloc, MAX_OPEN)?;
+        Ok(QueueBlank {
+            queue,
+            first,
+            ledger: Blank::new(workers),
+        })
+    }
+}
+
+/// Open tasks in a queue, and results in lists of their users behind a lock. Its ends post tasks and fetch results, each
+/// from a thread of its own, and workers compute them (`work_queue`). The lock is never held while a task is computed.
+#[derive(Drop)]
+pub struct QueuePool<L: Room> {
+    pub(crate) queue: OpenTasks,
+    /// What the passes were cut from.
+    pub(crate) rest: Mutex<Rest<L>>,
+    hall: Mutex<Hall<L>>,
+    /// A task was posted. Workers wait for it.
+    posted: Condvar,
+    /// A task was taken while posters waited.
+    room: Condvar,
+    /// Results were kept, at each bell to the users who share it. Their ends wait for it.
+    given: [Condvar; USERS],
+    /// How many workers wait for a task.
+    idle: AtomicUsize,
+    /// How many ends wait for room.
+    crowded: AtomicUsize,
+    /// Whether the pool is closed, as the hall says too.
+    shut: AtomicBool,
+    ghost is_of: { queue.table.shared.table_id ≡ L.table },
+}
+
+impl<L: Room> QueuePool<L> {
+    /// An empty pool, with its passes, of which the first 64 are for connections and the others for the workers, and a
+    /// share for each worker.
+    ///
+    /// # Errors
+    /// Out of memory.
+    pub fn new(
+        alloc: Global,
+        blank: QueueBlank,
+        workers: usize,
+    ) -> Result<(QueuePool<L>, Vec<PoolPass<L>>, Vec<Share<L>>), AllocError>
+        requires name { blank.name ≡ L.name }
+        requires parts { blank.parts ≡ L.parts }
+        requires one_each { blank.parts ≡ workers }
+        requires table { blank.table ≡ L.table }
+        requires passes { workers + CONNECTIONS ≡ L.passes }
+        ensures passes { IfOk result (λ made. vec_len made.1 ≡ L.passes) }
+        ensures numbered { IfOk result (λ made. (i : ℕ) → i < L.passes → slice_index_or made.1.items i (untouched 0) ≡ untouched i) }
+        ensures one_each { IfOk result (λ made. vec_len made.2 ≡ workers) }
+        ensures nothing { IfOk result (λ made. All (λ count. count ≡ 0) made.2.items) }
+    {
+        let QueueBlank {
+            queue,
+            first,
+            ledger,
+        } = blank;
+        let Some(count) = workers.checked_add(CONNECTIONS) else {
+            return Err(AllocError);
+        };
+        let (results, all) = ledger.open::<L>();
+        let shares = shares_of(alloc, all, workers)?;
+        let (passes, rest) = passes_of(alloc, &queue, first, count)?;
+        let pool = QueuePool {
+            queue,
+            rest: Mutex::new(rest),
+            hall: Mutex::new(Hall::new(alloc, results)?),
+            posted: Condvar::new(),
+            room: Condvar::new(),
+            given: array::from_fn(|_| Condvar::new()),
+            idle: AtomicUsize::new(0),
+            crowded: AtomicUsize::new(0),
+            shut: AtomicBool::new(false),
+        };
+        Ok((pool, passes, shares))
+    }
+
+    /// An end of the pool for a user, to which nothing is owed. It comes in place of the user's present one.
+    pub fn end<'p, R: Wait>(&'p self, rt: &'p R, pass: PoolPass<L>, user: u8) -> QueueEnd<'p, L, R>
+        ensures seen { result.seen ≡ unseen }
+        ensures pass { result.pass ≡ pass }
+        ensures user { result.user ≡ user }
+    {
+        let number = self.hall.lock(rt).enter(user);
+        QueueEnd::new(rt, self, pass, number, user)
+    }
+
+    /// Closes the pool: from now on no task is posted or taken and no result fetched.
+    pub fn close<R: Wait>(&self, rt: &R) {
+        self.shut.store(true, Ordering::SeqCst);
+        self.hall.lock(rt).close();
+        self.posted.notify_all();
+        self.room.notify_all();
+        for bell in &self.given {
+            bell.notify_all();
+        }
+    }
+
+    /// Drops the user's results. Its present end is gone: what comes for that is dropped too.
+    pub fn withdraw<R: Wait>(&self, rt: &R, user: u8) {
+        self.hall.lock(rt).withdraw(user);
+    }
+
+    /// Posts a task by a pass. With `wait` it waits while there is no room.
+    pub(crate) fn post<R: Wait>(
+        &self,
+        rt: &R,
+        pass: &mut PoolPass<L>,
+        ticket: Ticket,
+        wait: bool,
+    ) -> Result<(), Refused>
+        ensures pushed { OnOk result (pass.new ≡ pushing pass.old ticket) }
+        ensures nothing { OnErr result (pass.new ≡ pass.old) }
+        ensures handed_back { IfErr result (λ refused. task_of refused ≡ ticket.task) }
+        ensures full { wait ≡ true → IfErr result IsClosed }
+    {
+        if self.shut.load(Ordering::SeqCst) {
+            return Err(Refused::Closed(ticket.task));
+        }
+        match pass.push(rt, &self.queue, ticket) {
+            Ok(()) => Ok(()),
+            Err(refused) if wait => self.post_later(rt, pass, refused),
+            Err(refused) => Err(Refused::Full(refused.task)),
+        }
+    }
+
+    /// Waits for room, and posts a task then.
+    fn post_later<R: Wait>(
+        &self,
+        rt: &R,
+        pass: &mut PoolPass<L>,
+        ticket: Ticket,
+    ) -> Result<(), Refused>
+        ensures pushed { OnOk result (pass.new ≡ pushing pass.old ticket) }
+        ensures nothing { OnErr result (pass.new ≡ pass.old) }
+        ensures handed_back { IfErr result (λ refused. task_of refused ≡ ticket.task) }
+        ensures closed { IfErr result IsClosed }
+    {
+        let mut ticket = ticket;
+        let mut hall = self.hall.lock(rt);
+        self.crowded.fetch_add(1, Ordering::SeqCst);
+        for _ in rt.forever() {
+            if hall.is_closed() {
+                self.crowded.fetch_sub(1, Ordering::SeqCst);
+                return Err(Refused::Closed(ticket.task));
+            }
+            match pass.push(rt, &self.queue, ticket) {
+                Ok(()) => {
+                    self.crowded.fetch_sub(1, Ordering::SeqCst);
+                    return Ok(());
+                }
+                Err(refused) => ticket = refused,
+            }
+            self.posted.notify_all();
+            hall = self.room.wait(rt, hall);
+        }
+        unreachable!()
+    }
+
+    /// Tells workers that wait that so many tasks were posted.
+    pub(crate) fn tell<R: Wait>(&self, rt: &R, tasks: usize) {
+        if tasks == 0 || self.idle.load(Ordering::SeqCst) == 0 {
+            return;
+        }
+        drop(self.hall.lock(rt));
+        if tasks == 1 {
+            self.posted.notify_one();
+        } else {
+            self.posted.notify_all();
+        }
+    }
+
+    /// Takes an open task by a pass, and waits for one. None where the pool is closed.
+    pub(crate) fn take<R: Wait>(&self, rt: &R, pass: &mut PoolPass<L>) -> Option<Ticket>
+        ensures popped { IfSome result (λ ticket. pass.new ≡ popping pass.old ticket) }
+        ensures nothing { IfNone result (pass.new ≡ pass.old) }
+    {
+        if self.shut.load(Ordering::SeqCst) {
+            return None;
+        }
+        let taken = match pass.pop(rt, &self.queue) {
+            Some(ticket) => Some(ticket),
+            None => self.take_later(rt, pass),
+        };
+        if self.crowded.load(Ordering::SeqCst) > 0 {
+            drop(self.hall.lock(rt));
+            self.room.notify_all();
+        }
+        taken
+    }
+
+    /// Waits for an open task, and takes it. None where the pool is closed.
+    fn take_later<R: Wait>(&self, rt: &R, pass: &mut PoolPass<L>) -> Option<Ticket>
+        ensures popped { IfSome result (λ ticket. pass.new ≡ popping pass.old ticket) }
+        ensures nothing { IfNone result (pass.new ≡ pass.old) }
+    {
+        let mut hall = self.hall.lock(rt);
+        self.idle.fetch_add(1, Ordering::SeqCst);
+        for _ in rt.forever() {
+            if hall.is_closed() {
+                self.idle.fetch_sub(1, Ordering::SeqCst);
+                return None;
+            }
+            let taken = pass.pop(rt, &self.queue);
+            if taken.is_some() {
+                self.idle.fetch_sub(1, Ordering::SeqCst);
+                return taken;
+            }
+            hall = self.posted.wait(rt, hall);
+        }
+        unreachable!()
+    }
+
+    /// Hands a ticket back by the pass that popped it, and tells a worker that waits.
+    ///
+    /// # Errors
+    /// The ticket, where there is no room for it.
+    pub(crate) fn hand_back<R: Wait>(
+        &self,
+        rt: &R,
+        pass: &mut PoolPass<L>,
+        ticket: Ticket,
+    ) -> Result<(), Ticket>
+        ensures pushed { OnOk result (pass.new ≡ pushing pass.old ticket) }
+        ensures unchanged { OnErr result (pass.new ≡ pass.old) }
+        ensures refused { IfErr result (λ refused. refused ≡ ticket) }
+    {
+        pass.push(rt, &self.queue, ticket)?;
+        self.tell(rt, 1);
+        Ok(())
+    }
+
+    /// Gives the result of a task that an end posted for its user. It is kept and credited to the share where that end
+    /// is present and there is room for it, and is dropped elsewhere.
+    pub(crate) fn give<R: Wait>(&self, rt: &R, end: u64, user: u8, done: Done, share: &mut Share<L>)
+        ensures never_falls { share.old ≤ share.new }
+        ensures one_at_most { share.new ≤ share.old + 1 }
+    {
+        let mut hall = self.hall.lock(rt);
+        let rings = hall.keep(end, user, done, share) && hall.rings(user);
+        drop(hall);
+        if rings {
+            self.given[place_of(user)].notify_all();
+        }
+    }
+
+    /// Fetches a result of the user, and waits for one. None where the pool is closed. So many are owed to the end that
+    /// asks.
+    pub(crate) fn fetch<R: Wait>(&self, rt: &R, user: u8, owed: usize) -> Option<Done> {
+        let mut hall = self.hall.lock(rt);
+        for _ in rt.forever() {
+            let fetched = hall.fetch(user);
+            if fetched.is_some() || hall.is_closed() {
+                return fetched;
+            }
+            hall.awaits(user, owed.min(RESULTS_AT_ONCE));
+            hall = self.given[place_of(user)].wait(rt, hall);
+        }
+        unreachable!()
+    }
+
+    /// How many results were given, which is what all parts of the ledger have together.
+    pub(crate) fn audited<R: Wait>(&self, rt: &R, all: &mut ledger::Share<L>) -> u64
+        requires { all.old.parts ≡ L.parts }
+        ensures { result ≡ all.old.amount }
+    {
+        self.hall.lock(rt).audited(all)
+    }
+}
+
+/// A share for each worker.
+fn shares_of<L: Room>(
+    alloc: Global,
+    all: ledger::Share<L>,
+    workers: usize,
+) -> Result<Vec<Share<L>>, AllocError>
+    requires parts { all.parts ≡ workers }
+    requires nothing { all.amount ≡ 0 }
+    ensures one_each { IfOk result (λ shares. vec_len shares ≡ workers) }
+    ensures nothing { IfOk result (λ shares. All (λ count. count ≡ 0) shares.items) }
+{
+    let mut all = all;
+    let mut shares = Vec::with_capacity(alloc, workers)?;
+    for _ in 0..workers {
+        shares.push(Share::new(all.split_off(1, 0)))?;
+    }
+    Ok(shares)
+}

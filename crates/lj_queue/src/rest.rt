@@ -1,0 +1,52 @@
+//! What the passes of a pool are cut from.
+ghost use Rattle.std.specs.Prelude.{◌≡◌, ◌+◌, ◌-◌, ◌<◌, ◌^◌, ℕ, [], vec_len, slice_index_or, IfOk};
+ghost use Rattle.lj_queue.specs.Passes.{IsOf, IsRest, IsCounted, untouched};
+
+use crate::pass::{PoolPass, Room};
+use crate::rule::{Cut, OpenTasks, TaskPass};
+use std::alloc::{AllocError, Global};
+use std::marker::PhantomData;
+
+/// The pass that keeps the parts which no pass of the pool has.
+#[derive(Drop)]
+pub(crate) struct Rest<L: Room> {
+    pass: TaskPass,
+    of: PhantomData<L>,
+    ghost is_rest: { IsRest L.table L.passes pass },
+}
+
+impl<L: Room> Rest<L> {
+    /// The pass that keeps those parts.
+    pub(crate) fn into_pass(self) -> TaskPass
+        ensures { IsRest L.table L.passes result }
+    {
+        self.pass
+    }
+}
+
+/// The passes of a pool, each with its number, and what is left of the first one.
+pub(crate) fn passes_of<L: Room>(
+    alloc: Global,
+    queue: &OpenTasks,
+    first: TaskPass,
+    count: usize,
+) -> Result<(Vec<PoolPass<L>>, Rest<L>), AllocError>
+    requires table { queue.now.table.shared.table_id ≡ L.table }
+    requires first { IsRest L.table 0 first }
+    requires count { count ≡ L.passes }
+    ensures count { IfOk result (λ made. vec_len made.0 ≡ L.passes) }
+    ensures numbered { IfOk result (λ made. (i : ℕ) → i < L.passes → slice_index_or made.0.items i (untouched 0) ≡ untouched i) }
+{
+    let mut first = first;
+    let mut passes = Vec::with_capacity(alloc, count)?;
+    for number in 0..count {
+        passes.push(PoolPass::new(queue.another::<Cut>(&mut first), number))?;
+    }
+    Ok((
+        passes,
+        Rest {
+            pass: first,
+            of: PhantomData,
+        },
+    ))
+}

@@ -1,0 +1,41 @@
+//! What the passes of a pool pushed and popped, and what its queue still holds.
+ghost use Rattle.std.specs.Prelude.{◌≡◌, ◌+◌, vec_len};
+ghost use Rattle.lj_queue.specs.Settling.{pushed_by, popped_by, LeavesOf};
+
+use crate::pass::{PoolPass, Room};
+use crate::pool::QueuePool;
+use crate::rule::{Cut, Total};
+use std::sync::Wait;
+
+/// How many tasks were pushed, how many were popped, and how many are left in the queue.
+#[derive(Clone, Copy, PartialEq, Eq, Debug)]
+pub struct Settled {
+    pub pushed: u128,
+    pub popped: u128,
+    pub left: u64,
+}
+
+impl<L: Room> QueuePool<L> {
+    /// Takes all passes of the pool back, and counts what they pushed and popped and what is left in the queue.
+    pub fn settle<R: Wait>(self, rt: &R, passes: Vec<PoolPass<L>>) -> Settled
+        requires all { vec_len passes ≡ L.passes }
+        ensures pushed { result.pushed ≡ pushed_by passes.items }
+        ensures popped { result.popped ≡ popped_by passes.items }
+        ensures left { result.pushed ≡ result.popped + result.left }
+        ensures same { LeavesOf passes.items result.left }
+    {
+        let mut all = self.rest.into_inner().into_pass();
+        let mut settled = Settled {
+            pushed: 0,
+            popped: 0,
+            left: 0,
+        };
+        for pass in passes {
+            settled.pushed += u128::from(pass.pushed());
+            settled.popped += u128::from(pass.popped());
+            self.queue.absorb::<Cut>(&mut all, pass.into_pass());
+        }
+        settled.left = self.queue.len_as::<Total, R>(rt, &mut all) as u64;
+        settled
+    }
+}
