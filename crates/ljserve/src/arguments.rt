@@ -1,13 +1,22 @@
 //! The words of the command line.
-ghost use Rattle.std.specs.Prelude.{◌≡◌, IfOk};
+ghost use Rattle.std.specs.Prelude.{◌≡◌, ◌↔◌, codes, IfOk};
+ghost use Rattle.ljserve.specs.declared.hub.Kept.TheVariants.{Queue};
 ghost use Rattle.clap.specs.Values.{kind_of};
 ghost use Rattle.clap.specs.declared.error.kind.ErrorKind.TheVariants.{InvalidValue};
 
+use crate::hub::Kept;
 use crate::limits::{MAX_ATOMS, MAX_BRANCHES, MAX_CONNECTIONS, MAX_SESSIONS, MAX_WORKERS};
 use clap::error::ErrorKind;
 use clap::{Arg, ArgMatches, Command, Error, value_parser};
 use lj_quota::Quota;
 use std::alloc::{AllocError, Global};
+
+/// The words that say where open tasks are kept.
+const LOCK: &str = "lock";
+
+const QUEUE: &str = "queue";
+
+const POOLS: [&str; 2] = [LOCK, QUEUE];
 
 /// What the program is to do.
 #[derive(Debug, Drop)]
@@ -31,6 +40,8 @@ pub struct Service<'a> {
     pub workers: u64,
     /// How many connections are accepted, 1 to 1,000,000.
     pub connections: u64,
+    /// Where the open tasks are kept.
+    pub kept: Kept,
 }
 
 /// What the words of the command line ask for. The first word is the program's name.
@@ -74,7 +85,7 @@ pub fn no_text(alloc: Global) -> Result<Error, AllocError>
 
 fn program<'a>(alloc: Global) -> Result<Command<'a>, AllocError> {
     Command::new(alloc, "ljserve")
-        .version("0.1.0")
+        .version("1.0.0")
         .about(
             "Runs simulations of Lennard-Jones atoms that go back exactly. With no word: the same as run",
         )
@@ -125,6 +136,14 @@ fn serve_command<'a>(alloc: Global) -> Result<Command<'a>, AllocError> {
             required(alloc, "connections", "N")
                 .value_parser(value_parser!(u64).range(1..=MAX_CONNECTIONS as i64))
                 .help("How many connections are accepted before the server ends, 1 to 1000000"),
+        )?
+        .arg(
+            Arg::new(alloc, "pool")
+                .long("pool")
+                .value_name("KIND")
+                .value_parser(POOLS.as_slice())
+                .default_value(LOCK)
+                .help("Where open tasks are kept, in a book behind a lock or in a queue"),
         )
 }
 
@@ -151,7 +170,19 @@ fn service_of<'a>(matches: &ArgMatches<'a>) -> Option<Service<'a>> {
         users: matches.get_str("users")?,
         workers: matches.get_one("workers")?,
         connections: matches.get_one("connections")?,
+        kept: kept_as(matches.get_str("pool")?),
     })
+}
+
+/// Where tasks are kept that are kept as this word says, which is one of `POOLS`.
+fn kept_as(word: &str) -> Kept
+    ensures { (result ≡ Queue) ↔ (word.now ≡ codes "queue") }
+{
+    if word == QUEUE {
+        Kept::Queue
+    } else {
+        Kept::Lock
+    }
 }
 
 fn quota(matches: &ArgMatches<'_>) -> Quota {

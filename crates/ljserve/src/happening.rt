@@ -1,9 +1,12 @@
 //! Events as the lines of a schedule give them.
-ghost use Rattle.std.specs.Prelude.{◌≤◌, IfSome};
+ghost use Rattle.std.specs.Prelude.{◌≡◌, ◌≤◌, IfSome};
+ghost use Rattle.lj_session.specs.declared.body.LoadBody.TheVariants.{Lost};
+ghost use Rattle.lj_wire.specs.Commands.{item_with};
 
 use lj_access::{Name, Token};
 use lj_fixed::parse_number;
-use lj_wire::Words;
+use lj_session::LoadBody;
+use lj_wire::{Fault, Item, Words, parse_command};
 use lj_world::{Event, MAX_CONNECTIONS, MAX_WORKERS};
 use lj_xyz::split_word;
 
@@ -37,6 +40,25 @@ pub fn parse_arrival(words: &[u8]) -> Option<(u8, &[u8])> {
     let (connection, rest) = split_word(words)?;
     let (_blank, line) = rest.split_first()?;
     Some((parse_numbered(connection, MAX_CONNECTIONS)?, line))
+}
+
+/// The arrival of a LOAD whose body was lost for want of memory. None where another line follows the connection.
+pub fn parse_loss(words: &[u8]) -> Option<Event> {
+    let (connection, line) = parse_arrival(words)?;
+    let item = lost_load(line)?;
+    Some(Event::Arrive { connection, item })
+}
+
+/// The item of a LOAD line with a count, whose body was lost for want of memory. None of another line.
+fn lost_load(line: &[u8]) -> Option<Item>
+    ensures lost { IfSome result (λ item. item ≡ item_with line.now Lost) }
+{
+    let (word, _) = split_word(line)?;
+    let item = parse_command(line);
+    if word != b"LOAD".as_slice() || matches!(&item, Item::Bad(Fault::Line) | Item::Last(_)) {
+        return None;
+    }
+    Some(item.with_body(LoadBody::Lost))
 }
 
 fn parse_hello(mut words: Words) -> Option<Event> {

@@ -12,7 +12,10 @@ mod door;
 mod ends;
 mod fault;
 mod happening;
+mod hub;
 mod limits;
+mod lock_hub;
+mod queue_hub;
 mod replay;
 mod run;
 mod schedule;
@@ -93,6 +96,7 @@ where
         users,
         workers,
         connections,
+        kept,
     } = service;
     let bytes = read_file(rt, users, Fault::Serve(ServeFault::Memory))?;
     let users = read_users(rt.alloc(), bytes.as_slice()).map_err(ServeFault::from)?;
@@ -104,6 +108,7 @@ where
         users,
         workers as usize,
         connections,
+        kept,
     )
     .map_err(ServeFault::from)?;
     println!(rt; "served {connections} connections, {tiles} tiles").map_err(|_| ServeFault::Write)?;

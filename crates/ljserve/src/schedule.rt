@@ -3,7 +3,7 @@ ghost use Rattle.std.specs.Prelude.{◌≤◌, ◌<◌, length, IfOk};
 ghost use Rattle.ljserve.specs.Named.{AreUsers};
 
 use crate::fault::{LineFault, ScheduleFault};
-use crate::happening::{parse_arrival, parse_event};
+use crate::happening::{parse_arrival, parse_event, parse_loss};
 use crate::text::{first_line, line_after, line_after_all};
 use crate::users::Users;
 use lj_access::User;
@@ -93,8 +93,12 @@ impl Draft {
         if verb == b"arrive".as_slice() {
             return self.arrive(rest, after);
         }
-        let event = parse_event(verb, Words::new(rest)).ok_or(LineFault::Form)?;
-        self.events.push(event)?;
+        let event = if verb == b"lost".as_slice() {
+            parse_loss(rest)
+        } else {
+            parse_event(verb, Words::new(rest))
+        };
+        self.events.push(event.ok_or(LineFault::Form)?)?;
         Ok(0)
     }
 

@@ -1,13 +1,14 @@
 //! A server: threads of workers, and one thread for each connection.
-ghost use Rattle.std.specs.Prelude.{◌≡◌, ◌≤◌, length};
+ghost use Rattle.std.specs.Prelude.{◌≡◌, ◌+◌, ◌≤◌, length};
 ghost use Rattle.ljserve.specs.Named.{AreUsers};
 
-use crate::door::Door;
-use crate::seats::{MAX_OPEN, Seats};
+use crate::hub::{Hub, Kept};
+use crate::lock_hub::LockHub;
+use crate::queue_hub::QueueHub;
+use crate::seats::MAX_OPEN;
 use crate::visit::Server;
 use lj_access::{Directory, User};
-use lj_pool::{LockPool, Share, gather, work};
-use lj_table::Table;
+use lj_queue::{CONNECTIONS, QueueBlank, Room};
 use lj_world::OutOfMemory;
 use log::{Log, info};
 use std::alloc::Global;
@@ -23,9 +24,9 @@ use std::time::Duration;
 /// How long nothing is accepted after a connection that could not be, so that descriptors or memory may become free.
 const PAUSE_MILLIS: u64 = 100;
 
-/// Serves these users on a listener, with so many workers. Each connection is served in a thread of its own, at most 64
-/// at once; one more is closed without a byte. After `connections`, with those that were closed so, no more are
-/// accepted. Answers, once all have ended, how many tiles were computed for them.
+/// Serves these users on a listener, with so many workers and the tasks kept so. Each connection is served in a thread of
+/// its own, at most 64 at once; one more is closed without a byte. After `connections`, with those that were closed so,
+/// no more are accepted. Answers, once all have ended, how many tiles were computed for them.
 ///
 /// # Errors
 /// Out of memory before anything is accepted, or no thread for a worker.
@@ -36,71 +37,95 @@ pub fn serve_on<R: Threads + Wait + Clock + Log + Sync>(
     users: Vec<User>,
     workers: usize,
     connections: u64,
+    kept: Kept,
 ) -> Result<u64, OutOfMemory>
-    requires users { AreUsers users.items }
-    requires some { 1 ≤ length users.items }
-{
-    let blank = Blank::new(workers as u64);
-    serve_as::<Brand, R>(rt, alloc, blank, listener, users, workers, connections)
-}
-
-fn serve_as<L: Ledger + Send + Sync, R: Threads + Wait + Clock + Log + Sync>(
-    rt: &R,
-    alloc: Global,
-    blank: Blank,
-    listener: &TcpListener,
-    users: Vec<User>,
-    workers: usize,
-    connections: u64,
-) -> Result<u64, OutOfMemory>
-    requires name { blank.name ≡ L.name }
-    requires parts { blank.parts ≡ L.parts }
-    requires one_each { blank.parts ≡ workers }
     requires users { AreUsers users.items }
     requires some { 1 ≤ length users.items }
 {
     let directory = Directory::new(alloc, users)?;
-    let (pool, shares) = LockPool::<L>::new(alloc, blank, workers)?;
-    let server = Server {
-        alloc,
-        door: Door::new(directory),
-        pool,
-        seats: Seats::new(),
-        table: Table::new(),
+    let listening = Listening {
+        listener,
+        connections,
     };
-    let shares = run_workers(rt, &server, listener, shares, connections)?;
-    if shares.len() != workers {
-        return Err(OutOfMemory);
+    match kept {
+        Kept::Lock => {
+            let blank = Blank::new(workers as u64);
+            serve_by_lock::<Brand, R>(rt, alloc, blank, directory, workers, listening)
+        }
+        Kept::Queue => {
+            let blank = QueueBlank::new(alloc, workers as u64)?;
+            serve_by_queue::<Brand, R>(rt, alloc, blank, directory, workers, listening)
+        }
     }
-    Ok(gather(rt, &server.pool, shares))
 }
 
-/// Answers connections while workers compute, and then closes the pool. Answers the workers' shares; where not every
-/// worker has a thread nothing is accepted, and some shares are lost.
-fn run_workers<'a, L: Ledger + Send + Sync, R: Threads + Wait + Clock + Log + Sync>(
-    rt: &'a R,
-    server: &'a Server<L>,
+/// Where connections come from, and how many are accepted.
+#[derive(Clone, Copy)]
+struct Listening<'a> {
     listener: &'a TcpListener,
-    shares: Vec<Share<L>>,
     connections: u64,
-) -> Result<Vec<Share<L>>, OutOfMemory> {
-    let count = shares.len();
+}
+
+fn serve_by_lock<L: Ledger + Send + Sync, R: Threads + Wait + Clock + Log + Sync>(
+    rt: &R,
+    alloc: Global,
+    blank: Blank,
+    directory: Directory,
+    workers: usize,
+    listening: Listening<'_>,
+) -> Result<u64, OutOfMemory>
+    requires name { blank.name ≡ L.name }
+    requires parts { blank.parts ≡ L.parts }
+    requires one_each { blank.parts ≡ workers }
+{
+    let (hub, tools) = LockHub::<L>::new(alloc, blank, workers)?;
+    let server = Server::new(alloc, directory, hub);
+    let tools = run_workers(rt, &server, tools, listening)?;
+    server.hub.gather(rt, workers, tools)
+}
+
+fn serve_by_queue<L: Room + Send + Sync, R: Threads + Wait + Clock + Log + Sync>(
+    rt: &R,
+    alloc: Global,
+    blank: QueueBlank,
+    directory: Directory,
+    workers: usize,
+    listening: Listening<'_>,
+) -> Result<u64, OutOfMemory>
+    requires name { blank.name ≡ L.name }
+    requires parts { blank.parts ≡ L.parts }
+    requires one_each { blank.parts ≡ workers }
+    requires table { blank.table ≡ L.table }
+    requires passes { workers + CONNECTIONS ≡ L.passes }
+{
+    let (hub, tools) = QueueHub::<L>::new(alloc, blank, workers)?;
+    let server = Server::new(alloc, directory, hub);
+    let tools = run_workers(rt, &server, tools, listening)?;
+    server.hub.gather(rt, workers, tools)
+}
+
+/// Answers connections while workers compute, and then closes the pool. Answers the workers' tools; where not every
+/// worker has a thread nothing is accepted, and some tools are lost.
+fn run_workers<'a, H: Hub + Sync, R: Threads + Wait + Clock + Log + Sync>(
+    rt: &'a R,
+    server: &'a Server<H>,
+    tools: Vec<H::Tools>,
+    listening: Listening<'a>,
+) -> Result<Vec<H::Tools>, OutOfMemory> {
+    let count = tools.len();
     let mut threads = Vec::with_capacity(server.alloc, count)?;
     let mut done = Vec::with_capacity(server.alloc, count)?;
     Ok(thread::scope(thread::scope_env(), rt, move |scope| {
-        for share in shares {
-            if let Ok(worker) = scope.spawn(move || work(
-                rt,
-                &server.pool,
-                share,
-                &(),
-                &server.table,
-            )) {
+        for tools in tools {
+            if let Ok(worker) = scope.spawn(move || server
+                .hub
+                .work(rt, tools, &(), &server.table))
+            {
                 let _ = threads.push(worker);
             }
         }
         if threads.len() == count {
-            answer_all(rt, server, listener, connections);
+            answer_all(rt, server, listening);
         }
         server.close(rt);
         for worker in threads {
@@ -111,12 +136,15 @@ fn run_workers<'a, L: Ledger + Send + Sync, R: Threads + Wait + Clock + Log + Sy
 }
 
 /// Accepts so many connections, and returns when all of them have ended.
-fn answer_all<'a, L: Ledger + Send + Sync, R: Threads + Wait + Clock + Log + Sync>(
+fn answer_all<'a, H: Hub + Sync, R: Threads + Wait + Clock + Log + Sync>(
     rt: &'a R,
-    server: &'a Server<L>,
-    listener: &'a TcpListener,
-    connections: u64,
+    server: &'a Server<H>,
+    listening: Listening<'a>,
 ) {
+    let Listening {
+        listener,
+        connections,
+    } = listening;
     thread::scope(thread::scope_env(), rt, move |scope| {
         for number in 0..connections {
             let Ok((stream, from)) = listener.accept() else {

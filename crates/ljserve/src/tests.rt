@@ -3,6 +3,7 @@
 mod closing;
 mod dialogues;
 mod failures;
+mod faults;
 mod limits;
 mod lines;
 mod loads;
@@ -15,6 +16,7 @@ mod results;
 mod schedules;
 mod servers;
 mod serving;
+mod stale;
 mod streams;
 mod tiles;
 mod workers;

@@ -4,9 +4,10 @@ ghost use Rattle.lj_wire.specs.declared.reader.phase.Phase.TheVariants.{Open};
 
 use crate::door::Door;
 use crate::ends::{Commands, Replies};
+use crate::hub::Hub;
 use crate::seats::Seats;
-use lj_access::{Denied, Ticket};
-use lj_pool::{LockPool, Served, serve_lines};
+use lj_access::{Denied, Directory, Ticket};
+use lj_pool::Served;
 use lj_session::{Refusal, UserState};
 use lj_table::Table;
 use lj_tile::Name;
@@ -17,7 +18,6 @@ use std::io::Read;
 use std::net::{Shutdown, TcpStream};
 use std::rt::Clock;
 use std::sync::Wait;
-use std::sync::ledger::Ledger;
 use std::time::Duration;
 
 /// How many seconds a connection that has ended waits for more input at most, which is read and dropped.
@@ -28,10 +28,10 @@ const MAX_LINGERING_READS: usize = 65_536;
 
 /// What the threads of a server share.
 #[derive(Drop)]
-pub struct Server<L: Ledger> {
+pub struct Server<H> {
     pub alloc: Global,
     pub door: Door,
-    pub pool: LockPool<L>,
+    pub hub: H,
     pub seats: Seats,
     pub table: Table,
 }
@@ -42,7 +42,18 @@ type Written<'s> = Replies<&'s TcpStream>;
 /// The lines of a connection.
 type Lines<'r, 's> = LineReader<Commands<'r, &'s TcpStream, &'s TcpStream>>;
 
-impl<L: Ledger> Server<L> {
+impl<H: Hub> Server<H> {
+    /// A server of the users of a directory over a pool, to which nobody is connected.
+    pub fn new(alloc: Global, directory: Directory, hub: H) -> Server<H> {
+        Server {
+            alloc,
+            door: Door::new(directory),
+            hub,
+            seats: Seats::new(),
+            table: Table::new(),
+        }
+    }
+
     /// Answers a connection until it ends.
     pub fn attend<R: Wait + Log + Clock>(&self, rt: &R, number: u64, stream: &TcpStream) {
         let _ = stream.set_nodelay(true);
@@ -124,10 +135,8 @@ impl<L: Ledger> Server<L> {
         requires fresh { lines.old.items ≡ 0 }
         requires at_work { lines.old.phase ≡ Open }
     {
-        let mut end = self.pool.end(rt);
         let mut writer = replies;
-        let (state, served) = serve_lines(state, ticket.user(), lines, &mut writer, &mut end);
-        self.pool.withdraw(rt, ticket.user());
+        let (state, served) = self.hub.serve(rt, state, ticket.user(), lines, &mut writer);
         if let Some(state) = state {
             self.door.leave(rt, ticket, state);
         }
@@ -139,7 +148,7 @@ impl<L: Ledger> Server<L> {
 
     /// From now on no ticket enters, and no task is computed.
     pub fn close<R: Wait>(&self, rt: &R) {
-        self.pool.close(rt);
+        self.hub.close(rt);
         self.door.close(rt);
     }
 }

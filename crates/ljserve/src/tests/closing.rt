@@ -1,14 +1,14 @@
 //! A server that is closed while a connection waits for its turn.
-ghost use Rattle.std.specs.Prelude.{◌≡◌};
+ghost use Rattle.std.specs.Prelude.{◌≡◌, ◌+◌};
 
-use super::servers::{Client, HELLO, USERS};
-use crate::door::Door;
-use crate::seats::Seats;
+use super::servers::{Client, HELLO, KINDS, USERS};
+use crate::hub::{Hub, Kept};
+use crate::lock_hub::LockHub;
+use crate::queue_hub::QueueHub;
 use crate::users::read_users;
 use crate::visit::Server;
 use lj_access::Directory;
-use lj_pool::LockPool;
-use lj_table::Table;
+use lj_queue::{CONNECTIONS, QueueBlank, Room};
 use log::sink::Discard;
 use log::{LevelFilter, Log, Logged};
 use std::alloc::{AllocError, Global};
@@ -23,9 +23,9 @@ use std::thread;
 use std::thread::Threads;
 
 /// Attends to two connections, each in a thread of its own.
-fn attend_two<'a, L: Ledger + Send + Sync, R: Threads + Wait + Clock + Log + Sync>(
+fn attend_two<'a, H: Hub + Sync, R: Threads + Wait + Clock + Log + Sync>(
     rt: &'a R,
-    server: &'a Server<L>,
+    server: &'a Server<H>,
     listener: &'a TcpListener,
 ) {
     thread::scope(thread::scope_env(), rt, move |scope| {
@@ -38,7 +38,7 @@ fn attend_two<'a, L: Ledger + Send + Sync, R: Threads + Wait + Clock + Log + Syn
 }
 
 /// Closes the server while the first connection is let in and the second waits, and then goes on with the first.
-fn close_it<L: Ledger, R: Wait + Abort>(rt: &R, server: &Server<L>, clients: (Client, Client)) {
+fn close_it<H: Hub, R: Wait + Abort>(rt: &R, server: &Server<H>, clients: (Client, Client)) {
     let (mut first, mut second) = clients;
     first.say(rt, HELLO);
     let welcome = b"OK HELLO A\n".as_slice();
@@ -52,7 +52,26 @@ fn close_it<L: Ledger, R: Wait + Abort>(rt: &R, server: &Server<L>, clients: (Cl
     assert_eq!(rt; first.hear(usize::MAX), replies);
 }
 
-fn close_while_one_waits<L: Ledger + Send + Sync, R: Threads + Wait + Clock + Log + Sync + Abort>(
+fn close_while_one_waits<H: Hub + Sync, R: Threads + Wait + Clock + Log + Sync + Abort>(
+    rt: &R,
+    alloc: Global,
+    hub: H,
+    listener: &TcpListener,
+    clients: (Client, Client),
+) -> Result<(), AllocError> {
+    let Ok(users) = read_users(alloc, USERS.as_bytes()) else {
+        return Err(AllocError);
+    };
+    let server = &Server::new(alloc, Directory::new(alloc, users)?, hub);
+    thread::join(
+        rt,
+        move || attend_two(rt, server, listener),
+        move || close_it(rt, server, clients),
+    );
+    Ok(())
+}
+
+fn close_by_lock<L: Ledger + Send + Sync, R: Threads + Wait + Clock + Log + Sync + Abort>(
     rt: &R,
     alloc: Global,
     blank: Blank,
@@ -63,41 +82,51 @@ fn close_while_one_waits<L: Ledger + Send + Sync, R: Threads + Wait + Clock + Lo
     requires parts { blank.parts ≡ L.parts }
     requires one_each { blank.parts ≡ 1 }
 {
-    let Ok(users) = read_users(alloc, USERS.as_bytes()) else {
-        return Err(AllocError);
-    };
-    let (pool, _shares) = LockPool::<L>::new(alloc, blank, 1)?;
-    let server = Server {
-        alloc,
-        door: Door::new(Directory::new(alloc, users)?),
-        pool,
-        seats: Seats::new(),
-        table: Table::new(),
-    };
-    let server = &server;
-    thread::join(
-        rt,
-        move || attend_two(rt, server, listener),
-        move || close_it(rt, server, clients),
-    );
-    Ok(())
+    let (hub, _tools) = LockHub::<L>::new(alloc, blank, 1)?;
+    close_while_one_waits(rt, alloc, hub, listener, clients)
+}
+
+fn close_by_queue<L: Room + Send + Sync, R: Threads + Wait + Clock + Log + Sync + Abort>(
+    rt: &R,
+    alloc: Global,
+    blank: QueueBlank,
+    listener: &TcpListener,
+    clients: (Client, Client),
+) -> Result<(), AllocError>
+    requires name { blank.name ≡ L.name }
+    requires parts { blank.parts ≡ L.parts }
+    requires one_each { blank.parts ≡ 1 }
+    requires table { blank.table ≡ L.table }
+    requires passes { 1 + CONNECTIONS ≡ L.passes }
+{
+    let (hub, _tools) = QueueHub::<L>::new(alloc, blank, 1)?;
+    close_while_one_waits(rt, alloc, hub, listener, clients)
 }
 
 fn close_once(
     rt: &(impl Threads + Wait + Clock + Log + Sync + Abort),
     alloc: Global,
+    kept: Kept,
     listener: &TcpListener,
     clients: (Client, Client),
 ) -> Result<(), AllocError> {
-    close_while_one_waits::<Brand, _>(rt, alloc, Blank::new(1), listener, clients)
+    match kept {
+        Kept::Lock => close_by_lock::<Brand, _>(rt, alloc, Blank::new(1), listener, clients),
+        Kept::Queue => {
+            let blank = QueueBlank::new(alloc, 1)?;
+            close_by_queue::<Brand, _>(rt, alloc, blank, listener, clients)
+        }
+    }
 }
 
 #[test]
 fn a_connection_that_waits_is_closed_without_a_byte(rt: HostRuntime) -> Result<(), Fail> {
-    let listener = TcpListener::bind(&rt, "127.0.0.1:0")?;
-    let address = listener.local_addr()?;
-    let clients = (Client::new(&rt, address), Client::new(&rt, address));
-    let quiet = Logged::new(rt, LevelFilter::Off, Discard);
-    close_once(&quiet, rt.alloc(), &listener, clients)?;
+    for kept in KINDS {
+        let listener = TcpListener::bind(&rt, "127.0.0.1:0")?;
+        let address = listener.local_addr()?;
+        let clients = (Client::new(&rt, address), Client::new(&rt, address));
+        let quiet = Logged::new(rt, LevelFilter::Off, Discard);
+        close_once(&quiet, rt.alloc(), kept, &listener, clients)?;
+    }
     Ok(())
 }

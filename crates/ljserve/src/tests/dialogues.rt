@@ -1,14 +1,8 @@
 //! Worked dialogues: motion and measures, saved simulations, quotas, and how a connection ends.
 
-use super::serving::expect;
+use super::serving::{ONE_BRANCH, expect};
 use lj_pool::Served;
 use lj_quota::Quota;
-
-const ONE_BRANCH: Quota = Quota {
-    sessions: 8,
-    atoms: 16_384,
-    branches: 1,
-};
 
 const ONE_SESSION: Quota = Quota {
     sessions: 1,

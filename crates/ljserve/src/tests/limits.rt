@@ -1,8 +1,8 @@
 //! Lines, bodies and streams at their limits.
 ghost use Rattle.std.specs.Prelude.{◌≤◌};
 
-use super::serving::{Text, expect_parts, serve};
-use super::streams::{Count, Part, Sheet, Stream};
+use super::serving::{Text, expect, expect_parts, serve};
+use super::streams::{Count, Part, Sheet, Stream, Tally};
 use lj_pool::Served;
 use lj_quota::Quota;
 use std::alloc::AllocGlobal;
@@ -60,16 +60,41 @@ fn lines_at_their_limits(rt: HostRuntime) {
     expect_line(&rt, 65_531, b"\r\n", b"ERR 05 LONG\n", Served::Ended);
 }
 
+/// A line of so many letters is to be answered so, and then LIST.
+fn expect_letters(rt: &(impl Abort + AllocGlobal), letters: u64, replies: &[u8], served: Served) {
+    let parts: [Part; 2] = [(b"x", letters), (b"\nLIST\n", 1)];
+    expect_parts(rt, Quota::USUAL, &parts, replies, served);
+}
+
 #[test]
-fn a_line_of_257_letters(rt: HostRuntime) {
-    let parts: [Part; 2] = [(b"x", 257), (b"\nLIST\n", 1)];
-    expect_parts(
+fn lines_of_letters(rt: HostRuntime) {
+    for letters in [257, 65_535] {
+        expect_letters(&rt, letters, b"ERR 02 LINE\nOK LIST 0\n", Served::End);
+    }
+    expect_letters(&rt, 65_536, b"ERR 05 LONG\n", Served::Ended);
+    let parts: [Part; 4] = [(b"x", 255), (b"\r\n", 1), (b"x", 256), (b"\r\n", 1)];
+    let replies = b"ERR 06 COMMAND\nERR 02 LINE\n";
+    expect_parts(&rt, Quota::USUAL, &parts, replies, Served::End);
+}
+
+#[test]
+fn a_count_without_a_session_takes_its_body(rt: HostRuntime) {
+    let replies = "ERR 03 SYNTAX\nOK LIST 0\n";
+    expect(
         &rt,
         Quota::USUAL,
-        &parts,
-        b"ERR 02 LINE\nOK LIST 0\n",
+        "LOAD a 5\nLIST\nLIST\n",
+        replies,
         Served::End,
     );
+}
+
+#[test]
+fn a_body_of_a_byte_too_many_ends_the_connection(rt: HostRuntime) {
+    let input = "LOAD a 256 1 1 rest 1048577\n";
+    expect(&rt, Quota::USUAL, input, "ERR 04 BODY\n", Served::Ended);
+    let parts: [Part; 2] = [(input.as_bytes(), 1), (b"LIST\n", 300_000)];
+    expect_parts(&rt, Quota::USUAL, &parts, b"ERR 04 BODY\n", Served::Ended);
 }
 
 /// A LOAD of one atom whose body has so many bytes is to be answered.
@@ -165,6 +190,18 @@ fn a_million_items_are_enough(rt: HostRuntime) {
     assert_eq!(rt; served, Served::Ended);
     assert_eq!(rt; count.written, 10 * 1_000_000 + 14);
     assert_eq!(rt; count.last.as_slice(), b"ERR 08 ENOUGH\n".as_slice());
+}
+
+#[test]
+fn a_million_empty_lines_are_enough(rt: HostRuntime) {
+    let parts: [Part; 1] = [(b"\n", 2_000_000)];
+    let mut stream = Stream::new(&parts, usize::MAX);
+    let mut tally = Tally::new(b"ERR 03 SYNTAX\n");
+    let served = serve(rt.alloc(), Quota::USUAL, &mut stream, &mut tally);
+    assert_eq!(rt; served, Served::Ended);
+    assert_eq!(rt; tally.times, 1_000_000);
+    assert_eq!(rt; tally.others.as_slice(), b"ERR 08 ENOUGH\n".as_slice());
+    assert_eq!(rt; stream.given(), 1_000_000);
 }
 
 /// The last row of a frame of 4,096 atoms is written.

@@ -115,16 +115,23 @@ impl Pool for OddPool {
 
 const STEPS: &str = "ADVANCE a 1\nADVANCE a 1\nSHOW a 0\nLIST\n";
 
-/// Serves a LOAD and two steps over a pool. Answers how it ended, and whether the state was handed back.
-fn serve_over(alloc: Global, pool: &mut OddPool, output: &mut Output) -> (Served, bool)
+/// Serves a LOAD and commands to a new user over a pool. Answers how it ended, and whether the state was handed back.
+fn serve_over(
+    alloc: Global,
+    user: u8,
+    load: &str,
+    commands: &str,
+    pool: &mut OddPool,
+    output: &mut Output,
+) -> (Served, bool)
     requires { pool.old.held ≡ None }
 {
-    let parts: [Part; 2] = [(LOAD.as_bytes(), 1), (STEPS.as_bytes(), 1)];
+    let parts: [Part; 2] = [(load.as_bytes(), 1), (commands.as_bytes(), 1)];
     let stream = Stream::new(&parts, usize::MAX);
     let mut lines = LineReader::new(alloc, Reading::new(stream));
     let mut sink = Writing::new(Sheet::new(usize::MAX));
     let state = UserState::new(alloc, Quota::USUAL);
-    let (state, served) = serve_lines(state, 3, &mut lines, &mut sink, pool);
+    let (state, served) = serve_lines(state, user, &mut lines, &mut sink, pool);
     *output = sink.into_inner().output;
     (served, state.is_some())
 }
@@ -134,7 +141,14 @@ fn strays_are_dropped(rt: HostRuntime) {
     for copies in [1, 4095] {
         let mut output = Output::new();
         let mut pool = OddPool::new(copies, u64::MAX, u64::MAX);
-        let (served, is_handed_back) = serve_over(rt.alloc(), &mut pool, &mut output);
+        let (served, is_handed_back) = serve_over(
+            rt.alloc(),
+            3,
+            LOAD,
+            STEPS,
+            &mut pool,
+            &mut output,
+        );
         assert_eq!(rt; served, Served::End);
         assert!(rt; is_handed_back);
         let replies =
@@ -148,7 +162,7 @@ fn strays_are_dropped(rt: HostRuntime) {
 fn too_many_strays_end_the_connection(rt: HostRuntime) {
     let mut output = Output::new();
     let mut pool = OddPool::new(4096, u64::MAX, u64::MAX);
-    let (served, is_handed_back) = serve_over(rt.alloc(), &mut pool, &mut output);
+    let (served, is_handed_back) = serve_over(rt.alloc(), 3, LOAD, STEPS, &mut pool, &mut output);
     assert_eq!(rt; served, Served::TooManyStrays);
     assert!(rt; !is_handed_back);
     assert_eq!(rt;
@@ -167,9 +181,78 @@ fn a_closed_pool_ends_the_connection(rt: HostRuntime) {
     ] {
         let mut output = Output::new();
         let mut pool = OddPool::new(0, posts, fetches);
-        let (served, is_handed_back) = serve_over(rt.alloc(), &mut pool, &mut output);
+        let (served, is_handed_back) = serve_over(
+            rt.alloc(),
+            3,
+            LOAD,
+            STEPS,
+            &mut pool,
+            &mut output,
+        );
         assert_eq!(rt; served, Served::PoolClosed);
         assert!(rt; !is_handed_back);
         assert_eq!(rt; output.as_slice(), replies);
     }
+}
+
+/// A pool that hands out so many copies of a result of another user before the first result.
+fn pool_with_strays(alloc: Global, copies: u64) -> OddPool
+    ensures { result.held ≡ None }
+{
+    let mut output = Output::new();
+    let mut pool = OddPool::new(copies, u64::MAX, u64::MAX);
+    serve_over(alloc, 3, LOAD, "ADVANCE a 1\n", &mut pool, &mut output);
+    pool.held = None;
+    pool
+}
+
+#[test]
+fn strays_before_the_first_result_are_dropped(rt: HostRuntime) {
+    let mut output = Output::new();
+    let mut pool = pool_with_strays(rt.alloc(), 4095);
+    let (served, is_handed_back) = serve_over(
+        rt.alloc(),
+        4,
+        LOAD,
+        "ADVANCE a 1\n",
+        &mut pool,
+        &mut output,
+    );
+    assert_eq!(rt; (served, is_handed_back), (Served::End, true));
+    let replies = b"OK LOAD a 0 2\nOK ADVANCE a 1\n".as_slice();
+    assert_eq!(rt; output.as_slice(), replies);
+    assert_eq!(rt; (pool.strays, pool.good), (4095, 2));
+}
+
+#[test]
+fn too_many_strays_before_the_first_result_end_the_connection(rt: HostRuntime) {
+    let mut output = Output::new();
+    let mut pool = pool_with_strays(rt.alloc(), 4096);
+    let (served, is_handed_back) = serve_over(
+        rt.alloc(),
+        4,
+        LOAD,
+        "ADVANCE a 1\n",
+        &mut pool,
+        &mut output,
+    );
+    assert_eq!(rt; (served, is_handed_back), (Served::TooManyStrays, false));
+    assert_eq!(rt; output.as_slice(), b"OK LOAD a 0 2\n".as_slice());
+}
+
+/// A LOAD of one atom that moves.
+const ONE: &str = "LOAD b 256 1 1 pair 44\n1\np\nH -0.0000003 0 0\n1\nc\nH -0.000000001 0 0\n";
+
+/// An atom alone has no task, so that nothing is posted.
+#[test]
+fn an_atom_alone_needs_no_pool(rt: HostRuntime) {
+    let mut output = Output::new();
+    let mut pool = OddPool::new(0, 0, 9);
+    let commands = "SHOW b 0\nADVANCE b 1\nSHOW b 0\n";
+    let (served, is_handed_back) = serve_over(rt.alloc(), 3, ONE, commands, &mut pool, &mut output);
+    assert_eq!(rt; (served, is_handed_back), (Served::End, true));
+    let replies =
+        "OK LOAD b 0 1\nOK SHOW b 0 0 4294967295 0 0\nOK ADVANCE b 1\nOK SHOW b 1 0 4 0 0\n";
+    assert_eq!(rt; output.as_slice(), replies.as_bytes());
+    assert!(rt; !pool.closed);
 }

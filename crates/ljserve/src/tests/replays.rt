@@ -3,6 +3,7 @@
 use super::schedules::{
     ALONE, ASKED_BY_FIRST, ASKED_BY_SECOND, CHAIN, DIMER, GREETINGS, TURNS, USERS, WORK,
 };
+use super::serving::LOAD;
 use super::streams::{Count, Sheet};
 use crate::fault::ReplayFault;
 use crate::replay::replay;
@@ -65,7 +66,11 @@ fn replayed(alloc: Global, parts: &[&str]) -> Result<(Result<(), ReplayFault>, S
 }
 
 /// Asks that a schedule of these parts is run, and prints this.
-fn prints(rt: &(impl Abort + AllocGlobal), parts: &[&str], told: &str) -> Result<(), AllocError> {
+pub fn prints(
+    rt: &(impl Abort + AllocGlobal),
+    parts: &[&str],
+    told: &str,
+) -> Result<(), AllocError> {
     let (outcome, sheet) = replayed(rt.alloc(), parts)?;
     assert!(rt; outcome == Ok(()), "{parts:?} give {outcome:?}");
     assert_eq!(rt; sheet.output.as_slice(), told.as_bytes(), "{parts:?}");
@@ -110,7 +115,7 @@ fn a_run_cut_short_tells_the_first_replies(rt: HostRuntime) -> Result<(), Fail> 
 }
 
 /// Lines that are no event.
-const BAD_LINES: [&str; 36] = [
+const BAD_LINES: [&str; 52] = [
     "enter",
     "enter 0",
     "enter 65",
@@ -146,7 +151,23 @@ const BAD_LINES: [&str; 36] = [
     "arrive 1",
     "arrive x LIST",
     "arrive 65 LIST",
+    "lost",
     "lost 1",
+    "lost 1 ",
+    "lost LOAD a 256 1 1 rest 28",
+    "lost 0 LOAD a 256 1 1 rest 28",
+    "lost 65 LOAD a 256 1 1 rest 28",
+    "lost x LOAD a 256 1 1 rest 28",
+    "lost 1 1 LOAD a 256 1 1 rest 28",
+    "lost 1 LIST",
+    "lost 1 BYE",
+    "lost 1 BRANCH a 28",
+    "lost 1 load a 256 1 1 rest 28",
+    "lost 1 LOADMIX a 256 1 1 rest 28",
+    "lost 1 LOAD",
+    "lost 1 LOAD a 256 1 1 rest",
+    "lost 1 LOAD a 256 1 1 rest 1048577",
+    "lost 1 LOAD a 256 1 1 rest 00000028",
 ];
 
 #[test]
@@ -184,7 +205,7 @@ fn a_bad_user_is_told_by_its_number(rt: HostRuntime) -> Result<(), Fail> {
 }
 
 /// Schedules with a bad line at another place, and its number.
-const BAD_SCHEDULES: [(&[&str], u64); 13] = [
+const BAD_SCHEDULES: [(&[&str], u64); 15] = [
     (&[], 1),
     (&["\n \n"], 3),
     (&["\t"], 2),
@@ -207,6 +228,9 @@ const BAD_SCHEDULES: [(&[&str], u64); 13] = [
     ),
     (&[USER, "arrive 1 LOAD a 256 1 1 rest 0\nenter"], 3),
     (&[USER, "arrive 1 LOAD a b c\nenter\n"], 3),
+    // No body follows a lost one.
+    (&[USER, "lost 1 LOAD a 256 1 1 rest 6\nenter\n"], 3),
+    (&["lost 1 LOAD a 256 1 1 rest 6\n", USER], 1),
 ];
 
 #[test]
@@ -218,7 +242,7 @@ fn a_bad_line_is_counted_with_bodies(rt: HostRuntime) -> Result<(), Fail> {
 }
 
 /// Lines that are taken, and tell nothing.
-const GOOD_LINES: [&str; 12] = [
+const GOOD_LINES: [&str; 17] = [
     "",
     "\n\n",
     " \t",
@@ -230,6 +254,11 @@ const GOOD_LINES: [&str; 12] = [
     "take 16 9999999999999999999",
     "arrive 1 LOAD a 256 1 1 rest 0",
     "arrive 1 LOAD a b c",
+    "lost 1 LOAD a 256 1 1 rest 28",
+    "lost 64\t LOAD a x y z pair 0",
+    "lost 1 LOAD a 256 1 1 rest 1048576\r",
+    "lost 1 LOAD 5",
+    "lost 1 LOAD ! a b c d e f 5",
     "hello 64 B aaaaaaaaaaaaaaaaaaaaaaaaaaaaaaaa",
 ];
 
@@ -275,6 +304,106 @@ fn an_arriving_line_is_an_item(rt: HostRuntime) -> Result<(), Fail> {
     let told =
         "A 1 OK LIST 0\nA 1 OK LIST 0\nA 1 OK LIST 0\nA 1 ERR 03 SYNTAX\nA 1 ERR 03 SYNTAX\nA 1 OK BYE\n";
     prints(&rt, &[USER, GREETING, arriving, begun], told)?;
+    Ok(())
+}
+
+/// One user loses two bodies, while another one loads.
+const LOSSES: &str =
+    "lost 2 LOAD a 256 1 131072 rest 28\nlost 2 LOAD a 4.99 1 1 rest 28\narrive 2 LIST\n\
+    next 2\nnext 1\nnext 2\nnext 2\n";
+
+#[test]
+fn a_lost_body_is_told_to_its_user_alone(rt: HostRuntime) -> Result<(), Fail> {
+    let told = "B 2 ERR 90 MEMORY\nA 1 OK LOAD a 0 2\nB 2 ERR 37 SIGMA\nB 2 OK LIST 0\n";
+    prints(&rt, &[USERS, GREETINGS, "arrive 1 ", LOAD, LOSSES], told)?;
+    Ok(())
+}
+
+/// What two users are told in the run in which all tasks are done, where the second one's last LOAD loses its body.
+const REPLIES_AFTER_A_LOSS: &str =
+    "A 1 OK LOAD c 0 65\nB 2 ERR 21 QUOTA_ATOMS\nB 2 ERR 90 MEMORY\nB 2 ERR 10 NO_SESSION\n\
+    A 1 OK ADVANCE c 1\nA 1 OK SHOW c 1 0 589 0 0\nA 1 OK SHOW c 1 64 1610612147 0 0\n\
+    A 1 OK MEASURE c 1 65 0 0 0 693842 -342445638\n";
+
+#[test]
+fn a_lost_body_changes_no_reply_to_another_user(rt: HostRuntime) -> Result<(), Fail> {
+    let parts = [
+        USERS,
+        GREETINGS,
+        "arrive 1 ",
+        CHAIN,
+        ASKED_BY_FIRST,
+        "arrive 2 ",
+        CHAIN,
+        "lost 2 LOAD d 256 1 131072 rest 28\n",
+        ASKED_BY_SECOND,
+        WORK,
+        TURNS,
+    ];
+    prints(&rt, &parts, REPLIES_AFTER_A_LOSS)?;
+    Ok(())
+}
+
+/// LOADs whose bodies are lost, beside one that is loaded, and what they are told.
+const LOST_LOADS: [(&str, &str); 8] = [
+    ("LOAD 5", "ERR 03 SYNTAX"),
+    ("LOAD b! x x x rest 5", "ERR 03 SYNTAX"),
+    ("LOAD d x x x rest 28", "ERR 11 EXISTS"),
+    ("LOAD b x x x rest 28", "ERR 36 EDGE"),
+    ("LOAD b 256 x x pair 28", "ERR 37 SIGMA"),
+    ("LOAD b 256 1 x rest 0", "ERR 38 STEP_FACTOR"),
+    ("LOAD b 256 1 1 rest 0", "ERR 90 MEMORY"),
+    ("LOAD b 256 1 1 pair 1048576\r", "ERR 90 MEMORY"),
+];
+
+#[test]
+fn a_lost_body_is_refused_for_its_line_first(rt: HostRuntime) -> Result<(), Fail> {
+    for (line, refusal) in LOST_LOADS {
+        let events = format!(in rt.alloc();
+            "lost 1 {line}\narrive 1 LIST\nnext 1\nnext 1\nnext 1\n"
+        )?;
+        let told = format!(in rt.alloc();
+            "A 1 OK LOAD d 0 2\nA 1 {refusal}\nA 1 OK LIST 1\nA 1 d 0 2 0\n"
+        )?;
+        prints(
+            &rt,
+            &[USER, GREETING, "arrive 1 ", DIMER, events.as_str()],
+            told.as_str(),
+        )?;
+    }
+    Ok(())
+}
+
+#[test]
+fn a_lost_body_beside_a_full_quota(rt: HostRuntime) -> Result<(), Fail> {
+    let user = "user A aaaaaaaaaaaaaaaaaaaaaaaaaaaaaaaa 1 2 0\n";
+    let events = "lost 1 LOAD b 256 1 1 rest 28\nnext 1\nnext 1\n";
+    let told = "A 1 OK LOAD d 0 2\nA 1 ERR 20 QUOTA_SESSIONS\n";
+    prints(&rt, &[user, GREETING, "arrive 1 ", DIMER, events], told)?;
+    Ok(())
+}
+
+#[test]
+fn a_line_over_256_bytes_loses_no_body(rt: HostRuntime) -> Result<(), Fail> {
+    for blanks in [236, 237] {
+        let mut schedule = joined(rt.alloc(), &[USER, "lost 1 LOAD a"])?;
+        for _ in 0..blanks {
+            schedule.push(b' ')?;
+        }
+        schedule.extend_from_slice(b"256 1 1 rest 5\n")?;
+        let mut sheet = Sheet::new(usize::MAX);
+        let outcome = replay(
+            rt.alloc(),
+            schedule.as_slice(),
+            &mut Writing::new(&mut sheet),
+        );
+        let wanted = if blanks == 236 {
+            Ok(())
+        } else {
+            Err(ReplayFault::Line(2))
+        };
+        assert!(rt; outcome == wanted, "{blanks} blanks give {outcome:?}");
+    }
     Ok(())
 }
 
@@ -396,7 +525,7 @@ fn ten_thousand_events_happen(rt: HostRuntime) -> Result<(), Fail> {
 /// A line of each event, and a LOAD with its body.
 const EACH_EVENT: &str =
     "hello 2 A aaaaaaaaaaaaaaaaaaaaaaaaaaaaaaaa\narrive 3 ADVANCE d 7\narrive 4 LOAD d 1 2 3 pair 3\nx\n\
-    yend 5\nenter 6\nnext 7\npost 8\ntake 16 3\ncompute 2\ngive 3\nhandback 4\nfetch 9 19\nturn 10\nleave 64\n";
+    ylost 11 LOAD d 1 2 3 rest 3\nend 5\nenter 6\nnext 7\npost 8\ntake 16 3\ncompute 2\ngive 3\nhandback 4\nfetch 9 19\nturn 10\nleave 64\n";
 
 /// The same events, made by hand.
 fn each_event(alloc: Global) -> Result<Vec<Event>, Fail> {
@@ -406,6 +535,7 @@ fn each_event(alloc: Global) -> Result<Vec<Event>, Fail> {
     ))?;
     let body = LoadBody::Read(Body::new(vec![in alloc; b'x', b'\n', b'y']?));
     let load = parse_command(b"LOAD d 1 2 3 pair 3").with_body(body);
+    let lost = parse_command(b"LOAD d 1 2 3 rest 3").with_body(LoadBody::Lost);
     let advance = parse_command(b"ADVANCE d 7");
     Ok(vec![in alloc;
         Event::Hello {
@@ -420,6 +550,10 @@ fn each_event(alloc: Global) -> Result<Vec<Event>, Fail> {
         Event::Arrive {
             connection: 4,
             item: load
+        },
+        Event::Arrive {
+            connection: 11,
+            item: lost
         },
         Event::End { connection: 5 },
         Event::Enter { connection: 6 },

@@ -1,5 +1,6 @@
 //! Servers on loopback sockets, with their clients in the same process.
 
+use crate::hub::Kept;
 use crate::server::serve_on;
 use crate::users::read_users;
 use arrayvec::ArrayVec;
@@ -80,15 +81,19 @@ impl Client {
     }
 }
 
+/// Both kinds of pool.
+pub const KINDS: [Kept; 2] = [Kept::Lock, Kept::Queue];
+
 /// Serves so many connections, with two workers. Answers how many tiles were computed.
 pub fn serve<R: Threads + Wait + Clock + Log + Sync>(
     rt: &R,
     alloc: Global,
     listener: &TcpListener,
     connections: u64,
+    kept: Kept,
 ) -> Option<u64> {
     let users = read_users(alloc, USERS.as_bytes()).ok()?;
-    serve_on(rt, alloc, listener, users, 2, connections).ok()
+    serve_on(rt, alloc, listener, users, 2, connections, kept).ok()
 }
 
 /// Says all of a text, and hears all replies.
@@ -107,16 +112,18 @@ fn asks<R: Net<Stream = TcpStream> + Abort>(
 
 #[test]
 fn a_connection_is_served(rt: HostRuntime) -> Result<(), Fail> {
-    let listener = TcpListener::bind(&rt, "127.0.0.1:0")?;
-    let address = listener.local_addr()?;
-    let quiet = Logged::new(rt, LevelFilter::Off, Discard);
-    let replies = "OK HELLO A\nOK LOAD a 0 2\nOK ADVANCE a 1\nOK BYE\n";
-    let (tiles, _) = thread::join(
-        &rt,
-        move || serve(&quiet, rt.alloc(), &listener, 1),
-        move || asks(&rt, address, &[HELLO, LOAD, "ADVANCE a 1\nBYE\n"], replies),
-    );
-    assert_eq!(rt; tiles, Some(1));
+    for kept in KINDS {
+        let listener = TcpListener::bind(&rt, "127.0.0.1:0")?;
+        let address = listener.local_addr()?;
+        let quiet = Logged::new(rt, LevelFilter::Off, Discard);
+        let replies = "OK HELLO A\nOK LOAD a 0 2\nOK ADVANCE a 1\nOK BYE\n";
+        let (tiles, _) = thread::join(
+            &rt,
+            move || serve(&quiet, rt.alloc(), &listener, 1, kept),
+            move || asks(&rt, address, &[HELLO, LOAD, "ADVANCE a 1\nBYE\n"], replies),
+        );
+        assert_eq!(rt; tiles, Some(1));
+    }
     Ok(())
 }
 
@@ -147,15 +154,17 @@ fn come_in_turn<R: Net<Stream = TcpStream> + Abort>(rt: &R, address: SocketAddr)
 
 #[test]
 fn connections_of_a_user_come_in_turn(rt: HostRuntime) -> Result<(), Fail> {
-    let listener = TcpListener::bind(&rt, "127.0.0.1:0")?;
-    let address = listener.local_addr()?;
-    let quiet = Logged::new(rt, LevelFilter::Off, Discard);
-    let (tiles, _) = thread::join(
-        &rt,
-        move || serve(&quiet, rt.alloc(), &listener, 4),
-        move || come_in_turn(&rt, address),
-    );
-    assert_eq!(rt; tiles, Some(1));
+    for kept in KINDS {
+        let listener = TcpListener::bind(&rt, "127.0.0.1:0")?;
+        let address = listener.local_addr()?;
+        let quiet = Logged::new(rt, LevelFilter::Off, Discard);
+        let (tiles, _) = thread::join(
+            &rt,
+            move || serve(&quiet, rt.alloc(), &listener, 4, kept),
+            move || come_in_turn(&rt, address),
+        );
+        assert_eq!(rt; tiles, Some(1));
+    }
     Ok(())
 }
 
@@ -211,15 +220,17 @@ pub fn has(told: &[u8], line: &str) -> bool {
 
 #[test]
 fn each_of_eight_connections_counts_once(rt: HostRuntime) -> Result<(), Fail> {
-    let listener = TcpListener::bind(&rt, "127.0.0.1:0")?;
-    let address = listener.local_addr()?;
-    let quiet = Logged::new(rt, LevelFilter::Off, Discard);
-    let (tiles, tugged) = thread::join(
-        &rt,
-        move || serve(&quiet, rt.alloc(), &listener, 9),
-        move || tug_eight_times(&rt, rt.alloc(), address),
-    );
-    tugged?;
-    assert_eq!(rt; tiles, Some(8));
+    for kept in KINDS {
+        let listener = TcpListener::bind(&rt, "127.0.0.1:0")?;
+        let address = listener.local_addr()?;
+        let quiet = Logged::new(rt, LevelFilter::Off, Discard);
+        let (tiles, tugged) = thread::join(
+            &rt,
+            move || serve(&quiet, rt.alloc(), &listener, 9, kept),
+            move || tug_eight_times(&rt, rt.alloc(), address),
+        );
+        tugged?;
+        assert_eq!(rt; tiles, Some(8));
+    }
     Ok(())
 }

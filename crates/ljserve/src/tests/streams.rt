@@ -75,12 +75,13 @@ impl Read for Stream<'_> {
     }
 }
 
-/// A writer that takes up to `most` bytes per call, and fails once its calls are used up.
+/// A writer that takes up to `most` bytes per call, and fails once its calls are used up, or takes nothing from then on.
 #[derive(Drop)]
 pub struct Sheet {
     pub output: Output,
     most: usize,
     calls: u64,
+    fails: bool,
 }
 
 impl Sheet {
@@ -89,31 +90,42 @@ impl Sheet {
     }
 
     pub fn failing(most: usize, calls: u64) -> Sheet {
+        Sheet::ending(most, calls, true)
+    }
+
+    /// Fails once its calls are used up, or else takes nothing from then on.
+    pub fn ending(most: usize, calls: u64, fails: bool) -> Sheet {
         Sheet {
             output: Output::new(),
             most,
             calls,
+            fails,
         }
     }
 
-    fn count_call(&mut self) -> io::Result<()> {
-        if self.calls == 0 {
+    /// Whether a call is left.
+    fn takes_call(&mut self) -> io::Result<bool> {
+        if self.calls == 0 && self.fails {
             return Err(io::Error::from(ErrorKind::Interrupted));
         }
-        self.calls -= 1;
-        Ok(())
+        let left = self.calls > 0;
+        self.calls = self.calls.saturating_sub(1);
+        Ok(left)
     }
 }
 
 impl Write for Sheet {
     fn write(&mut self, buf: &[u8]) -> io::Result<usize> {
-        self.count_call()?;
+        if !self.takes_call()? {
+            return Ok(0);
+        }
         let most = buf.len().min(self.most);
         self.output.write(&buf[..most])
     }
 
     fn flush(&mut self) -> io::Result<()> {
-        self.count_call()
+        self.takes_call()?;
+        Ok(())
     }
 }
 
@@ -139,6 +151,38 @@ impl Write for Count {
         let (_, end) = buf.split_at(buf.len() - buf.len().min(32));
         self.last.clear();
         self.last.write(end)?;
+        Ok(buf.len())
+    }
+
+    fn flush(&mut self) -> io::Result<()> {
+        Ok(())
+    }
+}
+
+/// A writer that counts how often a text is written, and keeps what else is.
+#[derive(Drop)]
+pub struct Tally<'a> {
+    text: &'a [u8],
+    pub times: u64,
+    pub others: ArrayVec<u8, 32>,
+}
+
+impl<'a> Tally<'a> {
+    pub fn new(text: &'a [u8]) -> Tally<'a> {
+        Tally {
+            text,
+            times: 0,
+            others: ArrayVec::new(),
+        }
+    }
+}
+
+impl Write for Tally<'_> {
+    fn write(&mut self, buf: &[u8]) -> io::Result<usize> {
+        if buf != self.text {
+            return self.others.write(buf);
+        }
+        self.times = self.times.saturating_add(1);
         Ok(buf.len())
     }
 

@@ -1,13 +1,21 @@
-//! Workers of a pool behind a lock: a task that is held back at the gate holds back nobody else.
-ghost use Rattle.std.specs.Prelude.{◌≡◌};
+//! Workers of either pool: a task that is held back at the gate holds back nobody else.
+ghost use Rattle.std.specs.Prelude.{◌≡◌, ◌+◌};
 
+use super::servers::KINDS;
 use super::streams::{Sheet, Stream};
-use lj_pool::{Gate, LockPool, Share, gather, serve, work};
+use crate::hub::{Hub, Kept};
+use crate::lock_hub::LockHub;
+use crate::queue_hub::QueueHub;
+use lj_pool::Gate;
+use lj_queue::{CONNECTIONS, QueueBlank, Room};
 use lj_quota::Quota;
 use lj_session::UserState;
 use lj_table::Table;
 use lj_tile::{Kind, TaskName};
-use lj_wire::{Reading, Writing};
+use lj_wire::{LineReader, Reading, Writing};
+use lj_world::OutOfMemory;
+use log::sink::Discard;
+use log::{LevelFilter, Log, Logged};
 use std::alloc::{AllocError, AllocGlobal, Global};
 use std::io::Write;
 use std::marker::Brand;
@@ -99,11 +107,22 @@ struct Told {
     seen: u64,
 }
 
+impl Told {
+    fn new<C>(held: Sheet, other: Sheet, given: u64, hold: &Hold<'_, C>) -> Told {
+        Told {
+            held,
+            other,
+            given,
+            seen: hold.seen.load(Ordering::SeqCst),
+        }
+    }
+}
+
 /// Serves a stream to a new user over an end of a pool.
-fn served<L: Ledger, R: Wait>(
+fn served<H: Hub, R: Wait>(
     rt: &R,
     alloc: Global,
-    pool: &LockPool<L>,
+    hub: &H,
     user: u8,
     input: &str,
     begins: &[u8],
@@ -117,27 +136,28 @@ fn served<L: Ledger, R: Wait>(
     });
     let parts = [(input.as_bytes(), 1)];
     let reader = Reading::new(Stream::new(&parts, usize::MAX));
+    let mut lines = LineReader::new(alloc, reader);
     let state = UserState::new(alloc, Quota::USUAL);
-    let (state, _, _) = serve(alloc, state, user, reader, &mut writer, &mut pool.end(rt));
+    let (state, _) = hub.serve(rt, state, user, &mut lines, &mut writer);
     drop(state);
     drop(writer);
     sheet
 }
 
 /// Serves both users at once, beside two workers.
-fn serve_both<'a, L: Ledger + Send + Sync, R: Threads + Wait + Clock + Sync>(
+fn serve_both<'a, H: Hub + Sync, R: Threads + Wait + Clock + Sync>(
     rt: &'a R,
     alloc: Global,
-    pool: &'a LockPool<L>,
+    hub: &'a H,
     hold: &'a Hold<'a, R>,
     table: &'a Table,
-    shares: Vec<Share<L>>,
-) -> Result<(Sheet, Sheet, Vec<Share<L>>), AllocError> {
+    tools: Vec<H::Tools>,
+) -> Result<(Sheet, Sheet, Vec<H::Tools>), AllocError> {
     let mut threads = Vec::with_capacity(alloc, 2)?;
     let mut done = Vec::with_capacity(alloc, 2)?;
     Ok(thread::scope(thread::scope_env(), rt, move |scope| {
-        for share in shares {
-            if let Ok(worker) = scope.spawn(move || work(rt, pool, share, hold, table)) {
+        for tools in tools {
+            if let Ok(worker) = scope.spawn(move || hub.work(rt, tools, hold, table)) {
                 let _ = threads.push(worker);
             }
         }
@@ -146,15 +166,15 @@ fn serve_both<'a, L: Ledger + Send + Sync, R: Threads + Wait + Clock + Sync>(
             move || served(
                 rt,
                 alloc,
-                pool,
+                hub,
                 HELD,
                 ADVANCES,
                 b"OK ADVANCE",
                 &hold.advanced,
             ),
-            move || served(rt, alloc, pool, 1, MEASURES, b"OK MEASURE", &hold.measured),
+            move || served(rt, alloc, hub, 1, MEASURES, b"OK MEASURE", &hold.measured),
         );
-        pool.close(rt);
+        hub.close(rt);
         for worker in threads {
             let _ = done.push(worker.join(rt));
         }
@@ -162,27 +182,38 @@ fn serve_both<'a, L: Ledger + Send + Sync, R: Threads + Wait + Clock + Sync>(
     }))
 }
 
-fn run_both<L: Ledger + Send + Sync, R: Threads + Wait + Clock + Sync>(
+fn run_by_lock<L: Ledger + Send + Sync, R: Threads + Wait + Clock + Log + Sync>(
     rt: &R,
     alloc: Global,
     blank: Blank,
-) -> Result<Told, AllocError>
+) -> Result<Told, OutOfMemory>
     requires name { blank.name ≡ L.name }
     requires parts { blank.parts ≡ L.parts }
     requires one_each { blank.parts ≡ 2 }
 {
-    let (pool, shares) = LockPool::<L>::new(alloc, blank, 2)?;
+    let (hub, tools) = LockHub::<L>::new(alloc, blank, 2)?;
     let (hold, table) = (Hold::new(rt), Table::new());
-    let (held, other, done) = serve_both(rt, alloc, &pool, &hold, &table, shares)?;
-    if done.len() != 2 {
-        return Err(AllocError);
-    }
-    Ok(Told {
-        held,
-        other,
-        given: gather(rt, &pool, done),
-        seen: hold.seen.load(Ordering::SeqCst),
-    })
+    let (held, other, done) = serve_both(rt, alloc, &hub, &hold, &table, tools)?;
+    let given = hub.gather(rt, 2, done)?;
+    Ok(Told::new(held, other, given, &hold))
+}
+
+fn run_by_queue<L: Room + Send + Sync, R: Threads + Wait + Clock + Log + Sync>(
+    rt: &R,
+    alloc: Global,
+    blank: QueueBlank,
+) -> Result<Told, OutOfMemory>
+    requires name { blank.name ≡ L.name }
+    requires parts { blank.parts ≡ L.parts }
+    requires one_each { blank.parts ≡ 2 }
+    requires table { blank.table ≡ L.table }
+    requires passes { 2 + CONNECTIONS ≡ L.passes }
+{
+    let (hub, tools) = QueueHub::<L>::new(alloc, blank, 2)?;
+    let (hold, table) = (Hold::new(rt), Table::new());
+    let (held, other, done) = serve_both(rt, alloc, &hub, &hold, &table, tools)?;
+    let given = hub.gather(rt, 2, done)?;
+    Ok(Told::new(held, other, given, &hold))
 }
 
 /// Whether some growth was refused.
@@ -196,8 +227,15 @@ fn lacks_memory(told: &Told) -> bool {
     })
 }
 
-fn run_once(rt: &(impl Threads + Wait + Clock + Sync), alloc: Global) -> Result<Told, AllocError> {
-    run_both::<Brand, _>(rt, alloc, Blank::new(2))
+fn run_once(
+    rt: &(impl Threads + Wait + Clock + Log + Sync),
+    alloc: Global,
+    kept: Kept,
+) -> Result<Told, OutOfMemory> {
+    match kept {
+        Kept::Lock => run_by_lock::<Brand, _>(rt, alloc, Blank::new(2)),
+        Kept::Queue => run_by_queue::<Brand, _>(rt, alloc, QueueBlank::new(alloc, 2)?),
+    }
 }
 
 /// What the user is asked whose step is held back, and what the other one is.
@@ -208,18 +246,21 @@ const MEASURES: &str = "LOAD a 256 1 131072 rest 28\n2\ndimer\nAr 0 0 0\nAr 1.5 
 /// The second worker computes for the other user while the first one is held at the gate.
 #[test]
 fn a_held_task_holds_back_nobody_else(rt: HostRuntime) -> Result<(), Fail> {
-    let told = match run_once(&rt, rt.alloc()) {
-        Ok(told) if !lacks_memory(&told) => told,
-        _ => run_once(&rt, rt.alloc())?,
-    };
-    assert_eq!(rt;
-        told.held.output.as_slice(),
-        b"OK LOAD a 0 2\nOK ADVANCE a 1\n".as_slice()
-    );
-    assert_eq!(rt;
-        told.other.output.as_slice(),
-        b"OK LOAD a 0 2\nOK MEASURE a 0 2 0 0 0 0 -5349132\n".as_slice()
-    );
-    assert_eq!(rt; (told.seen, told.given), (1, 2));
+    let quiet = Logged::new(rt, LevelFilter::Off, Discard);
+    for kept in KINDS {
+        let told = match run_once(&quiet, rt.alloc(), kept) {
+            Ok(told) if !lacks_memory(&told) => told,
+            _ => run_once(&quiet, rt.alloc(), kept)?,
+        };
+        assert_eq!(rt;
+            told.held.output.as_slice(),
+            b"OK LOAD a 0 2\nOK ADVANCE a 1\n".as_slice()
+        );
+        assert_eq!(rt;
+            told.other.output.as_slice(),
+            b"OK LOAD a 0 2\nOK MEASURE a 0 2 0 0 0 0 -5349132\n".as_slice()
+        );
+        assert_eq!(rt; (told.seen, told.given), (1, 2));
+    }
     Ok(())
 }

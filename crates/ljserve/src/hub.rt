@@ -1,0 +1,48 @@
+//! A pool of workers as a server has it.
+ghost use Rattle.std.specs.Prelude.{◌≡◌};
+ghost use Rattle.lj_wire.specs.declared.reader.phase.Phase.TheVariants.{Open};
+
+use lj_pool::{Gate, Served};
+use lj_session::UserState;
+use lj_table::Table;
+use lj_wire::{LineReader, Sink, Source};
+use std::sync::Wait;
+
+/// Where the open tasks of a server are kept.
+#[derive(Clone, Copy, PartialEq, Eq, Debug)]
+pub enum Kept {
+    /// In a book behind a lock, with the results.
+    Lock,
+    /// In a queue that no lock guards.
+    Queue,
+}
+
+/// A pool over whose ends connections are served, and for which workers compute, each with tools of its own.
+pub trait Hub: Drop {
+    /// What a worker counts its results by.
+    type Tools: Send + Drop;
+
+    /// Answers the lines of a user's connection over an end of the pool, and then drops what the pool has of the user.
+    fn serve<R: Wait, S: Source, W: Sink>(
+        &self,
+        rt: &R,
+        state: UserState,
+        user: u8,
+        lines: &mut LineReader<S>,
+        writer: &mut W,
+    ) -> (Option<UserState>, Served)
+        requires fresh { lines.old.items ≡ 0 }
+        requires at_work { lines.old.phase ≡ Open };
+
+    /// Computes tasks until the pool is closed, with a gate between taking a task and computing it.
+    fn work<R: Wait, G: Gate>(
+        &self,
+        rt: &R,
+        tools: Self::Tools,
+        gate: &G,
+        table: &Table,
+    ) -> Self::Tools;
+
+    /// Closes the pool: from now on no task is computed.
+    fn close<R: Wait>(&self, rt: &R);
+}
