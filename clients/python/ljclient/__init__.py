@@ -1,0 +1,45 @@
+"""A client of `ljserve`: molecular dynamics that can be reversed exactly.
+
+    from ljclient import run, units
+
+    with run() as user:
+        argon = user.load("argon", "argon_256.xyz", edge=21.04, dt=10, **units.ARGON)
+        start = argon.places()
+        argon.advance(1000, progress=True)
+        argon.reverse()
+        argon.advance(1000)
+        argon.reverse()
+        assert (argon.places() == start).all()
+
+`connect(host, port, name, token)` in place of `run()` speaks to a server. Each refusal is a class of `ljclient.refusals`.
+"""
+from . import refusals, units
+from .arrays import distance, least_images
+from .errors import BadReply, CannotStart, ClientError, Closed, ConnectionLost, Refused, TimedOut
+from .session import Measurement, Row, Saved, Session
+from .units import Scale
+from .user import User, connect, run
+
+__version__ = "1.0.0"
+
+__all__ = [
+    "BadReply",
+    "CannotStart",
+    "ClientError",
+    "Closed",
+    "ConnectionLost",
+    "Measurement",
+    "Refused",
+    "Row",
+    "Saved",
+    "Scale",
+    "Session",
+    "TimedOut",
+    "User",
+    "connect",
+    "distance",
+    "least_images",
+    "refusals",
+    "run",
+    "units",
+]

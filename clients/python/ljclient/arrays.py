@@ -1,0 +1,38 @@
+"""Lists of coordinates: arrays of numpy where it is installed, else lists of tuples."""
+from __future__ import annotations
+
+from typing import Any, List, Sequence, Tuple
+
+try:
+    import numpy
+except ImportError:
+    numpy = None
+
+from .units import RING
+
+HALF = RING // 2
+
+
+def of_places(places: List[Tuple[int, int, int]]) -> Any:
+    """Places in ring units: an array of shape (atoms, 3) and whole numbers of 64 bits, or the list itself."""
+    return places if numpy is None else numpy.array(places, dtype=numpy.int64).reshape(-1, 3)
+
+
+def of_positions(places: List[Tuple[int, int, int]], edge: float) -> Any:
+    """Positions in the unit of the edge: an array of shape (atoms, 3), or a list of tuples."""
+    if numpy is None:
+        return [tuple(coordinate * edge / RING for coordinate in place) for place in places]
+    return of_places(places) * edge / RING
+
+
+def least_images(places: Sequence, others: Sequence) -> Any:
+    """The differences `places - others` round the box the nearer way, in ring units: -2^31 to 2^31 - 1 along each axis."""
+    if numpy is None:
+        return [tuple((a - b + HALF) % RING - HALF for a, b in zip(*pair)) for pair in zip(places, others)]
+    return (numpy.asarray(places, dtype=numpy.int64) - numpy.asarray(others, dtype=numpy.int64) + HALF) % RING - HALF
+
+
+def distance(places: Sequence, others: Sequence) -> float:
+    """The root mean square distance of atoms between two lists of places, in ring units, each round the box the nearer way."""
+    squares = [sum(float(part) ** 2 for part in image) for image in least_images(places, others)]
+    return (sum(squares) / len(squares)) ** 0.5 if squares else 0.0

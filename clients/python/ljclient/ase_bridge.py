@@ -1,0 +1,34 @@
+"""Between sessions and `Atoms` of ASE, where ASE is installed."""
+from __future__ import annotations
+
+from typing import TYPE_CHECKING, Any
+
+if TYPE_CHECKING:
+    from .session import Session
+
+
+def is_atoms(source: Any) -> bool:
+    """Whether this is an `Atoms` of ASE, or speaks like one."""
+    return all(hasattr(source, name) for name in ("get_chemical_symbols", "get_positions", "get_cell"))
+
+
+def edge_of(atoms: Any) -> float:
+    """The edge of the cubic cell of an `Atoms`, in angstrom."""
+    cell = [[float(part) for part in row] for row in atoms.get_cell()]
+    edge = cell[0][0]
+    if not all(abs(cell[i][j] - edge * (i == j)) <= 1e-9 * abs(edge) for i in range(3) for j in range(3)) or edge <= 0:
+        raise ValueError("the cell of the atoms is not cubic; say edge=")
+    return edge
+
+
+def atoms_of(session: "Session") -> Any:
+    """The present frame as an `Atoms`: positions in the unit of the file, in a periodic cubic cell.
+
+    Symbols that ASE does not know become X.
+    """
+    from ase import Atoms
+    from ase.data import atomic_numbers
+
+    symbols = [symbol if symbol in atomic_numbers else "X" for symbol in session.symbols()]
+    edge = session.scale.edge
+    return Atoms(symbols=symbols, positions=session.positions(), cell=[edge, edge, edge], pbc=True)

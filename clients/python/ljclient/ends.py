@@ -1,0 +1,139 @@
+"""The two ends of a stream that a wire reads and writes: those of a socket, and those of a child process."""
+from __future__ import annotations
+
+import os
+import socket
+import subprocess
+import tempfile
+from typing import Dict, List, Optional, Protocol, Tuple, cast
+
+from .errors import CannotStart, ConnectionLost
+
+PATIENCE = 5.0
+MAX_LAST_WORDS = 500
+
+
+class Ends(Protocol):
+    """A stream that does not block: it can be asked for what is there, and given what there is room for."""
+
+    def source(self) -> int:
+        """The descriptor that is read."""
+
+    def sink(self) -> int:
+        """The descriptor that is written to."""
+
+    def read(self, size: int) -> bytes:
+        """At most so many bytes, none at the end. BlockingIOError where none are there yet."""
+
+    def write(self, data: bytes) -> int:
+        """Writes the first of these bytes, and answers how many. BlockingIOError where there is no room yet."""
+
+    def close(self) -> None:
+        """Gives up the stream."""
+
+    def last_words(self) -> str:
+        """What is known of why the other side has ended, else nothing."""
+
+
+class SocketEnds:
+    """A TCP connection."""
+
+    def __init__(self, host: str, port: int, timeout: float):
+        try:
+            self._socket = socket.create_connection((host, port), timeout)
+        except OSError as error:
+            why = error.strerror or str(error) or "no answer"
+            raise ConnectionLost(f"cannot connect to {host}:{port}: {why}") from error
+        self._socket.setsockopt(socket.IPPROTO_TCP, socket.TCP_NODELAY, 1)
+        self._socket.setblocking(False)
+
+    def source(self) -> int:
+        return self._socket.fileno()
+
+    def sink(self) -> int:
+        return self._socket.fileno()
+
+    def read(self, size: int) -> bytes:
+        return self._socket.recv(size)
+
+    def write(self, data: bytes) -> int:
+        return self._socket.send(data)
+
+    def close(self) -> None:
+        self._socket.close()
+
+    def last_words(self) -> str:
+        return ""
+
+
+class ChildEnds:
+    """A child process: its standard input and output.
+
+    It stands in a process group of its own, so that an interrupt from the keyboard stops what waits for it and not the
+    process. It is ended and waited for when the ends are closed.
+    """
+
+    def __init__(self, command: List[str], env: Optional[Dict[str, str]] = None):
+        self._command = command
+        self._errors = tempfile.TemporaryFile()
+        try:
+            self._child = subprocess.Popen(
+                command,
+                stdin=subprocess.PIPE,
+                stdout=subprocess.PIPE,
+                stderr=self._errors,
+                bufsize=0,
+                start_new_session=True,
+                env=env,
+            )
+        except OSError as error:
+            self._errors.close()
+            raise CannotStart(f"cannot start {command[0]}: {error.strerror or error}") from error
+        self._ends = cast(Tuple, (self._child.stdout, self._child.stdin))
+        for end in self._ends:
+            os.set_blocking(end.fileno(), False)
+
+    @property
+    def pid(self) -> int:
+        """The number of the process."""
+        return self._child.pid
+
+    def source(self) -> int:
+        return self._ends[0].fileno()
+
+    def sink(self) -> int:
+        return self._ends[1].fileno()
+
+    def read(self, size: int) -> bytes:
+        return os.read(self.source(), size)
+
+    def write(self, data: bytes) -> int:
+        return os.write(self.sink(), data)
+
+    def close(self) -> None:
+        for end in self._ends:
+            try:
+                end.close()
+            except OSError:
+                pass
+        self._end_child()
+        self._errors.close()
+
+    def last_words(self) -> str:
+        try:
+            status = self._child.wait(PATIENCE)
+        except subprocess.TimeoutExpired:
+            return ""
+        self._errors.seek(0)
+        said = self._errors.read(MAX_LAST_WORDS).decode(errors="replace").strip()
+        return f"{self._command[0]} has ended with status {status}" + (f" ({said})" if said else "")
+
+    def _end_child(self) -> None:
+        """Waits for the process. One that still computes, or that does not see that its input has ended, is ended."""
+        for end in (lambda: None, self._child.terminate, self._child.kill):
+            end()
+            try:
+                self._child.wait(PATIENCE if end == self._child.kill else 0.5)
+                return
+            except subprocess.TimeoutExpired:
+                pass

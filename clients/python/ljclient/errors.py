@@ -1,0 +1,79 @@
+"""What can go wrong: each is a `ClientError`, and each refusal of the server is a `Refused` (see `ljclient.refusals`)."""
+from __future__ import annotations
+
+from typing import Dict, Optional, Type
+
+
+class ClientError(Exception):
+    """Any fault of the connection, of the program, or of what was asked for."""
+
+
+class CannotStart(ClientError):
+    """The program could not be started, or what was started is not `ljserve`."""
+
+
+class ConnectionLost(ClientError, ConnectionError):
+    """No connection could be made, or it has ended before everything was answered."""
+
+
+class TimedOut(ClientError, TimeoutError):
+    """Nothing was heard for as long as the timeout says. The connection is closed, since a late reply would be misread."""
+
+
+class BadReply(ClientError):
+    """What came is no reply of the protocol. The connection is closed."""
+
+
+class Closed(ClientError):
+    """The connection was closed before this was asked for."""
+
+
+class Refused(ClientError):
+    """A refusal: nothing has changed at the server.
+
+    number   the number of the refusal, such as 10
+    name     its name, such as "NO_SESSION"
+    line     the line of the XYZ text that is at fault, counted from 1; None for refusals that name no line
+    command  the command line that was refused; of a HELLO the first word alone
+    """
+
+    number: int = 0
+    name: str = ""
+    meaning: str = ""
+    by_number: Dict[int, Type["Refused"]] = {}
+
+    def __init__(self, command: str = "", line: Optional[int] = None, number: Optional[int] = None, name: Optional[str] = None):
+        if number is not None:
+            self.number = number
+        if name is not None:
+            self.name = name
+        self.line = line
+        self.command = command
+        super().__init__(self._text())
+
+    def __init_subclass__(cls, **words: object) -> None:
+        super().__init_subclass__(**words)
+        Refused.by_number[cls.number] = cls
+
+    def __reduce__(self) -> tuple:
+        return type(self), (self.command, self.line, self.number, self.name)
+
+    def _text(self) -> str:
+        where = "" if self.line is None else f" line {self.line}"
+        meaning = f": {self.meaning}" if self.meaning else ""
+        asked = f" (asked: {shown(self.command)})" if self.command else ""
+        return f"ERR {self.number:02} {self.name}{where}{meaning}{asked}"
+
+
+def shown(command: str) -> str:
+    """A command line as messages show it: cut where it is long, and without the token of a HELLO."""
+    text = " ".join(command.split()[:2]) if command.startswith("HELLO") else command
+    return text if len(text) <= 60 else text[:57] + "..."
+
+
+def refusal_of(words: "list[str]", command: str) -> Refused:
+    """The refusal that the words of an `ERR` line say. One that this client does not know is a plain `Refused`."""
+    number, name = int(words[1]), words[2]
+    line = int(words[4]) if len(words) == 5 and words[3] == "line" else None
+    kind = Refused.by_number.get(number, Refused)
+    return kind("HELLO" if command.startswith("HELLO") else command, line, number, name)

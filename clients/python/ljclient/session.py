@@ -1,0 +1,319 @@
+"""A session: one simulation that the server holds, and what can be done with it."""
+from __future__ import annotations
+
+import operator
+import os
+import re
+import time
+from dataclasses import dataclass, field
+from typing import TYPE_CHECKING, Any, List, NamedTuple, Optional, Sequence, Tuple, Union
+
+from . import arrays, ase_bridge, progress as bars
+from .errors import BadReply
+from .units import POTENTIAL_UNIT, Scale, kelvin
+
+if TYPE_CHECKING:
+    from .user import User
+
+MAX_STEPS = 1_000_000
+FIRST_PIECE = 16
+PIECE_SECONDS = 0.2
+NAME = re.compile(r"[A-Za-z0-9_-]{1,16}\Z")
+
+
+class Saved(NamedTuple):
+    """What is saved in a session: its name, and the step that it was saved at."""
+
+    name: str
+    step: int
+
+
+@dataclass(frozen=True)
+class Measurement:
+    """What `measure` tells.
+
+    step, atoms  the step number, and how many atoms there are
+    momentum     along x, y and z: the sum of the displacements of the last step, in ring units (edge / 2^32) per step
+    kinetic      the kinetic number: the sum of the squares of these displacements
+    potential    the potential in units of 2^-24 epsilon
+
+    Displacements are those of the step before, so the kinetic energy is that of half a step ago, and the potential energy
+    that of now.
+    """
+
+    step: int
+    atoms: int
+    momentum: Tuple[int, int, int]
+    kinetic: int
+    potential: int
+    scale: Optional[Scale] = field(default=None, repr=False, compare=False)
+
+    @property
+    def potential_energy(self) -> float:
+        """In epsilon."""
+        return self.potential / POTENTIAL_UNIT
+
+    @property
+    def kinetic_energy(self) -> float:
+        """In epsilon, as the potential energy."""
+        return _known(self.scale).kinetic_energy(self.kinetic)
+
+    @property
+    def total_energy(self) -> float:
+        """Potential and kinetic energy together, in epsilon."""
+        return self.potential_energy + self.kinetic_energy
+
+    @property
+    def temperature(self) -> float:
+        """Two thirds of the kinetic energy of an atom: in kelvin where epsilon was said, else in epsilon / k_B."""
+        scale = _known(self.scale)
+        reduced = 2 * self.kinetic_energy / (3 * self.atoms)
+        return reduced if scale.epsilon is None else reduced * scale.epsilon / kelvin
+
+    def in_electronvolt(self, energy: float) -> float:
+        """An energy in epsilon, such as `potential_energy`, in electronvolt. Needs epsilon."""
+        epsilon = _known(self.scale).epsilon
+        if epsilon is None:
+            raise ValueError("epsilon is not known: say epsilon= (in electronvolt) where the session is loaded")
+        return energy * epsilon
+
+
+def _known(scale: Optional[Scale]) -> Scale:
+    if scale is None:
+        raise ValueError("the scale is not known: user.session(name, edge=.., sigma=.., h=..) says it")
+    return scale
+
+
+def checked_name(name: str) -> str:
+    """A name of a session or of what is saved. Raises ValueError for what is none."""
+    if not (isinstance(name, str) and NAME.match(name)):
+        raise ValueError(f"a name is 1 to 16 letters, digits, `_` or `-`, not {name!r}")
+    return name
+
+
+def count_of(number: Any, what: str) -> int:
+    """A whole number that is not below zero."""
+    count = operator.index(number)
+    if count < 0:
+        raise ValueError(f"{what} is not below 0, but {count} is")
+    return count
+
+
+class Session:
+    """A simulation at the server, by its name. `User.load` and `User.session` give one.
+
+    name   its name
+    scale  what its whole numbers mean (`units.Scale`), or None where it was never said
+    """
+
+    def __init__(self, user: "User", name: str, scale: Optional[Scale] = None, seconds_per_step: float = 0.0):
+        self.name = checked_name(name)
+        self._user = user
+        self._given = scale
+        self._seconds_per_step = seconds_per_step
+        self._symbols: Optional[List[str]] = None
+
+    def __repr__(self) -> str:
+        return f"Session({self.name!r})"
+
+    @property
+    def scale(self) -> Scale:
+        """What its whole numbers mean. Raises ValueError where nobody has said it."""
+        return _known(self._given)
+
+    @property
+    def step(self) -> int:
+        """The step number, as the server says it now."""
+        return self._row().step
+
+    @property
+    def atoms(self) -> int:
+        """How many atoms there are."""
+        return self._row().atoms
+
+    @property
+    def edge(self) -> float:
+        """The edge of the box in the unit of the file."""
+        return self.scale.edge
+
+    @property
+    def h(self) -> int:
+        """The step factor: `dt^2 epsilon / (m sigma^2)` in units of 2^-32."""
+        return self.scale.h
+
+    @property
+    def dt(self) -> Optional[float]:
+        """The time step in femtoseconds that the whole number h stands for, which is not quite the one that was asked for.
+
+        None where epsilon and mass were not said; `scale.reduced_dt` is the time step in reduced units.
+        """
+        return self.scale.dt
+
+    def advance(self, n: int, progress: Union[bool, bars.Report] = False, piece: Optional[int] = None) -> int:
+        """Goes on by n steps, and answers the new step number.
+
+        The steps are asked for in pieces of about a fifth of a second (or of `piece` steps), so an interrupt from the
+        keyboard ends the run after a piece, and the time limit of the connection is one for each piece. Pieces change
+        nothing in the result. With `progress=True` a bar is shown on a terminal or in a notebook; a function in its place
+        is called with how many steps are done, and of how many.
+        """
+        total = count_of(n, "a number of steps")
+        if piece is not None and operator.index(piece) < 1:
+            raise ValueError(f"a piece is 1 step at least, not {piece}")
+        report = bars.reporter(progress, self.name)
+        done, step = 0, None
+        while step is None or done < total:
+            if report:
+                report(done, total)
+            size = min(total - done, operator.index(piece) if piece else self._next_piece())
+            step = self._advance_piece(size)
+            done += size
+        if report and total:
+            report(done, total)
+        return step
+
+    def _next_piece(self) -> int:
+        """How many steps take about as long as a piece should."""
+        if not self._seconds_per_step:
+            return FIRST_PIECE
+        return max(1, min(MAX_STEPS, int(PIECE_SECONDS / self._seconds_per_step)))
+
+    def _advance_piece(self, size: int) -> int:
+        start = time.monotonic()
+        step = self._number(f"ADVANCE {self.name} {size}", 2)
+        if size:
+            self._seconds_per_step = max((time.monotonic() - start) / size, 1e-9)
+        return step
+
+    def reverse(self) -> int:
+        """Turns the motion back, and answers the new step number: the two frames are exchanged."""
+        return self._number(f"REVERSE {self.name}", 2)
+
+    def branch(self, name: str) -> int:
+        """Saves the simulation under a name, and answers its step number."""
+        return self._number(f"BRANCH {self.name} {checked_name(name)}", 3)
+
+    def restore(self, name: str) -> int:
+        """Goes back to what was saved, and answers its step number. It stays saved."""
+        return self._number(f"RESTORE {self.name} {checked_name(name)}", 3)
+
+    def forget(self, name: str) -> None:
+        """Gives up what was saved under a name."""
+        self._ask(f"FORGET {self.name} {checked_name(name)}")
+
+    def tug(self, atom: int, displacement: Sequence[int]) -> int:
+        """Gives an atom a displacement of so many ring units (edge / 2^32) more for each step, along x, y and z."""
+        x, y, z = (operator.index(part) for part in displacement)
+        return self._number(f"TUG {self.name} {count_of(atom, 'an atom number')} {x} {y} {z}", 3)
+
+    def measure(self) -> Measurement:
+        """Measures momentum, kinetic energy and potential energy."""
+        words = self._ask(f"MEASURE {self.name}")
+        step, atoms, x, y, z, kinetic, potential = whole_numbers(words[2:], 7)
+        return Measurement(step, atoms, (x, y, z), kinetic, potential, self._given)
+
+    def place(self, atom: int) -> Tuple[int, int, int]:
+        """The place of an atom, in ring units: whole numbers from 0 to 2^32 - 1."""
+        return self._places_of([count_of(atom, "an atom number")])[0]
+
+    def places(self) -> Any:
+        """The places of all atoms, in ring units: whole numbers from 0 to 2^32 - 1, which are the simulation itself.
+
+        An array of numpy of shape (atoms, 3), or a list of tuples where numpy is not installed.
+        """
+        return arrays.of_places(self._places_of(range(self.atoms)))
+
+    def positions(self) -> Any:
+        """The positions of all atoms in the unit of the file, from 0 up to the edge: `place * edge / 2^32`.
+
+        An array of numpy of shape (atoms, 3), or a list of tuples where numpy is not installed.
+        """
+        edge = self.scale.edge
+        return arrays.of_positions(self._places_of(range(self.atoms)), edge)
+
+    def _places_of(self, numbers: Sequence[int]) -> List[Tuple[int, int, int]]:
+        replies = self._user.ask_all(f"SHOW {self.name} {number}" for number in numbers)
+        places = []
+        for number, reply in zip(numbers, replies):
+            _, atom, x, y, z = whole_numbers(reply.words[2:], 5)
+            if atom != number:
+                raise BadReply(f"atom {number} was asked for, and atom {atom} was shown")
+            places.append((x, y, z))
+        return places
+
+    def dump(self) -> str:
+        """The frame as XYZ text: positions in the unit of the file, rounded down to six decimals."""
+        return "".join(line + "\n" for line in self._user.ask(f"DUMP {self.name}").lines)
+
+    def write(self, path: Union[str, "os.PathLike[str]"]) -> None:
+        """Writes the frame to a file, as `dump` gives it."""
+        text = self.dump()
+        with open(path, "w", encoding="ascii", newline="\n") as file:
+            file.write(text)
+
+    def symbols(self) -> List[str]:
+        """The symbol of each atom."""
+        if self._symbols is None:
+            self._symbols = [line.split(" ")[0] for line in self._user.ask(f"DUMP {self.name}").lines[2:]]
+        return list(self._symbols)
+
+    def to_ase(self) -> Any:
+        """The frame as an `Atoms` of ASE, which has to be installed."""
+        return ase_bridge.atoms_of(self)
+
+    def saved(self) -> List[Saved]:
+        """What is saved in it, in order of saving."""
+        lines = self._user.ask(f"LIST {self.name}").lines
+        return [Saved(name, whole_number(step)) for name, step in (fields(line, 2) for line in lines)]
+
+    def drop(self) -> None:
+        """Gives up the session with all that is saved in it."""
+        self._ask(f"DROP {self.name}")
+        self._user.has_dropped(self.name)
+
+    def _row(self) -> "Row":
+        return self._user.row(self.name)
+
+    def _ask(self, line: str) -> List[str]:
+        words = self._user.ask(line).words
+        if words[1:2] != [self.name]:
+            raise BadReply(f"session {self.name} was asked for, and the reply is {' '.join(words)!r}")
+        return words
+
+    def _number(self, line: str, index: int) -> int:
+        """The number that stands at this index of the reply's words."""
+        words = self._ask(line)
+        if len(words) != index + 1:
+            raise BadReply(f"{line} was answered {' '.join(words)!r}")
+        return whole_number(words[index])
+
+
+class Row(NamedTuple):
+    """A line of the list of sessions: its name, its step number, how many atoms it has and how much is saved in it."""
+
+    name: str
+    step: int
+    atoms: int
+    branches: int
+
+
+def fields(line: str, count: int) -> List[str]:
+    """The words of a line of a reply, which are so many."""
+    words = line.split(" ")
+    if len(words) != count:
+        raise BadReply(f"{line!r} is not {count} words")
+    return words
+
+
+def whole_number(word: str) -> int:
+    """The number that a word of a reply is."""
+    if not re.fullmatch(r"-?[0-9]{1,60}", word):
+        raise BadReply(f"{word[:80]!r} is no number")
+    return int(word)
+
+
+def whole_numbers(words: Sequence[str], count: int) -> List[int]:
+    """The numbers that the words of a reply are, which are so many."""
+    if len(words) != count:
+        raise BadReply(f"{' '.join(words)[:80]!r} are not {count} numbers")
+    return [whole_number(word) for word in words]

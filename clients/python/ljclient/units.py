@@ -1,0 +1,144 @@
+"""The numbers of the protocol and what they mean in physics.
+
+Physical units are those of ASE: lengths in angstrom, energies in electronvolt, masses in dalton (u); times are in
+femtoseconds and temperatures in kelvin. `119.8 * units.kelvin` is an energy in electronvolt.
+
+Without them, everything is in reduced units: lengths in the unit of the file, energies in epsilon, times in
+`sigma sqrt(m / epsilon)`, temperatures in `epsilon / k_B`.
+"""
+from __future__ import annotations
+
+import math
+import operator
+from dataclasses import dataclass
+from decimal import ROUND_HALF_UP, Decimal, InvalidOperation, localcontext
+from typing import Optional, Union
+
+Number = Union[int, float, str, Decimal]
+
+RING = 1 << 32
+MAX_STEP_FACTOR = 1 << 24
+POTENTIAL_UNIT = 1 << 24
+
+electronvolt = 1.0
+kelvin = 8.617333262e-5
+joule_per_mole = 1 / 96485.33212331
+kilojoule_per_mole = 1000 * joule_per_mole
+kilocalorie_per_mole = 4.184 * kilojoule_per_mole
+angstrom = 1.0
+nanometre = 10.0
+dalton = 1.0
+femtosecond = 1.0
+picosecond = 1000.0
+
+# An electronvolt in dalton angstrom^2 / femtosecond^2: 1.602176634e-19 J over 1.66053906660e-27 kg 1e10 m^2/s^2.
+_SPEED_SQUARED = 1.602176634e-19 / (1.66053906660e-27 * 1e10)
+
+ARGON = {"sigma": 3.4, "epsilon": 119.8 * kelvin, "mass": 39.948}
+"""Argon, as in Rahman's simulation of 1964: `user.load("a", file, edge=21.04, dt=10, **units.ARGON)`."""
+
+
+def reduced_time_step(h: int) -> float:
+    """The time step in units of `sigma sqrt(m / epsilon)`: `sqrt(h / 2^32)`."""
+    return math.sqrt(h / RING)
+
+
+def time_unit(sigma: float, epsilon: float, mass: float) -> float:
+    """`sigma sqrt(m / epsilon)` in femtoseconds; sigma in angstrom, epsilon in electronvolt, mass in dalton."""
+    return sigma * math.sqrt(mass / (epsilon * _SPEED_SQUARED))
+
+
+def step_factor(dt: float, sigma: float, epsilon: float, mass: float) -> int:
+    """The step factor h nearest to a time step in femtoseconds; the other words are those of `time_unit`."""
+    for name, value in (("dt", dt), ("sigma", sigma), ("epsilon", epsilon), ("mass", mass)):
+        if not (value > 0 and math.isfinite(value)):
+            raise ValueError(f"{name} is a number above 0, not {value!r}")
+    unit = time_unit(sigma, epsilon, mass)
+    h = round(min((dt / unit) ** 2 * RING, 2.0 * MAX_STEP_FACTOR))
+    if not 1 <= h <= MAX_STEP_FACTOR:
+        shortest, longest = unit * reduced_time_step(1), unit * reduced_time_step(MAX_STEP_FACTOR)
+        raise ValueError(f"dt is from {shortest:.3g} to {longest:.3g} fs for these atoms, not {dt:g} fs")
+    return h
+
+
+def nano(number: Number) -> int:
+    """A number as the server reads it: a whole number of 10^-9, halves away from zero."""
+    with localcontext() as context:
+        context.prec = 60
+        return int((Decimal(word(number).lower().replace("d", "e")) * 10**9).to_integral_value(ROUND_HALF_UP))
+
+
+def word(number: Number) -> str:
+    """A number as a decimal word of the protocol. A text is sent as it is, where it is one word."""
+    if isinstance(number, str):
+        if number.split() != [number]:
+            raise ValueError(f"{number!r} is not one word")
+        return number
+    if isinstance(number, Decimal):
+        return str(number)
+    return str(operator.index(number)) if hasattr(number, "__index__") else repr(float(number))
+
+
+@dataclass(frozen=True)
+class Scale:
+    """The scale of a session: what its whole numbers mean.
+
+    edge, sigma  the edge of the box and the distance sigma, in the unit of the file (angstrom where epsilon is said)
+    h            the step factor: `dt^2 epsilon / (m sigma^2)` in units of 2^-32
+    epsilon      the depth of the potential in electronvolt, if it was said
+    mass         the mass of an atom in dalton, if it was said
+    """
+
+    edge: float
+    sigma: float
+    h: int
+    epsilon: Optional[float] = None
+    mass: Optional[float] = None
+    sigma_on_ring: int = 0
+
+    @staticmethod
+    def of(
+        edge: Number,
+        sigma: Number,
+        h: Optional[int] = None,
+        *,
+        epsilon: Optional[float] = None,
+        mass: Optional[float] = None,
+        dt: Optional[float] = None,
+    ) -> "Scale":
+        """The scale of these: h, or epsilon, mass and dt, of which h is the nearest whole number."""
+        if (h is None) == (dt is None):
+            raise ValueError("say either the step factor h, or the time step dt with epsilon and mass")
+        if h is None:
+            if epsilon is None or mass is None or dt is None:
+                raise ValueError("a time step dt in femtoseconds needs epsilon (electronvolt) and mass (dalton)")
+            h = step_factor(float(dt), _float(sigma), float(epsilon), float(mass))
+        try:
+            on_ring = nano(sigma) * RING // nano(edge)
+        except (InvalidOperation, ValueError, ZeroDivisionError, OverflowError):
+            on_ring = 0
+        return Scale(_float(edge), _float(sigma), operator.index(h), epsilon, mass, on_ring)
+
+    @property
+    def reduced_dt(self) -> float:
+        """The time step in units of `sigma sqrt(m / epsilon)`."""
+        return reduced_time_step(self.h)
+
+    @property
+    def dt(self) -> Optional[float]:
+        """The time step in femtoseconds that the rounded h stands for; None without epsilon and mass."""
+        if self.epsilon is None or self.mass is None:
+            return None
+        return self.reduced_dt * time_unit(self.sigma, self.epsilon, self.mass)
+
+    def kinetic_energy(self, kinetic_number: int) -> float:
+        """The kinetic energy in epsilon, of the sum of the squares of all displacements in ring units per step."""
+        return kinetic_number * RING / (2 * self.sigma_on_ring**2 * self.h)
+
+
+def _float(number: Number) -> float:
+    """A number that is read back; nan where the server will refuse it."""
+    try:
+        return float(str(number).lower().replace("d", "e"))
+    except ValueError:
+        return math.nan

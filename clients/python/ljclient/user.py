@@ -1,0 +1,279 @@
+"""A user's connection to a server, or to a program of its own."""
+from __future__ import annotations
+
+import os
+import pathlib
+import shutil
+import subprocess
+from types import TracebackType
+from typing import Any, Callable, Dict, Iterable, List, Optional, Type, Union
+
+from . import units, xyz
+from .ends import ChildEnds, SocketEnds
+from .errors import BadReply, CannotStart, ClientError, ConnectionLost, TimedOut
+from .session import Row, Session, checked_name, fields, whole_number
+from .wire import Reply, Wire, checked_timeout
+
+MAX_ITEMS = 1_000_000
+BUILD_SECONDS = 3600.0
+FAREWELL_SECONDS = 2.0
+Program = Union[str, "os.PathLike[str]"]
+
+
+class User:
+    """What a user has at a server: sessions, each under its name. `connect` and `run` give one.
+
+    It is a context manager, which closes the connection at the end. What was loaded over `connect` stays at the server
+    for the next connection; what was loaded over `run` is gone with the program. One thread at a time may use it.
+    """
+
+    def __init__(self, wire: Wire, reopen: Optional[Callable[[], Wire]] = None, name: Optional[str] = None):
+        self.name = name
+        self._wire = wire
+        self._reopen = reopen
+        self._scales: Dict[str, units.Scale] = {}
+
+    def __enter__(self) -> "User":
+        return self
+
+    def __exit__(
+        self, kind: Optional[Type[BaseException]], error: Optional[BaseException], trace: Optional[TracebackType]
+    ) -> None:
+        self.close()
+
+    def load(
+        self,
+        name: str,
+        source: Any,
+        *,
+        edge: Optional[units.Number] = None,
+        sigma: units.Number,
+        h: Optional[int] = None,
+        epsilon: Optional[float] = None,
+        mass: Optional[float] = None,
+        dt: Optional[float] = None,
+        before: Any = None,
+        symbols: xyz.Symbols = None,
+        replace: bool = False,
+    ) -> Session:
+        """Loads atoms into a new session, at step 0.
+
+        name     the name of the session: 1 to 16 letters, digits, `_` or `-`
+        source   the atoms: the path of an XYZ file, an open one, XYZ text, `Atoms` of ASE, a list of
+                 `(symbol, x, y, z)`, or positions with `symbols`
+        edge     the edge of the cubic box, in the unit of the file; of `Atoms` in a cubic cell it is known
+        sigma    the distance sigma, in the same unit, below a fifth of the edge
+        h        the step factor: `dt^2 epsilon / (m sigma^2)` in units of 2^-32, a whole number from 1 to 16777216
+
+        In place of h there may be physical units, and edge, sigma and positions are then in angstrom:
+
+        epsilon  the depth of the potential in electronvolt, such as `119.8 * units.kelvin`
+        mass     the mass of an atom in dalton
+        dt       the time step in femtoseconds. h is the nearest whole number, and `Session.dt` the time step that this h
+                 stands for, which is what the simulation has
+
+        epsilon and mass may be said beside h too: `Session.dt` and temperatures in kelvin are known then.
+
+        The atoms are at rest, or, where `before` has the atoms one step before (a source too), move as these two say.
+        With `replace=True` a session of that name is dropped first.
+        """
+        checked_name(name)
+        if edge is None and (edge := xyz.edge_of(source)) is None:
+            raise ValueError("say the edge of the box: edge=..")
+        scale = units.Scale.of(edge, sigma, h, epsilon=epsilon, mass=mass, dt=dt)
+        mode, body = "rest", xyz.body_of(source, symbols)
+        if before is not None:
+            mode, body = "pair", xyz.pair_of(xyz.body_of(before, symbols), body)
+        if replace and any(row.name == name for row in self.sessions()):
+            self.ask(f"DROP {name}")
+        line = f"LOAD {name} {units.word(edge)} {units.word(sigma)} {units.word(scale.h)} {mode} {len(body)}"
+        self.ask(line, body)
+        self._scales[name] = scale
+        return Session(self, name, scale)
+
+    def session(
+        self,
+        name: str,
+        *,
+        edge: Optional[units.Number] = None,
+        sigma: Optional[units.Number] = None,
+        h: Optional[int] = None,
+        epsilon: Optional[float] = None,
+        mass: Optional[float] = None,
+        dt: Optional[float] = None,
+    ) -> Session:
+        """A session that is at the server. Raises `refusals.NoSession` where there is none of that name.
+
+        The server does not tell a session's scale. Where another connection has loaded it, say it again, in the words of
+        `load`, for `positions`, energies and temperatures; places need none.
+        """
+        self.ask(f"LIST {checked_name(name)}")
+        if edge is not None and sigma is not None:
+            self._scales[name] = units.Scale.of(edge, sigma, h, epsilon=epsilon, mass=mass, dt=dt)
+        elif (edge, sigma, h, epsilon, mass, dt) != (None,) * 6:
+            raise ValueError("a scale is edge and sigma, with h or with epsilon, mass and dt")
+        return Session(self, name, self._scales.get(name))
+
+    def sessions(self) -> List[Row]:
+        """The sessions in order of loading: of each its name, its step, its atoms and how much is saved in it."""
+        rows = []
+        for line in self.ask("LIST").lines:
+            name, *numbers = fields(line, 4)
+            step, atoms, branches = map(whole_number, numbers)
+            rows.append(Row(name, step, atoms, branches))
+        return rows
+
+    def row(self, name: str) -> Row:
+        """The line of the list of sessions that is this session's."""
+        for row in self.sessions():
+            if row.name == name:
+                return row
+        self.ask(f"LIST {name}")
+        raise BadReply(f"session {name} is there, but not in the list of sessions")
+
+    def has_dropped(self, name: str) -> None:
+        """Forgets the scale of a session that is gone."""
+        self._scales.pop(name, None)
+
+    def ask(self, line: str, body: bytes = b"") -> Reply:
+        """The reply to a command line of the protocol, with the body that a LOAD announces. A refusal is raised."""
+        self._make_room(1)
+        return self._wire.ask(line, body)
+
+    def ask_all(self, lines: Iterable[str]) -> List[Reply]:
+        """The replies to many command lines, of which many are under way at once. The first refusal is raised."""
+        commands = [(line, b"") for line in lines]
+        self._make_room(len(commands))
+        return self._wire.ask_all(commands)
+
+    def _make_room(self, count: int) -> None:
+        """Begins a new connection where this one's million commands would be passed, if the sessions outlast it."""
+        if self._reopen and not self._wire.closed and self._wire.asked + count >= MAX_ITEMS > count:
+            self._say_bye()
+            self._wire = self._reopen()
+
+    @property
+    def closed(self) -> bool:
+        """Whether the connection has ended."""
+        return self._wire.closed
+
+    def close(self) -> None:
+        """Ends the connection, and the program of `run`. A command that still runs at a server runs on there."""
+        self._say_bye()
+        self._wire.close()
+
+    def _say_bye(self) -> None:
+        """Takes leave where nothing is under way."""
+        if self._wire.closed:
+            return
+        try:
+            if self._wire.is_idle:
+                self._wire.timeout = min(self._wire.timeout, FAREWELL_SECONDS)
+                self._wire.ask("BYE")
+        except ClientError:
+            pass
+        finally:
+            self._wire.close()
+
+
+def connect(host: str, port: int, name: str, token: str, *, timeout: float = 60.0) -> User:
+    """A user's connection to `ljserve serve`.
+
+    timeout  how many seconds a connection, or the reply to a command, may take; then `TimedOut` is raised. A long
+             `advance` goes in pieces, each of which is much shorter.
+
+    Raises `refusals.Denied` where the server knows no user of that name and token, and `ConnectionLost` where there is no
+    server, or where it has no place for a connection more.
+    """
+    checked_name(name)
+    checked_timeout(timeout)
+    if not (isinstance(token, str) and token.isascii() and token.isalnum()):
+        raise ValueError("a token is letters and digits")
+
+    def open_wire() -> Wire:
+        wire = Wire(SocketEnds(host, port, timeout), timeout)
+        try:
+            _greet(wire, name, token)
+        except BaseException:
+            wire.close()
+            raise
+        return wire
+
+    return User(open_wire(), open_wire, name)
+
+
+def _greet(wire: Wire, name: str, token: str) -> None:
+    """Says who asks, and waits until this user's earlier connections have ended."""
+    try:
+        reply = wire.ask(f"HELLO {name} {token}")
+    except TimedOut as error:
+        raise TimedOut(f"{error} (is another connection of {name} open?)") from error
+    except ConnectionLost as error:
+        raise ConnectionLost(f"{error} (has the server no place for more connections?)") from error
+    if reply.words != ["HELLO", name]:
+        raise BadReply(f"HELLO was answered {' '.join(reply.words)[:80]!r}")
+
+
+def run(
+    program: Optional[Program] = None,
+    *,
+    sessions: int = 8,
+    atoms: int = 16384,
+    branches: int = 16,
+    timeout: float = 60.0,
+    env: Optional[Dict[str, str]] = None,
+) -> User:
+    """A user of a program of its own, without a server: `ljserve run` as a child process.
+
+    program                    the program; without it the one that the environment variable LJSERVE names, else
+                               bin/ljserve of the repository that this package stands in (which builds it on first use),
+                               else `ljserve` on the PATH
+    sessions, atoms, branches  the quota, at most 64, 65536 and 256
+    timeout                    as in `connect`
+    env                        the environment of the program; without it, that of this process
+
+    What is loaded is gone when the program ends, which it does when the user is closed. Raises `CannotStart` where it can
+    not be started.
+    """
+    checked_timeout(timeout)
+    path = str(program) if program is not None else find_program()
+    words = [path, "run"]
+    for option, number in (("--sessions", sessions), ("--atoms", atoms), ("--branches", branches)):
+        words += [option, str(number)]
+    wire = Wire(ChildEnds(words, env), timeout)
+    try:
+        wire.ask("LIST")
+    except (ConnectionLost, BadReply) as error:
+        raise CannotStart(f"{path} does not answer: {error}") from error
+    except BaseException:
+        wire.close()
+        raise
+    return User(wire)
+
+
+def find_program() -> str:
+    """The program that `run` starts where none is said."""
+    named = os.environ.get("LJSERVE")
+    if named:
+        return named
+    for folder in pathlib.Path(__file__).resolve().parents:
+        script = folder / "bin" / "ljserve"
+        if script.is_file() and any((folder / name).is_file() for name in ("crates.txt", "VERSION")):
+            _build(script)
+            return str(script)
+    found = shutil.which("ljserve")
+    if found is None:
+        raise CannotStart("there is no ljserve: say run(program), set LJSERVE, or put it on the PATH")
+    return found
+
+
+def _build(script: pathlib.Path) -> None:
+    """Has the repository's program built, if it is not; it says itself on standard error that this takes minutes."""
+    try:
+        done = subprocess.run(
+            [str(script), "--version"], stdin=subprocess.DEVNULL, stdout=subprocess.DEVNULL, timeout=BUILD_SECONDS
+        )
+    except (OSError, subprocess.TimeoutExpired) as error:
+        raise CannotStart(f"{script} cannot be started: {error}") from error
+    if done.returncode != 0:
+        raise CannotStart(f"{script} has ended with status {done.returncode}")

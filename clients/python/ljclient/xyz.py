@@ -1,0 +1,74 @@
+"""What a session can be loaded from, as the XYZ text that the server reads."""
+from __future__ import annotations
+
+import os
+from typing import Any, Iterable, List, Optional, Sequence, Tuple, Union
+
+from . import ase_bridge
+
+MAX_BYTES = 1_048_576
+Row = Tuple[str, float, float, float]
+Symbols = Union[str, Sequence[str], None]
+
+
+def body_of(source: Any, symbols: Symbols = None) -> bytes:
+    """The XYZ text of a source.
+
+    A path (`str` or `os.PathLike`) is read, and so is an open file; `bytes`, and a `str` with a line end in it, are the
+    text itself; `Atoms` of ASE, a list of `(symbol, x, y, z)`, and a list or an array of positions with the symbol of all
+    (or a list of symbols) become a text in which each coordinate is written with all its digits.
+    """
+    body = _bytes_of(source, symbols)
+    if len(body) > MAX_BYTES:
+        raise ValueError(f"the XYZ text has {len(body)} bytes; the server takes {MAX_BYTES} at most")
+    return body
+
+
+def _bytes_of(source: Any, symbols: Symbols) -> bytes:
+    if isinstance(source, (bytes, bytearray, memoryview)):
+        return bytes(source)
+    if isinstance(source, str) and "\n" in source:
+        return source.encode()
+    if isinstance(source, (str, os.PathLike)):
+        with open(source, "rb") as file:
+            return file.read(MAX_BYTES + 1)
+    if hasattr(source, "read"):
+        read = source.read()
+        return read.encode() if isinstance(read, str) else bytes(read)
+    if ase_bridge.is_atoms(source):
+        return text_of(zip(source.get_chemical_symbols(), source.get_positions()))
+    return text_of(_rows(list(source), symbols))
+
+
+def _rows(rows: List[Any], symbols: Symbols) -> List[Tuple[str, Sequence[float]]]:
+    if symbols is None:
+        if not all(len(row) == 4 and isinstance(row[0], str) for row in rows):
+            raise ValueError("positions need symbols='Ar', or rows of (symbol, x, y, z)")
+        return [(row[0], row[1:]) for row in rows]
+    names = [symbols] * len(rows) if isinstance(symbols, str) else list(symbols)
+    if len(names) != len(rows):
+        raise ValueError(f"there are {len(names)} symbols for {len(rows)} atoms")
+    return list(zip(names, rows))
+
+
+def text_of(atoms: Iterable[Tuple[str, Sequence[float]]], comment: str = "ljclient") -> bytes:
+    """A frame of XYZ text, which gives back each coordinate to the last digit."""
+    lines = []
+    for symbol, (x, y, z) in atoms:
+        if symbol.split() != [symbol]:
+            raise ValueError(f"{symbol!r} is no symbol")
+        lines.append(f"{symbol} {float(x)!r} {float(y)!r} {float(z)!r}\n")
+    return f"{len(lines)}\n{comment}\n{''.join(lines)}".encode()
+
+
+def pair_of(before: bytes, present: bytes) -> bytes:
+    """Two frames, one step apart, as one text."""
+    body = before + (b"" if before.endswith(b"\n") else b"\n") + present
+    if len(body) > MAX_BYTES:
+        raise ValueError(f"the two frames have {len(body)} bytes; the server takes {MAX_BYTES} at most")
+    return body
+
+
+def edge_of(source: Any) -> Optional[float]:
+    """The edge of the box that a source says itself: `Atoms` of ASE in a cubic cell."""
+    return ase_bridge.edge_of(source) if ase_bridge.is_atoms(source) else None

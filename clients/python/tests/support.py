@@ -1,0 +1,141 @@
+"""What the tests share: the program, servers of it on a loopback port, and peers that are not the program."""
+import contextlib
+import os
+import pathlib
+import signal
+import socket
+import subprocess
+import tempfile
+import threading
+import time
+
+TOP = pathlib.Path(__file__).resolve().parents[3]
+EXAMPLES = TOP / "examples"
+PROGRAM = os.environ.get("LJSERVE") or str(TOP / "bin" / "ljserve")
+SECONDS = 30
+TOKEN = "a" * 32
+DIMER = "2\ndimer\nAr 0 0 0\nAr 1.5 0 0\n"
+DIMER_SCALE = {"edge": 256, "sigma": 1, "h": 131072}
+RING = 2**32
+
+
+def dimer(user, name="a", **words):
+    """A session of two atoms 1.5 sigma apart, whose motion is known by hand."""
+    return user.load(name, DIMER, **{**DIMER_SCALE, **words})
+
+
+def interruptible(case):
+    """Has an interrupt raise KeyboardInterrupt in a test. Where tests run in the background it is ignored from the start."""
+    case.addCleanup(signal.signal, signal.SIGINT, signal.signal(signal.SIGINT, signal.default_int_handler))
+
+
+def free_port():
+    with socket.socket() as taken:
+        taken.bind(("127.0.0.1", 0))
+        return taken.getsockname()[1]
+
+
+class Server:
+    """`ljserve serve` on a free port of 127.0.0.1, for users whose token is `TOKEN`."""
+
+    def __init__(self, users=("ann",), connections=100, quota=(8, 16384, 16)):
+        self.port = free_port()
+        with tempfile.NamedTemporaryFile("w") as file:
+            file.write("".join("{} {} {} {} {}\n".format(name, TOKEN, *quota) for name in users))
+            file.flush()
+            words = ["--listen", f"127.0.0.1:{self.port}", "--users", file.name]
+            words += ["--workers", "2", "--connections", str(connections)]
+            self.child = subprocess.Popen(
+                [PROGRAM, "serve", *words], stdin=subprocess.DEVNULL, stdout=subprocess.DEVNULL, stderr=subprocess.DEVNULL
+            )
+            self.wait_until_it_listens()
+
+    def wait_until_it_listens(self):
+        """One connection is made and closed, which is among those that the server counts."""
+        end = time.monotonic() + SECONDS
+        while time.monotonic() < end:
+            if self.child.poll() is not None:
+                break
+            try:
+                socket.create_connection(("127.0.0.1", self.port), SECONDS).close()
+                return
+            except OSError:
+                time.sleep(0.01)
+        self.end()
+        raise AssertionError("the server does not listen")
+
+    def end(self):
+        if self.child.poll() is None:
+            self.child.kill()
+        self.child.wait(SECONDS)
+
+    def __enter__(self):
+        return self
+
+    def __exit__(self, *_):
+        self.end()
+
+
+@contextlib.contextmanager
+def peer(talk):
+    """The port of a peer that talks in its own way to the one connection that it accepts."""
+    listener = socket.create_server(("127.0.0.1", 0))
+    listener.settimeout(SECONDS)
+    stop = threading.Event()
+    faults = []
+
+    def serve():
+        try:
+            connection, _ = listener.accept()
+            connection.settimeout(SECONDS)
+            with connection:
+                talk(connection, stop)
+        except OSError as error:
+            faults.append(error)
+
+    thread = threading.Thread(target=serve, daemon=True)
+    thread.start()
+    try:
+        yield listener.getsockname()[1]
+    finally:
+        stop.set()
+        thread.join(SECONDS)
+        listener.close()
+        if thread.is_alive():
+            raise AssertionError("the peer still talks")
+
+
+def read_line(connection):
+    """The next line of a connection, byte by byte."""
+    line = b""
+    while not line.endswith(b"\n"):
+        byte = connection.recv(1)
+        if not byte:
+            return line
+        line += byte
+    return line
+
+
+def says(*replies, then=None):
+    """A peer that answers HELLO, and then each line with the next of these replies; at last it does something else."""
+
+    def talk(connection, stop):
+        read_line(connection)
+        connection.sendall(b"OK HELLO ann\n")
+        for reply in replies:
+            read_line(connection)
+            connection.sendall(reply)
+        if then:
+            then(connection, stop)
+
+    return talk
+
+
+def stays(connection, stop):
+    """The peer says nothing more, and does not go."""
+    stop.wait(SECONDS)
+
+
+def is_running(pid):
+    """Whether there is a process of this number, one that has ended and was not waited for included."""
+    return os.path.exists(f"/proc/{pid}")

@@ -1,0 +1,51 @@
+"""The examples in Python of both READMEs, run as they stand."""
+import contextlib
+import io
+import os
+import re
+import unittest
+from unittest import mock
+
+from support import PROGRAM, TOP, Server, TOKEN
+
+README = TOP / "clients" / "python" / "README.md"
+
+
+def examples(path=README):
+    return re.findall(r"```python\n(.*?)```", path.read_text(), re.S)
+
+
+class Examples(unittest.TestCase):
+    def setUp(self):
+        self.addCleanup(os.chdir, os.getcwd())
+        os.chdir(TOP)
+
+    def printed(self, text):
+        out = io.StringIO()
+        with contextlib.redirect_stdout(out):
+            exec(compile(text, str(README), "exec"), {})
+        return out.getvalue().splitlines()
+
+    def test_a_program_of_its_own(self):
+        with mock.patch.dict(os.environ, {"LJSERVE": PROGRAM}):
+            measured, away, back = self.printed(examples()[0])
+        self.assertEqual(f"{float(measured.split()[0]):.6f}", "10.000006")
+        self.assertGreater(float(away), 1000)
+        self.assertEqual(back, "0.0")
+
+    def test_a_server(self):
+        with Server(users=("alice",)) as server:
+            text = examples()[1].replace("4000", str(server.port)).replace("aliceExampleToken000000000000001", TOKEN)
+            self.assertEqual(self.printed(text), ["[Row(name='argon', step=100, atoms=256, branches=1)]", "100"])
+
+    def test_the_example_of_the_repository(self):
+        (text,) = examples(TOP / "README.md")
+        with mock.patch.dict(os.environ, {"LJSERVE": PROGRAM}):
+            self.assertEqual(self.printed(text), ["0.0"])
+
+    def test_each_example_is_run(self):
+        self.assertEqual(len(examples()), 2)
+
+
+if __name__ == "__main__":
+    unittest.main()
