@@ -1,0 +1,62 @@
+#!/usr/bin/env python3
+"""Runs a liquid twice, the second time with one atom tugged by one unit, and goes back with both.
+
+A unit is a part in 2^32 of the box. Prints the distance between the two runs, which grows until nothing is alike, or draws
+it over the steps with --plot. On the way back it shrinks again, and both end where they began, to the bit. The status is 1
+where one does not.
+
+Pushes are looked up by bins of squared distance, so the distance jumps where a pair first falls into another bin in one of
+the runs: not all of the growth is that of smooth motion.
+"""
+import sys
+
+from shared import distance, hot_crystal, options_of, print_table, save_picture, there_and_back, user_of
+
+MELTING = 1000
+STEPS = 1200
+PIECE = 20
+
+
+def fly(user, steps=STEPS, piece=PIECE, tug=(1, 0, 0)):
+    """The frames of the run as it is and of the one with the tug, after each piece of the way there and back."""
+    with hot_crystal(user, "butterfly") as session:
+        session.advance(MELTING)
+        session.branch("before")
+        alone = there_and_back(session, steps, piece)
+        session.restore("before")
+        session.tug(0, tug)
+        return alone, there_and_back(session, steps, piece)
+
+
+def distances(alone, tugged, piece=PIECE):
+    """How many steps were made, and how far the two runs then were from each other in sigma, frame by frame."""
+    return [number * piece for number in range(len(alone))], [distance(*pair) for pair in zip(alone, tugged)]
+
+
+def draw(axes, alone, tugged, piece=PIECE):
+    made, apart = distances(alone, tugged, piece)
+    turn = len(made) // 2
+    axes.semilogy(made[1 : turn + 1], apart[1 : turn + 1], color="tab:red", label="there")
+    axes.semilogy(made[turn:-1], apart[turn:-1], color="tab:blue", label="back: after REVERSE")
+    axes.axvline(made[turn], color="gray", linestyle=":", linewidth=1)
+    axes.set(xlabel="steps made", ylabel="distance of the two runs / σ", xlim=(0, made[-1]))
+    axes.set_title("One atom, tugged by a part in $2^{32}$ of the box")
+    axes.legend(loc="lower center")
+
+
+def main(words):
+    options = options_of(words, __doc__, STEPS, PIECE)
+    with user_of(options) as user:
+        alone, tugged = fly(user, options.steps)
+    made, apart = distances(alone, tugged)
+    if options.plot:
+        save_picture(lambda axes: draw(axes, alone, tugged), options.plot)
+    else:
+        print_table(["steps made", "distance / sigma"], [(step, f"{far:.3e}") for step, far in zip(made[::5], apart[::5])])
+    returned = alone[0] == alone[-1] == tugged[-1]
+    print("both runs are back where they began, to the bit" if returned else "a run is not back where it began")
+    return 0 if returned else 1
+
+
+if __name__ == "__main__":
+    sys.exit(main(sys.argv[1:]))

@@ -1,0 +1,69 @@
+#!/usr/bin/env python3
+"""Follows the energy of a melting crystal over 20,000 steps, for several step factors.
+
+Prints the total energy per atom, or draws it over the steps with --plot. It rises, the faster the longer the step is. The
+positions of the Störmer-Verlet form give velocities at half steps, so the kinetic energy at a step is the mean of those of
+the half steps before and after it.
+"""
+import math
+import sys
+
+from shared import ATOMS, RING, hot_crystal, options_of, print_table, save_picture, user_of
+
+FACTORS = [32768, 131072, 524288, 1179648]
+STEPS = 20_000
+PIECE = 100
+
+
+def energies(user, h, steps=STEPS, piece=PIECE):
+    """The steps at which it was measured, and the total energy per atom there in epsilon."""
+    at, found = [], []
+    with hot_crystal(user, "energy", h) as session:
+        for _ in range(0, steps, piece):
+            before = session.measure()
+            session.advance(1)
+            kinetic = (before.kinetic_energy + session.measure().kinetic_energy) / 2
+            at.append(before.step)
+            found.append((before.potential_energy + kinetic) / ATOMS)
+            session.advance(piece - 1)
+    return at, found
+
+
+def time_step(h):
+    """The time step of a step factor, in units of sigma sqrt(m / epsilon)."""
+    return math.sqrt(h / RING)
+
+
+def draw(axes, found):
+    for h, (at, energy) in found.items():
+        axes.plot(at, energy, linewidth=1, label=f"h = {h:,}, Δt = {time_step(h):.4f}")
+    axes.set(xlabel="step", ylabel="energy per atom / ε", xlim=(0, None))
+    axes.set_title(f"Total energy of {ATOMS} atoms, by step factor")
+    axes.legend(loc="best", fontsize="small")
+
+
+def print_energies(found):
+    """Prints every tenth energy, with a column for each step factor."""
+    steps, _ = found[FACTORS[0]]
+    rows = list(zip(steps, *(energy for _, energy in found.values())))
+    heads = ["step", *(f"h = {h}" for h in FACTORS)]
+    print_table(heads, [(step, *(f"{one:.5f}" for one in energies)) for step, *energies in rows[::10]])
+
+
+def main(words):
+    options = options_of(words, __doc__, STEPS, PIECE)
+    found = {}
+    with user_of(options) as user:
+        for h in FACTORS:
+            found[h] = energies(user, h, options.steps)
+            _, energy = found[h]
+            print(f"h = {h}: {energy[0]:.5f} epsilon per atom at first, {energy[-1]:.5f} at last", flush=True)
+    if options.plot:
+        save_picture(lambda axes: draw(axes, found), options.plot)
+    else:
+        print_energies(found)
+    return 0
+
+
+if __name__ == "__main__":
+    sys.exit(main(sys.argv[1:]))

@@ -1,0 +1,141 @@
+"""What the examples share: their options, the client, a crystal that is hot enough to melt, distances, and pictures."""
+import argparse
+import contextlib
+import math
+import os
+import random
+import sys
+
+TOP = os.path.dirname(os.path.dirname(os.path.abspath(__file__)))
+sys.path.insert(0, os.path.join(TOP, "clients", "python"))
+import ljclient  # noqa: E402
+
+if os.path.exists(os.path.join(TOP, "VERSION")):  # a release
+    os.environ.setdefault("LJSERVE", os.path.join(TOP, "bin", "ljserve"))
+
+RING = ljclient.units.RING  # the edge of the box, in ring units
+H = 131072  # the usual step factor: a time step of 0.0055
+CELLS = 4  # of the crystal along each axis, with four atoms in each
+ATOMS = 4 * CELLS**3
+DENSITY = 0.8442  # atoms per cube of sigma, with which argon is liquid just above its triple point
+HEAT = 1.5  # temperature of the crystal when it starts, half of which becomes potential energy
+EDGE = round((ATOMS / DENSITY) ** (1 / 3), 6)  # of the box, in sigma
+FACES = [(0, 0, 0), (0.5, 0.5, 0), (0.5, 0, 0.5), (0, 0.5, 0.5)]
+
+
+def options_of(words, text, steps, piece):
+    """The options of an example whose text this is, and which makes so many steps where none are said, piece by piece."""
+    parser = argparse.ArgumentParser(description=text, formatter_class=argparse.RawDescriptionHelpFormatter)
+    parser.add_argument("--plot", metavar="FILE", help="draw the picture into this file (needs matplotlib), such as x.png")
+    parser.add_argument("--steps", metavar="N", type=int, default=steps, help=f"how many steps, a multiple of {piece}: {steps}")
+    parser.add_argument("--server", metavar="HOST:PORT", help="a server to use; else the program runs for this alone")
+    parser.add_argument("--user", metavar="NAME", help="who asks, as in the server's file of users")
+    parser.add_argument("--token", metavar="TOKEN", help="the user's token")
+    options = parser.parse_args(words)
+    if options.steps < piece or options.steps % piece:
+        parser.error(f"--steps is a multiple of {piece}")
+    if options.server and not (options.user and options.token):
+        parser.error("--server needs --user and --token")
+    if options.server and not options.server.rpartition(":")[2].isdecimal():
+        parser.error(f"{options.server} is no HOST:PORT")
+    if options.plot:
+        pyplot()
+    return options
+
+
+@contextlib.contextmanager
+def user_of(options):
+    """The user whose sessions the example has: of the server that is named, or of a program of its own."""
+    host, _, port = (options.server or "").rpartition(":")
+    try:
+        if options.server:
+            opened = ljclient.connect(host.strip("[]"), int(port), options.user, options.token)
+        else:
+            opened = ljclient.run()
+        with opened as user:
+            yield user
+    except ljclient.ClientError as error:
+        sys.exit(f"{os.path.basename(sys.argv[0])}: {error}")
+
+
+@contextlib.contextmanager
+def hot_crystal(user, name, h=H):
+    """A session with a face-centred cubic crystal at rest, whose atoms are then tugged at random; dropped at the end."""
+    session = user.load(name, crystal(), edge=EDGE, sigma=1, h=h)
+    try:
+        for atom, velocity in enumerate(velocities()):
+            unit = math.sqrt(h / RING) / EDGE * RING
+            session.tug(atom, tuple(round(part * unit) for part in velocity))
+        yield session
+    finally:
+        with contextlib.suppress(ljclient.ClientError):
+            session.drop()
+
+
+def crystal():
+    """The crystal as XYZ text, in units of sigma."""
+    cell = EDGE / CELLS
+    cube = [(i, j, k) for i in range(CELLS) for j in range(CELLS) for k in range(CELLS)]
+    atoms = [[cell * (index + part) for index, part in zip(corner, face)] for corner in cube for face in FACES]
+    return f"{ATOMS}\nface-centred cubic\n" + "".join(f"Ar {x:.6f} {y:.6f} {z:.6f}\n" for x, y, z in atoms)
+
+
+def velocities():
+    """Velocities of the temperature HEAT, in reduced units, whose sum is zero; the same in every run."""
+    random.seed(1)
+    drawn = [[random.gauss(0, math.sqrt(HEAT)) for _ in range(3)] for _ in range(ATOMS)]
+    mean = [sum(parts) / ATOMS for parts in zip(*drawn)]
+    return [[part - middle for part, middle in zip(parts, mean)] for parts in drawn]
+
+
+def whole(places):
+    """Places as tuples of whole numbers, to be compared to the bit."""
+    return [tuple(map(int, place)) for place in places]
+
+
+def distance(places, others):
+    """The root mean square distance of atoms from others, each round the box the nearer way, in sigma."""
+    return ljclient.distance(places, others) * EDGE / RING
+
+
+def there_and_back(session, steps, piece):
+    """The places after each piece of so many steps, and after each piece of the way back; the last are those at the start."""
+    frames = [whole(session.places())]
+    for _ in range(0, steps, piece):
+        session.advance(piece)
+        frames.append(whole(session.places()))
+    session.reverse()
+    session.advance(piece - 1)  # reversing has gone back by one step already
+    frames.append(whole(session.places()))
+    for _ in range(piece, steps, piece):
+        session.advance(piece)
+        frames.append(whole(session.places()))
+    return frames
+
+
+def print_table(heads, rows):
+    """Prints columns of numbers under their heads."""
+    print("".join(f"{head:>{max(14, len(head) + 2)}}" for head in heads))
+    for row in rows:
+        print("".join(f"{value:>{max(14, len(head) + 2)}}" for head, value in zip(heads, row)))
+
+
+def pyplot():
+    """The drawing module of matplotlib, for files alone. Where there is none, the example ends and says so."""
+    try:
+        import matplotlib
+    except ImportError:
+        sys.exit("--plot needs matplotlib, which is not installed: try `python3 -m pip install matplotlib`, or leave out --plot")
+    matplotlib.use("Agg")
+    from matplotlib import pyplot as drawing
+
+    return drawing
+
+
+def save_picture(draw, path):
+    """Draws into a file."""
+    drawing = pyplot()
+    figure, axes = drawing.subplots(figsize=(7, 3.6), dpi=110, layout="constrained")
+    draw(axes)
+    figure.savefig(path)
+    print(f"drawn: {path}")

@@ -1,0 +1,53 @@
+#!/usr/bin/env python3
+"""Melts a crystal, turns the motion back, and goes back to the crystal, to the bit.
+
+Prints the distance of the atoms from where they began, or draws it over the steps with --plot. The status is 1 where an
+atom is not back at its place.
+"""
+import sys
+
+from shared import ATOMS, distance, hot_crystal, options_of, print_table, save_picture, there_and_back, user_of
+
+STEPS = 2000
+PIECE = 40
+
+
+def travel(user, steps=STEPS, piece=PIECE):
+    """The frames after each piece of the way there and of the way back."""
+    with hot_crystal(user, "there-and-back") as session:
+        return there_and_back(session, steps, piece)
+
+
+def distances(frames, piece=PIECE):
+    """How many steps were made, and how far the atoms then were from the start in sigma, frame by frame."""
+    return [number * piece for number in range(len(frames))], [distance(frame, frames[0]) for frame in frames]
+
+
+def draw(axes, frames, piece=PIECE):
+    made, away = distances(frames, piece)
+    turn = len(made) // 2
+    axes.plot(made[: turn + 1], away[: turn + 1], color="tab:red", label="there: the crystal melts")
+    axes.plot(made[turn:], away[turn:], color="tab:blue", label="back: after REVERSE")
+    axes.axvline(made[turn], color="gray", linestyle=":", linewidth=1)
+    axes.plot(made[-1], away[-1], "o", color="tab:blue", clip_on=False, label=f"{away[-1]:g} at the end, to the bit")
+    axes.set(xlabel="steps made", ylabel="distance from the start / σ", xlim=(0, made[-1]), ylim=(0, None))
+    axes.set_title(f"{ATOMS} atoms melt, and go back to their crystal")
+    axes.legend(loc="lower center")
+
+
+def main(words):
+    options = options_of(words, __doc__, STEPS, PIECE)
+    with user_of(options) as user:
+        frames = travel(user, options.steps)
+    if options.plot:
+        save_picture(lambda axes: draw(axes, frames), options.plot)
+    else:
+        made, away = distances(frames)
+        print_table(["steps made", "distance / sigma"], [(step, f"{far:.6f}") for step, far in zip(made[::5], away[::5])])
+    back = sum(one == other for one, other in zip(frames[0], frames[-1]))
+    print(f"{back} of {ATOMS} atoms are back at their places, to the bit")
+    return 0 if back == ATOMS else 1
+
+
+if __name__ == "__main__":
+    sys.exit(main(sys.argv[1:]))
