@@ -11,6 +11,3 @@ pub use lj_tile::Name;
 pub use row::MAX_TICKETS;
 pub use ticket::{Denied, NotEntered, Ticket};
 pub use user::{TOKEN_BYTES, Token, User, is_named};
-
-#[cfg(test)]
-mod tests;

@@ -5,8 +5,6 @@ mod book;
 mod entries;
 mod faults;
 mod marks;
-#[cfg(test)]
-mod tests;
 
 pub use book::{Book, Counts, Key, MAX_ENTRIES};
 pub use faults::{Full, NotOut};

@@ -3,8 +3,6 @@
 
 mod branches;
 mod faults;
-#[cfg(test)]
-mod tests;
 
 pub use branches::Branches;
 pub use faults::{NoBranch, SaveFault};

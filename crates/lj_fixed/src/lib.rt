@@ -11,6 +11,3 @@ pub use numbers::{MAX_NANO, Nano, NumberFault};
 pub use printing::{MAX_MICRO_BYTES, micro_text};
 pub use whole::parse_number;
 pub use words::parse_nano;
-
-#[cfg(test)]
-mod tests;

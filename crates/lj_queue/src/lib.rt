@@ -9,8 +9,6 @@ mod pool;
 mod rest;
 mod rule;
 mod settled;
-#[cfg(test)]
-mod tests;
 mod ticket;
 mod worker;
 

@@ -25,6 +25,3 @@ pub use owner::{Begin, Owner};
 pub use refusal::Refusal;
 pub use reply::Reply;
 pub use state::UserState;
-
-#[cfg(test)]
-mod tests;

@@ -13,6 +13,3 @@ mod snapshots;
 pub use frames::{Frame, Frames, MAX_ATOMS};
 pub use simulations::{Displacement, MAX_STEP, NotAwaited, Sim, Stray};
 pub use snapshots::Snapshot;
-
-#[cfg(test)]
-mod tests;

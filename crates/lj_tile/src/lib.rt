@@ -14,6 +14,3 @@ pub use names::{Kind, Label, MAX_NAME_BYTES, Name, TaskName};
 pub use pairs::{Push, pair_push};
 pub use results::{Done, compute};
 pub use tasks::Task;
-
-#[cfg(test)]
-mod tests;

@@ -10,8 +10,6 @@ mod laws;
 mod limits;
 mod machine;
 mod position;
-#[cfg(test)]
-mod tests;
 mod texts;
 mod transcript;
 mod worker;

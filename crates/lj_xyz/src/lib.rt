@@ -16,6 +16,3 @@ pub use reader::{MAX_ATOMS, read_pair, read_rest};
 pub use row::{FramePair, Row, Rows};
 pub use symbol::Symbol;
 pub use writer::{FrameLine, atom_line, comment_line, count_line};
-
-#[cfg(test)]
-mod tests;

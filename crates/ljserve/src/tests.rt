@@ -1,6 +1,7 @@
 //! Tests of the engine and of what it stands on: worked dialogues, orders of refusals, limits, and what fails in turn.
 
 mod closing;
+mod dialogue;
 mod dialogues;
 mod failures;
 mod faults;

@@ -61,7 +61,7 @@ type Texts = ArrayVec<Part<'static>, 15>;
 fn first(texts: &[&'static str; 15], count: usize) -> Texts {
     let mut parts = Texts::new();
     for text in texts.iter().take(count) {
-        let _ = parts.try_push((text.as_bytes(), 1));
+        let _ = parts.try_push((text, 1));
     }
     parts
 }
@@ -104,7 +104,7 @@ fn look_at(rt: &(impl Abort + AllocGlobal), state: Option<UserState>) -> Output 
     let Some(state) = state else {
         panic!(rt; "a state is handed back");
     };
-    let parts = [(LOOK.as_bytes(), 1)];
+    let parts = [(LOOK, 1)];
     let mut sheet = Sheet::new(usize::MAX);
     let mut stream = Stream::new(&parts, usize::MAX);
     let (_, served) = serve_from(rt.alloc(), state, &mut stream, &mut sheet);
@@ -180,7 +180,7 @@ fn a_failed_read_ends_the_connection(rt: HostRuntime) -> Result<(), Fail> {
 #[test]
 fn a_read_fails_within_a_line(rt: HostRuntime) {
     for (most, calls) in [(usize::MAX, 1), (1, 8)] {
-        let mut stream = Stream::failing(&[(b"LIST\nLIS", 1)], most, calls);
+        let mut stream = Stream::failing(&[("LIST\nLIS", 1)], most, calls);
         let mut sheet = Sheet::new(usize::MAX);
         let (state, served) = begin(&rt, &mut stream, &mut sheet);
         assert_eq!(rt; served, Served::ReadFault);
@@ -227,7 +227,7 @@ fn a_failed_write_ends_the_connection(rt: HostRuntime) -> Result<(), Fail> {
 fn a_write_fails_within_a_reply(rt: HostRuntime) {
     for fails in [true, false] {
         let mut sheet = Sheet::ending(5, 1, fails);
-        let mut stream = Stream::new(&[(b"LIST\n", 2)], usize::MAX);
+        let mut stream = Stream::new(&[("LIST\n", 2)], usize::MAX);
         let (state, served) = begin(&rt, &mut stream, &mut sheet);
         assert_eq!(rt; served, Served::WriteFault);
         assert_eq!(rt; sheet.output.as_slice(), b"OK LI".as_slice());
@@ -279,7 +279,7 @@ fn a_run_tells_a_failed_write(rt: HostRuntime) -> Result<(), Fail> {
 
 #[test]
 fn a_run_tells_a_write_that_takes_nothing(rt: HostRuntime) {
-    let parts = [(LOAD.as_bytes(), 1)];
+    let parts = [(LOAD, 1)];
     let mut sheet = Sheet::ending(usize::MAX, 0, false);
     let outcome = run(rt.alloc(), ONE_BRANCH, Stream::new(&parts, 7), &mut sheet);
     assert!(rt; outcome == Err(RunFault::Write));

@@ -87,7 +87,7 @@ fn dialogue() -> Result<Text, Fail> {
 #[test]
 fn a_refused_growth_changes_nothing(rt: HostRuntime) -> Result<(), Fail> {
     let input = dialogue()?;
-    let parts = [(input.as_bytes(), 1)];
+    let parts = [(input.as_str(), 1)];
     let mut sheet = Sheet::new(usize::MAX);
     let mut stream = Stream::new(&parts, usize::MAX);
     let served = serve(rt.alloc(), Quota::USUAL, &mut stream, &mut sheet);

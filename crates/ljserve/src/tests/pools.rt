@@ -126,7 +126,7 @@ fn serve_over(
 ) -> (Served, bool)
     requires { pool.old.held ≡ None }
 {
-    let parts: [Part; 2] = [(load.as_bytes(), 1), (commands.as_bytes(), 1)];
+    let parts: [Part; 2] = [(load, 1), (commands, 1)];
     let stream = Stream::new(&parts, usize::MAX);
     let mut lines = LineReader::new(alloc, Reading::new(stream));
     let mut sink = Writing::new(Sheet::new(usize::MAX));

@@ -1,12 +1,10 @@
 //! Refusals, each of which leaves the user as it was.
 
-use super::serving::{Text, expect};
+use super::dialogue::{Dialogue, play};
 use lj_pool::Served;
 use lj_quota::Quota;
 use std::alloc::AllocGlobal;
-use std::fmt::Write;
 use std::process::Abort;
-use std::test::Fail;
 
 /// A user whose sessions and saved simulations fill the quota, and which has room for one atom more.
 const FULL: Quota = Quota {
@@ -83,40 +81,24 @@ const WHERE_ROOM: [(&str, &str); 30] = [
     ),
 ];
 
-/// Each of these items is to be refused so to a user of this quota, and to leave the user as it was.
-fn expect_refusals(
-    rt: &(impl Abort + AllocGlobal),
-    quota: Quota,
-    refusals: &[(&str, &str)],
-) -> Result<(), Fail> {
-    for (item, refusal) in refusals {
-        let mut input = Text::new();
-        write!(input, "{BEGIN}{item}{LOOK}")?;
-        let mut replies = Text::new();
-        write!(replies, "{BEGUN}{refusal}{SEEN}")?;
-        expect(rt, quota, &input, &replies, Served::End);
-    }
-    Ok(())
-}
-
-#[test]
-fn a_refusal_leaves_the_user_as_it_was(rt: HostRuntime) -> Result<(), Fail> {
-    expect_refusals(&rt, ROOM, &WHERE_ROOM)
-}
-
-#[test]
-fn a_refusal_by_the_quota_leaves_the_user_as_it_was(rt: HostRuntime) -> Result<(), Fail> {
-    expect_refusals(&rt, FULL, &WHERE_FULL)
-}
-
-#[test]
-fn a_quota_of_nothing_refuses_the_first_session(rt: HostRuntime) {
-    let nothing = Quota {
-        sessions: 0,
-        atoms: 0,
-        branches: 0,
+/// An item is to be refused so to a user of this quota, and to leave the user as it was.
+fn expect_refusal(rt: &(impl Abort + AllocGlobal), quota: Quota, item: &str, refusal: &str) {
+    let dialogue = Dialogue {
+        quota,
+        stream: &[(BEGIN, 1), (item, 1), (LOOK, 1)],
+        replies: &[BEGUN, refusal, SEEN],
+        end: Served::End,
+        state: "OK LIST 2\na 1 2 1\nb 0 2 0\n",
     };
-    let input = "LOAD c x x x rest 0\nLIST\n";
-    let replies = "ERR 20 QUOTA_SESSIONS\nOK LIST 0\n";
-    expect(&rt, nothing, input, replies, Served::End);
+    play(rt, &dialogue);
+}
+
+#[test]
+fn a_refusal_leaves_the_user_as_it_was(rt: HostRuntime) {
+    for (item, refusal) in &WHERE_ROOM {
+        expect_refusal(&rt, ROOM, item, refusal);
+    }
+    for (item, refusal) in &WHERE_FULL {
+        expect_refusal(&rt, FULL, item, refusal);
+    }
 }

@@ -6,8 +6,8 @@ use std::io::{ErrorKind, Read, Write};
 /// What was written in a test.
 pub type Output = ArrayVec<u8, 8192>;
 
-/// Bytes, and how many times over they come.
-pub type Part<'a> = (&'a [u8], u64);
+/// A text, and how many times over it comes.
+pub type Part<'a> = (&'a str, u64);
 
 /// A reader of parts, which gives up to `most` bytes per call, and fails once its calls are used up.
 #[derive(Drop)]
@@ -64,9 +64,10 @@ impl Read for Stream<'_> {
             return Err(io::Error::from(ErrorKind::Interrupted));
         }
         self.calls -= 1;
-        let Some((bytes, times)) = self.parts.get(self.part) else {
+        let Some((text, times)) = self.parts.get(self.part) else {
             return Ok(0);
         };
+        let bytes = text.as_bytes();
         let (_, rest) = bytes.split_at(self.at.min(bytes.len()));
         let count = rest.len().min(buf.len()).min(self.most);
         buf[..count].copy_from_slice(&rest[..count]);

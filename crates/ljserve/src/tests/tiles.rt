@@ -85,57 +85,53 @@ fn all_fetched(tasks: u64) -> Counts {
 }
 
 /// A full block, and one atom alone beside it: one tile of the full block, and one of both.
-#[test]
-fn a_chain_of_65_has_two_tasks(rt: HostRuntime) -> Result<(), Fail> {
-    let parts = [(CHAIN.as_bytes(), 1), (b"ADVANCE c 1\n".as_slice(), 1)];
-    let (told, computed) = tell(&rt, &parts)?;
-    assert_eq!(rt;
-        told.sheet.output.as_slice(),
-        b"OK LOAD c 0 65\nOK ADVANCE c 1\n".as_slice()
-    );
-    assert_eq!(rt; (told.counts, computed), (all_fetched(2), 2));
-    Ok(())
-}
+const CHAIN_OF_65: [Part; 2] = [(CHAIN, 1), ("ADVANCE c 1\n", 1)];
 
-/// Two full blocks, all atoms of each at one place: the first at the origin, the second so far from it.
-fn two_blocks<'a>(load: &'a [u8], second: &'a [u8], commands: &'a [u8]) -> [Part<'a>; 5] {
-    [
-        (load, 1),
-        (b"128\nfar\n", 1),
-        (b"X 0 0 0\n", 64),
-        (second, 64),
-        (commands, 1),
-    ]
-}
+/// Two full blocks, all atoms of each at one place, so far apart that they have no tile of both.
+const FAR: [Part; 5] = [
+    ("LOAD f 256 1 131072 rest 1160\n", 1),
+    ("128\nfar\n", 1),
+    ("X 0 0 0\n", 64),
+    ("X 100 0 0\n", 64),
+    ("ADVANCE f 1\nMEASURE f\n", 1),
+];
+
+/// The same at the cutoff of 2.5 sigma, where no pair interacts.
+const AT_THE_CUTOFF: [Part; 5] = [
+    ("LOAD f 256 1 131072 rest 1160\n", 1),
+    ("128\nfar\n", 1),
+    ("X 0 0 0\n", 64),
+    ("X 2.5 0 0\n", 64),
+    ("ADVANCE f 1\n", 1),
+];
+
+/// The same just below it, where each pair of the two does.
+const BELOW_THE_CUTOFF: [Part; 5] = [
+    ("LOAD f 256 1 131072 rest 1608\n", 1),
+    ("128\nfar\n", 1),
+    ("X 0 0 0\n", 64),
+    ("X 2.49999995 0 0\n", 64),
+    ("ADVANCE f 1\n", 1),
+];
+
+/// Streams, what they are told, and how many tasks are posted, computed and fetched for them.
+const STREAMS: [(&[Part], &str, u64); 4] = [
+    (&CHAIN_OF_65, "OK LOAD c 0 65\nOK ADVANCE c 1\n", 2),
+    (
+        &FAR,
+        "OK LOAD f 0 128\nOK ADVANCE f 1\nOK MEASURE f 1 128 0 0 0 0 14412589418304\n",
+        4,
+    ),
+    (&AT_THE_CUTOFF, "OK LOAD f 0 128\nOK ADVANCE f 1\n", 2),
+    (&BELOW_THE_CUTOFF, "OK LOAD f 0 128\nOK ADVANCE f 1\n", 3),
+];
 
 #[test]
-fn blocks_100_sigma_apart_have_no_task_together(rt: HostRuntime) -> Result<(), Fail> {
-    let load = b"LOAD f 256 1 131072 rest 1160\n";
-    let parts = two_blocks(load, b"X 100 0 0\n", b"ADVANCE f 1\nMEASURE f\n");
-    let (told, computed) = tell(&rt, &parts)?;
-    assert_eq!(rt;
-        told.sheet.output.as_slice(),
-        b"OK LOAD f 0 128\nOK ADVANCE f 1\nOK MEASURE f 1 128 0 0 0 0 14412589418304\n".as_slice()
-    );
-    assert_eq!(rt; (told.counts, computed), (all_fetched(4), 4));
-    Ok(())
-}
-
-/// At the cutoff of 2.5 sigma no pair interacts, and just below it each does.
-#[test]
-fn blocks_at_the_cutoff_have_no_task_together(rt: HostRuntime) -> Result<(), Fail> {
-    let at = b"LOAD f 256 1 131072 rest 1160\n".as_slice();
-    let below = b"LOAD f 256 1 131072 rest 1608\n".as_slice();
-    for (load, second, tasks) in [
-        (at, b"X 2.5 0 0\n".as_slice(), 2),
-        (below, b"X 2.49999995 0 0\n".as_slice(), 3),
-    ] {
-        let (told, computed) = tell(&rt, &two_blocks(load, second, b"ADVANCE f 1\n"))?;
-        assert_eq!(rt;
-            told.sheet.output.as_slice(),
-            b"OK LOAD f 0 128\nOK ADVANCE f 1\n".as_slice()
-        );
-        assert_eq!(rt; (told.counts, computed), (all_fetched(tasks), tasks));
+fn blocks_within_reach_have_a_task_together(rt: HostRuntime) -> Result<(), Fail> {
+    for (parts, replies, tasks) in &STREAMS {
+        let (told, computed) = tell(&rt, parts)?;
+        assert_eq!(rt; told.sheet.output.as_slice(), replies.as_bytes());
+        assert_eq!(rt; (told.counts, computed), (all_fetched(*tasks), *tasks));
     }
     Ok(())
 }

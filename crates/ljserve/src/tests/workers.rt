@@ -134,7 +134,7 @@ fn served<H: Hub, R: Wait>(
         begins,
         count,
     });
-    let parts = [(input.as_bytes(), 1)];
+    let parts = [(input, 1)];
     let reader = Reading::new(Stream::new(&parts, usize::MAX));
     let mut lines = LineReader::new(alloc, reader);
     let state = UserState::new(alloc, Quota::USUAL);

@@ -1,0 +1,343 @@
+//! A gate that sends each task back once: two users are told the same over either pool.
+ghost use Rattle.std.specs.Prelude.{◌≡◌, ◌+◌, []};
+
+use arrayvec::ArrayVec;
+use lj_book::Counts;
+use lj_pool::{Gate, LockPool, Pool, Share, serve, work};
+use lj_queue::{CONNECTIONS, PoolPass, QueueBlank, QueuePool, Room, Settled, work_queue};
+use lj_quota::Quota;
+use lj_session::UserState;
+use lj_table::Table;
+use lj_tile::{Kind, TaskName};
+use lj_wire::{Reading, Writing};
+use std::alloc::{AllocError, AllocGlobal, Global};
+use std::io::Write;
+use std::marker::Brand;
+use std::rt::Clock;
+use std::sync::atomic::{AtomicU64, Ordering};
+use std::sync::ledger::{Blank, Ledger};
+use std::sync::{Mutex, Wait};
+use std::test::Fail;
+use std::thread::Threads;
+use std::time::Duration;
+use std::{io, thread};
+
+/// How often the gate looks at most before it lets the task pass.
+const TURNS: u64 = 1_000_000;
+
+/// How long it waits after each look, so that the other user's threads get on.
+const TURN_MICROS: u64 = 20;
+
+/// The user whose step is held back.
+const HELD: u8 = 0;
+
+/// A gate that sends each task back once, and then holds the step of one user until another user is answered.
+#[derive(Drop)]
+struct SendBack<'a, R> {
+    rt: &'a R,
+    sent_back: Mutex<Vec<TaskName>>,
+    /// How many tasks passed.
+    passed: AtomicU64,
+    /// How often the one that is held was answered its ADVANCE, and the other its MEASURE.
+    advanced: AtomicU64,
+    measured: AtomicU64,
+    /// How often the gate saw the second answer, and not the first.
+    seen: AtomicU64,
+}
+
+impl<R: Clock + Wait> Gate for SendBack<'_, R> {
+    fn between(&self, name: &TaskName) {
+        self.passed.fetch_add(1, Ordering::SeqCst);
+        if name.label.user != HELD || name.kind != Kind::Force {
+            return;
+        }
+        for _ in 0..TURNS {
+            if self.measured.load(Ordering::SeqCst) > 0 {
+                if self.advanced.load(Ordering::SeqCst) == 0 {
+                    self.seen.fetch_add(1, Ordering::SeqCst);
+                }
+                return;
+            }
+            thread::sleep(self.rt, Duration::from_micros(TURN_MICROS));
+        }
+    }
+
+    fn back(&self, name: &TaskName) -> bool {
+        let mut sent_back = self.sent_back.lock(self.rt);
+        !sent_back.iter().any(|sent| sent.is(name)) && sent_back.push(name.copy()).is_ok()
+    }
+}
+
+impl<'a, R: Wait> SendBack<'a, R> {
+    fn new(rt: &'a R, alloc: Global) -> Self {
+        SendBack {
+            rt,
+            sent_back: Mutex::new(Vec::new(alloc)),
+            passed: AtomicU64::new(0),
+            advanced: AtomicU64::new(0),
+            measured: AtomicU64::new(0),
+            seen: AtomicU64::new(0),
+        }
+    }
+
+    /// How many tasks were sent back, how many passed, and how often the other answer was seen first.
+    fn counts(&self) -> (usize, u64, u64) {
+        (
+            self.sent_back.lock(self.rt).len(),
+            self.passed.load(Ordering::SeqCst),
+            self.seen.load(Ordering::SeqCst),
+        )
+    }
+}
+
+/// What a user is told.
+type Output = ArrayVec<u8, 128>;
+
+/// A writer that counts the replies that begin so.
+#[derive(Drop)]
+struct Counted<'a> {
+    output: Output,
+    begins: &'a [u8],
+    count: &'a AtomicU64,
+}
+
+impl Write for Counted<'_> {
+    fn write(&mut self, buf: &[u8]) -> io::Result<usize> {
+        let written = self.output.write(buf)?;
+        if buf.starts_with(self.begins) {
+            self.count.fetch_add(1, Ordering::SeqCst);
+        }
+        Ok(written)
+    }
+
+    fn flush(&mut self) -> io::Result<()> {
+        Ok(())
+    }
+}
+
+/// What the user is asked whose step is held back, and what the other one is.
+const ADVANCES: &str = "LOAD a 256 1 131072 rest 28\n2\ndimer\nAr 0 0 0\nAr 1.5 0 0\nADVANCE a 1\n";
+
+const MEASURES: &str = "LOAD a 256 1 131072 rest 28\n2\ndimer\nAr 0 0 0\nAr 1.5 0 0\nMEASURE a\n";
+
+/// Serves what is asked of this user over an end of a pool.
+fn serve_user<P: Pool, R>(alloc: Global, user: u8, gate: &SendBack<R>, pool: &mut P) -> Output
+    requires { (P.seen pool.old).owed ≡ [] }
+{
+    let (input, begins, count) = if user == HELD {
+        (ADVANCES, b"OK ADVANCE".as_slice(), &gate.advanced)
+    } else {
+        (MEASURES, b"OK MEASURE".as_slice(), &gate.measured)
+    };
+    let mut writer = Writing::new(Counted {
+        output: Output::new(),
+        begins,
+        count,
+    });
+    let reader = Reading::new(input.as_bytes());
+    let state = UserState::new(alloc, Quota::USUAL);
+    let (state, _, _) = serve(alloc, state, user, reader, &mut writer, pool);
+    drop(state);
+    writer.into_inner().output
+}
+
+/// What both users are told, how many results each worker's share has, and what the gate counted.
+#[derive(Drop)]
+struct Told {
+    held: Output,
+    other: Output,
+    given: u64,
+    gate: (usize, u64, u64),
+}
+
+/// Serves both users at once over a pool behind a lock, beside its workers.
+fn serve_locked<'a, L: Ledger + Send + Sync, R: Threads + Wait + Clock + Sync>(
+    rt: &'a R,
+    alloc: Global,
+    pool: &'a LockPool<L>,
+    gate: &'a SendBack<'a, R>,
+    shares: Vec<Share<L>>,
+    table: &'a Table,
+) -> Result<(Output, Output, u64), AllocError> {
+    let mut threads = Vec::with_capacity(alloc, 2)?;
+    Ok(thread::scope(thread::scope_env(), rt, move |scope| {
+        for share in shares {
+            if let Ok(worker) = scope.spawn(move || work(rt, pool, share, gate, table)) {
+                let _ = threads.push(worker);
+            }
+        }
+        let (held, other) = thread::join(
+            rt,
+            move || serve_user(alloc, HELD, gate, &mut pool.end(rt)),
+            move || serve_user(alloc, 1, gate, &mut pool.end(rt)),
+        );
+        pool.close(rt);
+        let mut given = 0u64;
+        for worker in threads {
+            given = given.saturating_add(worker.join(rt).count());
+        }
+        (held, other, given)
+    }))
+}
+
+fn run_locked<L: Ledger + Send + Sync, R: Threads + Wait + Clock + Sync>(
+    rt: &R,
+    alloc: Global,
+    blank: Blank,
+) -> Result<(Told, Counts), AllocError>
+    requires name { blank.name ≡ L.name }
+    requires parts { blank.parts ≡ L.parts }
+    requires one_each { blank.parts ≡ 2 }
+{
+    let (pool, shares) = LockPool::<L>::new(alloc, blank, 2)?;
+    let (gate, table) = (SendBack::new(rt, alloc), Table::new());
+    let (held, other, given) = serve_locked(rt, alloc, &pool, &gate, shares, &table)?;
+    let told = Told {
+        held,
+        other,
+        given,
+        gate: gate.counts(),
+    };
+    Ok((told, pool.counts(rt)))
+}
+
+fn locked_once(
+    rt: &(impl Threads + Wait + Clock + Sync),
+    alloc: Global,
+) -> Result<(Told, Counts), AllocError> {
+    run_locked::<Brand, _>(rt, alloc, Blank::new(2))
+}
+
+/// Serves a user by a pass, which is given back.
+fn serve_queued<L: Room, R: Wait>(
+    rt: &R,
+    alloc: Global,
+    user: u8,
+    pool: &QueuePool<L>,
+    pass: PoolPass<L>,
+    gate: &SendBack<R>,
+) -> (Output, PoolPass<L>) {
+    let mut end = pool.end(rt, pass, user);
+    let output = serve_user(alloc, user, gate, &mut end);
+    (output, end.finish())
+}
+
+/// What a pool is served with: its passes and the shares of its workers.
+struct Tools<L: Room> {
+    passes: Vec<PoolPass<L>>,
+    shares: Vec<Share<L>>,
+}
+
+/// Serves both users at once over a pool with a queue, beside its workers. The passes are given back.
+fn serve_over_queue<'a, L: Room + Send + Sync, R: Threads + Wait + Clock + Sync>(
+    rt: &'a R,
+    alloc: Global,
+    pool: &'a QueuePool<L>,
+    gate: &'a SendBack<'a, R>,
+    tools: Tools<L>,
+    table: &'a Table,
+) -> Result<(Output, Output, u64, Vec<PoolPass<L>>), AllocError> {
+    let Tools { mut passes, shares } = tools;
+    let mut threads = Vec::with_capacity(alloc, 2)?;
+    let (Some(first), Some(second)) = (passes.pop(), passes.pop()) else {
+        return Err(AllocError);
+    };
+    Ok(thread::scope(thread::scope_env(), rt, move |scope| {
+        for share in shares {
+            if let Some(pass) = passes.pop() {
+                if let Ok(worker) = scope.spawn(move || work_queue(
+                    rt, pool, share, pass, gate, table,
+                )) {
+                    let _ = threads.push(worker);
+                }
+            }
+        }
+        let ((held, first), (other, second)) = thread::join(
+            rt,
+            move || serve_queued(rt, alloc, HELD, pool, first, gate),
+            move || serve_queued(rt, alloc, 1, pool, second, gate),
+        );
+        pool.close(rt);
+        let mut given = 0u64;
+        for worker in threads {
+            let (share, pass) = worker.join(rt);
+            given = given.saturating_add(share.count());
+            let _ = passes.push(pass);
+        }
+        let _ = passes.push(first);
+        let _ = passes.push(second);
+        (held, other, given, passes)
+    }))
+}
+
+fn run_queued<L: Room + Send + Sync, R: Threads + Wait + Clock + Sync>(
+    rt: &R,
+    alloc: Global,
+    blank: QueueBlank,
+) -> Result<(Told, Settled), AllocError>
+    requires name { blank.name ≡ L.name }
+    requires parts { blank.parts ≡ L.parts }
+    requires one_each { blank.parts ≡ 2 }
+    requires table { blank.table ≡ L.table }
+    requires passes { 2 + CONNECTIONS ≡ L.passes }
+{
+    let (pool, passes, shares) = QueuePool::<L>::new(alloc, blank, 2)?;
+    let (gate, table) = (SendBack::new(rt, alloc), Table::new());
+    let tools = Tools { passes, shares };
+    let (held, other, given, passes) = serve_over_queue(rt, alloc, &pool, &gate, tools, &table)?;
+    if passes.len() != 2 + CONNECTIONS {
+        return Err(AllocError);
+    }
+    let told = Told {
+        held,
+        other,
+        given,
+        gate: gate.counts(),
+    };
+    Ok((told, pool.settle(rt, passes)))
+}
+
+fn queued_once(
+    rt: &(impl Threads + Wait + Clock + Sync),
+    alloc: Global,
+) -> Result<(Told, Settled), AllocError> {
+    run_queued::<Brand, _>(rt, alloc, QueueBlank::new(alloc, 2)?)
+}
+
+/// Both users are to be told what they are told alone, and each task is to be sent back once and computed once.
+fn is_right(told: &Told) -> bool {
+    let held = b"OK LOAD a 0 2\nOK ADVANCE a 1\n".as_slice();
+    let other = b"OK LOAD a 0 2\nOK MEASURE a 0 2 0 0 0 0 -5349132\n".as_slice();
+    told.held.as_slice() == held
+        && told.other.as_slice() == other
+        && told.given == 2
+        && told.gate == (2, 2, 1)
+}
+
+#[test]
+fn tasks_are_sent_back_over_a_pool_behind_a_lock(rt: HostRuntime) -> Result<(), Fail> {
+    let (told, counts) = locked_once(&rt, rt.alloc())?;
+    assert!(rt; is_right(&told));
+    let all_fetched = Counts {
+        posted: 2,
+        given: 2,
+        fetched: 2,
+        withdrawn: 0,
+        entries: 0,
+    };
+    assert_eq!(rt; counts, all_fetched);
+    Ok(())
+}
+
+#[test]
+fn tasks_are_sent_back_over_a_pool_with_a_queue(rt: HostRuntime) -> Result<(), Fail> {
+    let (told, settled) = queued_once(&rt, rt.alloc())?;
+    assert!(rt; is_right(&told));
+    let two_pushed_again = Settled {
+        pushed: 4,
+        popped: 4,
+        left: 0,
+    };
+    assert_eq!(rt; settled, two_pushed_again);
+    Ok(())
+}
