@@ -1,9 +1,318 @@
-//! Runs of worlds, of which every text is known beforehand.
+//! Worlds: events that are not possible by their numbers, and growths that are refused, to be run with each allocation
+//! refused in turn, too (`rt try --test --fail-alloc`). Schedules of many users are replayed by `tests/program`.
+ghost use Rattle.std.specs.Prelude.{◌≡◌, ◌≤◌, length, false, OnOk, IfOk};
+ghost use Rattle.std.specs.List.{IsDistinct, list_any};
+ghost use Rattle.std.specs.Str.{bytes_eq};
+ghost use Rattle.lj_access.specs.Users.{names};
 
-mod crowds;
-mod impossible;
-mod memory;
-mod results;
-mod schedules;
-mod scripts;
-mod sessions;
+use arrayvec::ArrayString;
+use lj_access::{MAX_USERS, TOKEN_BYTES, Token, User, is_named};
+use lj_quota::Quota;
+use lj_session::{Body, LoadBody};
+use lj_tile::Name;
+use lj_wire::{Item, read_line};
+use lj_world::{Entry, Event, OutOfMemory, World};
+use std::alloc::{AllocError, AllocGlobal};
+use std::fmt::Write;
+use std::process::Abort;
+use std::test::Fail;
+
+/// What is told.
+type Text = ArrayString<4096>;
+
+/// The names of the users, of one letter each.
+const USERS: [&str; 2] = ["A", "B"];
+
+const LOAD_A: &str = "LOAD a 256 1 131072 rest 28";
+
+const LOAD_B: &str = "LOAD b 256 1 131072 rest 28";
+
+/// The body of both.
+const DIMER: &str = "2\ndimer\nAr 0 0 0\nAr 1.5 0 0\n";
+
+/// An event, with the number of its connection or worker, and its pick.
+#[derive(Clone, Copy)]
+enum Step {
+    Hello(u8, &'static str),
+    Arrive(u8, &'static str),
+    End(u8),
+    Enter(u8),
+    Next(u8),
+    Post(u8),
+    Take(u8, usize),
+    Compute(u8),
+    Give(u8),
+    HandBack(u8),
+    Fetch(u8, usize),
+    Turn(u8),
+    Leave(u8),
+}
+
+/// Two users load two atoms each; the first saves them, the second goes on by a step.
+const STEPS: [Step; 24] = [
+    Step::Hello(1, "A"),
+    Step::Hello(2, "B"),
+    Step::Enter(1),
+    Step::Enter(2),
+    Step::Arrive(1, LOAD_A),
+    Step::Arrive(2, LOAD_B),
+    Step::Arrive(1, "BRANCH a k"),
+    Step::Arrive(1, "LIST"),
+    Step::Arrive(2, "ADVANCE b 1"),
+    Step::Arrive(2, "LIST"),
+    Step::Next(1),
+    Step::Next(2),
+    Step::Next(1),
+    Step::Next(1),
+    Step::Next(2),
+    Step::Post(2),
+    Step::Take(1, 0),
+    Step::Compute(1),
+    Step::Give(1),
+    Step::Fetch(2, 0),
+    Step::Turn(2),
+    Step::Next(2),
+    Step::End(1),
+    Step::Leave(1),
+];
+
+const TOLD: &str = "A 1 OK LOAD a 0 2\nB 2 OK LOAD b 0 2\nA 1 OK BRANCH a k 0\n\
+    A 1 OK LIST 1\na 0 2 1\nB 2 OK ADVANCE b 1\nB 2 OK LIST 1\nb 1 2 0\n";
+
+/// What is told where memory is refused to a LOAD or to BRANCH: the other user is told the same as ever.
+const TOLD_WITH_A_MARK: [&str; 3] = [
+    "A 1 ERR 90 MEMORY\nB 2 OK LOAD b 0 2\nA 1 ERR 10 NO_SESSION\n\
+    A 1 OK LIST 0\nB 2 OK ADVANCE b 1\nB 2 OK LIST 1\nb 1 2 0\n",
+    "A 1 OK LOAD a 0 2\nB 2 ERR 90 MEMORY\nA 1 OK BRANCH a k 0\n\
+    A 1 OK LIST 1\na 0 2 1\nB 2 ERR 10 NO_SESSION\nB 2 OK LIST 0\n",
+    "A 1 OK LOAD a 0 2\nB 2 OK LOAD b 0 2\nA 1 ERR 90 MEMORY\n\
+    A 1 OK LIST 1\na 0 2 0\nB 2 OK ADVANCE b 1\nB 2 OK LIST 1\nb 1 2 0\n",
+];
+
+/// Events of connections and workers that are none.
+const OF_NOBODY: [Step; 27] = [
+    Step::Hello(0, "A"),
+    Step::Hello(65, "A"),
+    Step::Hello(255, "A"),
+    Step::Arrive(0, "BYE"),
+    Step::Arrive(65, "BYE"),
+    Step::End(0),
+    Step::End(65),
+    Step::Enter(0),
+    Step::Enter(65),
+    Step::Next(0),
+    Step::Next(65),
+    Step::Post(0),
+    Step::Post(65),
+    Step::Take(0, 0),
+    Step::Take(17, 0),
+    Step::Take(255, 0),
+    Step::Compute(0),
+    Step::Compute(17),
+    Step::Give(0),
+    Step::Give(17),
+    Step::HandBack(0),
+    Step::HandBack(17),
+    Step::Fetch(0, 0),
+    Step::Fetch(65, 0),
+    Step::Turn(0),
+    Step::Turn(65),
+    Step::Leave(0),
+];
+
+fn name(rt: &impl Abort, word: &str) -> Name {
+    Name::parse(word.as_bytes()).expect(rt, "a name")
+}
+
+fn token(rt: &impl Abort) -> Token {
+    Token::parse(&[b'0'; TOKEN_BYTES]).expect(rt, "a token")
+}
+
+/// The item of a line, with the body of two atoms where it is a LOAD.
+fn item(rt: &impl AllocGlobal, line: &str) -> Result<Item, AllocError> {
+    let reading = read_line(line.as_bytes());
+    if reading.body == 0 {
+        return Ok(reading.item);
+    }
+    let bytes = Vec::from_slice(rt.alloc(), DIMER.as_bytes())?;
+    Ok(reading.item.with_body(LoadBody::Read(Body::new(bytes))))
+}
+
+fn event(rt: &(impl Abort + AllocGlobal), step: Step) -> Result<Event, AllocError> {
+    Ok(match step {
+        Step::Hello(connection, word) => Event::Hello {
+            connection,
+            name: name(rt, word),
+            token: token(rt),
+        },
+        Step::Arrive(connection, line) => Event::Arrive {
+            connection,
+            item: item(rt, line)?,
+        },
+        Step::End(connection) => Event::End { connection },
+        Step::Enter(connection) => Event::Enter { connection },
+        Step::Next(connection) => Event::Next { connection },
+        Step::Post(connection) => Event::Post { connection },
+        Step::Take(worker, pick) => Event::Take { worker, pick },
+        Step::Compute(worker) => Event::Compute { worker },
+        Step::Give(worker) => Event::Give { worker },
+        Step::HandBack(worker) => Event::HandBack { worker },
+        Step::Fetch(connection, pick) => Event::Fetch { connection, pick },
+        Step::Turn(connection) => Event::Turn { connection },
+        Step::Leave(connection) => Event::Leave { connection },
+    })
+}
+
+/// Adds the events of these steps.
+fn add_events(
+    rt: &(impl Abort + AllocGlobal),
+    steps: &[Step],
+    events: &mut Vec<Event>,
+) -> Result<(), AllocError> {
+    for step in steps {
+        events.push(event(rt, *step)?)?;
+    }
+    Ok(())
+}
+
+/// The events of the two users, after each of which these others come.
+fn events(rt: &(impl Abort + AllocGlobal), others: &[Step]) -> Result<Vec<Event>, AllocError> {
+    let mut events = Vec::new(rt.alloc());
+    for step in &STEPS {
+        events.push(event(rt, *step)?)?;
+        add_events(rt, others, &mut events)?;
+    }
+    Ok(events)
+}
+
+fn user(rt: &impl Abort, word: &str) -> User {
+    User {
+        name: name(rt, word),
+        token: token(rt),
+        quota: Quota {
+            sessions: 4,
+            atoms: 100,
+            branches: 4,
+        },
+    }
+}
+
+/// One user more, of a name that is new.
+fn add(users: &mut Vec<User>, user: User) -> Result<(), AllocError>
+    requires fresh { list_any (λ other. bytes_eq user.name other.name) users.old.items ≡ false }
+    requires distinct { IsDistinct bytes_eq (names users.old.items) }
+    ensures { OnOk result (IsDistinct bytes_eq (names users.new.items)) }
+{
+    users.push(user)?;
+    Ok(())
+}
+
+/// The users.
+fn users(rt: &(impl Abort + AllocGlobal)) -> Result<Vec<User>, AllocError>
+    ensures some { IfOk result (λ users. 1 ≤ length users.items) }
+    ensures most { IfOk result (λ users. length users.items ≤ MAX_USERS) }
+    ensures distinct { IfOk result (λ users. IsDistinct bytes_eq (names users.items)) }
+{
+    let mut users = Vec::new(rt.alloc());
+    for word in &USERS {
+        let user = user(rt, word);
+        assert!(rt; !is_named(&users, &user.name));
+        add(&mut users, user)?;
+    }
+    assert!(rt; 1 <= users.len() && users.len() <= MAX_USERS);
+    Ok(users)
+}
+
+/// What the user of an entry is called, the number of the connection, and the text.
+fn tell(rt: &impl Abort, entry: &Entry, told: &mut Text) {
+    let name = USERS.get(usize::from(entry.user)).expect(rt, "a user");
+    let text = str::from_utf8(entry.text.as_bytes())
+        .ok()
+        .expect(rt, "a text");
+    let written = write!(told, "{name} {} {text}", entry.connection).is_ok();
+    assert!(rt; written);
+}
+
+/// What a run tells.
+fn run_once(rt: &(impl Abort + AllocGlobal), others: &[Step]) -> Result<Text, OutOfMemory> {
+    let transcript = World::run(rt.alloc(), users(rt)?, events(rt, others)?)?;
+    let mut told = Text::new();
+    for entry in transcript.entries() {
+        tell(rt, entry, &mut told);
+    }
+    Ok(told)
+}
+
+/// The same, once more where memory ran out.
+fn run(rt: &(impl Abort + AllocGlobal), others: &[Step]) -> Result<Text, OutOfMemory> {
+    match run_once(rt, others) {
+        Ok(told) if !told.as_str().contains("ERR 90 MEMORY") => Ok(told),
+        _ => run_once(rt, others),
+    }
+}
+
+#[test]
+fn a_run_tells_each_user(rt: HostRuntime) -> Result<(), Fail> {
+    assert_eq!(rt; run(&rt, &[])?.as_str(), TOLD);
+    Ok(())
+}
+
+#[test]
+fn events_of_nobody_change_nothing(rt: HostRuntime) -> Result<(), Fail> {
+    assert_eq!(rt; run(&rt, &OF_NOBODY)?.as_str(), TOLD);
+    Ok(())
+}
+
+/// A new world of both users.
+fn world_once(rt: &(impl Abort + AllocGlobal)) -> Result<World, OutOfMemory> {
+    World::new(rt.alloc(), users(rt)?)
+}
+
+/// The same, once more where memory is refused to it.
+fn new_world(rt: &(impl Abort + AllocGlobal)) -> Result<World, OutOfMemory> {
+    match world_once(rt) {
+        Ok(world) => Ok(world),
+        Err(OutOfMemory) => world_once(rt),
+    }
+}
+
+/// Steps over an event, and notes what is told. A world that is lost takes no step.
+fn take_step(world: &mut World, event: Event, told: &mut Text, rt: &impl Abort) {
+    let was_lost = world.is_lost();
+    match world.step(event) {
+        Ok(reply) => {
+            assert!(rt; !was_lost && !world.is_lost());
+            if let Some(entry) = reply {
+                tell(rt, &entry, told);
+            }
+        }
+        Err(OutOfMemory) => assert!(rt; world.is_lost()),
+    }
+}
+
+/// Steps over all events of the two users.
+fn step_all(world: &mut World, events: Vec<Event>, rt: &impl Abort) -> Text {
+    let mut told = Text::new();
+    for event in events {
+        take_step(world, event, &mut told, rt);
+    }
+    told
+}
+
+#[test]
+fn a_world_to_which_memory_was_refused_goes_no_further(rt: HostRuntime) -> Result<(), Fail> {
+    let mut world = new_world(&rt)?;
+    assert!(rt; !world.is_lost());
+    let list = match events(&rt, &[]) {
+        Ok(list) => list,
+        Err(_) => events(&rt, &[])?,
+    };
+    let told = step_all(&mut world, list, &rt);
+    let told = told.as_str();
+    if world.is_lost() {
+        assert!(rt; TOLD.starts_with(told) && told.len() < TOLD.len(), "{told}");
+    } else {
+        assert!(rt; told == TOLD || TOLD_WITH_A_MARK.contains(&told), "{told}");
+    }
+    Ok(())
+}

@@ -1,7 +1,7 @@
 //! The notes that a server takes of its connections, by a logger of the test's own.
 
-use super::schedules::CHAIN;
 use super::servers::{Client, HELLO, has, serve};
+use super::serving::CHAIN;
 use super::streams::Sheet;
 use crate::hub::Kept;
 use log::sink::Locked;

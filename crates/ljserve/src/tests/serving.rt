@@ -15,6 +15,17 @@ pub type Text = ArrayString<2048>;
 /// A LOAD of two atoms, 1.5 sigma apart.
 pub const LOAD: &str = "LOAD a 256 1 131072 rest 28\n2\ndimer\nAr 0 0 0\nAr 1.5 0 0\n";
 
+/// A LOAD of 65 atoms in a row, 1.5 sigma apart.
+pub const CHAIN: &str = "\
+    LOAD c 256 1 131072 rest 651\n65\nchain\nX 0 0 0\nX 1.5 0 0\nX 3 0 0\nX 4.5 0 0\nX 6 0 0\nX 7.5 0 0\n\
+    X 9 0 0\nX 10.5 0 0\nX 12 0 0\nX 13.5 0 0\nX 15 0 0\nX 16.5 0 0\nX 18 0 0\nX 19.5 0 0\nX 21 0 0\n\
+    X 22.5 0 0\nX 24 0 0\nX 25.5 0 0\nX 27 0 0\nX 28.5 0 0\nX 30 0 0\nX 31.5 0 0\nX 33 0 0\nX 34.5 0 0\n\
+    X 36 0 0\nX 37.5 0 0\nX 39 0 0\nX 40.5 0 0\nX 42 0 0\nX 43.5 0 0\nX 45 0 0\nX 46.5 0 0\nX 48 0 0\n\
+    X 49.5 0 0\nX 51 0 0\nX 52.5 0 0\nX 54 0 0\nX 55.5 0 0\nX 57 0 0\nX 58.5 0 0\nX 60 0 0\nX 61.5 0 0\n\
+    X 63 0 0\nX 64.5 0 0\nX 66 0 0\nX 67.5 0 0\nX 69 0 0\nX 70.5 0 0\nX 72 0 0\nX 73.5 0 0\nX 75 0 0\n\
+    X 76.5 0 0\nX 78 0 0\nX 79.5 0 0\nX 81 0 0\nX 82.5 0 0\nX 84 0 0\nX 85.5 0 0\nX 87 0 0\nX 88.5 0 0\n\
+    X 90 0 0\nX 91.5 0 0\nX 93 0 0\nX 94.5 0 0\nX 96 0 0\n";
+
 /// A quota of one saved simulation.
 pub const ONE_BRANCH: Quota = Quota {
     sessions: 8,

@@ -1,7 +1,7 @@
 //! How many tasks steps have: none for blocks out of reach of each other, and none for one atom alone.
 ghost use Rattle.std.specs.Prelude.{◌≡◌};
 
-use super::schedules::CHAIN;
+use super::serving::CHAIN;
 use super::streams::{Part, Sheet, Stream};
 use lj_book::Counts;
 use lj_pool::{LockPool, Share, gather, serve, work};

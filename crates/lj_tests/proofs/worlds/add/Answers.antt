@@ -3,7 +3,7 @@ use Rattle.std.specs.List.{IsDistinct}
 use Rattle.std.specs.Str.{bytes_eq}
 use Rattle.lj_access.specs.Users.{names}
 use Rattle.lj_access.proofs.UserLemmas.{IsDistinct-names_push}
-use Rattle.lj_tests.proofs.worlds.schedules.add.Goals as goal
+use Rattle.lj_tests.proofs.worlds.add.Goals as goal
 
 pub returns : goal.returns
 returns c =

@@ -1,9 +1,0 @@
-use Rattle.std.proofs.Common.{subst, sym}
-use Rattle.std.specs.List.{IsDistinct}
-use Rattle.std.specs.Str.{bytes_eq}
-use Rattle.lj_access.specs.Users.{names}
-use Rattle.lj_tests.proofs.worlds.schedules.users.Goals as goal
-
-pub loop-guest-init : goal.loop-guest-init
-unfolding IsDistinct
-loop-guest-init g c = subst (λ users. IsDistinct bytes_eq (names users)) (sym c.new-users.ensures.items) tt
