@@ -1,5 +1,6 @@
 """Connections to `ljserve serve` on a loopback port."""
 import contextlib
+import os
 import signal
 import socket
 import threading
@@ -93,6 +94,7 @@ class Connections(unittest.TestCase):
             a = dimer(user)
             user._wire.timeout = 0.5
             self.server.child.send_signal(signal.SIGSTOP)
+            os.waitid(os.P_PID, self.server.child.pid, os.WSTOPPED)
             try:
                 with self.assertRaisesRegex(TimedOut, "nothing was heard for 0.5 s"):
                     a.measure()

@@ -1,0 +1,16 @@
+"""Tables of dialogues, for tests/program."""
+from dialogue_tables import branches, frames, limits, lines, loads, refusals, words_of_numbers, worked
+
+TABLES = {
+    "worked dialogues": worked.DIALOGUES,
+    "refusals": refusals.DIALOGUES,
+    "loads": loads.DIALOGUES,
+    "limits": limits.DIALOGUES,
+    "lines": lines.DIALOGUES,
+    "branches and quotas": branches.DIALOGUES,
+    "frames of text": frames.DIALOGUES,
+    "words of numbers": words_of_numbers.DIALOGUES,
+}
+
+# Streams that are not read to their end, which no server is played.
+NOT_READ_ON = limits.NOT_READ_ON

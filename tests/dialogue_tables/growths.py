@@ -1,0 +1,123 @@
+"""Streams of growths, any of which may be refused memory: nothing has changed then, and the same once more succeeds.
+
+A growth is sent twice, each time with a LIST after it. The second one tells that the first was done, or is done where
+memory was refused to the first.
+"""
+from dataclasses import dataclass
+from typing import Iterator, List, Optional, Sequence, Union
+
+from dialogue_tables.frames import FAULTS, SIZES, faults, numbered
+from dialogue_tables.in_boxes import DROP, ROW, load_in, loaded, show
+from dialogues import LOAD, Quota
+
+NO_MEMORY = "ERR 90 MEMORY\n"
+
+
+@dataclass(frozen=True)
+class Growth:
+    """A command that takes memory, its reply, its reply once more, and what LIST is answered before it and after it."""
+
+    command: str
+    first: str
+    again: str
+    before: str
+    after: str
+
+    def sent(self) -> str:
+        return f"{self.command}LIST\n" * 2
+
+    def told(self, is_refused: bool) -> str:
+        if is_refused:
+            return NO_MEMORY + self.before + self.first + self.after
+        return self.first + self.after + self.again + self.after
+
+
+@dataclass(frozen=True)
+class Plain:
+    """Any other item. A refused one may be answered, too, that there is no memory."""
+
+    item: str
+    reply: str
+
+    def sent(self) -> str:
+        return self.item
+
+    def told(self, is_refused: bool) -> str:
+        return NO_MEMORY if is_refused else self.reply
+
+
+@dataclass(frozen=True)
+class Growing:
+    """A stream of a user of this quota, and the numbers of those of its parts to which memory may be refused."""
+
+    name: str
+    quota: Quota
+    parts: Sequence[Union[Growth, Plain]]
+    growing: Sequence[int]
+
+    def stream(self) -> bytes:
+        return "".join(part.sent() for part in self.parts).encode()
+
+    def replies(self, refused: Optional[int] = None) -> bytes:
+        """What is replied where memory is refused to the part of this number."""
+        return "".join(part.told(number == refused) for number, part in enumerate(self.parts)).encode()
+
+
+def growing(name: str, quota: Quota, parts: List[Union[Growth, Plain]]) -> Growing:
+    return Growing(name, quota, parts, [number for number, part in enumerate(parts) if isinstance(part, Growth)])
+
+
+def listed(step: int, atoms: int, branches: int) -> str:
+    return f"OK LIST 1\na {step} {atoms} {branches}\n"
+
+
+def saved(name: str, step: int, atoms: int, count: int) -> Growth:
+    """BRANCH, where so many are saved before it."""
+    lists = listed(step, atoms, count), listed(step, atoms, count + 1)
+    return Growth(f"BRANCH a {name}\n", f"OK BRANCH a {name} {step}\n", "ERR 13 BRANCH_EXISTS\n", *lists)
+
+
+def of_size(size: int) -> Iterator[Union[Growth, Plain]]:
+    """LOADs of so many atoms, at rest and in a pair, and branches of them."""
+    text, atoms = numbered(size)
+    for mode, body in (("rest", text), ("pair", text * 2)):
+        yield Growth(load_in(ROW, body, mode), loaded(size), "ERR 11 EXISTS\n", "OK LIST 0\n", listed(0, size, 0))
+        yield Plain(*show(ROW, atoms, size - 1))
+        yield saved("k", 0, size, 0)
+        yield Plain("REVERSE a\n", "OK REVERSE a -1\n")
+        yield Plain(*show(ROW, atoms, size - 1, -1))
+        yield saved("m", -1, size, 1)
+        yield from (Plain(f"FORGET a {name}\n", f"OK FORGET a {name}\n") for name in "km")
+        yield Plain(*DROP)
+
+
+def most_branches() -> Iterator[Union[Growth, Plain]]:
+    """As many branches as the largest quota has, one at each step from 127 down to -128."""
+    yield Growth(LOAD, loaded(2), "ERR 11 EXISTS\n", "OK LIST 0\n", listed(0, 2, 0))
+    yield Plain("ADVANCE a 128\nREVERSE a\n", "OK ADVANCE a 128\nOK REVERSE a 127\n")
+    lines = ""
+    for count in range(256):
+        name, step = chr(ord("a") + count // 16) + chr(ord("a") + count % 16), 127 - count
+        lines += f"{name} {step}\n"
+        yield saved(name, step, 2, count)
+        yield Plain("ADVANCE a 1\n", f"OK ADVANCE a {step - 1}\n")
+    yield Plain("LIST a\nLIST\n", f"OK LIST a 256\n{lines}{listed(-129, 2, 256)}")
+
+
+# Texts with faults. Where there is no memory for the bytes of one, that is told; where there is none for its atoms,
+# its fault is.
+BAD_TEXTS = Growing(
+    "faults of texts",
+    (1, 1, 0),
+    [Plain(*item) for item in faults()],
+    [number for number, (_, text, _) in enumerate(FAULTS) if text],
+)
+
+# The numbers of the texts that end, or have their fault, before memory for atoms is asked for: before a comment line.
+NOT_BEGUN = (0, 1, 2, 3, 4, 15, 16)
+
+GROWING = (
+    growing("loads and branches of each size", (1, 4096, 2), [part for size in SIZES for part in of_size(size)]),
+    growing("as many branches as the largest quota", (8, 16384, 256), list(most_branches())),
+    BAD_TEXTS,
+)

@@ -1,0 +1,241 @@
+"""Steps whose replies were worked out by hand, each told at once and in a schedule that counts tiles.
+
+An exchange is an item, its reply, and how many tiles its step has, where it has one.
+"""
+from itertools import repeat
+from typing import Iterator, Sequence, Tuple
+
+from plain_steps import ENTRIES, Scale, Simulation
+from step_talks import EDGE, Check, Exchange, Play, lines_that_run, load_line, one_by_one, schedule_of, tiles_of
+from step_talks import told_to_a
+
+Row = Tuple[str, str, int]
+Worked = Tuple[str, Sequence[Row]]
+
+# Of a command that opens no step, or of which the tiles are not told.
+NONE = -1
+
+# More tasks than a step of these has.
+ROUNDS = 8
+
+
+def load(scale_words: str, mode: str, *frames: Sequence[str]) -> Row:
+    """A LOAD of these frames, of which each line is coordinates."""
+    texts = (f"{len(frame)}\nframe\n" + "".join(f"X {line}\n" for line in frame) for frame in frames)
+    return load_line("a", scale_words, mode, "".join(texts)), f"OK LOAD a 0 {len(frames[0])}", NONE
+
+
+def rows(text: str) -> Sequence[Row]:
+    """A command, `=`, what follows its first two words in the reply, and after `|` the tiles of its step."""
+    found = []
+    for line in filter(None, map(str.strip, text.splitlines())):
+        command, _, rest = line.partition(" = ")
+        reply, _, tiles = rest.partition(" | ")
+        found.append((command + "\n", f"OK {' '.join(command.split()[:2])} {reply}", int(tiles) if tiles else NONE))
+    return found
+
+
+DIMER = load("256 1 131072", "rest", ["0 0 0", "1.5 0 0"])
+SMALLER_UNITS = f"{EDGE} 0.016777216"
+
+# Atoms out of reach of each other and of the edges of the box, 8 sigma apart.
+SPARE = [f"{8 * (i % 16)} {8 * (i // 16) + 32} 128" for i in range(127)]
+
+WORKED: Sequence[Worked] = (
+    (
+        "two atoms are measured and walked back",
+        [
+            DIMER,
+            *rows(
+                """
+                MEASURE a = 0 2 0 0 0 0 -5349132 | 1
+                ADVANCE a 1 = 1 | 1
+                SHOW a 0 = 1 0 589 0 0
+                SHOW a 1 = 1 1 25165235 0 0
+                MEASURE a = 1 2 0 0 0 693842 -5399727 | 1
+                ADVANCE a 1 = 2 | 1
+                SHOW a 0 = 2 0 1774 0 0
+                MEASURE a = 2 2 0 0 0 2808450 -5399727 | 1
+                REVERSE a = 1
+                SHOW a 0 = 1 0 589 0 0
+                ADVANCE a 1 = 0 | 1
+                SHOW a 0 = 0 0 0 0 0
+                ADVANCE a 1 = -1 | 1
+                SHOW a 1 = -1 1 25165824 0 0
+                MEASURE a = -1 2 0 0 0 0 -5349132 | 1
+                """
+            ),
+        ],
+    ),
+    (
+        "a tug shows in the next step, and what is saved takes it back",
+        [
+            DIMER,
+            *rows(
+                """
+                ADVANCE a 1 = 1 | 1
+                BRANCH a k = k 1
+                TUG a 0 5 0 0 = 0 1
+                MEASURE a = 1 2 5 0 0 699757 -5399727 | 1
+                ADVANCE a 1 = 2 | 1
+                SHOW a 0 = 2 0 1779 0 0
+                RESTORE a k = k 1
+                ADVANCE a 1 = 2 | 1
+                SHOW a 0 = 2 0 1774 0 0
+                """
+            ),
+        ],
+    ),
+    (
+        "a tug of atoms at rest",
+        [DIMER, *rows("TUG a 0 5 0 0 = 0 0\nADVANCE a 1 = 1 | 1\nSHOW a 0 = 1 0 594 0 0\nSHOW a 1 = 1 1 25165235 0 0")],
+    ),
+    (
+        "two atoms at one place stay, and have the energy of the closest bin",
+        [
+            load("256 1 131072", "rest", ["1 1 1", "1 1 1"]),
+            *rows(
+                """
+                ADVANCE a 1 = 1 | 1
+                ADVANCE a 1 = 2 | 1
+                ADVANCE a 1 = 3 | 1
+                SHOW a 0 = 3 0 16777216 16777216 16777216
+                SHOW a 1 = 3 1 16777216 16777216 16777216
+                MEASURE a = 3 2 0 0 0 0 3574550947 | 1
+                """
+            ),
+        ],
+    ),
+    # 5 units on from 6 and 1 below the end of the box. The steps have no tiles.
+    (
+        "the way of one atom goes round the box",
+        [
+            load(f"{SMALLER_UNITS} 1", "pair", ["4.29496729 0 0"], ["4.294967295 0 0"]),
+            *rows(
+                """
+                SHOW a 0 = 0 0 4294967295 0 0
+                ADVANCE a 1 = 1 | 0
+                SHOW a 0 = 1 0 4 0 0
+                MEASURE a = 1 1 5 0 0 25 0 | 0
+                """
+            ),
+        ],
+    ),
+    # Half a box of five sigma is the cutoff, and out of reach.
+    (
+        "atoms half the box apart do not interact",
+        [
+            load("5 1 131072", "rest", ["0 0 0", "2.5 0 0"]),
+            *rows("ADVANCE a 1 = 1 | 1\nSHOW a 1 = 1 1 2147483648 0 0\nMEASURE a = 1 2 0 0 0 0 0 | 1"),
+        ],
+    ),
+    (
+        "sigma does not fit in a box of less than five of it",
+        [(load("4.99 1 131072", "rest", ["0 0 0", "2.5 0 0"])[0], "ERR 37 SIGMA", NONE)],
+    ),
+    # The last atom of the second block, and the one atom of the third one.
+    (
+        "one atom in each of two blocks",
+        [
+            load("256 1 131072", "rest", [*SPARE, "0 0 0", "1.5 0 0"]),
+            *rows(
+                """
+                MEASURE a = 0 129 0 0 0 0 -5349132
+                ADVANCE a 1 = 1
+                SHOW a 127 = 1 127 589 0 0
+                SHOW a 128 = 1 128 25165235 0 0
+                SHOW a 0 = 1 0 0 536870912 2147483648
+                SHOW a 126 = 1 126 1879048192 1476395008 2147483648
+                """
+            ),
+        ],
+    ),
+    (
+        "the same, the later atom before the earlier one",
+        [
+            load("256 1 131072", "rest", [*SPARE, "1.5 0 0", "0 0 0"]),
+            *rows(
+                """
+                MEASURE a = 0 129 0 0 0 0 -5349132
+                ADVANCE a 1 = 1
+                SHOW a 127 = 1 127 25165235 0 0
+                SHOW a 128 = 1 128 589 0 0
+                """
+            ),
+        ],
+    ),
+    (
+        "atoms of two blocks at one place",
+        [
+            load("256 1 131072", "rest", [*SPARE, "0 0 0", "0 0 0"]),
+            *rows(
+                """
+                MEASURE a = 0 129 0 0 0 0 3574550947
+                ADVANCE a 1 = 1
+                SHOW a 127 = 1 127 0 0 0
+                SHOW a 128 = 1 128 0 0 0
+                """
+            ),
+        ],
+    ),
+    (
+        "names",
+        [
+            (DIMER[0].replace("LOAD a", "LOAD dimer_1"), "OK LOAD dimer_1 0 2", NONE),
+            (DIMER[0].replace("LOAD a", "LOAD sixteen_letters_"), "OK LOAD sixteen_letters_ 0 2", NONE),
+            (DIMER[0].replace("LOAD a", "LOAD seventeen_letters"), "ERR 03 SYNTAX", NONE),
+            (DIMER[0].replace("LOAD a", "LOAD a b"), "ERR 03 SYNTAX", NONE),
+            (DIMER[0].replace("LOAD a", "LOAD "), "ERR 03 SYNTAX", NONE),
+            ("LIST\n", "OK LIST 2\ndimer_1 0 2 0\nsixteen_letters_ 0 2 0", NONE),
+        ],
+    ),
+)
+
+
+# Bins, with the push and the energy of each: 288 is that of 1.5 sigma.
+WORKED_ENTRIES = (
+    (0, (91369185901, 3574550947)),
+    (64, (91369185901, 3574550947)),
+    (287, (-13028153, -5399727)),
+    (288, (-12876994, -5349132)),
+    (799, (-262372, -274263)),
+)
+
+
+def plain_steps_are_worked_ones() -> Iterator[Check]:
+    """The plain steps that other tests compare with tell the numbers that are worked out here."""
+    for number, wanted in WORKED_ENTRIES:
+        yield f"the plain entry of bin {number}", ENTRIES[number] == wanted, ENTRIES[number]
+    scale = Scale.of("256", "1", 131_072)
+    dimer = [scale.place(words) for words in (["0", "0", "0"], ["1.5", "0", "0"])]
+    plain = Simulation(dimer, dimer, scale)
+    seen = [(plain.present, plain.momentum(), plain.kinetic(), plain.potential())]
+    for _ in range(2):
+        plain.advance(1)
+        seen.append((plain.present, plain.momentum(), plain.kinetic(), plain.potential()))
+    wanted = [
+        ([(0, 0, 0), (25165824, 0, 0)], (0, 0, 0), 0, -5349132),
+        ([(589, 0, 0), (25165235, 0, 0)], (0, 0, 0), 693842, -5399727),
+        ([(1774, 0, 0), (25164050, 0, 0)], (0, 0, 0), 2808450, -5399727),
+    ]
+    yield "the plain steps of two atoms", seen == wanted, seen
+
+
+def tests(run: Play, replay_of: Play) -> Iterator[Check]:
+    yield from plain_steps_are_worked_ones()
+    for name, known in WORKED:
+        data = "".join(item for item, _, _ in known).encode()
+        replies = "".join(f"{reply}\n" for _, reply, _ in known)
+        seen = run(["run"], data)
+        yield name, seen == (0, replies.encode(), b""), seen
+        exchanges = [Exchange(item, f"{reply}\n", opens_step(item)) for item, reply, _ in known]
+        status, printed, err = replay_of(schedule_of(exchanges, repeat(one_by_one(ROUNDS))))
+        found, told = tiles_of(printed.decode(), lines_that_run(exchanges), ROUNDS)
+        yield f"{name}, in a schedule", (status, told, err) == (0, told_to_a(replies), b""), (status, told, err)
+        wanted = [tiles for item, _, tiles in known if opens_step(item)]
+        fit = [tiles in (NONE, seen_tiles) for tiles, seen_tiles in zip(wanted, found)]
+        yield f"{name}: tiles", len(wanted) == len(found) and all(fit), (found, wanted)
+
+
+def opens_step(item: str) -> bool:
+    return item.startswith(("ADVANCE", "MEASURE"))
