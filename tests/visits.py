@@ -41,6 +41,17 @@ def one_visit(name: str, said: bytes, told: bytes, tiles: int) -> Series:
     return Series(name, (Visit(HELLO + said, b"OK HELLO A\n" + told),), tiles)
 
 
+# One that says BYE, one that has four tiles computed and ends, one that is denied, and one that says nothing.
+COME_AND_GO = (
+    Visit(HELLO + b"BYE\n", b"OK HELLO A\nOK BYE\n"),
+    Visit(
+        HELLO + CHAIN + b"ADVANCE c 1\nMEASURE c\n",
+        b"OK HELLO A\nOK LOAD c 0 65\nOK ADVANCE c 1\nOK MEASURE c 1 65 0 0 0 693842 -342445638\n",
+    ),
+    Visit(b"HELLO A " + b"c" * 32 + b"\n", DENIED),
+    Visit(b"", b""),
+)
+
 SERIES = (
     one_visit("a connection is served", LOAD + b"ADVANCE a 1\nBYE\n", b"OK LOAD a 0 2\nOK ADVANCE a 1\nOK BYE\n", 1),
     # The connection after one that fails finds no ticket of the user's before its own, and the state as it was.
@@ -66,20 +77,7 @@ SERIES = (
         ),
         0,
     ),
-    # One that says BYE, one that has four tiles computed and ends, one that is denied, and one that says nothing.
-    Series(
-        "nothing is noted of connections",
-        (
-            Visit(HELLO + b"BYE\n", b"OK HELLO A\nOK BYE\n"),
-            Visit(
-                HELLO + CHAIN + b"ADVANCE c 1\nMEASURE c\n",
-                b"OK HELLO A\nOK LOAD c 0 65\nOK ADVANCE c 1\nOK MEASURE c 1 65 0 0 0 693842 -342445638\n",
-            ),
-            Visit(b"HELLO A " + b"c" * 32 + b"\n", DENIED),
-            Visit(b"", b""),
-        ),
-        4,
-    ),
+    Series("nothing is noted of connections", COME_AND_GO, 4),
     # A full block, and one atom alone beside it: one tile of the full block, and one of both.
     one_visit("an atom alone has no tile", CHAIN + b"ADVANCE c 1\n", b"OK LOAD c 0 65\nOK ADVANCE c 1\n", 2),
     one_visit(

@@ -1,28 +1,18 @@
-//! Tests of the libraries, through what each of them makes public. A crate with tests is proved twice, so those below
-//! have none of their own.
+//! Tests of the libraries, through what each of them makes public: what no dialogue of `tests/` can say. A crate with
+//! tests is proved twice, so those below have none of their own.
 #![tactic(auto)]
 
 #[cfg(test)]
 mod books;
 #[cfg(test)]
-mod branches;
-#[cfg(test)]
-mod directories;
-#[cfg(test)]
-mod frames_of_text;
-#[cfg(test)]
-mod numbers;
-#[cfg(test)]
 mod queues;
 #[cfg(test)]
-mod quotas;
-#[cfg(test)]
-mod sessions;
-#[cfg(test)]
-mod steps;
+mod strays;
 #[cfg(test)]
 mod tasks;
 #[cfg(test)]
-mod tiles;
+mod tickets;
+#[cfg(test)]
+mod users;
 #[cfg(test)]
 mod worlds;

@@ -1,11 +1,9 @@
-//! Tests of the pool: streams served beside two workers, a full queue, a closed pool, ends that are gone, and tasks that a
-//! gate sends back.
+//! Tests of the pools: a full queue, a closed pool, ends that are gone, and tasks that a gate sends back.
 
 mod closing;
 mod ends;
 mod handed_back;
 mod room;
-mod serving;
 
 use crate::tasks::task;
 use lj_pool::Pool;

@@ -1,15 +1,9 @@
-//! Worlds: events that are not possible by their numbers, and growths that are refused, to be run with each allocation
-//! refused in turn, too (`rt try --test --fail-alloc`). Schedules of many users are replayed by `tests/program`.
-ghost use Rattle.std.specs.Prelude.{◌≡◌, ◌≤◌, length, false, OnOk, IfOk};
-ghost use Rattle.std.specs.List.{IsDistinct, list_any};
-ghost use Rattle.std.specs.Str.{bytes_eq};
-ghost use Rattle.lj_access.specs.Users.{names};
+//! Worlds: events of connections and workers that are none. Schedules of many users are replayed by `tests/program`, with
+//! each growth refused in turn, too.
 
+use crate::users::{USERS, name, token, users};
 use arrayvec::ArrayString;
-use lj_access::{MAX_USERS, TOKEN_BYTES, Token, User, is_named};
-use lj_quota::Quota;
 use lj_session::{Body, LoadBody};
-use lj_tile::Name;
 use lj_wire::{Item, read_line};
 use lj_world::{Entry, Event, OutOfMemory, World};
 use std::alloc::{AllocError, AllocGlobal};
@@ -19,9 +13,6 @@ use std::test::Fail;
 
 /// What is told.
 type Text = ArrayString<4096>;
-
-/// The names of the users, of one letter each.
-const USERS: [&str; 2] = ["A", "B"];
 
 const LOAD_A: &str = "LOAD a 256 1 131072 rest 28";
 
@@ -79,16 +70,6 @@ const STEPS: [Step; 24] = [
 const TOLD: &str = "A 1 OK LOAD a 0 2\nB 2 OK LOAD b 0 2\nA 1 OK BRANCH a k 0\n\
     A 1 OK LIST 1\na 0 2 1\nB 2 OK ADVANCE b 1\nB 2 OK LIST 1\nb 1 2 0\n";
 
-/// What is told where memory is refused to a LOAD or to BRANCH: the other user is told the same as ever.
-const TOLD_WITH_A_MARK: [&str; 3] = [
-    "A 1 ERR 90 MEMORY\nB 2 OK LOAD b 0 2\nA 1 ERR 10 NO_SESSION\n\
-    A 1 OK LIST 0\nB 2 OK ADVANCE b 1\nB 2 OK LIST 1\nb 1 2 0\n",
-    "A 1 OK LOAD a 0 2\nB 2 ERR 90 MEMORY\nA 1 OK BRANCH a k 0\n\
-    A 1 OK LIST 1\na 0 2 1\nB 2 ERR 10 NO_SESSION\nB 2 OK LIST 0\n",
-    "A 1 OK LOAD a 0 2\nB 2 OK LOAD b 0 2\nA 1 ERR 90 MEMORY\n\
-    A 1 OK LIST 1\na 0 2 0\nB 2 OK ADVANCE b 1\nB 2 OK LIST 1\nb 1 2 0\n",
-];
-
 /// Events of connections and workers that are none.
 const OF_NOBODY: [Step; 27] = [
     Step::Hello(0, "A"),
@@ -119,14 +100,6 @@ const OF_NOBODY: [Step; 27] = [
     Step::Turn(65),
     Step::Leave(0),
 ];
-
-fn name(rt: &impl Abort, word: &str) -> Name {
-    Name::parse(word.as_bytes()).expect(rt, "a name")
-}
-
-fn token(rt: &impl Abort) -> Token {
-    Token::parse(&[b'0'; TOKEN_BYTES]).expect(rt, "a token")
-}
 
 /// The item of a line, with the body of two atoms where it is a LOAD.
 fn item(rt: &impl AllocGlobal, line: &str) -> Result<Item, AllocError> {
@@ -163,64 +136,25 @@ fn event(rt: &(impl Abort + AllocGlobal), step: Step) -> Result<Event, AllocErro
     })
 }
 
-/// Adds the events of these steps.
-fn add_events(
+/// Adds the events of connections and workers that are none.
+fn add_events_of_nobody(
     rt: &(impl Abort + AllocGlobal),
-    steps: &[Step],
     events: &mut Vec<Event>,
 ) -> Result<(), AllocError> {
-    for step in steps {
+    for step in &OF_NOBODY {
         events.push(event(rt, *step)?)?;
     }
     Ok(())
 }
 
-/// The events of the two users, after each of which these others come.
-fn events(rt: &(impl Abort + AllocGlobal), others: &[Step]) -> Result<Vec<Event>, AllocError> {
+/// The events of the two users, after each of which those of nobody come.
+fn events(rt: &(impl Abort + AllocGlobal)) -> Result<Vec<Event>, AllocError> {
     let mut events = Vec::new(rt.alloc());
     for step in &STEPS {
         events.push(event(rt, *step)?)?;
-        add_events(rt, others, &mut events)?;
+        add_events_of_nobody(rt, &mut events)?;
     }
     Ok(events)
-}
-
-fn user(rt: &impl Abort, word: &str) -> User {
-    User {
-        name: name(rt, word),
-        token: token(rt),
-        quota: Quota {
-            sessions: 4,
-            atoms: 100,
-            branches: 4,
-        },
-    }
-}
-
-/// One user more, of a name that is new.
-fn add(users: &mut Vec<User>, user: User) -> Result<(), AllocError>
-    requires fresh { list_any (λ other. bytes_eq user.name other.name) users.old.items ≡ false }
-    requires distinct { IsDistinct bytes_eq (names users.old.items) }
-    ensures { OnOk result (IsDistinct bytes_eq (names users.new.items)) }
-{
-    users.push(user)?;
-    Ok(())
-}
-
-/// The users.
-fn users(rt: &(impl Abort + AllocGlobal)) -> Result<Vec<User>, AllocError>
-    ensures some { IfOk result (λ users. 1 ≤ length users.items) }
-    ensures most { IfOk result (λ users. length users.items ≤ MAX_USERS) }
-    ensures distinct { IfOk result (λ users. IsDistinct bytes_eq (names users.items)) }
-{
-    let mut users = Vec::new(rt.alloc());
-    for word in &USERS {
-        let user = user(rt, word);
-        assert!(rt; !is_named(&users, &user.name));
-        add(&mut users, user)?;
-    }
-    assert!(rt; 1 <= users.len() && users.len() <= MAX_USERS);
-    Ok(users)
 }
 
 /// What the user of an entry is called, the number of the connection, and the text.
@@ -233,9 +167,9 @@ fn tell(rt: &impl Abort, entry: &Entry, told: &mut Text) {
     assert!(rt; written);
 }
 
-/// What a run tells.
-fn run_once(rt: &(impl Abort + AllocGlobal), others: &[Step]) -> Result<Text, OutOfMemory> {
-    let transcript = World::run(rt.alloc(), users(rt)?, events(rt, others)?)?;
+/// What the run tells.
+fn run_once(rt: &(impl Abort + AllocGlobal)) -> Result<Text, OutOfMemory> {
+    let transcript = World::run(rt.alloc(), users(rt)?, events(rt)?)?;
     let mut told = Text::new();
     for entry in transcript.entries() {
         tell(rt, entry, &mut told);
@@ -243,76 +177,16 @@ fn run_once(rt: &(impl Abort + AllocGlobal), others: &[Step]) -> Result<Text, Ou
     Ok(told)
 }
 
-/// The same, once more where memory ran out.
-fn run(rt: &(impl Abort + AllocGlobal), others: &[Step]) -> Result<Text, OutOfMemory> {
-    match run_once(rt, others) {
+/// Any one growth may be refused (`rt try --test --fail-alloc`): the run is asked for once more.
+fn run(rt: &(impl Abort + AllocGlobal)) -> Result<Text, OutOfMemory> {
+    match run_once(rt) {
         Ok(told) if !told.as_str().contains("ERR 90 MEMORY") => Ok(told),
-        _ => run_once(rt, others),
+        _ => run_once(rt),
     }
-}
-
-#[test]
-fn a_run_tells_each_user(rt: HostRuntime) -> Result<(), Fail> {
-    assert_eq!(rt; run(&rt, &[])?.as_str(), TOLD);
-    Ok(())
 }
 
 #[test]
 fn events_of_nobody_change_nothing(rt: HostRuntime) -> Result<(), Fail> {
-    assert_eq!(rt; run(&rt, &OF_NOBODY)?.as_str(), TOLD);
-    Ok(())
-}
-
-/// A new world of both users.
-fn world_once(rt: &(impl Abort + AllocGlobal)) -> Result<World, OutOfMemory> {
-    World::new(rt.alloc(), users(rt)?)
-}
-
-/// The same, once more where memory is refused to it.
-fn new_world(rt: &(impl Abort + AllocGlobal)) -> Result<World, OutOfMemory> {
-    match world_once(rt) {
-        Ok(world) => Ok(world),
-        Err(OutOfMemory) => world_once(rt),
-    }
-}
-
-/// Steps over an event, and notes what is told. A world that is lost takes no step.
-fn take_step(world: &mut World, event: Event, told: &mut Text, rt: &impl Abort) {
-    let was_lost = world.is_lost();
-    match world.step(event) {
-        Ok(reply) => {
-            assert!(rt; !was_lost && !world.is_lost());
-            if let Some(entry) = reply {
-                tell(rt, &entry, told);
-            }
-        }
-        Err(OutOfMemory) => assert!(rt; world.is_lost()),
-    }
-}
-
-/// Steps over all events of the two users.
-fn step_all(world: &mut World, events: Vec<Event>, rt: &impl Abort) -> Text {
-    let mut told = Text::new();
-    for event in events {
-        take_step(world, event, &mut told, rt);
-    }
-    told
-}
-
-#[test]
-fn a_world_to_which_memory_was_refused_goes_no_further(rt: HostRuntime) -> Result<(), Fail> {
-    let mut world = new_world(&rt)?;
-    assert!(rt; !world.is_lost());
-    let list = match events(&rt, &[]) {
-        Ok(list) => list,
-        Err(_) => events(&rt, &[])?,
-    };
-    let told = step_all(&mut world, list, &rt);
-    let told = told.as_str();
-    if world.is_lost() {
-        assert!(rt; TOLD.starts_with(told) && told.len() < TOLD.len(), "{told}");
-    } else {
-        assert!(rt; told == TOLD || TOLD_WITH_A_MARK.contains(&told), "{told}");
-    }
+    assert_eq!(rt; run(&rt)?.as_str(), TOLD);
     Ok(())
 }

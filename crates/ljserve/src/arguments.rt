@@ -19,7 +19,7 @@ const QUEUE: &str = "queue";
 const POOLS: [&str; 2] = [LOCK, QUEUE];
 
 /// What the program is to do.
-#[derive(Debug, Drop)]
+#[derive(Drop)]
 pub enum Job<'a> {
     /// Answers one user of this quota.
     Run(Quota),
@@ -30,7 +30,7 @@ pub enum Job<'a> {
 }
 
 /// What a server is to serve.
-#[derive(Clone, Copy, Debug)]
+#[derive(Clone, Copy)]
 pub struct Service<'a> {
     /// The address to listen on.
     pub address: &'a str,

@@ -13,7 +13,7 @@ use std::alloc::{AllocError, AllocFailed};
 use thiserror::Error;
 
 /// Why the program failed.
-#[derive(Clone, Copy, Debug, PartialEq, Eq, Error)]
+#[derive(Clone, Copy, Debug, Error)]
 pub enum Fault<'a> {
     /// What the program ran did.
     #[error("{0}")]
@@ -30,7 +30,7 @@ pub enum Fault<'a> {
 }
 
 /// Why a run of the program failed.
-#[derive(Clone, Copy, Debug, PartialEq, Eq, Error)]
+#[derive(Clone, Copy, Debug, Error)]
 pub enum RunFault {
     /// The input could not be read.
     #[error("read fault")]
@@ -44,7 +44,7 @@ pub enum RunFault {
 }
 
 /// Why a schedule was not replayed.
-#[derive(Clone, Copy, Debug, PartialEq, Eq, Error)]
+#[derive(Clone, Copy, Debug, Error)]
 pub enum ReplayFault {
     /// The first line that is bad, counted from 1 with the lines of bodies.
     #[error("schedule line {0}")]
@@ -58,7 +58,7 @@ pub enum ReplayFault {
 }
 
 /// Why a server does not serve, or does not tell what it has served.
-#[derive(Clone, Copy, Debug, PartialEq, Eq, Error)]
+#[derive(Clone, Copy, Debug, Error)]
 pub enum ServeFault {
     /// The first line of the users that is bad, counted from 1.
     #[error("users line {0}")]
@@ -75,7 +75,7 @@ pub enum ServeFault {
 }
 
 /// Why users are not read.
-#[derive(Clone, Copy, Debug, PartialEq, Eq)]
+#[derive(Clone, Copy)]
 pub enum UsersFault {
     /// The first line that is bad, counted from 1.
     Line(u64),
@@ -84,7 +84,7 @@ pub enum UsersFault {
 }
 
 /// Why a schedule is not read.
-#[derive(Clone, Copy, Debug, PartialEq, Eq)]
+#[derive(Clone, Copy)]
 pub enum ScheduleFault {
     /// The first line that is bad, counted from 1 with the lines of bodies.
     Line(u64),
@@ -93,7 +93,7 @@ pub enum ScheduleFault {
 }
 
 /// Why a line is not taken.
-#[derive(Clone, Copy, Debug, PartialEq, Eq)]
+#[derive(Clone, Copy)]
 pub enum LineFault {
     /// It has not the form of a line at its place.
     Form,

@@ -13,26 +13,51 @@ use lj_xyz::split_word;
 /// The event that a first word and those after it say. An arriving item is none of these.
 pub fn parse_event(verb: &[u8], words: Words) -> Option<Event> {
     match verb {
-        b"hello" => parse_hello(words),
-        b"end" => parse_connection(words).map(|connection| Event::End { connection }),
-        b"enter" => parse_connection(words).map(|connection| Event::Enter { connection }),
-        b"next" => parse_connection(words).map(|connection| Event::Next { connection }),
-        b"post" => parse_connection(words).map(|connection| Event::Post { connection }),
-        b"fetch" => parse_with_pick(words, MAX_CONNECTIONS).map(|(connection, pick)| Event::Fetch {
-            connection,
-            pick,
-        }),
-        b"turn" => parse_connection(words).map(|connection| Event::Turn { connection }),
-        b"leave" => parse_connection(words).map(|connection| Event::Leave { connection }),
-        b"take" => parse_with_pick(words, MAX_WORKERS).map(|(worker, pick)| Event::Take {
-            worker,
-            pick,
-        }),
-        b"compute" => parse_worker(words).map(|worker| Event::Compute { worker }),
-        b"give" => parse_worker(words).map(|worker| Event::Give { worker }),
-        b"handback" => parse_worker(words).map(|worker| Event::HandBack { worker }),
-        _ => None,
+        b"take" | b"compute" | b"give" | b"handback" => parse_of_worker(verb, words),
+        _ => parse_of_connection(verb, words),
     }
+}
+
+/// What happens to a connection.
+fn parse_of_connection(verb: &[u8], mut words: Words) -> Option<Event> {
+    let connection = parse_numbered(words.next()?, MAX_CONNECTIONS)?;
+    let event = match verb {
+        b"hello" => Event::Hello {
+            connection,
+            name: Name::parse(words.next()?)?,
+            token: Token::parse(words.next()?)?,
+        },
+        b"fetch" => Event::Fetch {
+            connection,
+            pick: parse_pick(words.next()?)?,
+        },
+        b"end" => Event::End { connection },
+        b"enter" => Event::Enter { connection },
+        b"next" => Event::Next { connection },
+        b"post" => Event::Post { connection },
+        b"turn" => Event::Turn { connection },
+        b"leave" => Event::Leave { connection },
+        _ => return None,
+    };
+    words.end()?;
+    Some(event)
+}
+
+/// What a worker does.
+fn parse_of_worker(verb: &[u8], mut words: Words) -> Option<Event> {
+    let worker = parse_numbered(words.next()?, MAX_WORKERS)?;
+    let event = match verb {
+        b"take" => Event::Take {
+            worker,
+            pick: parse_pick(words.next()?)?,
+        },
+        b"compute" => Event::Compute { worker },
+        b"give" => Event::Give { worker },
+        b"handback" => Event::HandBack { worker },
+        _ => return None,
+    };
+    words.end()?;
+    Some(event)
 }
 
 /// The connection at which an item arrives, and the line of the item: what follows the one blank after the connection.
@@ -61,45 +86,8 @@ fn lost_load(line: &[u8]) -> Option<Item>
     Some(item.with_body(LoadBody::Lost))
 }
 
-fn parse_hello(mut words: Words) -> Option<Event> {
-    let connection = parse_numbered(words.next()?, MAX_CONNECTIONS)?;
-    let name = Name::parse(words.next()?)?;
-    let token = Token::parse(words.next()?)?;
-    words.end()?;
-    Some(Event::Hello {
-        connection,
-        name,
-        token,
-    })
-}
-
-fn parse_connection(words: Words) -> Option<u8> {
-    parse_only(words, MAX_CONNECTIONS)
-}
-
-fn parse_worker(words: Words) -> Option<u8> {
-    parse_only(words, MAX_WORKERS)
-}
-
-/// The number that the one word says.
-fn parse_only(mut words: Words, most: u8) -> Option<u8>
-    ensures least { IfSome result (λ number. 1 ≤ number) }
-    ensures most { IfSome result (λ number. number ≤ most) }
-{
-    let number = parse_numbered(words.next()?, most)?;
-    words.end()?;
-    Some(number)
-}
-
-/// A number from 1 to `most`, and the pick after it.
-fn parse_with_pick(mut words: Words, most: u8) -> Option<(u8, usize)>
-    ensures least { IfSome result (λ pair. 1 ≤ pair.0) }
-    ensures most { IfSome result (λ pair. pair.0 ≤ most) }
-{
-    let number = parse_numbered(words.next()?, most)?;
-    let pick = parse_number(words.next()?)? as usize;
-    words.end()?;
-    Some((number, pick))
+fn parse_pick(word: &[u8]) -> Option<usize> {
+    Some(parse_number(word)? as usize)
 }
 
 /// The number that a word says, where it is one from 1 to `most`.

@@ -2,14 +2,14 @@
 ghost use Rattle.std.specs.Prelude.{◌≡◌};
 ghost use Rattle.lj_wire.specs.declared.reader.phase.Phase.TheVariants.{Open};
 
-use lj_pool::{Gate, Served};
+use lj_pool::Served;
 use lj_session::UserState;
 use lj_table::Table;
 use lj_wire::{LineReader, Sink, Source};
 use std::sync::Wait;
 
 /// Where the open tasks of a server are kept.
-#[derive(Clone, Copy, PartialEq, Eq, Debug)]
+#[derive(Clone, Copy)]
 pub enum Kept {
     /// In a book behind a lock, with the results.
     Lock,
@@ -34,14 +34,8 @@ pub trait Hub: Drop {
         requires fresh { lines.old.items ≡ 0 }
         requires at_work { lines.old.phase ≡ Open };
 
-    /// Computes tasks until the pool is closed, with a gate between taking a task and computing it.
-    fn work<R: Wait, G: Gate>(
-        &self,
-        rt: &R,
-        tools: Self::Tools,
-        gate: &G,
-        table: &Table,
-    ) -> Self::Tools;
+    /// Computes tasks until the pool is closed.
+    fn work<R: Wait>(&self, rt: &R, tools: Self::Tools, table: &Table) -> Self::Tools;
 
     /// Closes the pool: from now on no task is computed.
     fn close<R: Wait>(&self, rt: &R);

@@ -3,7 +3,7 @@ ghost use Rattle.std.specs.Prelude.{◌≡◌};
 
 use crate::hub::Hub;
 use lj_book::Counts;
-use lj_pool::{Gate, LockPool, Served, Share, gather, serve_lines, work};
+use lj_pool::{LockPool, Served, Share, gather, serve_lines, work};
 use lj_session::UserState;
 use lj_table::Table;
 use lj_wire::{LineReader, Sink, Source};
@@ -79,8 +79,8 @@ impl<L: Ledger + Send> Hub for LockHub<L> {
         served
     }
 
-    fn work<R: Wait, G: Gate>(&self, rt: &R, tools: Share<L>, gate: &G, table: &Table) -> Share<L> {
-        work(rt, &self.pool, tools, gate, table)
+    fn work<R: Wait>(&self, rt: &R, tools: Share<L>, table: &Table) -> Share<L> {
+        work(rt, &self.pool, tools, &(), table)
     }
 
     fn close<R: Wait>(&self, rt: &R) {

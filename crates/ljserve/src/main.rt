@@ -21,8 +21,6 @@ mod run;
 mod schedule;
 mod seats;
 mod server;
-#[cfg(test)]
-mod tests;
 mod text;
 mod users;
 mod visit;

@@ -2,7 +2,7 @@
 ghost use Rattle.std.specs.Prelude.{◌≡◌, ◌+◌};
 
 use crate::hub::Hub;
-use lj_pool::{Gate, Served, Share, serve_lines};
+use lj_pool::{Served, Share, serve_lines};
 use lj_queue::{CONNECTIONS, PoolPass, QueueBlank, QueuePool, Room, Settled, gather, work_queue};
 use lj_session::UserState;
 use lj_table::Table;
@@ -132,15 +132,14 @@ impl<L: Room + Send> Hub for QueueHub<L> {
         served
     }
 
-    fn work<R: Wait, G: Gate>(
+    fn work<R: Wait>(
         &self,
         rt: &R,
         tools: (Share<L>, PoolPass<L>),
-        gate: &G,
         table: &Table,
     ) -> (Share<L>, PoolPass<L>) {
         let (share, pass) = tools;
-        work_queue(rt, &self.pool, share, pass, gate, table)
+        work_queue(rt, &self.pool, share, pass, &(), table)
     }
 
     fn close<R: Wait>(&self, rt: &R) {

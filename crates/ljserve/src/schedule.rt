@@ -14,7 +14,7 @@ use lj_xyz::split_word;
 use std::alloc::{AllocError, Global};
 
 /// Users, at least one, and events.
-#[derive(Debug, Drop)]
+#[derive(Drop)]
 pub struct Schedule {
     pub users: Vec<User>,
     pub events: Vec<Event>,

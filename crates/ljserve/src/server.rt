@@ -117,10 +117,7 @@ fn run_workers<'a, H: Hub + Sync, R: Threads + Wait + Clock + Log + Sync>(
     let mut done = Vec::with_capacity(server.alloc, count)?;
     Ok(thread::scope(thread::scope_env(), rt, move |scope| {
         for tools in tools {
-            if let Ok(worker) = scope.spawn(move || server
-                .hub
-                .work(rt, tools, &(), &server.table))
-            {
+            if let Ok(worker) = scope.spawn(move || server.hub.work(rt, tools, &server.table)) {
                 let _ = threads.push(worker);
             }
         }

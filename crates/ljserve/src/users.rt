@@ -41,7 +41,7 @@ pub fn read_users(alloc: Global, bytes: &[u8]) -> Result<Vec<User>, UsersFault>
 }
 
 /// Users with different names, at most `MAX_USERS`.
-#[derive(Debug, Drop)]
+#[derive(Drop)]
 pub struct Users {
     users: Vec<User>,
 }

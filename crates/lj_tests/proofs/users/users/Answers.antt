@@ -2,7 +2,7 @@ use Rattle.std.proofs.Common.{subst, sym}
 use Rattle.std.specs.List.{IsDistinct}
 use Rattle.std.specs.Str.{bytes_eq}
 use Rattle.lj_access.specs.Users.{names}
-use Rattle.lj_tests.proofs.worlds.users.Goals as goal
+use Rattle.lj_tests.proofs.users.users.Goals as goal
 
 pub loop-word-init : goal.loop-word-init
 unfolding IsDistinct

@@ -1,0 +1,90 @@
+"""Runs the kit's tasks side by side: the one on which most others wait has the processors to itself, and those beside it take what
+it leaves. It stands in for the kit's `in_lanes`, which shares the processors among all that is ready."""
+
+import os
+import threading
+from queue import SimpleQueue
+from typing import Any, Callable, Dict, List, Tuple
+
+Key = Tuple[str, str]
+# What a task waits for, its work in lines, its memory in bytes, and a call that gets what was given and how many jobs it may use.
+Task = Tuple[List[Key], int, float, Callable[[Dict[Key, Any], int], Any]]
+
+# More jobs than this seldom help one proof. A proof beside the first one has half as many.
+MOST_JOBS = 4
+# How far a task stands back behind the first one, as `nice` counts it.
+NICENESS = 10
+# What of the free memory is used, and what part of a check's memory each further job takes, as the kit has them.
+MEMORY_SHARE = 0.85
+JOB_SHARE = 0.6
+
+
+def lines_behind(tasks: Dict[Key, Task]) -> Dict[Key, int]:
+    """For each task the lines of the longest chain of those that wait for it, with its own. A task comes after those that it
+    waits for."""
+    behind = {key: 0 for key in tasks}
+    for key in reversed(list(tasks)):
+        behind[key] += tasks[key][1]
+        for below in tasks[key][0]:
+            behind[below] = max(behind[below], behind[key])
+    return behind
+
+
+class Lanes:
+    """Tasks that run, and those that are left."""
+
+    def __init__(self, rt: Any, tasks: Dict[Key, Task]) -> None:
+        self.tasks, self.behind = tasks, lines_behind(tasks)
+        self.left = sorted(tasks, key=lambda key: -self.behind[key])
+        self.running: Dict[Key, float] = {}
+        self.given: Dict[Key, Any] = {}
+        self.ended: "SimpleQueue[Tuple[Key, Any]]" = SimpleQueue()
+        self.processors = rt.processors()
+        self.memory = MEMORY_SHARE * rt.free()
+
+    def run(self) -> Dict[Key, Any]:
+        """What each task gave. Where one raises, that is raised once those that run have ended."""
+        self.begin_all()
+        while self.running:
+            key, gives = self.ended.get()
+            del self.running[key]
+            self.given[key] = gives
+            if not isinstance(gives, BaseException):
+                self.begin_all()
+        for gives in self.given.values():
+            if isinstance(gives, BaseException):
+                raise gives
+        return self.given
+
+    def begin_all(self) -> None:
+        """Begins what is ready and fits."""
+        for key in list(self.left):
+            if all(below in self.given for below in self.tasks[key][0]):
+                self.begin(key)
+
+    def begin(self, key: Key) -> None:
+        is_first = all(self.behind[other] < self.behind[key] for other in self.running)
+        if not is_first and len(self.running) > self.processors:
+            return
+        jobs = self.jobs(key, is_first)
+        need = self.tasks[key][2] * (1 + JOB_SHARE * (jobs - 1))
+        if self.running and sum(self.running.values()) + need > self.memory:
+            return
+        self.left.remove(key)
+        self.running[key] = need
+        threading.Thread(target=self.call, args=(key, jobs, is_first)).start()
+
+    def jobs(self, key: Key, is_first: bool) -> int:
+        """An edit's check takes one job."""
+        most = min(MOST_JOBS, self.processors)
+        return 1 if key[1] == "edits" else most if is_first else max(1, most // 2)
+
+    def call(self, key: Key, jobs: int, is_first: bool) -> None:
+        """Calls a task in a thread of its own, whose niceness is that of the processes which it begins."""
+        try:
+            if not is_first:
+                os.setpriority(os.PRIO_PROCESS, threading.get_native_id(), NICENESS)
+            gives = self.tasks[key][3](self.given, jobs)
+        except BaseException as error:
+            gives = error
+        self.ended.put((key, gives))

@@ -1,0 +1,277 @@
+//! Pools that hand out results which are not awaited, or that are closed: what a connection is told over them.
+ghost use Rattle.std.specs.Prelude.{◌≡◌, None, IfSome};
+
+use arrayvec::ArrayVec;
+use lj_pool::{Pool, Refused, Served, serve_lines};
+use lj_quota::Quota;
+use lj_session::UserState;
+use lj_table::Table;
+use lj_tile::{Done, Task, compute};
+use lj_wire::{LineReader, Reading, Writing};
+use std::alloc::Global;
+
+/// A pool that computes a task as it is posted. It may hand out copies of an earlier result before each result, and may
+/// be closed at a post or a fetch.
+#[derive(Drop)]
+struct OddPool {
+    table: Table,
+    held: Option<Done>,
+    /// The result before the one that is held.
+    earlier: Option<Done>,
+    /// How many copies of it are handed out before the next result.
+    copies: u64,
+    posts: u64,
+    fetches: u64,
+    good: u64,
+    strays: u64,
+    closed: bool,
+}
+
+impl OddPool {
+    fn new(copies: u64, posts: u64, fetches: u64) -> OddPool
+        ensures { result.held ≡ None }
+    {
+        OddPool {
+            table: Table::new(),
+            held: None,
+            earlier: None,
+            copies,
+            posts,
+            fetches,
+            good: 0,
+            strays: 0,
+            closed: false,
+        }
+    }
+
+    /// A copy of the earlier result, if it is of another task than the one that is held.
+    fn stray(&self) -> Option<Done>
+        ensures { IfSome result (λ done. IfSome self.now.held (λ held. (done ≡ held) → ⊥)) }
+    {
+        let earlier = self.earlier.as_ref()?;
+        let held = self.held.as_ref()?;
+        if self.copies == 0 || earlier.task().is(held.task()) {
+            return None;
+        }
+        Some(earlier.copy())
+    }
+}
+
+impl Pool for OddPool {
+    ghost use Rattle.lj_pool.specs.Inline.{held_task};
+
+    ghost seen = { λ pool. record {
+      owed = held_task pool.held;
+      good = pool.good;
+      strays = pool.strays;
+      closed = pool.closed;
+    } };
+
+    ghost for_others = { λ _ _. 0 };
+
+    fn post(&mut self, task: Task, _wait: bool) -> Result<(), Refused> {
+        if self.posts == 0 {
+            self.closed = true;
+            return Err(Refused::Closed(task));
+        }
+        if self.held.is_some() {
+            return Err(Refused::Full(task));
+        }
+        self.posts -= 1;
+        self.held = Some(compute(task, &self.table));
+        Ok(())
+    }
+
+    fn fetch(&mut self, _user: u8) -> Option<Done> {
+        if self.fetches == 0 {
+            self.closed = true;
+            return None;
+        }
+        if let Some(stray) = self.stray() {
+            self.copies = self.copies.saturating_sub(1);
+            self.strays = self.strays.saturating_add(1);
+            return Some(stray);
+        }
+        self.fetches -= 1;
+        let done = self.held.take()?;
+        self.earlier = Some(done.copy());
+        self.good = self.good.saturating_add(1);
+        Some(done)
+    }
+
+    fn owed(&self) -> usize {
+        usize::from(self.held.is_some())
+    }
+
+    fn full(&self) -> bool {
+        self.held.is_some()
+    }
+
+    fn closed(&self) -> bool {
+        self.closed
+    }
+}
+
+/// What a user is told.
+type Output = ArrayVec<u8, 256>;
+
+/// Two steps of two atoms 1.5 sigma apart.
+const STEPS: &str = "LOAD a 256 1 131072 rest 28\n2\ndimer\nAr 0 0 0\nAr 1.5 0 0\n\
+    ADVANCE a 1\nADVANCE a 1\nSHOW a 0\nLIST\n";
+
+/// One step of theirs.
+const STEP: &str = "LOAD a 256 1 131072 rest 28\n2\ndimer\nAr 0 0 0\nAr 1.5 0 0\nADVANCE a 1\n";
+
+/// A step of one atom that moves. It has no task.
+const ALONE: &str = "LOAD b 256 1 1 pair 44\n1\np\nH -0.0000003 0 0\n1\nc\nH -0.000000001 0 0\n\
+    SHOW b 0\nADVANCE b 1\nSHOW b 0\n";
+
+/// A connection over an odd pool.
+struct Case {
+    /// Whether another user was served before, so that results of theirs come before the first one.
+    is_second: bool,
+    strays: u64,
+    posts: u64,
+    fetches: u64,
+    input: &'static str,
+    served: Served,
+    told: &'static str,
+}
+
+const TWO_STEPS: &str =
+    "OK LOAD a 0 2\nOK ADVANCE a 1\nOK ADVANCE a 2\nOK SHOW a 2 0 1774 0 0\nOK LIST 1\na 2 2 0\n";
+
+const ONE_STEP: &str = "OK LOAD a 0 2\nOK ADVANCE a 1\n";
+
+const NO_STEP: &str = "OK LOAD a 0 2\n";
+
+const CASES: [Case; 10] = [
+    Case {
+        is_second: false,
+        strays: 1,
+        posts: u64::MAX,
+        fetches: u64::MAX,
+        input: STEPS,
+        served: Served::End,
+        told: TWO_STEPS,
+    },
+    Case {
+        is_second: false,
+        strays: 4095,
+        posts: u64::MAX,
+        fetches: u64::MAX,
+        input: STEPS,
+        served: Served::End,
+        told: TWO_STEPS,
+    },
+    Case {
+        is_second: false,
+        strays: 4096,
+        posts: u64::MAX,
+        fetches: u64::MAX,
+        input: STEPS,
+        served: Served::TooManyStrays,
+        told: ONE_STEP,
+    },
+    Case {
+        is_second: true,
+        strays: 4095,
+        posts: u64::MAX,
+        fetches: u64::MAX,
+        input: STEP,
+        served: Served::End,
+        told: ONE_STEP,
+    },
+    Case {
+        is_second: true,
+        strays: 4096,
+        posts: u64::MAX,
+        fetches: u64::MAX,
+        input: STEP,
+        served: Served::TooManyStrays,
+        told: NO_STEP,
+    },
+    Case {
+        is_second: false,
+        strays: 0,
+        posts: 0,
+        fetches: 9,
+        input: STEPS,
+        served: Served::PoolClosed,
+        told: NO_STEP,
+    },
+    Case {
+        is_second: false,
+        strays: 0,
+        posts: 9,
+        fetches: 0,
+        input: STEPS,
+        served: Served::PoolClosed,
+        told: NO_STEP,
+    },
+    Case {
+        is_second: false,
+        strays: 0,
+        posts: 1,
+        fetches: 9,
+        input: STEPS,
+        served: Served::PoolClosed,
+        told: ONE_STEP,
+    },
+    Case {
+        is_second: false,
+        strays: 0,
+        posts: 9,
+        fetches: 1,
+        input: STEPS,
+        served: Served::PoolClosed,
+        told: ONE_STEP,
+    },
+    Case {
+        is_second: false,
+        strays: 0,
+        posts: 0,
+        fetches: 9,
+        input: ALONE,
+        served: Served::End,
+        told: "OK LOAD b 0 1\nOK SHOW b 0 0 4294967295 0 0\nOK ADVANCE b 1\nOK SHOW b 1 0 4 0 0\n",
+    },
+];
+
+/// What a connection was told, how it ended, and whether the state was handed back.
+#[derive(Drop)]
+struct Told {
+    output: Output,
+    served: Served,
+    is_handed_back: bool,
+}
+
+/// Serves a stream to a new user over a pool that owes nothing.
+fn serve_over(alloc: Global, user: u8, input: &str, pool: &mut OddPool) -> Told {
+    pool.held = None;
+    let mut lines = LineReader::new(alloc, Reading::new(input.as_bytes()));
+    let mut writer = Writing::new(Output::new());
+    let state = UserState::new(alloc, Quota::USUAL);
+    let (state, served) = serve_lines(state, user, &mut lines, &mut writer, pool);
+    Told {
+        output: writer.into_inner(),
+        served,
+        is_handed_back: state.is_some(),
+    }
+}
+
+/// The state comes back only where the stream came to its end.
+#[test]
+fn strays_are_dropped_and_a_closed_pool_ends_the_connection(rt: HostRuntime) {
+    for case in &CASES {
+        let mut pool = OddPool::new(case.strays, case.posts, case.fetches);
+        if case.is_second {
+            serve_over(rt.alloc(), 4, STEP, &mut pool);
+        }
+        let told = serve_over(rt.alloc(), 3, case.input, &mut pool);
+        assert_eq!(rt; told.output.as_slice(), case.told.as_bytes());
+        assert_eq!(rt; told.served, case.served);
+        assert_eq!(rt; told.is_handed_back, case.served == Served::End);
+        assert_eq!(rt; pool.strays, case.strays);
+    }
+}
