@@ -1,8 +1,9 @@
-"""Runs the kit's tasks side by side: the one on which most others wait has the processors to itself, and those beside it take what
-it leaves. It stands in for the kit's `in_lanes`, which shares the processors among all that is ready."""
+"""Runs the kit's tasks side by side, first those on the longest chain: where many wait for one, it has more jobs than the others.
+It stands in for the kit's `in_lanes`, which shares the processors among all that is ready."""
 
 import os
 import threading
+from dataclasses import dataclass
 from queue import SimpleQueue
 from typing import Any, Callable, Dict, List, Tuple
 
@@ -10,8 +11,6 @@ Key = Tuple[str, str]
 # What a task waits for, its work in lines, its memory in bytes, and a call that gets what was given and how many jobs it may use.
 Task = Tuple[List[Key], int, float, Callable[[Dict[Key, Any], int], Any]]
 
-# More jobs than this seldom help one proof. A proof beside the first one has half as many.
-MOST_JOBS = 4
 # How far a task stands back behind the first one, as `nice` counts it.
 NICENESS = 10
 # What of the free memory is used, and what part of a check's memory each further job takes, as the kit has them.
@@ -30,16 +29,25 @@ def lines_behind(tasks: Dict[Key, Task]) -> Dict[Key, int]:
     return behind
 
 
+@dataclass(frozen=True)
+class Shares:
+    """How many jobs the first task has, how many another one, and how many all have at most."""
+
+    first: int
+    other: int
+    all: int
+
+
 class Lanes:
     """Tasks that run, and those that are left."""
 
-    def __init__(self, rt: Any, tasks: Dict[Key, Task]) -> None:
-        self.tasks, self.behind = tasks, lines_behind(tasks)
+    def __init__(self, rt: Any, tasks: Dict[Key, Task], shares: Shares) -> None:
+        self.tasks, self.shares, self.behind = tasks, shares, lines_behind(tasks)
         self.left = sorted(tasks, key=lambda key: -self.behind[key])
-        self.running: Dict[Key, float] = {}
+        # The jobs and the memory of each task that runs.
+        self.running: Dict[Key, Tuple[int, float]] = {}
         self.given: Dict[Key, Any] = {}
         self.ended: "SimpleQueue[Tuple[Key, Any]]" = SimpleQueue()
-        self.processors = rt.processors()
         self.memory = MEMORY_SHARE * rt.free()
 
     def run(self) -> Dict[Key, Any]:
@@ -64,20 +72,19 @@ class Lanes:
 
     def begin(self, key: Key) -> None:
         is_first = all(self.behind[other] < self.behind[key] for other in self.running)
-        if not is_first and len(self.running) > self.processors:
-            return
         jobs = self.jobs(key, is_first)
         need = self.tasks[key][2] * (1 + JOB_SHARE * (jobs - 1))
-        if self.running and sum(self.running.values()) + need > self.memory:
+        if not is_first and sum(jobs for jobs, _ in self.running.values()) + jobs > self.shares.all:
+            return
+        if self.running and sum(need for _, need in self.running.values()) + need > self.memory:
             return
         self.left.remove(key)
-        self.running[key] = need
+        self.running[key] = jobs, need
         threading.Thread(target=self.call, args=(key, jobs, is_first)).start()
 
     def jobs(self, key: Key, is_first: bool) -> int:
         """An edit's check takes one job."""
-        most = min(MOST_JOBS, self.processors)
-        return 1 if key[1] == "edits" else most if is_first else max(1, most // 2)
+        return 1 if key[1] == "edits" else self.shares.first if is_first else self.shares.other
 
     def call(self, key: Key, jobs: int, is_first: bool) -> None:
         """Calls a task in a thread of its own, whose niceness is that of the processes which it begins."""
