@@ -1,9 +1,9 @@
-"""Runs the kit's tasks side by side, first those on the longest chain: where many wait for one, it has more jobs than the others.
-It stands in for the kit's `in_lanes`, which shares the processors among all that is ready."""
+"""Runs the kit's tasks side by side, first those on the longest chain: the one on which most others wait has half of the processors.
+There are no more jobs than processors, since each beyond that slows the others by what it takes of the memory's bandwidth. It stands
+in for the kit's `in_lanes`."""
 
 import os
 import threading
-from dataclasses import dataclass
 from queue import SimpleQueue
 from typing import Any, Callable, Dict, List, Tuple
 
@@ -29,25 +29,17 @@ def lines_behind(tasks: Dict[Key, Task]) -> Dict[Key, int]:
     return behind
 
 
-@dataclass(frozen=True)
-class Shares:
-    """How many jobs the first task has, how many another one, and how many all have at most."""
-
-    first: int
-    other: int
-    all: int
-
-
 class Lanes:
     """Tasks that run, and those that are left."""
 
-    def __init__(self, rt: Any, tasks: Dict[Key, Task], shares: Shares) -> None:
-        self.tasks, self.shares, self.behind = tasks, shares, lines_behind(tasks)
+    def __init__(self, rt: Any, tasks: Dict[Key, Task]) -> None:
+        self.tasks, self.behind = tasks, lines_behind(tasks)
         self.left = sorted(tasks, key=lambda key: -self.behind[key])
         # The jobs and the memory of each task that runs.
         self.running: Dict[Key, Tuple[int, float]] = {}
         self.given: Dict[Key, Any] = {}
         self.ended: "SimpleQueue[Tuple[Key, Any]]" = SimpleQueue()
+        self.processors = rt.processors()
         self.memory = MEMORY_SHARE * rt.free()
 
     def run(self) -> Dict[Key, Any]:
@@ -74,7 +66,7 @@ class Lanes:
         is_first = all(self.behind[other] < self.behind[key] for other in self.running)
         jobs = self.jobs(key, is_first)
         need = self.tasks[key][2] * (1 + JOB_SHARE * (jobs - 1))
-        if not is_first and sum(jobs for jobs, _ in self.running.values()) + jobs > self.shares.all:
+        if not is_first and sum(jobs for jobs, _ in self.running.values()) + jobs > self.processors:
             return
         if self.running and sum(need for _, need in self.running.values()) + need > self.memory:
             return
@@ -83,8 +75,8 @@ class Lanes:
         threading.Thread(target=self.call, args=(key, jobs, is_first)).start()
 
     def jobs(self, key: Key, is_first: bool) -> int:
-        """An edit's check takes one job."""
-        return 1 if key[1] == "edits" else self.shares.first if is_first else self.shares.other
+        """The first proof has half of the processors, and all else one."""
+        return max(1, self.processors // 2) if is_first and key[1] != "edits" else 1
 
     def call(self, key: Key, jobs: int, is_first: bool) -> None:
         """Calls a task in a thread of its own, whose niceness is that of the processes which it begins."""
