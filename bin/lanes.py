@@ -57,22 +57,25 @@ class Lanes:
         return self.given
 
     def begin_all(self) -> None:
-        """Begins what is ready and fits."""
+        """Begins what is ready and fits. Where there is no memory yet for the first one, the others wait as well."""
         for key in list(self.left):
             if all(below in self.given for below in self.tasks[key][0]):
-                self.begin(key)
+                is_first = all(self.behind[other] < self.behind[key] for other in self.running)
+                if not self.begin(key, is_first) and is_first:
+                    return
 
-    def begin(self, key: Key) -> None:
-        is_first = all(self.behind[other] < self.behind[key] for other in self.running)
+    def begin(self, key: Key, is_first: bool) -> bool:
+        """Begins a task, if it fits."""
         jobs = self.jobs(key, is_first)
         need = self.tasks[key][2] * (1 + JOB_SHARE * (jobs - 1))
         if not is_first and sum(jobs for jobs, _ in self.running.values()) + jobs > self.processors:
-            return
+            return False
         if self.running and sum(need for _, need in self.running.values()) + need > self.memory:
-            return
+            return False
         self.left.remove(key)
         self.running[key] = jobs, need
         threading.Thread(target=self.call, args=(key, jobs, is_first)).start()
+        return True
 
     def jobs(self, key: Key, is_first: bool) -> int:
         """The first proof has half of the processors, and all else one."""

@@ -150,34 +150,35 @@ struct Told {
     gate: (usize, u64, u64),
 }
 
-/// Serves both users at once over a pool behind a lock, beside its workers.
-fn serve_locked<'a, L: Ledger + Send + Sync, R: Threads + Wait + Clock + Sync>(
-    rt: &'a R,
+/// Serves both users at once over a pool behind a lock, beside its two workers. What both are told, and how many results
+/// the workers have.
+fn serve_locked<L: Ledger + Send + Sync, R: Threads + Wait + Clock + Sync>(
+    rt: &R,
     alloc: Global,
-    pool: &'a LockPool<L>,
-    gate: &'a SendBack<'a, R>,
-    shares: Vec<Share<L>>,
-    table: &'a Table,
-) -> Result<(Output, Output, u64), AllocError> {
-    let mut threads = Vec::with_capacity(alloc, 2)?;
-    Ok(thread::scope(thread::scope_env(), rt, move |scope| {
-        for share in shares {
-            if let Ok(worker) = scope.spawn(move || work(rt, pool, share, gate, table)) {
-                let _ = threads.push(worker);
-            }
-        }
-        let (held, other) = thread::join(
+    pool: &LockPool<L>,
+    gate: &SendBack<R>,
+    shares: (Share<L>, Share<L>),
+) -> (Output, Output, u64) {
+    let (one, other) = shares;
+    let (told, (one, other)) = thread::join(
+        rt,
+        move || {
+            let told = thread::join(
+                rt,
+                move || serve_user(alloc, HELD, gate, &mut pool.end(rt)),
+                move || serve_user(alloc, 1, gate, &mut pool.end(rt)),
+            );
+            pool.close(rt);
+            told
+        },
+        move || thread::join(
             rt,
-            move || serve_user(alloc, HELD, gate, &mut pool.end(rt)),
-            move || serve_user(alloc, 1, gate, &mut pool.end(rt)),
-        );
-        pool.close(rt);
-        let mut given = 0u64;
-        for worker in threads {
-            given = given.saturating_add(worker.join(rt).count());
-        }
-        (held, other, given)
-    }))
+            move || work(rt, pool, one, gate, &Table::new()),
+            move || work(rt, pool, other, gate, &Table::new()),
+        ),
+    );
+    let given = one.count().saturating_add(other.count());
+    (told.0, told.1, given)
 }
 
 fn run_locked<L: Ledger + Send + Sync, R: Threads + Wait + Clock + Sync>(
@@ -189,9 +190,12 @@ fn run_locked<L: Ledger + Send + Sync, R: Threads + Wait + Clock + Sync>(
     requires parts { blank.parts ≡ L.parts }
     requires one_each { blank.parts ≡ 2 }
 {
-    let (pool, shares) = LockPool::<L>::new(alloc, blank, 2)?;
-    let (gate, table) = (SendBack::new(rt, alloc), Table::new());
-    let (held, other, given) = serve_locked(rt, alloc, &pool, &gate, shares, &table)?;
+    let (pool, mut shares) = LockPool::<L>::new(alloc, blank, 2)?;
+    let (Some(second), Some(first)) = (shares.pop(), shares.pop()) else {
+        return Err(AllocError);
+    };
+    let gate = SendBack::new(rt, alloc);
+    let (held, other, given) = serve_locked(rt, alloc, &pool, &gate, (first, second));
     let told = Told {
         held,
         other,
@@ -222,52 +226,47 @@ fn serve_queued<L: Room, R: Wait>(
     (output, end.finish())
 }
 
-/// What a pool is served with: its passes and the shares of its workers.
-struct Tools<L: Room> {
-    passes: Vec<PoolPass<L>>,
-    shares: Vec<Share<L>>,
+/// A worker with its share, and its pass to a queue.
+type Hand<L> = (Share<L>, PoolPass<L>);
+
+/// The next worker.
+fn hand<L: Room>(
+    shares: &mut Vec<Share<L>>,
+    passes: &mut Vec<PoolPass<L>>,
+) -> Result<Hand<L>, AllocError> {
+    Ok((
+        shares.pop().ok_or(AllocError)?,
+        passes.pop().ok_or(AllocError)?,
+    ))
 }
 
-/// Serves both users at once over a pool with a queue, beside its workers. The passes are given back.
-fn serve_over_queue<'a, L: Room + Send + Sync, R: Threads + Wait + Clock + Sync>(
-    rt: &'a R,
+/// Computes tasks until the pool is closed.
+fn work_with<L: Room, R: Wait + Clock>(
+    rt: &R,
+    pool: &QueuePool<L>,
+    gate: &SendBack<R>,
+    hand: Hand<L>,
+) -> Hand<L> {
+    let (share, pass) = hand;
+    work_queue(rt, pool, share, pass, gate, &Table::new())
+}
+
+/// Serves both users at once over a pool with a queue, and then closes it. The passes are given back.
+fn serve_both<L: Room + Send + Sync, R: Threads + Wait + Clock + Sync>(
+    rt: &R,
     alloc: Global,
-    pool: &'a QueuePool<L>,
-    gate: &'a SendBack<'a, R>,
-    tools: Tools<L>,
-    table: &'a Table,
-) -> Result<(Output, Output, u64, Vec<PoolPass<L>>), AllocError> {
-    let Tools { mut passes, shares } = tools;
-    let mut threads = Vec::with_capacity(alloc, 2)?;
-    let (Some(first), Some(second)) = (passes.pop(), passes.pop()) else {
-        return Err(AllocError);
-    };
-    Ok(thread::scope(thread::scope_env(), rt, move |scope| {
-        for share in shares {
-            if let Some(pass) = passes.pop() {
-                if let Ok(worker) = scope.spawn(move || work_queue(
-                    rt, pool, share, pass, gate, table,
-                )) {
-                    let _ = threads.push(worker);
-                }
-            }
-        }
-        let ((held, first), (other, second)) = thread::join(
-            rt,
-            move || serve_queued(rt, alloc, HELD, pool, first, gate),
-            move || serve_queued(rt, alloc, 1, pool, second, gate),
-        );
-        pool.close(rt);
-        let mut given = 0u64;
-        for worker in threads {
-            let (share, pass) = worker.join(rt);
-            given = given.saturating_add(share.count());
-            let _ = passes.push(pass);
-        }
-        let _ = passes.push(first);
-        let _ = passes.push(second);
-        (held, other, given, passes)
-    }))
+    pool: &QueuePool<L>,
+    gate: &SendBack<R>,
+    passes: (PoolPass<L>, PoolPass<L>),
+) -> ((Output, PoolPass<L>), (Output, PoolPass<L>)) {
+    let (first, second) = passes;
+    let told = thread::join(
+        rt,
+        move || serve_queued(rt, alloc, HELD, pool, first, gate),
+        move || serve_queued(rt, alloc, 1, pool, second, gate),
+    );
+    pool.close(rt);
+    told
 }
 
 fn run_queued<L: Room + Send + Sync, R: Threads + Wait + Clock + Sync>(
@@ -281,10 +280,28 @@ fn run_queued<L: Room + Send + Sync, R: Threads + Wait + Clock + Sync>(
     requires table { blank.table ≡ L.table }
     requires passes { 2 + CONNECTIONS ≡ L.passes }
 {
-    let (pool, passes, shares) = QueuePool::<L>::new(alloc, blank, 2)?;
-    let (gate, table) = (SendBack::new(rt, alloc), Table::new());
-    let tools = Tools { passes, shares };
-    let (held, other, given, passes) = serve_over_queue(rt, alloc, &pool, &gate, tools, &table)?;
+    let (pool, mut passes, mut shares) = QueuePool::<L>::new(alloc, blank, 2)?;
+    let gate = SendBack::new(rt, alloc);
+    let first = hand(&mut shares, &mut passes)?;
+    let second = hand(&mut shares, &mut passes)?;
+    let ends = (
+        passes.pop().ok_or(AllocError)?,
+        passes.pop().ok_or(AllocError)?,
+    );
+    let (queue, keeper) = (&pool, &gate);
+    let (((held, held_pass), (other, other_pass)), (one, another)) = thread::join(
+        rt,
+        move || serve_both(rt, alloc, queue, keeper, ends),
+        move || thread::join(
+            rt,
+            move || work_with(rt, queue, keeper, first),
+            move || work_with(rt, queue, keeper, second),
+        ),
+    );
+    let given = one.0.count().saturating_add(another.0.count());
+    for pass in [held_pass, other_pass, one.1, another.1] {
+        passes.push(pass)?;
+    }
     if passes.len() != 2 + CONNECTIONS {
         return Err(AllocError);
     }
