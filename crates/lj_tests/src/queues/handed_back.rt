@@ -240,7 +240,7 @@ fn hand<L: Room>(
     ))
 }
 
-/// Computes tasks until the pool is closed.
+/// A worker computes tasks until the pool is closed.
 fn work_with<L: Room, R: Wait + Clock>(
     rt: &R,
     pool: &QueuePool<L>,
@@ -249,6 +249,21 @@ fn work_with<L: Room, R: Wait + Clock>(
 ) -> Hand<L> {
     let (share, pass) = hand;
     work_queue(rt, pool, share, pass, gate, &Table::new())
+}
+
+/// So do both workers.
+fn work_both<L: Room + Send + Sync, R: Threads + Wait + Clock + Sync>(
+    rt: &R,
+    pool: &QueuePool<L>,
+    gate: &SendBack<R>,
+    hands: (Hand<L>, Hand<L>),
+) -> (Hand<L>, Hand<L>) {
+    let (first, second) = hands;
+    thread::join(
+        rt,
+        move || work_with(rt, pool, gate, first),
+        move || work_with(rt, pool, gate, second),
+    )
 }
 
 /// Serves both users at once over a pool with a queue, and then closes it. The passes are given back.
@@ -282,8 +297,10 @@ fn run_queued<L: Room + Send + Sync, R: Threads + Wait + Clock + Sync>(
 {
     let (pool, mut passes, mut shares) = QueuePool::<L>::new(alloc, blank, 2)?;
     let gate = SendBack::new(rt, alloc);
-    let first = hand(&mut shares, &mut passes)?;
-    let second = hand(&mut shares, &mut passes)?;
+    let hands = (
+        hand(&mut shares, &mut passes)?,
+        hand(&mut shares, &mut passes)?,
+    );
     let ends = (
         passes.pop().ok_or(AllocError)?,
         passes.pop().ok_or(AllocError)?,
@@ -292,11 +309,7 @@ fn run_queued<L: Room + Send + Sync, R: Threads + Wait + Clock + Sync>(
     let (((held, held_pass), (other, other_pass)), (one, another)) = thread::join(
         rt,
         move || serve_both(rt, alloc, queue, keeper, ends),
-        move || thread::join(
-            rt,
-            move || work_with(rt, queue, keeper, first),
-            move || work_with(rt, queue, keeper, second),
-        ),
+        move || work_both(rt, queue, keeper, hands),
     );
     let given = one.0.count().saturating_add(another.0.count());
     for pass in [held_pass, other_pass, one.1, another.1] {
