@@ -12,6 +12,17 @@ use lj_tile::Task;
 use std::process::Abort;
 use std::sync::Wait;
 
+/// The next pass or share of those that a pool was made with.
+fn next<T>(rt: &impl Abort, items: &mut Vec<T>) -> T {
+    items.pop().expect(rt, "one more")
+}
+
+/// Puts a pass or a share back, in the room that it left.
+fn put_back<T: Drop>(rt: &impl Abort, items: &mut Vec<T>, item: T) {
+    let fits = items.push(item).is_ok();
+    assert!(rt; fits);
+}
+
 /// Posts a task, where the end has room for it.
 fn post_one<L: Room, R: Wait + Abort>(rt: &R, end: &mut QueueEnd<L, R>, task: Task) {
     if end.full() {

@@ -1,6 +1,7 @@
 //! A pool that is closed while an end waits for a result.
 ghost use Rattle.std.specs.Prelude.{◌≡◌};
 
+use super::{next, put_back};
 use crate::tasks::task;
 use lj_pool::Pool;
 use lj_queue::{QueueBlank, QueueEnd, QueuePool, Room, Settled};
@@ -44,17 +45,15 @@ fn close_while_one_waits<L: Room + Send + Sync, R: Threads + Wait + Clock + Abor
     requires passes { L.passes ≡ 64 }
 {
     let (pool, mut passes, _) = QueuePool::<L>::new(alloc, blank, 0)?;
-    let mut end = pool.end(rt, passes.pop().ok_or(AllocError)?, USER);
+    let mut end = pool.end(rt, next(rt, &mut passes), USER);
     let queue = &pool;
     let ((), closed) = thread::join(
         rt,
         move || close_late(rt, queue),
         || wait_in_vain(rt, &mut end),
     );
-    passes.push(end.finish())?;
-    if passes.len() != 64 {
-        return Err(AllocError);
-    }
+    put_back(rt, &mut passes, end.finish());
+    assert!(rt; passes.len() == 64);
     Ok((closed, pool.settle(rt, passes)))
 }
 

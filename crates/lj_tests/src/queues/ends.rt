@@ -1,7 +1,7 @@
 //! Ends that are gone: results of their tasks are dropped, and their passes go on.
 ghost use Rattle.std.specs.Prelude.{◌≡◌};
 
-use super::post_some;
+use super::{next, post_some, put_back};
 use lj_pool::{Gate, Pool};
 use lj_queue::{QueueBlank, QueueEnd, QueuePool, Room, Settled, gather, work_queue};
 use lj_table::Table;
@@ -52,15 +52,12 @@ fn keep<L: Room, R: Wait + Abort>(
     requires passes { L.passes ≡ 65 }
 {
     let (pool, mut passes, mut shares) = QueuePool::<L>::new(alloc, blank, 1)?;
-    let (share, pass) = (
-        shares.pop().ok_or(AllocError)?,
-        passes.pop().ok_or(AllocError)?,
-    );
-    let mut gone = pool.end(rt, passes.pop().ok_or(AllocError)?, 5);
+    let (share, pass) = (next(rt, &mut shares), next(rt, &mut passes));
+    let mut gone = pool.end(rt, next(rt, &mut passes), 5);
     post_some(rt, &mut gone, 5, 3);
-    let mut present = pool.end(rt, passes.pop().ok_or(AllocError)?, 5);
+    let mut present = pool.end(rt, next(rt, &mut passes), 5);
     post_some(rt, &mut present, 5, 2);
-    let mut withdrawn = pool.end(rt, passes.pop().ok_or(AllocError)?, 6);
+    let mut withdrawn = pool.end(rt, next(rt, &mut passes), 6);
     post_some(rt, &mut withdrawn, 6, 4);
     pool.withdraw(rt, 6);
     let gate = Last {
@@ -71,7 +68,7 @@ fn keep<L: Room, R: Wait + Abort>(
     let (share, pass) = work_queue(rt, &pool, share, pass, &gate, &Table::new());
     drop(gate);
     let count = share.count();
-    shares.push(share)?;
+    put_back(rt, &mut shares, share);
     let (gone, present, withdrawn) = (gone.finish(), present.finish(), withdrawn.finish());
     let numbers = [
         gone.number(),
@@ -80,11 +77,9 @@ fn keep<L: Room, R: Wait + Abort>(
         pass.number(),
     ];
     for pass in [gone, present, withdrawn, pass] {
-        passes.push(pass)?;
+        put_back(rt, &mut passes, pass);
     }
-    if passes.len() != 65 || shares.len() != 1 {
-        return Err(AllocError);
-    }
+    assert!(rt; passes.len() == 65 && shares.len() == 1);
     Ok(Kept {
         share: count,
         given: gather(rt, &pool, shares),

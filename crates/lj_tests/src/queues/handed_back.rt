@@ -1,6 +1,7 @@
 //! A gate that sends each task back once: two users are told the same over either pool.
 ghost use Rattle.std.specs.Prelude.{◌≡◌, ◌+◌, []};
 
+use super::{next, put_back};
 use arrayvec::ArrayVec;
 use lj_book::Counts;
 use lj_pool::{Gate, LockPool, Pool, Share, serve, work};
@@ -13,6 +14,7 @@ use lj_wire::{Reading, Writing};
 use std::alloc::{AllocError, AllocGlobal, Global};
 use std::io::Write;
 use std::marker::Brand;
+use std::process::Abort;
 use std::rt::Clock;
 use std::sync::atomic::{AtomicU64, Ordering};
 use std::sync::ledger::{Blank, Ledger};
@@ -181,7 +183,7 @@ fn serve_locked<L: Ledger + Send + Sync, R: Threads + Wait + Clock + Sync>(
     (told.0, told.1, given)
 }
 
-fn run_locked<L: Ledger + Send + Sync, R: Threads + Wait + Clock + Sync>(
+fn run_locked<L: Ledger + Send + Sync, R: Threads + Wait + Clock + Abort + Sync>(
     rt: &R,
     alloc: Global,
     blank: Blank,
@@ -191,11 +193,9 @@ fn run_locked<L: Ledger + Send + Sync, R: Threads + Wait + Clock + Sync>(
     requires one_each { blank.parts ≡ 2 }
 {
     let (pool, mut shares) = LockPool::<L>::new(alloc, blank, 2)?;
-    let (Some(second), Some(first)) = (shares.pop(), shares.pop()) else {
-        return Err(AllocError);
-    };
+    let workers = (next(rt, &mut shares), next(rt, &mut shares));
     let gate = SendBack::new(rt, alloc);
-    let (held, other, given) = serve_locked(rt, alloc, &pool, &gate, (first, second));
+    let (held, other, given) = serve_locked(rt, alloc, &pool, &gate, workers);
     let told = Told {
         held,
         other,
@@ -206,7 +206,7 @@ fn run_locked<L: Ledger + Send + Sync, R: Threads + Wait + Clock + Sync>(
 }
 
 fn locked_once(
-    rt: &(impl Threads + Wait + Clock + Sync),
+    rt: &(impl Threads + Wait + Clock + Abort + Sync),
     alloc: Global,
 ) -> Result<(Told, Counts), AllocError> {
     run_locked::<Brand, _>(rt, alloc, Blank::new(2))
@@ -228,17 +228,6 @@ fn serve_queued<L: Room, R: Wait>(
 
 /// A worker with its share, and its pass to a queue.
 type Hand<L> = (Share<L>, PoolPass<L>);
-
-/// The next worker.
-fn hand<L: Room>(
-    shares: &mut Vec<Share<L>>,
-    passes: &mut Vec<PoolPass<L>>,
-) -> Result<Hand<L>, AllocError> {
-    Ok((
-        shares.pop().ok_or(AllocError)?,
-        passes.pop().ok_or(AllocError)?,
-    ))
-}
 
 /// A worker computes tasks until the pool is closed.
 fn work_with<L: Room, R: Wait + Clock>(
@@ -284,7 +273,7 @@ fn serve_both<L: Room + Send + Sync, R: Threads + Wait + Clock + Sync>(
     told
 }
 
-fn run_queued<L: Room + Send + Sync, R: Threads + Wait + Clock + Sync>(
+fn run_queued<L: Room + Send + Sync, R: Threads + Wait + Clock + Abort + Sync>(
     rt: &R,
     alloc: Global,
     blank: QueueBlank,
@@ -298,13 +287,10 @@ fn run_queued<L: Room + Send + Sync, R: Threads + Wait + Clock + Sync>(
     let (pool, mut passes, mut shares) = QueuePool::<L>::new(alloc, blank, 2)?;
     let gate = SendBack::new(rt, alloc);
     let hands = (
-        hand(&mut shares, &mut passes)?,
-        hand(&mut shares, &mut passes)?,
+        (next(rt, &mut shares), next(rt, &mut passes)),
+        (next(rt, &mut shares), next(rt, &mut passes)),
     );
-    let ends = (
-        passes.pop().ok_or(AllocError)?,
-        passes.pop().ok_or(AllocError)?,
-    );
+    let ends = (next(rt, &mut passes), next(rt, &mut passes));
     let (queue, keeper) = (&pool, &gate);
     let (((held, held_pass), (other, other_pass)), (one, another)) = thread::join(
         rt,
@@ -313,11 +299,9 @@ fn run_queued<L: Room + Send + Sync, R: Threads + Wait + Clock + Sync>(
     );
     let given = one.0.count().saturating_add(another.0.count());
     for pass in [held_pass, other_pass, one.1, another.1] {
-        passes.push(pass)?;
+        put_back(rt, &mut passes, pass);
     }
-    if passes.len() != 2 + CONNECTIONS {
-        return Err(AllocError);
-    }
+    assert!(rt; passes.len() == 2 + CONNECTIONS);
     let told = Told {
         held,
         other,
@@ -328,7 +312,7 @@ fn run_queued<L: Room + Send + Sync, R: Threads + Wait + Clock + Sync>(
 }
 
 fn queued_once(
-    rt: &(impl Threads + Wait + Clock + Sync),
+    rt: &(impl Threads + Wait + Clock + Abort + Sync),
     alloc: Global,
 ) -> Result<(Told, Settled), AllocError> {
     run_queued::<Brand, _>(rt, alloc, QueueBlank::new(alloc, 2)?)

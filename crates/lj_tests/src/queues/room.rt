@@ -2,7 +2,7 @@
 //! is closed.
 ghost use Rattle.std.specs.Prelude.{◌≡◌};
 
-use super::post_some;
+use super::{next, post_some, put_back};
 use crate::tasks::task;
 use lj_pool::{Pool, Refused, Share};
 use lj_queue::{PoolPass, QueueBlank, QueueEnd, QueuePool, Room, Settled, gather, work_queue};
@@ -58,9 +58,9 @@ fn fill<'p, L: Room, R: Wait + Abort>(
 ) -> Result<Vec<QueueEnd<'p, L, R>>, AllocError> {
     let mut ends = Vec::with_capacity(alloc, usize::from(ENDS))?;
     for user in 0..ENDS {
-        let mut end = pool.end(rt, passes.pop().ok_or(AllocError)?, user);
+        let mut end = pool.end(rt, next(rt, passes), user);
         post_some(rt, &mut end, user, 64);
-        ends.push(end)?;
+        put_back(rt, &mut ends, end);
     }
     Ok(ends)
 }
@@ -125,10 +125,9 @@ fn wait_in_a_crowd<L: Room + Send + Sync, R: Threads + Wait + Clock + Abort + Sy
     requires passes { L.passes ≡ 65 }
 {
     let (pool, mut passes, mut shares) = QueuePool::<L>::new(alloc, blank, 1)?;
-    let share = shares.pop().ok_or(AllocError)?;
-    let hand = (share, passes.pop().ok_or(AllocError)?);
+    let hand = (next(rt, &mut shares), next(rt, &mut passes));
     let ends = fill(rt, alloc, &pool, &mut passes)?;
-    let mut last = pool.end(rt, passes.pop().ok_or(AllocError)?, LAST);
+    let mut last = pool.end(rt, next(rt, &mut passes), LAST);
     let at_once = post_last(rt, &mut last, false);
     let queue = &pool;
     let ((share, pass), (waited, fetched)) = thread::join(
@@ -136,15 +135,13 @@ fn wait_in_a_crowd<L: Room + Send + Sync, R: Threads + Wait + Clock + Abort + Sy
         move || work_or_close(rt, queue, hand, works),
         || post_and_fetch(rt, queue, &mut last),
     );
-    passes.push(pass)?;
-    passes.push(last.finish())?;
+    put_back(rt, &mut passes, pass);
+    put_back(rt, &mut passes, last.finish());
     for end in ends {
-        passes.push(end.finish())?;
+        put_back(rt, &mut passes, end.finish());
     }
-    shares.push(share)?;
-    if passes.len() != 65 || shares.len() != 1 {
-        return Err(AllocError);
-    }
+    put_back(rt, &mut shares, share);
+    assert!(rt; passes.len() == 65 && shares.len() == 1);
     Ok(Crowd {
         at_once,
         waited,
