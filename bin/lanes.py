@@ -1,6 +1,6 @@
-"""Runs the kit's tasks side by side, first those on the longest chain: the one on which most others wait has half of the processors.
-There are no more jobs than processors, since each beyond that slows the others by what it takes of the memory's bandwidth. It stands
-in for the kit's `in_lanes`."""
+"""Runs the kit's tasks side by side, first those on the longest chain: the one on which most others wait has half of the processors, or
+more where nothing else is ready. There are no more jobs than processors, since each beyond that slows the others by what it takes of the
+memory's bandwidth. It stands in for the kit's `in_lanes`."""
 
 import os
 import threading
@@ -13,8 +13,9 @@ Task = Tuple[List[Key], int, float, Callable[[Dict[Key, Any], int], Any]]
 
 # How far a task stands back behind the first one, as `nice` counts it.
 NICENESS = 10
-# What of the free memory is used, and what part of a check's memory each further job takes, as the kit has them.
-MEMORY_SHARE = 0.85
+# What is begun may have this much of the free memory by the kit's estimates, of which the checks of this repository take 35 to 65 of 100,
+# and what part of a check's memory each further job takes, as the kit has it.
+MEMORY_SHARE = 1.3
 JOB_SHARE = 0.6
 
 
@@ -59,7 +60,7 @@ class Lanes:
     def begin_all(self) -> None:
         """Begins what is ready and fits. Where there is no memory yet for the first one, the others wait as well."""
         for key in list(self.left):
-            if all(below in self.given for below in self.tasks[key][0]):
+            if self.is_ready(key):
                 is_first = all(self.behind[other] < self.behind[key] for other in self.running)
                 if not self.begin(key, is_first) and is_first:
                     return
@@ -78,8 +79,14 @@ class Lanes:
         return True
 
     def jobs(self, key: Key, is_first: bool) -> int:
-        """The first proof has half of the processors, and all else one."""
-        return max(1, self.processors // 2) if is_first and key[1] != "edits" else 1
+        """The first proof has half of the processors, or all that nothing else could use now, and all else one."""
+        if not is_first or key[1] == "edits":
+            return 1
+        ready = [other for other in self.left if other != key and self.is_ready(other)]
+        return max(1, self.processors // 2, self.processors - len(self.running) - len(ready))
+
+    def is_ready(self, key: Key) -> bool:
+        return all(below in self.given for below in self.tasks[key][0])
 
     def call(self, key: Key, jobs: int, is_first: bool) -> None:
         """Calls a task in a thread of its own, whose niceness is that of the processes which it begins."""
