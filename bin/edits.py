@@ -1,17 +1,13 @@
 """Must-fail edits that name the functions by whose clauses they are refused, in lines `only: PATH`.
 
 The kit checks a whole crate for each edit. Where each edit of a crate names functions, it is tried by a check of these alone and of what
-they call: where one of them is not proved, the crate is not. As with the kit, each is tried over what the checks before it proved, at the
-end all these functions must be proved over that, and what was not refused so is tried again from nothing.
+they call: where one of them is not proved, the crate is not. What the kit proves of the crate before its edits, which they share, and
+after them, is then of all these functions. What is not refused so is tried again from nothing, as with the kit.
 """
 
 import re
-import tempfile
 from pathlib import Path
-from typing import Any, Callable, List, Tuple
-
-Tried = Tuple[bool, str]
-TryAll = Callable[[Any, List[str], List[str]], List[Tried]]
+from typing import Any, List
 
 
 def named(edit: str) -> List[str]:
@@ -20,8 +16,8 @@ def named(edit: str) -> List[str]:
 
 
 def only(edits: List[str]) -> List[str]:
-    """The words of a check that takes the functions alone that some edits name."""
-    paths = {path for edit in edits for path in named(edit)}
+    """The words of a check that takes the functions alone that some edits name; none where one names none."""
+    paths = {path for edit in edits for path in named(edit)} if all(map(named, edits)) else set()
     return [word for path in sorted(paths) for word in ("--only", path)]
 
 
@@ -33,26 +29,18 @@ def judged(ran: Any) -> Any:
     return ran
 
 
-def by_names(rt: Any) -> TryAll:
-    """Tries a crate's edits by the functions that they name."""
-
-    def try_all(crate: Any, edits: List[str], flags: List[str]) -> List[Tried]:
-        def try_one(edit: str, *kept: str) -> Tried:
-            tried: Tried = rt.must_fail(crate, edit, [*flags, *only([edit])], *kept)
-            return tried
-
-        if len(edits) < 2:
-            return [try_one(edit) for edit in edits]
-        with tempfile.TemporaryDirectory(prefix="edits-") as kept:
-            tried = [try_one(edit, kept) for edit in edits]
-            is_sound = rt.checked(crate, {}, [*flags, *only(edits)], kept).returncode == 0
-        return [it if is_sound and it[0] else try_one(edit) for edit, it in zip(edits, tried)]
-
-    return try_all
-
-
 def use(rt: Any) -> None:
-    """Has the kit's module try edits so."""
-    checked, whole, named_alone = rt.checked, rt.must_fail_all, by_names(rt)
-    rt.checked = lambda *words: judged(checked(*words))
-    rt.must_fail_all = lambda crate, edits, flags: (named_alone if all(map(named, edits)) else whole)(crate, edits, flags)
+    """Has the kit's module try edits so. A kit without these functions tries each edit by its whole crate."""
+    if not all(hasattr(rt, name) for name in ("checked", "must_fail", "edits_of")):
+        return
+    checked, must_fail = rt.checked, rt.must_fail
+
+    def checked_by_names(crate: Any, texts: Any, flags: List[str], kept: Any) -> Any:
+        edits, _ = rt.edits_of(crate)
+        return judged(checked(crate, texts, flags if texts else [*flags, *only(edits)], kept))
+
+    def must_fail_by_names(crate: Any, edit: str, flags: List[str], kept: Any = None) -> Any:
+        edits, _ = rt.edits_of(crate)
+        return must_fail(crate, edit, [*flags, *(only([edit]) if only(edits) else [])], kept)
+
+    rt.checked, rt.must_fail = checked_by_names, must_fail_by_names
