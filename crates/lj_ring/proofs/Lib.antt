@@ -1,3 +1,4 @@
 pub mod ArcLemmas
 pub mod RingLemmas
 pub mod ScaleLemmas
+pub mod MixLemmas

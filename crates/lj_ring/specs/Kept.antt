@@ -2,12 +2,12 @@
 use Rattle.std.specs.Prelude.{ℕ, ◌*◌, ◌^◌, ◌<◌, ◌≤◌, ◌≡◌}
 use Rattle.std.specs.Int.{div_ceil}
 use Rattle.lj_ring.specs.Scales.{Units}
-use Rattle.lj_ring.specs.declared.units.TheConstants.{MIN_SIGMA, MAX_STEP_FACTOR}
-use Rattle.lj_ring.specs.declared.units.Scale.TheInside.{Inside}
+use Rattle.lj_ring.specs.declared.scales.TheConstants.{MIN_SIGMA, MAX_STEP_FACTOR, CUTOFF_HALVES}
+use Rattle.lj_ring.specs.declared.scales.Scale.TheInside.{Inside}
 
--- the first squared distance out of reach: a quarter of 25 sigma², rounded up
+-- the first squared distance out of reach: the square of the cutoff, rounded up
 abbrev pub reach_of : ℕ → ℕ
-reach_of square = div_ceil (25 * square) 4
+reach_of square = div_ceil (CUTOFF_HALVES * CUTOFF_HALVES * square) 4
 
 -- the reciprocal of sigma² in units of 2^-95, rounded up
 abbrev pub inverse_of : ℕ → ℕ
@@ -20,7 +20,7 @@ units_of_kept a = record { edge = a.edge; sigma = a.sigma; strength = a.strength
 -- the kept numbers are those of sigma
 pub record IsKept (a : Inside) : Type 0 where
   pub sigma_least : MIN_SIGMA ≤ a.sigma
-  pub sigma_most : 5 * a.sigma < 2 ^ 32
+  pub sigma_most : CUTOFF_HALVES * a.sigma < 2 ^ 32
   pub strength_most : a.strength ≤ MAX_STEP_FACTOR
   pub square_is : a.sigma_square ≡ a.sigma * a.sigma
   pub reach_is : a.reach ≡ reach_of (a.sigma * a.sigma)

@@ -3,6 +3,7 @@ pub mod Places
 pub mod Arcs
 pub mod Spans
 pub mod Scales
+pub mod Mixes
 pub mod Kept
 pub mod FaultTexts
 pub mod Worked

@@ -1,9 +1,10 @@
 -- The scale of a simulation, and the bins of squared distance that its tables stand on.
 use Rattle.std.specs.Prelude.{ℕ, ◌*◌, ◌/◌, ◌^◌, ℤ, pos, ◌&&◌, Bool, int_le, nat_le, nat_lt, if◌then◌else◌, max}
 use Rattle.std.specs.Prelude.{unsigned_abs, Result, Ok, Err, ◌<◌, ◌≡◌, true}
-use Rattle.lj_ring.specs.declared.units.TheConstants.{MIN_EDGE, MAX_EDGE, MIN_SIGMA, MAX_STEP_FACTOR, BINS, MIN_BIN}
-use Rattle.lj_ring.specs.declared.units.ScaleFault.{ScaleFault}
-use Rattle.lj_ring.specs.declared.units.ScaleFault.TheVariants.{Edge, Sigma, StepFactor}
+use Rattle.lj_ring.specs.declared.scales.TheConstants.{MIN_EDGE, MAX_EDGE, MIN_SIGMA, MAX_STEP_FACTOR, BINS, MIN_BIN}
+use Rattle.lj_ring.specs.declared.scales.TheConstants.{BINS_TO_SQUARE, CUTOFF_HALVES}
+use Rattle.lj_ring.specs.declared.scales.ScaleFault.{ScaleFault}
+use Rattle.lj_ring.specs.declared.scales.ScaleFault.TheVariants.{Edge, Sigma, StepFactor}
 use Rattle.lj_ring.specs.Places.{units_of}
 
 -- the box edge in nano, sigma in ring units, and the step factor dt² ε / (m σ²) in units of 2^-32
@@ -16,10 +17,9 @@ pub record Units : Type 0 where
 abbrev pub edge_fits : ℤ → Bool
 edge_fits edge = int_le (pos MIN_EDGE) edge && int_le edge (pos MAX_EDGE)
 
--- sigma is 65536 ring units at the least, and five of them are shorter than the box, so that the cutoff of 2.5 sigma
--- lies below half the box
+-- sigma is 65536 ring units at the least, and the cutoff lies below half the box
 abbrev pub sigma_fits : ℤ → Bool
-sigma_fits sigma = int_le (pos MIN_SIGMA) sigma && nat_lt (5 * unsigned_abs sigma) (2 ^ 32)
+sigma_fits sigma = int_le (pos MIN_SIGMA) sigma && nat_lt (CUTOFF_HALVES * unsigned_abs sigma) (2 ^ 32)
 
 -- a step factor is 1 to 2^24
 abbrev pub strength_fits : ℕ → Bool
@@ -37,11 +37,11 @@ scale_of edge sigma strength =
     else Err Sigma)
     else Err Edge
 
--- the bin of a squared distance: 128 bins to the square of sigma
+-- the bin of a squared distance
 abbrev pub bin : Units → ℕ → ℕ
-bin u s = 128 * s / (u.sigma * u.sigma)
+bin u s = BINS_TO_SQUARE * s / (u.sigma * u.sigma)
 
--- a pair at this squared distance interacts: it lies within the cutoff of 2.5 sigma, bin 800
+-- a pair at this squared distance interacts: it lies within the cutoff, whose bins are 128 * 2.5²
 abbrev pub interacts : Units → ℕ → Bool
 interacts u s = nat_lt (bin u s) BINS
 

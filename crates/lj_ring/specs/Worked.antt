@@ -1,6 +1,6 @@
 -- Scales at their limits, the bins where pairs stop to interact, and arcs and their gaps, worked out.
 use Rattle.std.specs.Prelude.{◌≡◌, ◌+◌, ◌-◌, ◌*◌, ◌^◌, true, false, pos, negsuc, [], ◌∷◌, Ok, Err, refl}
-use Rattle.lj_ring.specs.declared.units.ScaleFault.TheVariants.{Edge, Sigma, StepFactor}
+use Rattle.lj_ring.specs.declared.scales.ScaleFault.TheVariants.{Edge, Sigma, StepFactor}
 use Rattle.lj_ring.specs.Arcs.{arcs_of, gap, squared_gap}
 use Rattle.lj_ring.specs.Scales.{Units, scale_of, interacts, entry}
 

@@ -3,7 +3,7 @@ ghost use Rattle.std.specs.Prelude.{◌≡◌, ◌≤◌, ◌^◌, ◌*◌};
 ghost use Rattle.lj_ring.specs.Places as places;
 ghost use Rattle.lj_ring.specs.Ring as ring;
 
-use crate::units::Edge;
+use crate::scales::Edge;
 use lj_fixed::Nano;
 
 /// The place of an atom: a coordinate on each axis, in ring units, of which the box edge has 2^32.

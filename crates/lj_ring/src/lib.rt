@@ -1,10 +1,13 @@
-//! The periodic box as a ring of 2^32 units on each axis: coordinates, least images, and the scale of a simulation.
+//! The periodic box as a ring of 2^32 units on each axis: coordinates, least images, the scale of a simulation, and mixtures of
+//! two species.
 #![tactic(auto)]
 
 mod arcs;
 mod coordinates;
-mod units;
+mod mixes;
+mod scales;
 
 pub use arcs::{Arc, Arcs, gap};
 pub use coordinates::{Place, dist2, image, micro_of, place_of};
-pub use units::{BINS, Edge, MIN_BIN, Scale, ScaleFault};
+pub use mixes::{Class, ClassFault, Mix, MixFault, Species, Weight};
+pub use scales::{BINS, CUTOFF_HALVES, Edge, MIN_BIN, Scale, ScaleFault};

@@ -5,7 +5,7 @@ use Rattle.std.specs.Prelude.{is_some}
 use Rattle.std.specs.Option.{option_map}
 use Rattle.std.proofs.lemmas.Bool.{true≢false}
 use Rattle.std.proofs.lemmas.List.{length-map}
-use Rattle.lj_ring.specs.declared.units.ScaleFault.{ScaleFault}
+use Rattle.lj_ring.specs.declared.scales.ScaleFault.{ScaleFault}
 use Rattle.lj_ring.specs.Scales.{Units}
 use Rattle.lj_xyz.specs.declared.fault.XyzFault.{XyzFault}
 use Rattle.lj_xyz.specs.declared.fault.XyzError.{XyzError}

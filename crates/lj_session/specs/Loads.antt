@@ -3,8 +3,8 @@ use Rattle.std.specs.Prelude.{ℕ, ◌+◌, Bool, true, false, not, nat_le, nat_
 use Rattle.std.specs.Prelude.{Option, Result, Ok, Err}
 use Rattle.std.specs.Option.{unwrap_or}
 use Rattle.lj_ring.specs.declared.coordinates.Place.{Place}
-use Rattle.lj_ring.specs.declared.units.ScaleFault.{ScaleFault}
-use Rattle.lj_ring.specs.declared.units.ScaleFault.TheVariants as scale
+use Rattle.lj_ring.specs.declared.scales.ScaleFault.{ScaleFault}
+use Rattle.lj_ring.specs.declared.scales.ScaleFault.TheVariants as scale
 use Rattle.lj_ring.specs.Places.{place_of}
 use Rattle.lj_ring.specs.Scales.{Units, scale_of}
 use Rattle.lj_step.specs.Motion.{opening}

@@ -1,7 +1,7 @@
 -- The entries of the Lennard-Jones tables, at the centres of the bins of squared distance.
 use Rattle.std.specs.Prelude.{ℕ, ◌+◌, ◌*◌, ◌^◌, ◌<◌, ◌≡◌, ℤ, pos, ◌-ℤ◌, ◌*ℤ◌, int_div, unsigned_abs, List}
 use Rattle.std.specs.Prelude.{slice_index_or, if◌then◌else◌}
-use Rattle.lj_ring.specs.declared.units.TheConstants.{BINS}
+use Rattle.lj_ring.specs.declared.scales.TheConstants.{BINS}
 use Rattle.lj_ring.specs.Scales.{Units, bin, interacts, entry}
 
 -- the centre of bin k, in 256ths of sigma²: n = 2k + 1, so that (σ/r)² there is 2^8 / n

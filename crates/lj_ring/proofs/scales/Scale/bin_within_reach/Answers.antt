@@ -2,7 +2,7 @@ use Rattle.std.proofs.Common.{◌≡◌, ◌≤◌, ◌*◌, ◌<◌, false, sub
 use Rattle.lj_ring.specs.Kept.{reach_of}
 use Rattle.lj_ring.specs.Scales.{Units, interacts}
 use Rattle.lj_ring.proofs.ScaleLemmas.{out_of_reach}
-use Rattle.lj_ring.proofs.units.Scale.bin_within_reach.Goals as goal
+use Rattle.lj_ring.proofs.scales.Scale.bin_within_reach.Goals as goal
 
 pub returns-else-s-self-clause-reach : goal.returns-else-s-self-clause-reach
 returns-else-s-self-clause-reach c =

@@ -21,8 +21,14 @@ const MIN_SIGMA: u32 = 65_536;
 /// The greatest step factor, in units of 2^-32.
 const MAX_STEP_FACTOR: u32 = 1 << 24;
 
-/// Bins of squared distance within reach: 128 to the square of sigma.
-pub const BINS: usize = 800;
+/// The cutoff, from which on no pair interacts, in halves of sigma: it is 2.5 sigma.
+pub const CUTOFF_HALVES: u64 = 5;
+
+/// How many bins of squared distance there are to the square of sigma.
+const BINS_TO_SQUARE: u64 = 128;
+
+/// The bins of squared distance within the cutoff: 128 * 2.5².
+pub const BINS: usize = (BINS_TO_SQUARE * CUTOFF_HALVES * CUTOFF_HALVES / 4) as usize;
 
 /// The bin whose entries closer pairs use too.
 pub const MIN_BIN: u16 = 64;
@@ -35,7 +41,7 @@ pub struct Edge {
 
 impl Model for Edge {
     ghost use Rattle.std.specs.Prelude.{ℕ, ◌≤◌};
-    ghost use Rattle.lj_ring.specs.declared.units.TheConstants.{MIN_EDGE, MAX_EDGE};
+    ghost use Rattle.lj_ring.specs.declared.scales.TheConstants.{MIN_EDGE, MAX_EDGE};
 
     ghost Value = { ℕ };
 
@@ -104,7 +110,7 @@ pub struct Scale {
     sigma: u32,
     strength: u32,
     sigma_square: u64,
-    /// The first squared distance out of reach, `ceil(25 sigma² / 4)`.
+    /// The first squared distance out of reach, the square of the cutoff: `ceil(25 sigma² / 4)`.
     reach: u64,
     /// `ceil(2^95 / sigma²)`, by which a bin is guessed without a division.
     inverse: u64,
@@ -176,7 +182,7 @@ impl Scale {
     pub fn bin_within_reach(&self, s: u64) -> Option<usize>
         ensures reach { MatchOption result (interacts self.now s ≡ false) (λ _. interacts self.now s ≡ true) }
         ensures value { IfSome result (λ k. k ≡ bin self.now s) }
-        ensures within { IfSome result (λ k. k < 800) }
+        ensures within { IfSome result (λ k. k < BINS) }
     {
         if s < self.reach {
             Some(quotient(s, self.sigma_square, self.inverse))
@@ -187,7 +193,7 @@ impl Scale {
 
     fn of(edge: Edge, sigma: u32, strength: u32) -> Scale
         requires sigma_least { MIN_SIGMA ≤ sigma }
-        requires sigma_most { 5 * sigma < 2 ^ 32 }
+        requires sigma_most { CUTOFF_HALVES * sigma < 2 ^ 32 }
         requires strength_most { strength ≤ MAX_STEP_FACTOR }
         ensures { result ≡ record { edge = edge; sigma = sigma; strength = strength } }
     {
@@ -198,7 +204,7 @@ impl Scale {
             sigma,
             strength,
             sigma_square,
-            reach: (25 * sigma_square).div_ceil(4),
+            reach: (CUTOFF_HALVES * CUTOFF_HALVES * sigma_square).div_ceil(4),
             inverse,
         }
     }
@@ -213,7 +219,7 @@ fn sigma_in_units(sigma: Nano, edge: &Edge) -> Option<u32>
         return None;
     }
     let units = (u128::from(sigma.unsigned_abs()) << 32) / u128::from(edge.nano());
-    if u128::from(MIN_SIGMA) <= units && 5 * units < 1 << 32 {
+    if u128::from(MIN_SIGMA) <= units && u128::from(CUTOFF_HALVES) * units < 1 << 32 {
         Some(units as u32)
     } else {
         None
@@ -233,12 +239,12 @@ fn step_factor(h: u64) -> Option<u32>
 /// `128 s / sigma_square`, by a guess that is mostly right, and else by the division.
 #[inline]
 fn quotient(s: u64, sigma_square: u64, inverse: u64) -> usize
-    requires { 128 * s < BINS * sigma_square }
-    ensures value { result ≡ 128 * s / sigma_square }
+    requires { BINS_TO_SQUARE * s < BINS * sigma_square }
+    ensures value { result ≡ BINS_TO_SQUARE * s / sigma_square }
     ensures within { result < BINS }
 {
     let guess = (u128::from(s) * u128::from(inverse)) >> 88;
-    let scaled = u128::from(s) * 128;
+    let scaled = u128::from(s) * u128::from(BINS_TO_SQUARE);
     let below = guess * u128::from(sigma_square);
     if below <= scaled && scaled - below < u128::from(sigma_square) {
         guess as usize

@@ -1,7 +1,7 @@
 use Rattle.std.proofs.Common.{◌≡◌, ◌*◌, ◌<◌, nat_lt, subst, arith}
 use Rattle.lj_ring.specs.Scales.{Units, interacts}
 use Rattle.lj_ring.proofs.ScaleLemmas.{reach_parts, reach_most}
-use Rattle.lj_ring.proofs.units.Scale.reach.Goals as goal
+use Rattle.lj_ring.proofs.scales.Scale.reach.Goals as goal
 
 pub returns-clause-value : goal.returns-clause-value
 returns-clause-value c s =

@@ -1,0 +1,242 @@
+//! Mixtures of two species of atoms.
+ghost use Rattle.std.specs.Prelude.{ℕ, ℤ, ◌≡◌, ◌≤◌, ◌^◌, ◌∷◌, [], IsTrue, SomeIff, nat_lt};
+ghost use Rattle.lj_ring.specs.Mixes as mixtures;
+ghost use Rattle.lj_ring.specs.Mixes.{class_of, edge_of, can_interact, weight_fits, mixture_of, IsMixture};
+
+use crate::scales::{Edge, Scale, ScaleFault};
+use lj_fixed::Nano;
+use std::fmt;
+use std::marker::Model;
+use thiserror::Error;
+
+/// The greatest weight of energies, in 256ths.
+const MAX_WEIGHT: u32 = 65_536;
+
+/// The weight of energies that leaves them as they are, in 256ths.
+const WHOLE_WEIGHT: u32 = 256;
+
+/// The species of an atom: each is one of two.
+#[derive(Clone, Copy, PartialEq, Eq, Debug)]
+pub enum Species {
+    First,
+    Second,
+}
+
+/// The weight of the energies of a class, in 256ths: 1 to 65,536.
+#[derive(Clone, Copy, PartialEq, Eq, Debug)]
+pub struct Weight {
+    parts: u32,
+}
+
+impl Model for Weight {
+    ghost use Rattle.std.specs.Prelude.{ℕ, IsTrue};
+    ghost use Rattle.lj_ring.specs.declared.mixes.TheConstants.{MAX_WEIGHT};
+
+    ghost Value = { ℕ };
+
+    ghost view = { λ w. w.parts };
+
+    ghost use Rattle.std.specs.Prelude.{◌≤◌};
+
+    ghost invariant = { λ w. w.parts ≤ MAX_WEIGHT };
+
+    ghost inverse = { λ n. record { parts = n } };
+}
+
+impl Weight {
+    /// The weight that leaves energies as they are.
+    pub const WHOLE: Weight = Weight {
+        parts: WHOLE_WEIGHT,
+    };
+
+    /// The weight of so many 256ths, where it fits.
+    fn new(parts: u64) -> Option<Weight>
+        ensures { SomeIff result (IsTrue (weight_fits parts)) parts }
+    {
+        if 1 <= parts && parts <= u64::from(MAX_WEIGHT) {
+            Some(Weight {
+                parts: parts as u32,
+            })
+        } else {
+            None
+        }
+    }
+
+    /// How many 256ths it is.
+    #[inline]
+    pub fn parts(&self) -> u32
+        ensures value { result ≡ self.now }
+        ensures most { result ≤ MAX_WEIGHT }
+    {
+        self.parts
+    }
+}
+
+/// How two atoms of given species interact: by the scale of the pair, and with energies of this weight.
+#[derive(Clone, Copy, PartialEq, Eq, Debug)]
+pub struct Class {
+    pub scale: Scale,
+    pub weight: Weight,
+}
+
+/// Why a class is refused: the first that does not fit.
+#[derive(Clone, Copy, PartialEq, Eq, Debug, Error)]
+pub enum ClassFault {
+    /// Its scale: the edge, sigma or the step factor.
+    Scale(ScaleFault),
+    /// The weight is not 1 to 65,536.
+    Weight,
+}
+
+impl fmt::Display for ClassFault {
+    ghost use Rattle.std.specs.Prelude.{Some};
+    ghost use Rattle.lj_ring.specs.FaultTexts.{class_fault_text};
+
+    ghost output = { λ fault. Some (class_fault_text fault) };
+
+    fn fmt<W: fmt::Write>(&self, f: &mut fmt::Formatter<W>) -> fmt::Result {
+        match self {
+            ClassFault::Scale(fault) => write!(f, "{fault}"),
+            ClassFault::Weight => f.write_str("the weight is not 1 to 65536"),
+        }
+    }
+}
+
+/// Why a mixture is refused: the first class that is, counted from 0, and its fault.
+#[derive(Clone, Copy, PartialEq, Eq, Debug, Error)]
+pub struct MixFault {
+    pub class: u8,
+    pub fault: ClassFault,
+}
+
+impl fmt::Display for MixFault {
+    ghost use Rattle.std.specs.Prelude.{Some};
+    ghost use Rattle.lj_ring.specs.FaultTexts.{mix_fault_text};
+
+    ghost output = { λ fault. Some (mix_fault_text fault) };
+
+    fn fmt<W: fmt::Write>(&self, f: &mut fmt::Formatter<W>) -> fmt::Result {
+        write!(f, "class {}: {}", self.class, self.fault)
+    }
+}
+
+/// Two species of atoms in one box: the class of each two of them.
+#[derive(Clone, Copy, PartialEq, Eq, Debug)]
+pub struct Mix {
+    first: Class,
+    unlike: Class,
+    second: Class,
+}
+
+impl Model for Mix {
+    ghost use Rattle.lj_ring.specs.Mixes.{Mixture};
+
+    ghost Value = { Mixture };
+
+    ghost use Rattle.lj_ring.specs.Mixes.{mixed, class_of};
+    ghost use Rattle.lj_ring.specs.declared.mixes.Species.TheVariants.{First, Second};
+
+    ghost view = { λ m. mixed m.first m.unlike m.second };
+
+    ghost inverse = { λ m. record {
+      first = class_of m First First;
+      unlike = class_of m First Second;
+      second = class_of m Second Second;
+    } };
+}
+
+impl Mix {
+    /// The mixture of a box of this edge, in nano. Each class has a sigma in nano, a step factor in units of 2^-32, 1 to
+    /// 2^24, and a weight in 256ths, 1 to 65,536: first that of two atoms of the first species, then that of one of each,
+    /// then that of two of the second.
+    ///
+    /// # Errors
+    /// The first class that does not fit, with the first of edge, sigma, step factor and weight that does not.
+    pub fn new(classes: [(Nano, u64, u64); 3], edge: Nano) -> Result<Mix, MixFault>
+        ensures { (first unlike second : ℤ × ℕ × ℕ) → classes ≡ first ∷ unlike ∷ second ∷ [] →
+            result ≡ mixture_of edge first unlike second }
+    {
+        let [first, unlike, second] = classes;
+        Ok(Mix {
+            first: class_at(0, edge, first)?,
+            unlike: class_at(1, edge, unlike)?,
+            second: class_at(2, edge, second)?,
+        })
+    }
+
+    /// The mixture in which all atoms are alike: one class of the whole weight.
+    pub fn one(scale: Scale) -> Mix
+        ensures { result ≡ mixtures.pure scale }
+    {
+        Mix {
+            first: whole_class(&scale),
+            unlike: whole_class(&scale),
+            second: whole_class(&scale),
+        }
+    }
+
+    /// The edge of the box.
+    pub fn edge(&self) -> Edge
+        ensures { result ≡ edge_of self.now }
+    {
+        self.first.scale.edge()
+    }
+
+    /// The class of two atoms by their species, in either order.
+    #[inline]
+    pub fn class(&self, one: Species, other: Species) -> &Class
+        ensures value { result.now ≡ class_of self.now one other }
+        ensures symmetric { class_of self.now other one ≡ class_of self.now one other }
+    {
+        match (one, other) {
+            (Species::First, Species::First) => &self.first,
+            (Species::Second, Species::Second) => &self.second,
+            _ => &self.unlike,
+        }
+    }
+
+    /// The least squared distance out of reach of all pairs, in square ring units: that of the class of the greatest
+    /// sigma. No pair that interacts lies half the box apart.
+    #[inline]
+    pub fn reach(&self) -> u64
+        ensures value { (s : ℕ) → can_interact self.now s ≡ nat_lt s result }
+        ensures most { result ≤ 2 ^ 62 }
+        ensures near { IsMixture self.now }
+    {
+        let like = self.first.scale.reach().max(self.second.scale.reach());
+        like.max(self.unlike.scale.reach())
+    }
+}
+
+/// The class of a scale whose energies have the whole weight.
+fn whole_class(scale: &Scale) -> Class
+    ensures { result ≡ mixtures.whole_class scale.now }
+{
+    Class {
+        scale: *scale,
+        weight: Weight::WHOLE,
+    }
+}
+
+/// The class of that number, of an edge and of a sigma, a step factor and a weight.
+fn class_at(class: u8, edge: Nano, numbers: (Nano, u64, u64)) -> Result<Class, MixFault>
+    ensures { result ≡ mixtures.class_at class (mixtures.class_of_numbers edge numbers) }
+{
+    match class_from(edge, numbers.0, numbers.1, numbers.2) {
+        Ok(made) => Ok(made),
+        Err(fault) => Err(MixFault { class, fault }),
+    }
+}
+
+fn class_from(edge: Nano, sigma: Nano, h: u64, parts: u64) -> Result<Class, ClassFault>
+    ensures { result ≡ mixtures.class_of_numbers edge (sigma, h, parts) }
+{
+    let scale = match Scale::new(edge, sigma, h) {
+        Ok(scale) => scale,
+        Err(fault) => return Err(ClassFault::Scale(fault)),
+    };
+    match Weight::new(parts) {
+        Some(weight) => Ok(Class { scale, weight }),
+        None => Err(ClassFault::Weight),
+    }
+}
