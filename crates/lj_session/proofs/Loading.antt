@@ -87,13 +87,13 @@ module _ (user : User) (load : Load) where
     load-memory = rw (scale, body-refused load.body) refl
 
     module _ (body : List ℕ) (held : load.body ≡ Read body) where
-      pub load-fault : (fault : XyzFault) → reading (reading_mode load.mode) (lines_of body) ≡ Err fault
+      pub load-fault : (fault : XyzFault) → reading None (reading_mode load.mode) (lines_of body) ≡ Err fault
           → performed user (commands.Load load) false ≡ Err (Xyz fault)
       unfolding performed
       load-fault fault read = rw (scale, held, read) refl
 
       module _ (first : List Row) (second : Option (List Row))
-          (read : reading (reading_mode load.mode) (lines_of body) ≡ Ok (frames_of first second)) where
+          (read : reading None (reading_mode load.mode) (lines_of body) ≡ Ok (frames_of first second)) where
         abbrev session_loaded : Session
         session_loaded = session_from units first (last_of first second)
 
@@ -129,14 +129,14 @@ module _ (old new : Owned) (load : Load) (units : Units) (scale : admitted (user
 
   module _ (body : List ℕ) (held : load.body ≡ Read body) where
     -- a body that is not read is refused for its fault, or for want of memory
-    pub not-read : (error : XyzError) → Fails error (reading (reading_mode load.mode) (lines_of body))
+    pub not-read : (error : XyzError) → Fails error (reading None (reading_mode load.mode) (lines_of body))
         → Performs old (commands.Load load) (Err (xyz_refusal error)) new
     not-read (errors.Fault fault) read =
         refused old new _ _ (load-fault (user_of old) load units scale body held fault read)
     not-read errors.Memory read = load-starved
 
     module _ (first : List Row) (second : Option (List Row))
-        (read : reading (reading_mode load.mode) (lines_of body) ≡ Ok (frames_of first second))
+        (read : reading None (reading_mode load.mode) (lines_of body) ≡ Ok (frames_of first second))
         (same : length (last_of first second) ≡ length first) where
       pub too-many : nat_le (atoms_used (user_of old) + length first) old.quota.atoms ≡ false
           → Performs old (commands.Load load) (Err QuotaAtoms) new

@@ -1,6 +1,6 @@
 -- LOAD: what it is refused, and the session that it gives.
 use Rattle.std.specs.Prelude.{ℕ, ◌+◌, Bool, true, false, not, nat_le, nat_lt, is_some, ℤ, pos, List, [], ◌∷◌, map}
-use Rattle.std.specs.Prelude.{Option, Result, Ok, Err}
+use Rattle.std.specs.Prelude.{Option, None, Result, Ok, Err}
 use Rattle.std.specs.Option.{unwrap_or}
 use Rattle.lj_ring.specs.declared.coordinates.Place.{Place}
 use Rattle.lj_ring.specs.declared.scales.ScaleFault.{ScaleFault}
@@ -105,5 +105,5 @@ within_quota user session = do
 -- the session that a body gives, or the first refusal of the body
 abbrev pub session_read : User → Units → Mode → List ℕ → Result Session Refusal
 session_read user units mode body = do
-  frames ← frames_or_refusal (reading (reading_mode mode) (lines_of body))
+  frames ← frames_or_refusal (reading None (reading_mode mode) (lines_of body))
   within_quota user (session_of_frames units frames)

@@ -17,6 +17,7 @@ xyz_number kind.Symbol = 32
 xyz_number kind.Number = 33
 xyz_number kind.Range = 34
 xyz_number kind.Pair = 35
+xyz_number kind.Species = 39
 
 -- its name
 abbrev pub xyz_name : XyzKind → List ℕ
@@ -26,6 +27,7 @@ xyz_name kind.Symbol = codes "XYZ_SYMBOL"
 xyz_name kind.Number = codes "XYZ_NUMBER"
 xyz_name kind.Range = codes "XYZ_RANGE"
 xyz_name kind.Pair = codes "XYZ_PAIR"
+xyz_name kind.Species = codes "XYZ_SPECIES"
 
 -- the number of a refusal
 abbrev pub refusal_number : Refusal → ℕ

@@ -28,16 +28,16 @@ pub(crate) struct Opening {
 impl Opening {
     /// Reads what a mode asks for.
     pub fn read(alloc: Global, mode: Mode, body: &Body) -> Result<Opening, XyzError>
-        ensures { let frames = reading (reading_mode mode) (lines_of body.now) in
+        ensures { let frames = reading None (reading_mode mode) (lines_of body.now) in
             Gives (λ opening. frames_of opening.first opening.second) result frames }
     {
         match mode {
             Mode::Rest => Ok(Opening {
-                first: read_rest(alloc, body.as_slice())?,
+                first: read_rest(alloc, body.as_slice(), None)?,
                 second: None,
             }),
             Mode::Pair => {
-                let pair = read_pair(alloc, body.as_slice())?;
+                let pair = read_pair(alloc, body.as_slice(), None)?;
                 Ok(Opening {
                     first: pair.first,
                     second: Some(pair.second),

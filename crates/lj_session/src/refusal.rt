@@ -122,6 +122,7 @@ fn xyz_number(kind: XyzKind) -> u8
         XyzKind::Number => 33,
         XyzKind::Range => 34,
         XyzKind::Pair => 35,
+        XyzKind::Species => 39,
     }
 }
 
@@ -135,6 +136,7 @@ fn xyz_name(kind: XyzKind) -> &'static str
         XyzKind::Number => "XYZ_NUMBER",
         XyzKind::Range => "XYZ_RANGE",
         XyzKind::Pair => "XYZ_PAIR",
+        XyzKind::Species => "XYZ_SPECIES",
     }
 }
 

@@ -1,6 +1,6 @@
 -- The mark of an answer, read off its text.
 use Rattle.std.proofs.Common.{◌≡◌, ℕ, ◌+◌, Bool, true, false, not, List, Result, Ok, Err, ◌⊎◌, inl, inr, refl, sym, ◌∙◌}
-use Rattle.std.proofs.Common.{ap}
+use Rattle.std.proofs.Common.{ap, None}
 use Rattle.std.specs.Fmt.{digits}
 use Rattle.std.specs.Prelude.{is_some, nat_lt, nat_le}
 use Rattle.lj_ring.specs.Scales.{Units}
@@ -68,6 +68,7 @@ kind_told user kind.Symbol line = refl
 kind_told user kind.Number line = refl
 kind_told user kind.Range line = refl
 kind_told user kind.Pair line = refl
+kind_told user kind.Species line = refl
 
 -- what a LOAD does with its session
 abbrev loaded : User → List ℕ → Session → Outcome
@@ -94,7 +95,7 @@ load_tells user name mode body (Err refusal) = inl (λ mark. refl)
 load_tells user name mode Unread (Ok units) = inl (λ mark. refl)
 load_tells user name mode Lost (Ok units) = inl (λ mark. refl)
 load_tells user name mode (Read bytes) (Ok units) =
-    inr (refl, read_told user name units (reading (reading_mode mode) (lines_of bytes)))
+    inr (refl, read_told user name units (reading None (reading_mode mode) (lines_of bytes)))
 
 -- what a BRANCH does with its session
 abbrev branched : User → List ℕ → List ℕ → Session → Outcome

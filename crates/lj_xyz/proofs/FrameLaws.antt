@@ -8,6 +8,7 @@ use Rattle.lj_xyz.specs.declared.fault.XyzKind.TheVariants as kind
 use Rattle.lj_xyz.specs.declared.fault.XyzFault.{XyzFault}
 use Rattle.lj_xyz.specs.declared.row.Row.{Row}
 use Rattle.lj_xyz.specs.declared.reader.Position.{Position}
+use Rattle.lj_xyz.specs.Symbols.{SymbolPair}
 use Rattle.lj_xyz.specs.Atoms.{◌>>=◌, row_of}
 use Rattle.lj_xyz.specs.Frames.{IsWordless, Counts, missing, IsHead, AreAtoms, IsFrame, fault_behind, OpeningFault}
 use Rattle.lj_xyz.specs.Frames.{no_count, bad_count, other_count, no_comment, FirstFault, in_opening, no_atom, bad_atom}
@@ -56,45 +57,52 @@ head_good position taken head more n is =
 
 -- ---- the atoms
 
-same_length : (atoms : List (List ℕ)) (rows : List Row) → AreAtoms atoms rows → length atoms ≡ length rows
-same_length [] [] e = refl
-same_length [] (row ∷ rows) e = absurd cc
-same_length (atom ∷ atoms) [] e = absurd cc
-same_length (atom ∷ atoms) (row ∷ rows) e = ap suc (same_length atoms rows (cc))
+same_length : (symbols : Option SymbolPair) (atoms : List (List ℕ)) (rows : List Row) → AreAtoms symbols atoms rows
+    → length atoms ≡ length rows
+same_length symbols [] [] e = refl
+same_length symbols [] (row ∷ rows) e = absurd cc
+same_length symbols (atom ∷ atoms) [] e = absurd cc
+same_length symbols (atom ∷ atoms) (row ∷ rows) e = ap suc (same_length symbols atoms rows (cc))
 
-row_good : (taken : ℕ) (atom : List ℕ) (more : List (List ℕ)) (row : Row) → row_of atom ≡ Ok row
-    → next_row taken (atom ∷ more) ≡ Ok (row, left (taken + 1) more)
+row_good : (symbols : Option SymbolPair) (taken : ℕ) (atom : List ℕ) (more : List (List ℕ)) (row : Row)
+    → row_of symbols atom ≡ Ok row
+    → next_row symbols taken (atom ∷ more) ≡ Ok (row, left (taken + 1) more)
 unfolding next_row
-row_good taken atom more row e = rw e refl
+row_good symbols taken atom more row e = rw e refl
 
 front_of : (row : Row) (rows : List Row) (read : Result (List Row × Left) XyzFault)
     → (with_front rows read >>= λ x. Ok (row ∷ x.0, x.1)) ≡ with_front (row ∷ rows) read
 front_of row rows (Ok x) = refl
 front_of row rows (Err fault) = refl
 
-rows_go_over : (k taken : ℕ) (atoms more : List (List ℕ)) (rows : List Row) → AreAtoms atoms rows
-    → rows_in (length rows + k) (left taken (atoms ++ more))
-    ≡ with_front rows (rows_in k (left (taken + length atoms) more))
+rows_go_over : (symbols : Option SymbolPair) (k taken : ℕ) (atoms more : List (List ℕ)) (rows : List Row)
+    → AreAtoms symbols atoms rows
+    → rows_in symbols (length rows + k) (left taken (atoms ++ more))
+    ≡ with_front rows (rows_in symbols k (left (taken + length atoms) more))
 unfolding rows_in
-rows_go_over k taken [] more [] e = rw (zero-add, add-zero) (sym (no_front (rows_in k (left taken more))))
-rows_go_over k taken [] more (row ∷ rows) e = absurd cc
-rows_go_over k taken (atom ∷ atoms) more [] e = absurd cc
-rows_go_over k taken (atom ∷ atoms) more (row ∷ rows) e =
-    let first : row_of atom ≡ Ok row = cc in
-    let others : AreAtoms atoms rows = cc in
+rows_go_over symbols k taken [] more [] e =
+    rw (zero-add, add-zero) (sym (no_front (rows_in symbols k (left taken more))))
+rows_go_over symbols k taken [] more (row ∷ rows) e = absurd cc
+rows_go_over symbols k taken (atom ∷ atoms) more [] e = absurd cc
+rows_go_over symbols k taken (atom ∷ atoms) more (row ∷ rows) e =
+    let first : row_of symbols atom ≡ Ok row = cc in
+    let others : AreAtoms symbols atoms rows = cc in
     let n : suc (length rows) + k ≡ suc (length rows + k) = omega arith in
     let t : taken + suc (length atoms) ≡ taken + 1 + length atoms = omega arith in
-    rw (n, t, row_good taken atom (atoms ++ more) row first, rows_go_over k (taken + 1) atoms more rows others)
-    (front_of row rows (rows_in k (left (taken + 1 + length atoms) more)))
+    let more_rows = rows_go_over symbols k (taken + 1) atoms more rows others in
+    rw (n, t, row_good symbols taken atom (atoms ++ more) row first, more_rows)
+    (front_of row rows (rows_in symbols k (left (taken + 1 + length atoms) more)))
 
-no_more : (rows : List Row) (after : Left) → with_front rows (rows_in 0 after) ≡ Ok (rows, after)
+no_more : (symbols : Option SymbolPair) (rows : List Row) (after : Left)
+    → with_front rows (rows_in symbols 0 after) ≡ Ok (rows, after)
 unfolding rows_in
-no_more rows after = ap (λ (all : List Row). Ok (all, after)) (append-nil rows)
+no_more symbols rows after = ap (λ (all : List Row). Ok (all, after)) (append-nil rows)
 
-stops : (rows : List Row) (k taken : ℕ) (lines : List (List ℕ)) (fault : XyzFault) → next_row taken lines ≡ Err fault
-    → with_front rows (rows_in (suc k) (left taken lines)) ≡ Err fault
+stops : (symbols : Option SymbolPair) (rows : List Row) (k taken : ℕ) (lines : List (List ℕ)) (fault : XyzFault)
+    → next_row symbols taken lines ≡ Err fault
+    → with_front rows (rows_in symbols (suc k) (left taken lines)) ≡ Err fault
 unfolding rows_in
-stops rows k taken lines fault e = rw e refl
+stops symbols rows k taken lines fault e = rw e refl
 
 -- ---- frames
 
@@ -104,54 +112,61 @@ unfolding behind_comment
 comment_good taken comment more = refl
 
 -- after the head and the comment line come the atoms
-frame_body : (position : Position) (taken : ℕ) (head : List (List ℕ)) (comment : List ℕ) (more : List (List ℕ)) (n : ℕ)
+frame_body : (symbols : Option SymbolPair) (position : Position) (taken : ℕ) (head : List (List ℕ)) (comment : List ℕ)
+    (more : List (List ℕ)) (n : ℕ)
     → IsHead position head n
-    → frame_in position (left taken (head ++ comment ∷ more)) ≡ rows_in n (left (taken + length head + 1) more)
+    → frame_in symbols position (left taken (head ++ comment ∷ more))
+    ≡ rows_in symbols n (left (taken + length head + 1) more)
 unfolding frame_in
-frame_body position taken head comment more n is =
+frame_body symbols position taken head comment more n is =
     rw (head_good position taken head (comment ∷ more) n is, comment_good (taken + length head) comment more) refl
 
-pub frame_good : (position : Position) (taken : ℕ) (frame behind : List (List ℕ)) (rows : List Row)
-    → IsFrame position frame rows
-    → frame_in position (left taken (frame ++ behind)) ≡ Ok (rows, left (taken + length frame) behind)
-frame_good position taken frame behind rows is =
+pub frame_good : (symbols : Option SymbolPair) (position : Position) (taken : ℕ) (frame behind : List (List ℕ))
+    (rows : List Row)
+    → IsFrame symbols position frame rows
+    → frame_in symbols position (left taken (frame ++ behind)) ≡ Ok (rows, left (taken + length frame) behind)
+frame_good symbols position taken frame behind rows is =
     let whole : frame ++ behind ≡ is.head ++ is.comment ∷ (is.atoms ++ behind) =
     rw is.whole (append_assoc is.head (is.comment ∷ is.atoms) behind) in
     let len : taken + length frame ≡ taken + length is.head + 1 + length is.atoms =
     omega (arith, ap length is.whole, length-append is.head (is.comment ∷ is.atoms)) in
     let n : length rows ≡ length rows + 0 = omega arith in
-    let all : rows_in (length rows + 0) (left (taken + length is.head + 1) (is.atoms ++ behind))
+    let all : rows_in symbols (length rows + 0) (left (taken + length is.head + 1) (is.atoms ++ behind))
     ≡ Ok (rows, left (taken + length is.head + 1 + length is.atoms) behind) =
-    rows_go_over 0 (taken + length is.head + 1) is.atoms behind rows is.are_atoms
-    ∙ no_more rows (left (taken + length is.head + 1 + length is.atoms) behind) in
-    rw (whole, len) (frame_body position taken is.head is.comment (is.atoms ++ behind) (length rows) is.is_head
-    ∙ subst (λ (m : ℕ). rows_in m (left (taken + length is.head + 1) (is.atoms ++ behind))
+    rows_go_over symbols 0 (taken + length is.head + 1) is.atoms behind rows is.are_atoms
+    ∙ no_more symbols rows (left (taken + length is.head + 1 + length is.atoms) behind) in
+    rw (whole, len) (frame_body symbols position taken is.head is.comment (is.atoms ++ behind) (length rows) is.is_head
+    ∙ subst (λ (m : ℕ). rows_in symbols m (left (taken + length is.head + 1) (is.atoms ++ behind))
     ≡ Ok (rows, left (taken + length is.head + 1 + length is.atoms) behind)) (sym n) all)
 
 -- a fault among the atoms
-fault_behind_atoms : (position : Position) (taken : ℕ) (lines head : List (List ℕ)) (n : ℕ) (comment : List ℕ)
+fault_behind_atoms : (symbols : Option SymbolPair) (position : Position) (taken : ℕ) (lines head : List (List ℕ))
+    (n : ℕ) (comment : List ℕ)
     (atoms more : List (List ℕ)) (rows : List Row) (fault : XyzFault)
-    → lines ≡ head ++ comment ∷ (atoms ++ more) → IsHead position head n → AreAtoms atoms rows → length atoms < n
-    → next_row (taken + length head + 1 + length atoms) more ≡ Err fault
-    → frame_in position (left taken lines) ≡ Err fault
-fault_behind_atoms position taken lines head n comment atoms more rows fault whole is are lt e =
-    let same : length atoms ≡ length rows = same_length atoms rows are in
+    → lines ≡ head ++ comment ∷ (atoms ++ more) → IsHead position head n → AreAtoms symbols atoms rows
+    → length atoms < n
+    → next_row symbols (taken + length head + 1 + length atoms) more ≡ Err fault
+    → frame_in symbols position (left taken lines) ≡ Err fault
+fault_behind_atoms symbols position taken lines head n comment atoms more rows fault whole is are lt e =
+    let same : length atoms ≡ length rows = same_length symbols atoms rows are in
     let k : n ≡ length rows + suc (n - length rows - 1) = omega arith in
-    let at : rows_in (length rows + suc (n - length rows - 1))
+    let at : rows_in symbols (length rows + suc (n - length rows - 1))
     (left (taken + length head + 1) (atoms ++ more)) ≡ Err fault =
-    rows_go_over (suc (n - length rows - 1)) (taken + length head + 1) atoms more rows are
-    ∙ stops rows (n - length rows - 1) (taken + length head + 1 + length atoms) more fault e in
-    rw whole (frame_body position taken head comment (atoms ++ more) n is
-    ∙ subst (λ (m : ℕ). rows_in m (left (taken + length head + 1) (atoms ++ more)) ≡ Err fault) (sym k) at)
+    rows_go_over symbols (suc (n - length rows - 1)) (taken + length head + 1) atoms more rows are
+    ∙ stops symbols rows (n - length rows - 1) (taken + length head + 1 + length atoms) more fault e in
+    rw whole (frame_body symbols position taken head comment (atoms ++ more) n is
+    ∙ subst (λ (m : ℕ). rows_in symbols m (left (taken + length head + 1) (atoms ++ more)) ≡ Err fault) (sym k) at)
 
-row_missing : (taken : ℕ) → next_row taken [] ≡ Err (fault_behind taken kind.Short)
+row_missing : (symbols : Option SymbolPair) (taken : ℕ)
+    → next_row symbols taken [] ≡ Err (fault_behind taken kind.Short)
 unfolding next_row
-row_missing taken = refl
+row_missing symbols taken = refl
 
-row_bad : (taken : ℕ) (bad : List ℕ) (behind : List (List ℕ)) (wrong : XyzKind) → row_of bad ≡ Err wrong
-    → next_row taken (bad ∷ behind) ≡ Err (fault_behind taken wrong)
+row_bad : (symbols : Option SymbolPair) (taken : ℕ) (bad : List ℕ) (behind : List (List ℕ)) (wrong : XyzKind)
+    → row_of symbols bad ≡ Err wrong
+    → next_row symbols taken (bad ∷ behind) ≡ Err (fault_behind taken wrong)
 unfolding next_row
-row_bad taken bad behind wrong e = rw e refl
+row_bad symbols taken bad behind wrong e = rw e refl
 
 opening_of_head : (position : Position) (taken : ℕ) (lines : List (List ℕ)) (fault : XyzFault)
     → head_in position taken lines ≡ Err fault
@@ -182,25 +197,28 @@ opening_fault position taken lines fault (other_count blanks count behind n whol
     (behind_blanks position taken lines blanks count behind (Some n) whole wordless counts ∙ rw other refl))
 opening_fault position taken lines fault (no_comment n is e) = rw e (comment_missing position taken lines n is)
 
-frame_of_opening : (position : Position) (taken : ℕ) (lines : List (List ℕ)) (fault : XyzFault)
+frame_of_opening : (symbols : Option SymbolPair) (position : Position) (taken : ℕ) (lines : List (List ℕ))
+    (fault : XyzFault)
     → opening_in position (left taken lines) ≡ Err fault
-    → frame_in position (left taken lines) ≡ Err fault
+    → frame_in symbols position (left taken lines) ≡ Err fault
 unfolding frame_in
-frame_of_opening position taken lines fault e = rw e refl
+frame_of_opening symbols position taken lines fault e = rw e refl
 
 -- what is the first fault is what reading the frame gives
-pub frame_fault : (position : Position) (taken : ℕ) (lines : List (List ℕ)) (fault : XyzFault)
-    → FirstFault position taken lines fault → frame_in position (left taken lines) ≡ Err fault
-frame_fault position taken lines fault (in_opening is) =
-    frame_of_opening position taken lines fault (opening_fault position taken lines fault is)
-frame_fault position taken lines fault (no_atom head n comment atoms rows whole is are lt e) =
+pub frame_fault : (symbols : Option SymbolPair) (position : Position) (taken : ℕ) (lines : List (List ℕ))
+    (fault : XyzFault)
+    → FirstFault symbols position taken lines fault → frame_in symbols position (left taken lines) ≡ Err fault
+frame_fault symbols position taken lines fault (in_opening is) =
+    frame_of_opening symbols position taken lines fault (opening_fault position taken lines fault is)
+frame_fault symbols position taken lines fault (no_atom head n comment atoms rows whole is are lt e) =
     let len : taken + length lines ≡ taken + length head + 1 + length atoms =
     omega (arith, ap length whole, length-append head (comment ∷ atoms)) in
     let regrouped : lines ≡ head ++ comment ∷ (atoms ++ []) = rw append-nil whole in
-    rw (e, len) (fault_behind_atoms position taken lines head n comment atoms [] rows
+    rw (e, len) (fault_behind_atoms symbols position taken lines head n comment atoms [] rows
     (fault_behind (taken + length head + 1 + length atoms) kind.Short) regrouped is are lt
-    (row_missing (taken + length head + 1 + length atoms)))
-frame_fault position taken lines fault (bad_atom head n comment atoms rows bad behind wrong whole is are lt at e) =
-    rw e (fault_behind_atoms position taken lines head n comment atoms (bad ∷ behind) rows
+    (row_missing symbols (taken + length head + 1 + length atoms)))
+frame_fault symbols position taken lines fault
+    (bad_atom head n comment atoms rows bad behind wrong whole is are lt at e) =
+    rw e (fault_behind_atoms symbols position taken lines head n comment atoms (bad ∷ behind) rows
     (fault_behind (taken + length head + 1 + length atoms) wrong) whole is are lt
-    (row_bad (taken + length head + 1 + length atoms) bad behind wrong at))
+    (row_bad symbols (taken + length head + 1 + length atoms) bad behind wrong at))

@@ -10,6 +10,7 @@ use Rattle.lj_xyz.specs.declared.fault.XyzFault.{XyzFault}
 use Rattle.lj_xyz.specs.declared.row.Row.{Row}
 use Rattle.lj_xyz.specs.declared.reader.Position.{Position}
 use Rattle.lj_xyz.specs.Lines.{words_of}
+use Rattle.lj_xyz.specs.Symbols.{SymbolPair}
 use Rattle.lj_xyz.specs.Atoms.{◌>>=◌, count_of, row_of}
 use Rattle.lj_xyz.specs.Frames.{IsWordless, Counts, admits, IsHead, AreAtoms, IsFrame, fault_behind, OpeningFault}
 use Rattle.lj_xyz.specs.Frames.{no_count, bad_count, other_count, no_comment, FirstFault, in_opening, no_atom, bad_atom}
@@ -118,96 +119,115 @@ head_stands position before (line ∷ lines) =
 
 -- ---- the atoms
 
-record RowsEnd (n before : ℕ) (lines : List (List ℕ)) (rows : List Row) (after : Left) : Type 0 where
+record RowsEnd (symbols : Option SymbolPair) (n before : ℕ) (lines : List (List ℕ)) (rows : List Row)
+    (after : Left) : Type 0 where
   atoms : List (List ℕ)
   whole : lines ≡ atoms ++ after.lines
-  are_atoms : AreAtoms atoms rows
+  are_atoms : AreAtoms symbols atoms rows
   count : length rows ≡ n
   taken : after.taken ≡ before + length atoms
 
-data RowsFault (n before : ℕ) (lines : List (List ℕ)) (fault : XyzFault) : Type 0 where
-  ended : (rows : List Row) → AreAtoms lines rows → length lines < n
-      → fault ≡ fault_behind (before + length lines) kind.Short → RowsFault n before lines fault
+data RowsFault (symbols : Option SymbolPair) (n before : ℕ) (lines : List (List ℕ)) (fault : XyzFault) : Type 0 where
+  ended : (rows : List Row) → AreAtoms symbols lines rows → length lines < n
+      → fault ≡ fault_behind (before + length lines) kind.Short → RowsFault symbols n before lines fault
   wrong : (atoms : List (List ℕ)) (rows : List Row) (bad : List ℕ) (behind : List (List ℕ)) (fault_kind : XyzKind)
-      → lines ≡ atoms ++ bad ∷ behind → AreAtoms atoms rows → length atoms < n
-      → row_of bad ≡ Err fault_kind → fault ≡ fault_behind (before + length atoms) fault_kind
-      → RowsFault n before lines fault
+      → lines ≡ atoms ++ bad ∷ behind → AreAtoms symbols atoms rows → length atoms < n
+      → row_of symbols bad ≡ Err fault_kind → fault ≡ fault_behind (before + length atoms) fault_kind
+      → RowsFault symbols n before lines fault
 
-abbrev RowsStand : ℕ → ℕ → List (List ℕ) → Result (List Row × Left) XyzFault → Type 0
-RowsStand n before lines (Ok x) = RowsEnd n before lines x.0 x.1
-RowsStand n before lines (Err fault) = RowsFault n before lines fault
+abbrev RowsStand : Option SymbolPair → ℕ → ℕ → List (List ℕ) → Result (List Row × Left) XyzFault → Type 0
+RowsStand symbols n before lines (Ok x) = RowsEnd symbols n before lines x.0 x.1
+RowsStand symbols n before lines (Err fault) = RowsFault symbols n before lines fault
 
-more_atoms : (line : List ℕ) (row : Row) (atoms : List (List ℕ)) (rows : List Row) → row_of line ≡ Ok row
-    → AreAtoms atoms rows → AreAtoms (line ∷ atoms) (row ∷ rows)
-more_atoms line row atoms rows e are = rw (e, are) refl
+more_atoms : (symbols : Option SymbolPair) (line : List ℕ) (row : Row) (atoms : List (List ℕ)) (rows : List Row)
+    → row_of symbols line ≡ Ok row
+    → AreAtoms symbols atoms rows → AreAtoms symbols (line ∷ atoms) (row ∷ rows)
+more_atoms symbols line row atoms rows e are = rw (e, are) refl
 
-later_rows : (n before : ℕ) (line : List ℕ) (lines : List (List ℕ)) (row : Row) (r : Result (List Row × Left) XyzFault)
-    → row_of line ≡ Ok row → RowsStand n (before + 1) lines r
-    → RowsStand (suc n) before (line ∷ lines) (r >>= λ x. Ok (row ∷ x.0, x.1))
-later_rows n before line lines row (Ok x) e stands = record {
+later_rows : (symbols : Option SymbolPair) (n before : ℕ) (line : List ℕ) (lines : List (List ℕ)) (row : Row)
+    (r : Result (List Row × Left) XyzFault)
+    → row_of symbols line ≡ Ok row → RowsStand symbols n (before + 1) lines r
+    → RowsStand symbols (suc n) before (line ∷ lines) (r >>= λ x. Ok (row ∷ x.0, x.1))
+later_rows symbols n before line lines row (Ok x) e stands = record {
   atoms = line ∷ stands.atoms;
   whole = ap (λ (y : List (List ℕ)). line ∷ y) stands.whole;
-  are_atoms = more_atoms line row stands.atoms x.0 e stands.are_atoms;
+  are_atoms = more_atoms symbols line row stands.atoms x.0 e stands.are_atoms;
   count = ap suc stands.count;
   taken = omega (arith, stands.taken);
 }
-later_rows n before line lines row (Err fault) e (ended rows are lt is) =
+later_rows symbols n before line lines row (Err fault) e (ended rows are lt is) =
     let at : before + suc (length lines) ≡ before + 1 + length lines = omega arith in
-    ended (row ∷ rows) (more_atoms line row lines rows e are) (omega arith) (rw at is)
-later_rows n before line lines row (Err fault) e (wrong atoms rows faulty behind fault_kind whole are lt at_faulty is) =
+    ended (row ∷ rows) (more_atoms symbols line row lines rows e are) (omega arith) (rw at is)
+later_rows symbols n before line lines row (Err fault) e
+    (wrong atoms rows faulty behind fault_kind whole are lt at_faulty is) =
     let at : before + suc (length atoms) ≡ before + 1 + length atoms = omega arith in
     wrong (line ∷ atoms) (row ∷ rows) faulty behind fault_kind (ap (λ (y : List (List ℕ)). line ∷ y) whole)
-    (more_atoms line row atoms rows e are) (omega arith) at_faulty (rw at is)
+    (more_atoms symbols line row atoms rows e are) (omega arith) at_faulty (rw at is)
 
 row_cases : (r : Result Row XyzKind) → ((row : Row) × (r ≡ Ok row)) ⊎ ((fault_kind : XyzKind) × (r ≡ Err fault_kind))
 row_cases (Ok row) = inl (row, refl)
 row_cases (Err fault_kind) = inr (fault_kind, refl)
 
-rows_in_none : (before : ℕ) (lines : List (List ℕ)) → rows_in 0 (left before lines) ≡ Ok ([], left before lines)
+rows_in_none : (symbols : Option SymbolPair) (before : ℕ) (lines : List (List ℕ))
+    → rows_in symbols 0 (left before lines) ≡ Ok ([], left before lines)
 unfolding rows_in
-rows_in_none before lines = refl
+rows_in_none symbols before lines = refl
 
-rows_in_end : (n before : ℕ) → rows_in (suc n) (left before []) ≡ Err (fault_behind before kind.Short)
+rows_in_end : (symbols : Option SymbolPair) (n before : ℕ)
+    → rows_in symbols (suc n) (left before []) ≡ Err (fault_behind before kind.Short)
 unfolding rows_in next_row
-rows_in_end n before = refl
+rows_in_end symbols n before = refl
 
-rows_in_good : (n before : ℕ) (line : List ℕ) (lines : List (List ℕ)) (row : Row) → row_of line ≡ Ok row
-    → rows_in (suc n) (left before (line ∷ lines)) ≡ (rows_in n (left (before + 1) lines) >>= λ x. Ok (row ∷ x.0, x.1))
+rows_in_good : (symbols : Option SymbolPair) (n before : ℕ) (line : List ℕ) (lines : List (List ℕ)) (row : Row)
+    → row_of symbols line ≡ Ok row
+    → rows_in symbols (suc n) (left before (line ∷ lines))
+    ≡ (rows_in symbols n (left (before + 1) lines) >>= λ x. Ok (row ∷ x.0, x.1))
 unfolding rows_in next_row
-rows_in_good n before line lines row e = rw e refl
+rows_in_good symbols n before line lines row e = rw e refl
 
-rows_in_bad : (n before : ℕ) (line : List ℕ) (lines : List (List ℕ)) (fault_kind : XyzKind)
-    → row_of line ≡ Err fault_kind → rows_in (suc n) (left before (line ∷ lines)) ≡ Err (fault_behind before fault_kind)
+rows_in_bad : (symbols : Option SymbolPair) (n before : ℕ) (line : List ℕ) (lines : List (List ℕ))
+    (fault_kind : XyzKind)
+    → row_of symbols line ≡ Err fault_kind
+    → rows_in symbols (suc n) (left before (line ∷ lines)) ≡ Err (fault_behind before fault_kind)
 unfolding rows_in next_row
-rows_in_bad n before line lines fault_kind e = rw e refl
+rows_in_bad symbols n before line lines fault_kind e = rw e refl
 
-no_rows : (before : ℕ) (lines : List (List ℕ)) → RowsEnd 0 before lines [] (left before lines)
-no_rows before lines = record { atoms = []; whole = refl; are_atoms = refl; count = refl; taken = rw add-zero refl }
+no_rows : (symbols : Option SymbolPair) (before : ℕ) (lines : List (List ℕ))
+    → RowsEnd symbols 0 before lines [] (left before lines)
+no_rows symbols before lines = record {
+  atoms = [];
+  whole = refl;
+  are_atoms = refl;
+  count = refl;
+  taken = rw add-zero refl;
+}
 
-rows_stand : (n before : ℕ) (lines : List (List ℕ)) → RowsStand n before lines (rows_in n (left before lines))
-rows_stand zero before lines = rw (rows_in_none before lines) (no_rows before lines)
-rows_stand (suc n) before [] = rw (rows_in_end n before) (ended [] refl (omega arith) (rw add-zero refl))
-rows_stand (suc n) before (line ∷ lines) =
-    elim (row_cases (row_of line)) [
-      | inl good ↦ rw (rows_in_good n before line lines good.0 good.1)
-          (later_rows n before line lines good.0 (rows_in n (left (before + 1) lines)) good.1
-          (rows_stand n (before + 1) lines))
-      | inr fault ↦ rw (rows_in_bad n before line lines fault.0 fault.1)
+rows_stand : (symbols : Option SymbolPair) (n before : ℕ) (lines : List (List ℕ))
+    → RowsStand symbols n before lines (rows_in symbols n (left before lines))
+rows_stand symbols zero before lines = rw (rows_in_none symbols before lines) (no_rows symbols before lines)
+rows_stand symbols (suc n) before [] =
+    rw (rows_in_end symbols n before) (ended [] refl (omega arith) (rw add-zero refl))
+rows_stand symbols (suc n) before (line ∷ lines) =
+    elim (row_cases (row_of symbols line)) [
+      | inl good ↦ rw (rows_in_good symbols n before line lines good.0 good.1)
+          (later_rows symbols n before line lines good.0 (rows_in symbols n (left (before + 1) lines)) good.1
+          (rows_stand symbols n (before + 1) lines))
+      | inr fault ↦ rw (rows_in_bad symbols n before line lines fault.0 fault.1)
           (wrong [] [] line lines fault.0 refl refl (omega arith) fault.1 (rw add-zero refl))
     ]
 
 -- ---- frames
 
-pub record FrameEnds (position : Position) (before : ℕ) (lines : List (List ℕ)) (rows : List Row)
-    (after : Left) : Type 0 where
+pub record FrameEnds (symbols : Option SymbolPair) (position : Position) (before : ℕ) (lines : List (List ℕ))
+    (rows : List Row) (after : Left) : Type 0 where
   pub frame : List (List ℕ)
   pub whole : lines ≡ frame ++ after.lines
-  pub is_frame : IsFrame position frame rows
+  pub is_frame : IsFrame symbols position frame rows
   pub taken : after.taken ≡ before + length frame
 
-abbrev pub FrameStands : Position → ℕ → List (List ℕ) → Result (List Row × Left) XyzFault → Type 0
-FrameStands position before lines (Ok x) = FrameEnds position before lines x.0 x.1
-FrameStands position before lines (Err fault) = FirstFault position before lines fault
+abbrev pub FrameStands : Option SymbolPair → Position → ℕ → List (List ℕ) → Result (List Row × Left) XyzFault → Type 0
+FrameStands symbols position before lines (Ok x) = FrameEnds symbols position before lines x.0 x.1
+FrameStands symbols position before lines (Err fault) = FirstFault symbols position before lines fault
 
 behind_head : (position : Position) (before : ℕ) (lines : List (List ℕ)) (n : ℕ) (after : Left) (comment : List ℕ)
     (more : List (List ℕ)) (ends : HeadEnds position before lines n after) → after.lines ≡ comment ∷ more
@@ -215,11 +235,12 @@ behind_head : (position : Position) (before : ℕ) (lines : List (List ℕ)) (n 
 behind_head position before lines n after comment more ends e =
     ends.whole ∙ ap (λ (x : List (List ℕ)). ends.head ++ x) e
 
-with_rows : (position : Position) (before : ℕ) (lines : List (List ℕ)) (n : ℕ) (after : Left) (comment : List ℕ)
+with_rows : (symbols : Option SymbolPair) (position : Position) (before : ℕ) (lines : List (List ℕ)) (n : ℕ)
+    (after : Left) (comment : List ℕ)
     (more : List (List ℕ)) → HeadEnds position before lines n after → after.lines ≡ comment ∷ more
-    → (r : Result (List Row × Left) XyzFault) → RowsStand n (after.taken + 1) more r
-    → FrameStands position before lines r
-with_rows position before lines n after comment more ends e (Ok x) stands =
+    → (r : Result (List Row × Left) XyzFault) → RowsStand symbols n (after.taken + 1) more r
+    → FrameStands symbols position before lines r
+with_rows symbols position before lines n after comment more ends e (Ok x) stands =
     let frame : List (List ℕ) = ends.head ++ comment ∷ stands.atoms in
     let whole : lines ≡ frame ++ x.1.lines = behind_head position before lines n after comment more ends e
     ∙ ap (λ (y : List (List ℕ)). ends.head ++ comment ∷ y) stands.whole
@@ -238,12 +259,12 @@ with_rows position before lines n after comment more ends e (Ok x) stands =
           };
       taken = omega (arith, stands.taken, ends.taken, length-append ends.head (comment ∷ stands.atoms));
     }
-with_rows position before lines n after comment more ends e (Err fault) (ended rows are lt is) =
+with_rows symbols position before lines n after comment more ends e (Err fault) (ended rows are lt is) =
     let whole = behind_head position before lines n after comment more ends e in
     let at : before + length lines ≡ after.taken + 1 + length more =
     omega (arith, ends.taken, ap length whole, length-append ends.head (comment ∷ more)) in
     no_atom ends.head n comment more rows whole ends.is_head are lt (rw at is)
-with_rows position before lines n after comment more ends e (Err fault)
+with_rows symbols position before lines n after comment more ends e (Err fault)
     (wrong atoms rows faulty behind fault_kind whole are lt at_faulty is) =
     let all : lines ≡ ends.head ++ comment ∷ (atoms ++ faulty ∷ behind) =
     behind_head position before lines n after comment more ends e
@@ -259,43 +280,46 @@ no_more (first ∷ others) = inr (first, others, refl)
 abbrev counted_behind : ℕ → Left → ℕ × Left
 counted_behind n body = (n, body)
 
-abbrev rows_behind : ℕ × Left → Result (List Row × Left) XyzFault
-rows_behind opening = rows_in opening.0 opening.1
+abbrev rows_behind : Option SymbolPair → ℕ × Left → Result (List Row × Left) XyzFault
+rows_behind symbols opening = rows_in symbols opening.0 opening.1
 
-comment_end : (n : ℕ) (taken : ℕ) → (behind_comment taken [] >>= (λ body. Ok (counted_behind n body)) >>= rows_behind)
+comment_end : (symbols : Option SymbolPair) (n : ℕ) (taken : ℕ)
+    → (behind_comment taken [] >>= (λ body. Ok (counted_behind n body)) >>= rows_behind symbols)
     ≡ Err (fault_behind taken kind.Short)
 unfolding behind_comment
-comment_end n taken = refl
+comment_end symbols n taken = refl
 
-comment_over : (n : ℕ) (taken : ℕ) (comment : List ℕ) (more : List (List ℕ))
-    → (behind_comment taken (comment ∷ more) >>= (λ body. Ok (counted_behind n body)) >>= rows_behind)
-    ≡ rows_in n (left (taken + 1) more)
+comment_over : (symbols : Option SymbolPair) (n : ℕ) (taken : ℕ) (comment : List ℕ) (more : List (List ℕ))
+    → (behind_comment taken (comment ∷ more) >>= (λ body. Ok (counted_behind n body)) >>= rows_behind symbols)
+    ≡ rows_in symbols n (left (taken + 1) more)
 unfolding behind_comment
-comment_over n taken comment more = refl
+comment_over symbols n taken comment more = refl
 
-ends_there : (position : Position) (before : ℕ) (lines : List (List ℕ)) (n : ℕ) (after : Left)
+ends_there : (symbols : Option SymbolPair) (position : Position) (before : ℕ) (lines : List (List ℕ)) (n : ℕ)
+    (after : Left)
     → HeadEnds position before lines n after → after.lines ≡ []
-    → FirstFault position before lines (fault_behind after.taken kind.Short)
-ends_there position before lines n after ends e =
+    → FirstFault symbols position before lines (fault_behind after.taken kind.Short)
+ends_there symbols position before lines n after ends e =
     let whole : lines ≡ ends.head = ends.whole ∙ ap (λ (x : List (List ℕ)). ends.head ++ x) e ∙ append-nil ends.head in
     in_opening (no_comment n (rw whole ends.is_head) (rw (ends.taken, whole) refl))
 
-behind_it : (position : Position) (before : ℕ) (lines : List (List ℕ)) (r : Result (ℕ × Left) XyzFault)
+behind_it : (symbols : Option SymbolPair) (position : Position) (before : ℕ) (lines : List (List ℕ))
+    (r : Result (ℕ × Left) XyzFault)
     → HeadStands position before lines r
-    → FrameStands position before lines (r >>= (λ head. behind_comment head.1.taken head.1.lines
-    >>= λ body. Ok (counted_behind head.0 body)) >>= rows_behind)
-behind_it position before lines (Err fault) stands = in_opening stands
-behind_it position before lines (Ok x) stands =
+    → FrameStands symbols position before lines (r >>= (λ head. behind_comment head.1.taken head.1.lines
+    >>= λ body. Ok (counted_behind head.0 body)) >>= rows_behind symbols)
+behind_it symbols position before lines (Err fault) stands = in_opening stands
+behind_it symbols position before lines (Ok x) stands =
     elim (no_more x.1.lines) [
-      | inl e ↦ rw (e, comment_end x.0 x.1.taken) (ends_there position before lines x.0 x.1 stands e)
+      | inl e ↦ rw (e, comment_end symbols x.0 x.1.taken) (ends_there symbols position before lines x.0 x.1 stands e)
       | inr more ↦
-          rw (more.2, comment_over x.0 x.1.taken more.0 more.1)
-          (with_rows position before lines x.0 x.1 more.0 more.1 stands more.2
-          (rows_in x.0 (left (x.1.taken + 1) more.1)) (rows_stand x.0 (x.1.taken + 1) more.1))
+          rw (more.2, comment_over symbols x.0 x.1.taken more.0 more.1)
+          (with_rows symbols position before lines x.0 x.1 more.0 more.1 stands more.2
+          (rows_in symbols x.0 (left (x.1.taken + 1) more.1)) (rows_stand symbols x.0 (x.1.taken + 1) more.1))
     ]
 
-pub frame_stands : (position : Position) (before : ℕ) (lines : List (List ℕ))
-    → FrameStands position before lines (frame_in position (left before lines))
+pub frame_stands : (symbols : Option SymbolPair) (position : Position) (before : ℕ) (lines : List (List ℕ))
+    → FrameStands symbols position before lines (frame_in symbols position (left before lines))
 unfolding frame_in
-frame_stands position before lines =
-    behind_it position before lines (head_in position before lines) (head_stands position before lines)
+frame_stands symbols position before lines =
+    behind_it symbols position before lines (head_in position before lines) (head_stands position before lines)

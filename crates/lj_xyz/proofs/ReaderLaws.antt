@@ -7,6 +7,7 @@ use Rattle.lj_xyz.specs.declared.fault.XyzFault.{XyzFault}
 use Rattle.lj_xyz.specs.declared.row.Row.{Row}
 use Rattle.lj_xyz.specs.declared.reader.Position.{Position}
 use Rattle.lj_xyz.specs.Lines.{words_of}
+use Rattle.lj_xyz.specs.Symbols.{SymbolPair}
 use Rattle.lj_xyz.specs.Atoms.{◌>>=◌, count_of}
 use Rattle.lj_xyz.specs.Frames.{missing, fault_behind}
 use Rattle.lj_xyz.specs.Reading.{Left, Tells, count_or_fault, head_in, next_row, rows_in, Keeps}
@@ -83,33 +84,34 @@ pub regroup : (front : List Row) (row : Row) (read : Result (List Row × Left) X
 regroup front row (Ok x) = ap (λ (rows : List Row). Ok (rows, x.1)) (simp append_assoc)
 regroup front row (Err fault) = refl
 
-pub rows_go_on : (front : List Row) (count i : ℕ) (old new : Left) (row : Row)
-    (total : Result (List Row × Left) XyzFault) → i < count → next_row old.taken old.lines ≡ Ok (row, new)
-    → with_front front (rows_in (count - i) old) ≡ total
-    → with_front (front ++ row ∷ []) (rows_in (count - (i + 1)) new) ≡ total
+pub rows_go_on : (symbols : Option SymbolPair) (front : List Row) (count i : ℕ) (old new : Left) (row : Row)
+    (total : Result (List Row × Left) XyzFault) → i < count → next_row symbols old.taken old.lines ≡ Ok (row, new)
+    → with_front front (rows_in symbols (count - i) old) ≡ total
+    → with_front (front ++ row ∷ []) (rows_in symbols (count - (i + 1)) new) ≡ total
 unfolding rows_in
-rows_go_on front count i old new row total lt h so_far =
+rows_go_on symbols front count i old new row total lt h so_far =
     let k : count - i ≡ suc (count - (i + 1)) = omega arith in
-    let one : with_front front (rows_in (count - i) old)
-    ≡ with_front (front ++ row ∷ []) (rows_in (count - (i + 1)) new) =
-    rw (k, h) (regroup front row (rows_in (count - (i + 1)) new)) in
+    let one : with_front front (rows_in symbols (count - i) old)
+    ≡ with_front (front ++ row ∷ []) (rows_in symbols (count - (i + 1)) new) =
+    rw (k, h) (regroup front row (rows_in symbols (count - (i + 1)) new)) in
     sym one ∙ so_far
 
-pub rows_end : (front : List Row) (count i : ℕ) (old : Left) (fault : XyzFault)
-    (total : Result (List Row × Left) XyzFault) → i < count → next_row old.taken old.lines ≡ Err fault
-    → with_front front (rows_in (count - i) old) ≡ total → total ≡ Err fault
+pub rows_end : (symbols : Option SymbolPair) (front : List Row) (count i : ℕ) (old : Left) (fault : XyzFault)
+    (total : Result (List Row × Left) XyzFault) → i < count → next_row symbols old.taken old.lines ≡ Err fault
+    → with_front front (rows_in symbols (count - i) old) ≡ total → total ≡ Err fault
 unfolding rows_in
-rows_end front count i old fault total lt h so_far =
+rows_end symbols front count i old fault total lt h so_far =
     let k : count - i ≡ suc (count - (i + 1)) = omega arith in
-    let one : with_front front (rows_in (count - i) old) ≡ Err fault = rw (k, h) refl in
+    let one : with_front front (rows_in symbols (count - i) old) ≡ Err fault = rw (k, h) refl in
     sym so_far ∙ one
 
-pub rows_done : (front : List Row) (count i : ℕ) (left : Left) (total : Result (List Row × Left) XyzFault) → count ≤ i
-    → with_front front (rows_in (count - i) left) ≡ total → total ≡ Ok (front, left)
+pub rows_done : (symbols : Option SymbolPair) (front : List Row) (count i : ℕ) (left : Left)
+    (total : Result (List Row × Left) XyzFault) → count ≤ i
+    → with_front front (rows_in symbols (count - i) left) ≡ total → total ≡ Ok (front, left)
 unfolding rows_in
-rows_done front count i left total le so_far =
+rows_done symbols front count i left total le so_far =
     let k : count - i ≡ 0 = omega arith in
-    let one : with_front front (rows_in (count - i) left) ≡ Ok (front, left) =
+    let one : with_front front (rows_in symbols (count - i) left) ≡ Ok (front, left) =
     rw k (ap (λ (rows : List Row). Ok (rows, left)) (append-nil front)) in
     sym so_far ∙ one
 
@@ -117,10 +119,11 @@ pub no_front : (read : Result (List Row × Left) XyzFault) → with_front [] rea
 no_front (Ok x) = refl
 no_front (Err fault) = refl
 
-pub rows_start : (count : ℕ) (left : Left) → with_front [] (rows_in (count - 0) left) ≡ rows_in count left
-rows_start count left =
+pub rows_start : (symbols : Option SymbolPair) (count : ℕ) (left : Left)
+    → with_front [] (rows_in symbols (count - 0) left) ≡ rows_in symbols count left
+rows_start symbols count left =
     let k : count - 0 ≡ count = omega arith in
-    rw k (no_front (rows_in count left))
+    rw k (no_front (rows_in symbols count left))
 
 -- the rows that were kept, and one more of them
 pub kept_more : {A : Type 0} (items : A → List Row) (before after : Option A) (front : List Row) (row : Row)

@@ -9,7 +9,7 @@ use Rattle.lj_xyz.specs.declared.reader.TheConstants.{MAX_ATOMS}
 use Rattle.lj_xyz.specs.declared.row.Row.{Row}
 use Rattle.lj_xyz.specs.Lines.{words_of}
 use Rattle.lj_xyz.specs.Kinds.{kind_of}
-use Rattle.lj_xyz.specs.Symbols.{is_symbol}
+use Rattle.lj_xyz.specs.Symbols.{SymbolPair, is_symbol, is_of_species}
 
 -- a number of atoms that a frame may have
 abbrev pub is_count : ℕ → Bool
@@ -39,22 +39,28 @@ coordinate_or_kind (Err fault) = Err (kind_of fault)
 abbrev pub coordinate : List ℕ → Result ℤ XyzKind
 coordinate word = coordinate_or_kind (nano_of word)
 
+-- a symbol of the species that are asked for, or its fault
+abbrev pub species_or_kind : Option SymbolPair → List ℕ → Result (List ℕ) XyzKind
+species_or_kind symbols symbol = if is_of_species symbols symbol then Ok symbol else Err kind.Species
+
+-- the symbol that a word is, or its fault
+abbrev pub symbol_or_kind : Option SymbolPair → List ℕ → Result (List ℕ) XyzKind
+symbol_or_kind symbols word = if is_symbol word then species_or_kind symbols word else Err kind.Symbol
+
 -- the atom that four words say, or the first fault of them
-unfoldable pub row_of_four : List ℕ → List ℕ → List ℕ → List ℕ → Result Row XyzKind
-row_of_four symbol x y z =
-    if is_symbol symbol
-    then (do
-      x ← coordinate x
-      y ← coordinate y
-      z ← coordinate z
-      Ok (record { symbol = symbol; x = x; y = y; z = z }))
-    else Err kind.Symbol
+unfoldable pub row_of_four : Option SymbolPair → List ℕ → List ℕ → List ℕ → List ℕ → Result Row XyzKind
+row_of_four symbols word x y z = do
+  symbol ← symbol_or_kind symbols word
+  x ← coordinate x
+  y ← coordinate y
+  z ← coordinate z
+  Ok (record { symbol = symbol; x = x; y = y; z = z })
 
 -- the atom of a line's words, of which those after the fourth are not used
-abbrev pub row_of_words : List (List ℕ) → Result Row XyzKind
-row_of_words (symbol ∷ x ∷ y ∷ z ∷ more) = row_of_four symbol x y z
-row_of_words _ = Err kind.Short
+abbrev pub row_of_words : Option SymbolPair → List (List ℕ) → Result Row XyzKind
+row_of_words symbols (word ∷ x ∷ y ∷ z ∷ more) = row_of_four symbols word x y z
+row_of_words symbols _ = Err kind.Short
 
 -- the atom that a line says, or what is wrong with the line
-unfoldable pub row_of : List ℕ → Result Row XyzKind
-row_of line = row_of_words (words_of line)
+unfoldable pub row_of : Option SymbolPair → List ℕ → Result Row XyzKind
+row_of symbols line = row_of_words symbols (words_of line)

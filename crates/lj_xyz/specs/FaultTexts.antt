@@ -5,13 +5,14 @@ use Rattle.lj_xyz.specs.declared.fault.XyzError.{XyzError}
 use Rattle.lj_xyz.specs.declared.fault.XyzError.TheVariants.{Fault, Memory}
 use Rattle.lj_xyz.specs.declared.fault.XyzFault.{XyzFault}
 use Rattle.lj_xyz.specs.declared.fault.XyzKind.{XyzKind}
-use Rattle.lj_xyz.specs.declared.fault.XyzKind.TheVariants.{Count, Short, Symbol, Number, Range, Pair}
+use Rattle.lj_xyz.specs.declared.fault.XyzKind.TheVariants.{Count, Short, Symbol, Species, Number, Range, Pair}
 
 -- what is wrong, in words
 abbrev pub kind_text : XyzKind → List ℕ
 kind_text Count = codes "no number of atoms"
 kind_text Short = codes "a line is missing or too short"
 kind_text Symbol = codes "not a symbol"
+kind_text Species = codes "a symbol of neither species"
 kind_text Number = codes "not a decimal number"
 kind_text Range = codes "a coordinate out of range"
 kind_text Pair = codes "no second frame of as many atoms"

@@ -1,5 +1,5 @@
 -- XYZ bodies as lists of whole lines: the frames that a body gives, or its first fault in reading order and the
--- line where it stands.
+-- line where it stands. The species that are asked for, if any, are those of the first frame.
 use Rattle.std.specs.Prelude.{◌≡◌, ℕ, ◌+◌, ◌<◌, Bool, true, false, ◌==◌, List, [], ◌∷◌, ◌++◌, length, map, Option, Some}
 use Rattle.std.specs.Prelude.{None, Result, Ok, Err, ◌⊎◌}
 use Rattle.std.specs.List.{AllByRecursion}
@@ -10,6 +10,7 @@ use Rattle.lj_xyz.specs.declared.row.Row.{Row}
 use Rattle.lj_xyz.specs.declared.reader.Position.{Position}
 use Rattle.lj_xyz.specs.declared.reader.Position.TheVariants.{First, Second}
 use Rattle.lj_xyz.specs.Lines.{words_of}
+use Rattle.lj_xyz.specs.Symbols.{SymbolPair}
 use Rattle.lj_xyz.specs.Atoms.{count_of, row_of}
 
 -- the frames that are read: the first one, or the first two
@@ -48,17 +49,18 @@ pub record IsHead (position : Position) (head : List (List ℕ)) (n : ℕ) : Typ
   pub admitted : admits position n ≡ true
 
 -- each line says the atom of its row
-abbrev pub AreAtoms : List (List ℕ) → List Row → Type 0
-AreAtoms atoms rows = map row_of atoms ≡ map (λ row. Ok row) rows
+abbrev pub AreAtoms : Option SymbolPair → List (List ℕ) → List Row → Type 0
+AreAtoms symbols atoms rows = map (row_of symbols) atoms ≡ map (λ row. Ok row) rows
 
 -- the lines of a frame: its head, a comment line of any bytes, and a line for each row
-pub record IsFrame (position : Position) (frame : List (List ℕ)) (rows : List Row) : Type 0 where
+pub record IsFrame (symbols : Option SymbolPair) (position : Position) (frame : List (List ℕ))
+    (rows : List Row) : Type 0 where
   pub head : List (List ℕ)
   pub comment : List ℕ
   pub atoms : List (List ℕ)
   pub whole : frame ≡ head ++ comment ∷ atoms
   pub is_head : IsHead position head (length rows)
-  pub are_atoms : AreAtoms atoms rows
+  pub are_atoms : AreAtoms symbols atoms rows
 
 -- a fault at the line that follows so many others, where lines count from 1
 abbrev pub fault_behind : ℕ → XyzKind → XyzFault
@@ -89,56 +91,59 @@ pub data OpeningFault (position : Position) (before : ℕ) (lines : List (List �
       → OpeningFault position before lines fault
 
 -- The first fault, in reading order, of the frame that these lines are to begin with.
-pub data FirstFault (position : Position) (before : ℕ) (lines : List (List ℕ)) (fault : XyzFault) : Type 0 where
+pub data FirstFault (symbols : Option SymbolPair) (position : Position) (before : ℕ) (lines : List (List ℕ))
+    (fault : XyzFault) : Type 0 where
   -- it stands before the atom lines
-  in_opening : OpeningFault position before lines fault → FirstFault position before lines fault
+  in_opening : OpeningFault position before lines fault → FirstFault symbols position before lines fault
   -- an atom line is missing
   no_atom : (head : List (List ℕ)) (n : ℕ) (comment : List ℕ) (atoms : List (List ℕ)) (rows : List Row)
       → lines ≡ head ++ comment ∷ atoms
-      → IsHead position head n → AreAtoms atoms rows → length atoms < n
+      → IsHead position head n → AreAtoms symbols atoms rows → length atoms < n
       → fault ≡ fault_behind (before + length lines) kind.Short
-      → FirstFault position before lines fault
+      → FirstFault symbols position before lines fault
   -- an atom line says no atom
   bad_atom : (head : List (List ℕ)) (n : ℕ) (comment : List ℕ) (atoms : List (List ℕ)) (rows : List Row)
       (bad : List ℕ) (behind : List (List ℕ)) (wrong : XyzKind)
       → lines ≡ head ++ comment ∷ (atoms ++ bad ∷ behind)
-      → IsHead position head n → AreAtoms atoms rows → length atoms < n → row_of bad ≡ Err wrong
+      → IsHead position head n → AreAtoms symbols atoms rows → length atoms < n → row_of symbols bad ≡ Err wrong
       → fault ≡ fault_behind (before + length head + 1 + length atoms) wrong
-      → FirstFault position before lines fault
+      → FirstFault symbols position before lines fault
 
 -- The lines of a body begin with a frame of these rows; what follows the frame is not read.
-pub record GivesOne (lines : List (List ℕ)) (rows : List Row) : Type 0 where
+pub record GivesOne (symbols : Option SymbolPair) (lines : List (List ℕ)) (rows : List Row) : Type 0 where
   pub frame : List (List ℕ)
   pub behind : List (List ℕ)
   pub whole : lines ≡ frame ++ behind
-  pub is_frame : IsFrame First frame rows
+  pub is_frame : IsFrame symbols First frame rows
 
--- They begin with two frames of as many atoms; what follows the second is not read.
-pub record GivesTwo (lines : List (List ℕ)) (first second : List Row) : Type 0 where
+-- They begin with two frames of as many atoms, the second of any species; what follows it is not read.
+pub record GivesTwo (symbols : Option SymbolPair) (lines : List (List ℕ)) (first second : List Row) : Type 0 where
   pub frame : List (List ℕ)
   pub next : List (List ℕ)
   pub behind : List (List ℕ)
   pub whole : lines ≡ frame ++ (next ++ behind)
-  pub is_frame : IsFrame First frame first
-  pub is_next : IsFrame (Second (length first)) next second
+  pub is_frame : IsFrame symbols First frame first
+  pub is_next : IsFrame None (Second (length first)) next second
 
 -- They begin with a frame, and the next one has this fault.
-pub record FaultOfSecond (lines : List (List ℕ)) (fault : XyzFault) : Type 0 where
+pub record FaultOfSecond (symbols : Option SymbolPair) (lines : List (List ℕ)) (fault : XyzFault) : Type 0 where
   pub frame : List (List ℕ)
   pub behind : List (List ℕ)
   pub rows : List Row
   pub whole : lines ≡ frame ++ behind
-  pub is_frame : IsFrame First frame rows
-  pub of_next : FirstFault (Second (length rows)) (length frame) behind fault
+  pub is_frame : IsFrame symbols First frame rows
+  pub of_next : FirstFault None (Second (length rows)) (length frame) behind fault
 
--- The relation between the lines of a body, the mode, and the frames or the first fault with its line.
-abbrev pub IsReading : Mode → List (List ℕ) → Result (List (List Row)) XyzFault → Type 0
-IsReading rest lines (Ok frames) = (rows : List Row) × (frames ≡ rows ∷ []) × GivesOne lines rows
-IsReading rest lines (Err fault) = FirstFault First 0 lines fault
-IsReading pair lines (Ok frames) =
-    (first : List Row) × (second : List Row) × (frames ≡ first ∷ second ∷ []) × GivesTwo lines first second
-IsReading pair lines (Err fault) = FirstFault First 0 lines fault ⊎ FaultOfSecond lines fault
+-- The relation between the lines of a body, the species that are asked for, the mode, and the frames or the first
+-- fault with its line.
+abbrev pub IsReading : Option SymbolPair → Mode → List (List ℕ) → Result (List (List Row)) XyzFault → Type 0
+IsReading symbols rest lines (Ok frames) = (rows : List Row) × (frames ≡ rows ∷ []) × GivesOne symbols lines rows
+IsReading symbols rest lines (Err fault) = FirstFault symbols First 0 lines fault
+IsReading symbols pair lines (Ok frames) =
+    (first : List Row) × (second : List Row) × (frames ≡ first ∷ second ∷ []) × GivesTwo symbols lines first second
+IsReading symbols pair lines (Err fault) =
+    FirstFault symbols First 0 lines fault ⊎ FaultOfSecond symbols lines fault
 
 -- the lines of a body have the frames that the mode asks for
-abbrev pub HasFrames : Mode → List (List ℕ) → Type 0
-HasFrames mode lines = (frames : List (List Row)) × IsReading mode lines (Ok frames)
+abbrev pub HasFrames : Option SymbolPair → Mode → List (List ℕ) → Type 0
+HasFrames symbols mode lines = (frames : List (List Row)) × IsReading symbols mode lines (Ok frames)

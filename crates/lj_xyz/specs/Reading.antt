@@ -11,6 +11,7 @@ use Rattle.lj_xyz.specs.declared.row.Row.{Row}
 use Rattle.lj_xyz.specs.declared.reader.Position.{Position}
 use Rattle.lj_xyz.specs.declared.reader.Position.TheVariants.{First, Second}
 use Rattle.lj_xyz.specs.Lines.{words_of}
+use Rattle.lj_xyz.specs.Symbols.{SymbolPair}
 use Rattle.lj_xyz.specs.Atoms.{◌>>=◌, count_of, row_of}
 use Rattle.lj_xyz.specs.Frames.{Mode, rest, pair, admits, missing, fault_behind}
 
@@ -50,17 +51,17 @@ row_at line (Ok row) = Ok row
 row_at line (Err wrong) = Err (fault_at line wrong)
 
 -- the atom of the next line, and the lines after it
-unfoldable pub next_row : ℕ → List (List ℕ) → Result (Row × Left) XyzFault
-next_row taken [] = Err (fault_behind taken kind.Short)
-next_row taken (line ∷ lines) =
-    row_at (taken + 1) (row_of line) >>= λ row. Ok (row, record { taken = taken + 1; lines = lines })
+unfoldable pub next_row : Option SymbolPair → ℕ → List (List ℕ) → Result (Row × Left) XyzFault
+next_row symbols taken [] = Err (fault_behind taken kind.Short)
+next_row symbols taken (line ∷ lines) =
+    row_at (taken + 1) (row_of symbols line) >>= λ row. Ok (row, record { taken = taken + 1; lines = lines })
 
 -- so many atoms, from these lines
-unfoldable pub rows_in : ℕ → Left → Result (List Row × Left) XyzFault
-rows_in zero left = Ok ([], left)
-rows_in (suc n) left = do
-  row ← next_row left.taken left.lines
-  others ← rows_in n row.1
+unfoldable pub rows_in : Option SymbolPair → ℕ → Left → Result (List Row × Left) XyzFault
+rows_in symbols zero left = Ok ([], left)
+rows_in symbols (suc n) left = do
+  row ← next_row symbols left.taken left.lines
+  others ← rows_in symbols n row.1
   Ok (row.0 ∷ others.0, others.1)
 
 -- the number of atoms of a frame, and the lines after its comment line
@@ -71,23 +72,23 @@ opening_in position left = do
   Ok (head.0, body)
 
 -- the rows of a frame, and the lines after it
-unfoldable pub frame_in : Position → Left → Result (List Row × Left) XyzFault
-frame_in position left = do
+unfoldable pub frame_in : Option SymbolPair → Position → Left → Result (List Row × Left) XyzFault
+frame_in symbols position left = do
   opening ← opening_in position left
-  rows_in opening.0 opening.1
+  rows_in symbols opening.0 opening.1
 
 -- the lines of a body, of which none is read
 abbrev pub start : List (List ℕ) → Left
 start lines = record { taken = 0; lines = lines }
 
--- the frames that the mode asks for, or the first fault
-unfoldable pub reading : Mode → List (List ℕ) → Result (List (List Row)) XyzFault
-reading rest lines = do
-  first ← frame_in First (start lines)
+-- the frames that the mode asks for, the first one of the species that are asked for, or the first fault
+unfoldable pub reading : Option SymbolPair → Mode → List (List ℕ) → Result (List (List Row)) XyzFault
+reading symbols rest lines = do
+  first ← frame_in symbols First (start lines)
   Ok (first.0 ∷ [])
-reading pair lines = do
-  first ← frame_in First (start lines)
-  second ← frame_in (Second (length first.0)) first.1
+reading symbols pair lines = do
+  first ← frame_in symbols First (start lines)
+  second ← frame_in None (Second (length first.0)) first.1
   Ok (first.0 ∷ second.0 ∷ [])
 
 -- an error is what reading gives, and memory runs out only where reading gives frames

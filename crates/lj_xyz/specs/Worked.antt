@@ -1,5 +1,5 @@
 -- Bodies and lines of text, worked out.
-use Rattle.std.specs.Prelude.{◌≡◌, ℕ, List, [], ◌∷◌, ℤ, pos, negsuc, Result, Ok, Err, codes, refl}
+use Rattle.std.specs.Prelude.{◌≡◌, ℕ, List, [], ◌∷◌, ℤ, pos, negsuc, Option, Some, None, Result, Ok, Err, codes, refl}
 use Rattle.std.specs.Fmt.{digits}
 use Rattle.lj_fixed.specs.Decimal.{nano_of, decimal_of}
 use Rattle.lj_fixed.specs.Numbers.{number_of}
@@ -9,16 +9,27 @@ use Rattle.lj_xyz.specs.declared.fault.XyzKind.TheVariants as kind
 use Rattle.lj_xyz.specs.declared.fault.XyzFault.{XyzFault}
 use Rattle.lj_xyz.specs.declared.row.Row.{Row}
 use Rattle.lj_xyz.specs.Lines.{lines_of, words_of}
+use Rattle.lj_xyz.specs.Symbols.{SymbolPair}
 use Rattle.lj_xyz.specs.Atoms.{row_of, row_of_four}
 use Rattle.lj_xyz.specs.Frames.{Mode, rest, pair}
 use Rattle.lj_xyz.specs.Reading.{head_in, behind_comment, next_row, rows_in, frame_in, reading}
 use Rattle.lj_xyz.specs.Texts.{count_text, comment_text, atom_text}
 
--- what a body answers, where memory is found
-answer : Mode → List ℕ → Result (List (List Row)) XyzFault
+-- what a body answers, where memory is found, if atoms of some species are asked for
+answer_of : Option SymbolPair → Mode → List ℕ → Result (List (List Row)) XyzFault
 unfolding reading frame_in head_in behind_comment next_row rows_in row_of row_of_four number_of
     lines_of words_of nano_of decimal_of
-answer mode body = reading mode (lines_of body)
+answer_of symbols mode body = reading symbols mode (lines_of body)
+
+-- the same of any species
+answer : Mode → List ℕ → Result (List (List Row)) XyzFault
+unfolding answer_of
+answer mode body = answer_of None mode body
+
+-- the same of sodium and chlorine
+salt : Mode → List ℕ → Result (List (List Row)) XyzFault
+unfolding answer_of
+salt mode body = answer_of (Some (record { first = codes "Na"; second = codes "Cl" })) mode body
 
 fault : XyzKind → ℕ → Result (List (List Row)) XyzFault
 fault wrong line = Err (record { kind = wrong; line = line })
@@ -110,6 +121,29 @@ even_pair : answer pair (codes "1\np\nH -0.0000003 0 0\n1\nc\nH -0.000000001 0 0
     ∷ (atom (codes "H") (negsuc 0) (pos 0) (pos 0) ∷ []) ∷ [])
 unfolding answer atom
 even_pair = refl
+
+-- two species: the first frame alone is of them, and a symbol is looked at before its coordinates
+both_species : salt rest (codes "2\nmix\nNa 0 0 0\nCl 1.5 0 0\n")
+    ≡ Ok ((atom (codes "Na") (pos 0) (pos 0) (pos 0) ∷ atom (codes "Cl") (pos 1500000000) (pos 0) (pos 0) ∷ []) ∷ [])
+unfolding salt atom
+both_species = refl
+
+neither_species : salt rest (codes "2\nmix\nNa 0 0 0\nAr 1.5 0 0\n") ≡ fault kind.Species 4
+unfolding salt fault
+neither_species = refl
+
+longer_than_a_species : salt rest (codes "1\nmix\nNaCl . 0 0\n") ≡ fault kind.Species 3
+unfolding salt fault
+longer_than_a_species = refl
+
+no_species_in_short_line : salt rest (codes "1\nmix\nAr 0 0\n") ≡ fault kind.Short 3
+unfolding salt fault
+no_species_in_short_line = refl
+
+second_of_any_species : salt pair (codes "1\np\nCl 0 0 0\n1\nc\nAr 0 0 0\n")
+    ≡ Ok ((atom (codes "Cl") (pos 0) (pos 0) (pos 0) ∷ []) ∷ (atom (codes "Ar") (pos 0) (pos 0) (pos 0) ∷ []) ∷ [])
+unfolding salt atom
+second_of_any_species = refl
 
 -- the lines of a frame
 count_line : count_text 4096 ≡ codes "4096"

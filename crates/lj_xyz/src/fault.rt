@@ -17,6 +17,8 @@ pub enum XyzKind {
     Short,
     /// The first word of an atom line is no symbol.
     Symbol,
+    /// The symbol of an atom of the first frame is of neither species.
+    Species,
     /// A coordinate is no decimal word.
     Number,
     /// A coordinate is beyond a million file units.
@@ -36,6 +38,7 @@ impl fmt::Display for XyzKind {
             XyzKind::Count => "no number of atoms",
             XyzKind::Short => "a line is missing or too short",
             XyzKind::Symbol => "not a symbol",
+            XyzKind::Species => "a symbol of neither species",
             XyzKind::Number => "not a decimal number",
             XyzKind::Range => "a coordinate out of range",
             XyzKind::Pair => "no second frame of as many atoms",

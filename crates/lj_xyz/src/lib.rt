@@ -7,6 +7,7 @@ mod lines;
 mod reader;
 mod row;
 mod symbol;
+mod symbol_pair;
 mod writer;
 
 pub use fault::{XyzError, XyzFault, XyzKind};
@@ -15,4 +16,5 @@ pub use lines::{split_word, without_return};
 pub use reader::{MAX_ATOMS, read_pair, read_rest};
 pub use row::{FramePair, Row, Rows};
 pub use symbol::Symbol;
+pub use symbol_pair::SymbolPair;
 pub use writer::{FrameLine, atom_line, comment_line, count_line};

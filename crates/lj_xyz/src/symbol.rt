@@ -1,6 +1,8 @@
 //! Symbols of atoms.
-ghost use Rattle.std.specs.Prelude.{IsTrue, SomeIff, ◌≡◌};
+ghost use Rattle.std.specs.Prelude.{IsTrue, SomeIff, ◌≡◌, nat_eq};
 ghost use Rattle.std.specs.Char.{is_ascii_graphic};
+ghost use Rattle.std.specs.Cmp.{partial_equiv_from_equiv};
+ghost use Rattle.std.specs.Cmp.Lexicographic.{pointwise, nat_list_eq_equiv};
 ghost use Rattle.std.specs.List.{list_all};
 ghost use Rattle.lj_xyz.specs.Symbols.{is_symbol};
 
@@ -59,4 +61,27 @@ impl Symbol {
     {
         self.bytes.as_slice()
     }
+
+    /// The same symbol once more.
+    pub(crate) fn copy(&self) -> Symbol
+        ensures { result ≡ self.now }
+    {
+        let mut bytes = ArrayVec::new();
+        let _fits = bytes.try_extend_from_slice(self.as_bytes());
+        Symbol { bytes }
+    }
+}
+
+impl PartialEq for Symbol {
+    ghost eq = { pointwise nat_eq };
+
+    ghost laws = { partial_equiv_from_equiv nat_list_eq_equiv };
+
+    fn eq(&self, other: &Self) -> bool {
+        self.as_bytes() == other.as_bytes()
+    }
+}
+
+impl Eq for Symbol {
+    ghost laws = { nat_list_eq_equiv };
 }

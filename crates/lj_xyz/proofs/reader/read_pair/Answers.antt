@@ -1,4 +1,5 @@
 use Rattle.std.proofs.Common.{List, [], ◌∷◌}
+use Rattle.std.specs.Option.{option_copied}
 use Rattle.std.proofs.lemmas.Result.{IfOk-weaker}
 use Rattle.lj_xyz.specs.declared.row.Row.{Row}
 use Rattle.lj_xyz.specs.declared.row.FramePair.{FramePair}
@@ -12,24 +13,29 @@ view frames = frames.first ∷ frames.second ∷ []
 
 pub returns-clause-frames : goal.returns-clause-frames
 returns-clause-frames c =
-    frames_stand view pair (lines_of c.args.text.now) c.first_two_frames.result c.first_two_frames.ensures
+    let symbols = option_copied c.args.symbols in
+    frames_stand symbols view pair (lines_of c.args.text.now) c.first_two_frames.result c.first_two_frames.ensures
 
 pub returns-clause-fault : goal.returns-clause-fault
 returns-clause-fault c =
-    fault_stands view pair (lines_of c.args.text.now) c.first_two_frames.result c.first_two_frames.ensures
+    let symbols = option_copied c.args.symbols in
+    fault_stands symbols view pair (lines_of c.args.text.now) c.first_two_frames.result c.first_two_frames.ensures
 
 pub returns-clause-count : goal.returns-clause-count
 returns-clause-count c =
+    let symbols = option_copied c.args.symbols in
     IfOk-weaker c.first_two_frames.result _ _ (λ frames is.
-    (two_counts (lines_of c.args.text.now) frames.first frames.second is).0)
-    (frames_stand view pair (lines_of c.args.text.now) c.first_two_frames.result c.first_two_frames.ensures)
+    (two_counts symbols (lines_of c.args.text.now) frames.first frames.second is).0)
+    (frames_stand symbols view pair (lines_of c.args.text.now) c.first_two_frames.result c.first_two_frames.ensures)
 
 pub returns-clause-same_count : goal.returns-clause-same_count
 returns-clause-same_count c =
+    let symbols = option_copied c.args.symbols in
     IfOk-weaker c.first_two_frames.result _ _ (λ frames is.
-    (two_counts (lines_of c.args.text.now) frames.first frames.second is).1)
-    (frames_stand view pair (lines_of c.args.text.now) c.first_two_frames.result c.first_two_frames.ensures)
+    (two_counts symbols (lines_of c.args.text.now) frames.first frames.second is).1)
+    (frames_stand symbols view pair (lines_of c.args.text.now) c.first_two_frames.result c.first_two_frames.ensures)
 
 pub returns-clause-memory : goal.returns-clause-memory
 returns-clause-memory c =
-    memory_stands view pair (lines_of c.args.text.now) c.first_two_frames.result c.first_two_frames.ensures
+    let symbols = option_copied c.args.symbols in
+    memory_stands symbols view pair (lines_of c.args.text.now) c.first_two_frames.result c.first_two_frames.ensures

@@ -1,4 +1,5 @@
 use Rattle.std.proofs.Common.{◌≡◌, ◌-◌, List, length, IfSome}
+use Rattle.std.specs.Option.{option_copied}
 use Rattle.lj_xyz.specs.declared.row.Row.{Row}
 use Rattle.lj_xyz.specs.Cursor.{left_of}
 use Rattle.lj_xyz.specs.Reading.{rows_in}
@@ -9,4 +10,5 @@ use Rattle.lj_xyz.proofs.reader.read_rows.Given as goal
 abbrev pub invariant-loop : goal.invariant-loop
 invariant-loop l =
     (front : List Row) × (length front ≡ l.counter) × IfSome l.rows (λ rows. rows.items ≡ front)
-    × (with_front front (rows_in (l.atoms - l.counter) (left_of l.lines)) ≡ rows_in l.atoms (left_of l.fn.lines))
+    × (with_front front (rows_in (option_copied l.symbols) (l.atoms - l.counter) (left_of l.lines))
+    ≡ rows_in (option_copied l.symbols) l.atoms (left_of l.fn.lines))

@@ -1,0 +1,75 @@
+//! The symbols of two species of atoms.
+ghost use Rattle.std.specs.Prelude.{◌≡◌};
+ghost use Rattle.lj_xyz.specs.Symbols.{IsSymbolPair, pair_of, is_second, is_of_pair};
+
+use crate::symbol::Symbol;
+use std::marker::Model;
+
+/// Two different symbols, those of the two species of a mixture. It takes no memory.
+#[derive(Debug, Drop)]
+pub struct SymbolPair {
+    first: Symbol,
+    second: Symbol,
+}
+
+impl Model for SymbolPair {
+    ghost use Rattle.lj_xyz.specs.Symbols as symbols;
+
+    ghost Value = { symbols.SymbolPair };
+
+    ghost view = { λ pair. record { first = pair.first; second = pair.second } };
+
+    ghost invariant = { λ pair. symbols.IsSymbolPair (record { first = pair.first; second = pair.second }) };
+}
+
+impl SymbolPair {
+    /// Two symbols as a pair, if they differ.
+    pub fn new(first: Symbol, second: Symbol) -> Option<SymbolPair>
+        ensures { result ≡ pair_of first second }
+    {
+        if first.as_bytes() == second.as_bytes() {
+            return None;
+        }
+        Some(SymbolPair { first, second })
+    }
+
+    /// The symbol of the first species.
+    pub fn first(&self) -> &Symbol
+        ensures value { result.now ≡ self.now.first }
+        ensures pair { IsSymbolPair self.now }
+    {
+        &self.first
+    }
+
+    /// The symbol of the second species.
+    pub fn second(&self) -> &Symbol
+        ensures value { result.now ≡ self.now.second }
+        ensures pair { IsSymbolPair self.now }
+    {
+        &self.second
+    }
+
+    /// Whether a symbol is one of the two.
+    pub fn has(&self, symbol: &Symbol) -> bool
+        ensures { result ≡ is_of_pair self.now symbol.now }
+    {
+        *symbol == self.first || self.is_second(symbol)
+    }
+
+    /// Whether a symbol is the second one.
+    pub fn is_second(&self, symbol: &Symbol) -> bool
+        ensures { result ≡ is_second self.now symbol.now }
+    {
+        *symbol == self.second
+    }
+
+    /// The same pair once more.
+    pub fn copy(&self) -> SymbolPair
+        ensures { result ≡ self.now }
+    {
+        SymbolPair {
+            first: self.first.copy(),
+            second: self.second.copy(),
+        }
+    }
+}
