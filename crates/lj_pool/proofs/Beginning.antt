@@ -8,7 +8,7 @@ use Rattle.std.specs.Option.{option_map_or, option_and_then}
 use Rattle.std.proofs.lemmas.List.Sums.{length-filter}
 use Rattle.std.proofs.lemmas.Option.{none-some}
 use Rattle.lj_ring.specs.declared.coordinates.Place.{Place}
-use Rattle.lj_ring.specs.Scales.{Units}
+use Rattle.lj_tile.specs.Species.{Composition}
 use Rattle.lj_tile.specs.declared.names.Kind.{Kind}
 use Rattle.lj_tile.specs.declared.names.Kind.TheVariants.{Force, Energy}
 use Rattle.lj_step.specs.OpenSteps.{blocks, is_tile, cover, opened, left}
@@ -60,7 +60,7 @@ steps_of owner (Measure name) some = by (held_in owner.state name) refl
 steps_of owner command some = absurd (omega (arith, some))
 
 -- an opened step awaits its cover
-opened_left : (kind : Kind) (u : Units) (frame : List Place) → left (opened kind u frame) ≡ length (cover u frame)
+opened_left : (kind : Kind) (u : Composition) (frame : List Place) → left (opened kind u frame) ≡ length (cover u frame)
 opened_left kind u frame =
     count_flags (is_tile u frame) (range_with_len 0 (64 * blocks (length frame)))
     ∙ sym (length-filter (is_tile u frame) (range_with_len 0 (64 * blocks (length frame))))
@@ -75,13 +75,13 @@ module _ (command : Command) (owner : Owning) (some : 0 < turns (user_in owner) 
       ap (λ step. held_in (opened_for step owner.state) s.name) s.step
       ∙ held_in-changed owner.state s.name (with_step s.kind) s.held s.there
 
-  awaited_begun : awaited_in (begun command owner) ≡ length (cover s.held.live.units s.held.live.sim.cur)
+  awaited_begun : awaited_in (begun command owner) ≡ length (cover s.held.live.composition s.held.live.sim.cur)
   awaited_begun =
       ap (λ step. awaited_by step (begun command owner)) s.step
       ∙ ap awaited_of there_begun
-      ∙ opened_left s.kind s.held.live.units s.held.live.sim.cur
+      ∙ opened_left s.kind s.held.live.composition s.held.live.sim.cur
 
-  tiles_begun : tiles_now (begun command owner) ≡ length (cover s.held.live.units s.held.live.sim.cur)
+  tiles_begun : tiles_now (begun command owner) ≡ length (cover s.held.live.composition s.held.live.sim.cur)
   tiles_begun =
       ap (λ user. turn_tiles user command) (begun_user command owner)
       ∙ ap (step_tiles (user_in owner)) s.step
@@ -95,10 +95,10 @@ module _ (command : Command) (owner : Owning) (some : 0 < turns (user_in owner) 
       step = s.step;
       held = with_step s.kind s.held;
       there = there_begun;
-      flags = map (is_tile s.held.live.units s.held.live.sim.cur)
+      flags = map (is_tile s.held.live.composition s.held.live.sim.cur)
           (range_with_len 0 (64 * blocks (length s.held.live.sim.cur)));
       is_open = refl;
-      once = opened_once (is_tile s.held.live.units s.held.live.sim.cur) (64 * blocks (length s.held.live.sim.cur));
+      once = opened_once (is_tile s.held.live.composition s.held.live.sim.cur) (64 * blocks (length s.held.live.sim.cur));
       owed_is = refl;
     };
     awaited = awaited_begun ∙ sym tiles_begun;

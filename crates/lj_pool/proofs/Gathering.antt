@@ -82,7 +82,7 @@ module _ (owner : Owning) (owed : List Work) (t : Gathers owner owed) where
   live = t.held.live
 
   abbrev tiles : List ℕ
-  tiles = cover t.held.live.units t.held.live.sim.cur
+  tiles = cover t.held.live.composition t.held.live.sim.cur
 
   abbrev task : ℕ → Work
   task = task_of t.held.live (record { user = owner.number; session = t.name }) t.kind
@@ -94,11 +94,11 @@ module _ (owner : Owning) (owed : List Work) (t : Gathers owner owed) where
   task_is = ap (option_and_then (next_task owner.state)) label_is ∙ ap (next_of label) t.there
 
   tiles_are : tiles_of live ≡ length tiles
-  tiles_are = ap (tiles_in t.held.live.units t.held.live.sim.cur) t.is_open
+  tiles_are = ap (tiles_in t.held.live.composition t.held.live.sim.cur) t.is_open
 
   awaits_is : (i : ℕ) → i < length tiles → awaits_tile live i ≡ is_awaited t.flags (get_or tiles i 0)
   awaits_is i within =
-      ap (awaits_tile_in t.held.live.units t.held.live.sim.cur i) t.is_open
+      ap (awaits_tile_in t.held.live.composition t.held.live.sim.cur i) t.is_open
       ∙ ap (λ o. option_map_or (λ k. slice_index_or t.flags k false) o false) (slice_get-get_or tiles i 0 within)
 
   task_at_is : (i : ℕ) → i < length tiles → task_at live label i ≡ Some (task (get_or tiles i 0))
@@ -313,7 +313,7 @@ module _ (owner : Owning) (owed : List Work) (t : Gathers owner owed) where
     taken_unposted =
         ap (λ step. unposted_by step (with_task_in work owner)) t.step
         ∙ ap unposted_of taken_there
-        ∙ ap (λ part. tiles_in t.held.live.units t.held.live.sim.cur (with_tile (tile_number_of work) part) - t.held.passed)
+        ∙ ap (λ part. tiles_in t.held.live.composition t.held.live.sim.cur (with_tile (tile_number_of work) part) - t.held.passed)
         t.is_open
         ∙ sym unposted_is
 

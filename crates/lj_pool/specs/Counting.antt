@@ -15,7 +15,7 @@ use Rattle.lj_pool.specs.Seen.{Seen, last_count}
 
 -- how many tiles a step has over the frame of a session
 abbrev pub frame_tiles : Session → ℕ
-frame_tiles session = length (cover session.units session.sim.cur)
+frame_tiles session = length (cover session.composition session.sim.cur)
 
 abbrev pub step_tiles : User → Option (List ℕ × Kind) → ℕ
 step_tiles user None = 0

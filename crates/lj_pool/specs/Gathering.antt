@@ -32,10 +32,10 @@ pub record Gathers (owner : Owning) (owed : List Work) : Type 0 where
   pub there : held_in owner.state name ≡ Some held
   pub flags : List Bool
   pub is_open : held.live.part ≡ Some (record { kind = kind; awaited = flags })
-  pub once : (k : ℕ) → is_awaited flags k ≡ true → times k (cover held.live.units held.live.sim.cur) ≡ 1
+  pub once : (k : ℕ) → is_awaited flags k ≡ true → times k (cover held.live.composition held.live.sim.cur) ≡ 1
   pub owed_is :
       owed ≡ map (task_of held.live (record { user = owner.number; session = name }) kind)
-      (posted_tiles flags held.passed (cover held.live.units held.live.sim.cur))
+      (posted_tiles flags held.passed (cover held.live.composition held.live.sim.cur))
 
 -- how many tiles a step awaits, if one is open
 abbrev pub left_in : Option OpenStep → ℕ

@@ -21,10 +21,10 @@ use Rattle.lj_session.specs.Turns.{turns, turned, rest_of, advance_turns, measur
 
 -- the session after a step
 abbrev pub session_after : Session → Session
-session_after session = record session { sim = stepped session.units session.sim }
+session_after session = record session { sim = stepped session.composition session.sim }
 
 abbrev pub user_after : List ℕ → Session → User → User
-user_after name session user = with_sim name session (stepped session.units session.sim) user
+user_after name session user = with_sim name session (stepped session.composition session.sim) user
 
 -- of n + 1 steps n are left after one
 pub can_go_on : (session : Session) (n : ℕ) → can_advance session (suc n) ≡ true
@@ -41,7 +41,7 @@ can_go_on session n h =
 advanced : (user : User) (name : List ℕ) (session : Session) (n : ℕ) (mark : Bool)
     → named name user.sessions ≡ Some session
     → can_advance session n ≡ true
-    → (let sim = steps session.units n session.sim in
+    → (let sim = steps session.composition n session.sim in
     answer user (Advance name n) mark ≡ (reply.Advanced name sim.step, with_sim name session sim user))
 advanced user name session n mark found can = ap (settled user) (advance-on user name mark session found n can)
 
@@ -51,7 +51,7 @@ pub advance_on : (user : User) (name : List ℕ) (session : Session) (n : ℕ) (
     → answer (user_after name session user) (Advance name n) mark ≡ answer user (Advance name (suc n)) mark
 advance_on user name session n mark found can =
     let after = session_after session in
-    let sim = steps session.units (suc n) session.sim in
+    let sim = steps session.composition (suc n) session.sim in
     let now =
     advanced (user_after name session user) name after n mark (named-put name user.sessions session after found)
     (can_go_on session n can) in
@@ -202,7 +202,7 @@ advance_last user name n mark None e h = absurd (omega (arith, h))
 advance_last user name n mark (Some session) e h =
     let r = going_from session n (omega (arith, h)) in
     let one : n ≡ 1 = rw r.can at h in
-    ap (λ a. a.1) (advanced user name session n mark e r.can) ∙ ap (λ m. with_sim name session (steps session.units m session.sim) user) one
+    ap (λ a. a.1) (advanced user name session n mark e r.can) ∙ ap (λ m. with_sim name session (steps session.composition m session.sim) user) one
 
 -- MEASURE leaves the user
 measure_leaves : (user : User) (name : List ℕ) (mark : Bool) → (answer user (Measure name) mark).1 ≡ user

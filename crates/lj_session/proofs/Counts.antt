@@ -6,7 +6,7 @@ use Rattle.std.specs.Prelude.{◌↔◌, IsOk, IsSome, IfSome, OnOk, OnErr}
 use Rattle.std.specs.List.{AllByRecursion}
 use Rattle.std.specs.Str.{bytes_eq}
 use Rattle.std.proofs.lemmas.List.FromFn.{length-map-range_with_len}
-use Rattle.lj_ring.specs.Scales.{Units}
+use Rattle.lj_tile.specs.Species.{Composition}
 use Rattle.lj_step.specs.Motion.{Simulation, stepped, moved}
 use Rattle.lj_step.specs.Live.{Live}
 use Rattle.lj_step.specs.OpenSteps.{closed}
@@ -63,5 +63,5 @@ count-restored (Ok done) None old new found restored same counts = absurd (false
 count-restored (Err fault) o old new found restored same counts = ap (λ (l : Live). length l.sim.cur) same
 
 -- a step leaves the count of atoms
-pub count-stepped : (u : Units) (sim : Simulation) → length (stepped u sim).cur ≡ length sim.cur
+pub count-stepped : (u : Composition) (sim : Simulation) → length (stepped u sim).cur ≡ length sim.cur
 count-stepped u sim = length-map-range_with_len (moved u sim.prev sim.cur) 0 (length sim.cur)

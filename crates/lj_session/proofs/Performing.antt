@@ -77,8 +77,8 @@ module _ (user : User) (name : List ℕ) (mark : Bool) where
 
     pub advance-on : (n : ℕ) → can_advance session n ≡ true
         → performed user (Advance name n) mark ≡ Ok (
-          reply.Advanced name (steps session.units n session.sim).step,
-          with_sim name session (steps session.units n session.sim) user,
+          reply.Advanced name (steps session.composition n session.sim).step,
+          with_sim name session (steps session.composition n session.sim) user,
         )
     unfolding performed
     advance-on n near = rw (found, near) refl
@@ -143,7 +143,7 @@ module _ (user : User) (name : List ℕ) (mark : Bool) where
         ≡ Ok (
           reply.Measured name session.sim.step (atoms_of session)
               (let m = momentum session.sim in m.x ∷ m.y ∷ m.z ∷ []) (kinetic session.sim)
-              (potential session.units session.sim.cur),
+              (potential session.composition session.sim.cur),
           user,
         )
     unfolding performed

@@ -70,7 +70,7 @@ performed user (Load load) mark = do
 performed user (Advance name n) mark = do
   session ← session_of user name
   near ← unless (can_advance session n) StepRange
-  let sim = steps session.units n session.sim in Ok (reply.Advanced name sim.step, with_sim name session sim user)
+  let sim = steps session.composition n session.sim in Ok (reply.Advanced name sim.step, with_sim name session sim user)
 performed user (Reverse name) mark = do
   session ← session_of user name
   let sim = reversed session.sim in Ok (reply.Reversed name sim.step, with_sim name session sim user)
@@ -98,7 +98,7 @@ performed user (Measure name) mark = do
   session ← session_of user name
   let sim = session.sim in
       let m = momentum sim in
-      let energy = potential session.units sim.cur in
+      let energy = potential session.composition sim.cur in
       Ok (reply.Measured name sim.step (atoms_of session) (m.x ∷ m.y ∷ m.z ∷ []) (kinetic sim) energy, user)
 performed user (Show name atom) mark = do
   session ← session_of user name

@@ -1,9 +1,9 @@
 -- The frames that a LOAD opens a session with, and the session as it is held then.
-use Rattle.std.specs.Prelude.{List, [], ◌∷◌, map, Option, Some, None}
+use Rattle.std.specs.Prelude.{List, [], ◌∷◌, length, map, Option, Some, None}
 use Rattle.lj_xyz.specs.declared.row.Row.{Row}
 use Rattle.lj_ring.specs.Scales.{Units}
 use Rattle.lj_step.specs.Motion.{opening}
-use Rattle.lj_session.specs.Loads.{places_in}
+use Rattle.lj_session.specs.Loads.{alike, places_in}
 use Rattle.lj_session.specs.States.{Held}
 
 -- the frames that were read: one, or two
@@ -20,7 +20,11 @@ last_of first (Some second) = second
 abbrev pub held_from : Units → List Row → List Row → Held
 held_from units first last = record {
   symbols = map (λ row. row.symbol) first;
-  live = record { units = units; sim = opening (places_in units.edge first) (places_in units.edge last); part = None };
+  live = record {
+    composition = alike units (length first);
+    sim = opening (places_in units.edge first) (places_in units.edge last);
+    part = None;
+  };
   passed = 0;
   saved = [];
 }

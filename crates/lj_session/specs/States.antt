@@ -23,7 +23,7 @@ use Rattle.lj_branch.specs.Named.{named, put}
 use Rattle.lj_session.specs.Users.{Session, User, fresh, sessions_used, atoms_used, branches_used}
 use Rattle.lj_session.specs.Answers.{session_named, performed, answer, can_advance}
 
--- A session as it is held: the symbols of its atoms, its simulation with its scale and its open step, and what is saved
+-- A session as it is held: the symbols of its atoms, its simulation with what they are and its open step, and what is saved
 -- in it. The first `passed` tiles of the open step's cover have been posted, or were in when their turn came.
 pub record Held : Type 0 where
   pub symbols : List (List ℕ)
@@ -46,7 +46,8 @@ empty quota = record { quota = quota; sessions = [] }
 
 -- the session that is held, where its open step is forgotten
 abbrev pub as_session : Held → Session
-as_session held = record { symbols = held.symbols; units = held.live.units; sim = held.live.sim; saved = held.saved }
+as_session held =
+    record { symbols = held.symbols; composition = held.live.composition; sim = held.live.sim; saved = held.saved }
 
 abbrev pub as_entry : List ℕ × Held → List ℕ × Session
 as_entry entry = (entry.0, as_session entry.1)
@@ -90,7 +91,7 @@ changed name change owned = changed_to name change (held_in owned name) owned
 -- a step of a kind opened, of which no tile is posted or in
 abbrev pub with_step : Kind → Held → Held
 with_step kind held =
-    record held { live = record held.live { part = Some (opened kind held.live.units held.live.sim.cur) }; passed = 0 }
+    record held { live = record held.live { part = Some (opened kind held.live.composition held.live.sim.cur) }; passed = 0 }
 
 -- the position in the cover of the first tile that is neither posted nor in
 abbrev pub next_tile : Held → Option ℕ
@@ -138,7 +139,7 @@ keeping held saved = record held { saved = saved }
 
 -- one step on, and no step open
 abbrev pub turned_on : Held → Held
-turned_on held = moved_to held (stepped held.live.units held.live.sim)
+turned_on held = moved_to held (stepped held.live.composition held.live.sim)
 
 -- a whole step of a kind is open
 pub record IsWhole (expected : Kind) (held : Held) : Type 0 where

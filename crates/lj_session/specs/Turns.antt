@@ -26,7 +26,7 @@ turns user _ = 0
 -- the user with that session a step further
 abbrev pub session_turned : User → List ℕ → Option Session → User
 session_turned user name None = user
-session_turned user name (Some session) = with_sim name session (stepped session.units session.sim) user
+session_turned user name (Some session) = with_sim name session (stepped session.composition session.sim) user
 
 -- the user after a turn: ADVANCE goes one step on
 unfoldable pub turned : User → Command → User

@@ -2,14 +2,14 @@
 use Rattle.std.specs.Prelude.{ℕ, List, [], length}
 use Rattle.std.specs.List.{sum_by}
 use Rattle.lj_branch.specs.Named.{put}
-use Rattle.lj_ring.specs.Scales.{Units}
+use Rattle.lj_tile.specs.Species.{Composition}
 use Rattle.lj_step.specs.Motion.{Simulation}
 use Rattle.lj_quota.specs.declared.Quota.{Quota}
 
--- a session: the symbols of its atoms, its scale, its simulation, and simulations saved under names, in order of saving
+-- a session: the symbols of its atoms, what they are, its simulation, and simulations saved under names, in order of saving
 pub record Session : Type 0 where
   pub symbols : List (List ℕ)
-  pub units : Units
+  pub composition : Composition
   pub sim : Simulation
   pub saved : List (List ℕ × Simulation)
 

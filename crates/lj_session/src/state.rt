@@ -6,6 +6,7 @@ ghost use Rattle.std.specs.Option.{ForSome};
 ghost use Rattle.std.specs.Str.{bytes_eq};
 ghost use Rattle.lj_tile.specs.declared.names.Kind.TheVariants.{Energy};
 ghost use Rattle.lj_step.specs.OpenSteps.{tile_number_of};
+ghost use Rattle.lj_ring.specs.Mixes.{edge_of};
 ghost use Rattle.lj_session.specs.declared.command.Command.TheVariants.{Advance, Measure};
 ghost use Rattle.lj_session.specs.Turns.{turns, turned};
 ghost use Rattle.lj_session.specs.States as states;
@@ -101,7 +102,7 @@ impl UserState {
     /// The edge of the i-th session's box.
     pub fn edge_at(&self, i: usize) -> Edge
         requires { i < length self.now.sessions }
-        ensures { option_map (λ held. held.live.units.edge) (held_at self.now i) ≡ Some result }
+        ensures { option_map (λ held. edge_of held.live.composition.mix) (held_at self.now i) ≡ Some result }
     {
         self.sim_at(i).edge()
     }

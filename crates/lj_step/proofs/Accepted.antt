@@ -5,14 +5,15 @@ use Rattle.std.proofs.Common.{inr, sym, ap, ◌∙◌, get_or-set_same, get_or-s
 use Rattle.std.proofs.lemmas.Bool.{cases_eq, cases_lt, true≢false, and_parts, leb-true}
 use Rattle.std.proofs.lemmas.List.Sums.{sum_by-set, get_or-le-sum_by}
 use Rattle.lj_ring.specs.declared.coordinates.Place.{Place}
-use Rattle.lj_ring.specs.Scales.{Units}
+use Rattle.lj_tile.specs.Species.{Composition}
 use Rattle.lj_tile.specs.declared.pairs.Push.{Push}
 use Rattle.lj_tile.specs.declared.names.Kind.{Kind}
 use Rattle.lj_tile.specs.declared.names.Kind.TheVariants.{Force, Energy}
 use Rattle.lj_tile.specs.Pushes.{no_push, plus}
+use Rattle.lj_tile.specs.Blocks.{Sites}
 use Rattle.lj_tile.specs.Tasks.{Work, task_force, task_second, task_energy}
 use Rattle.lj_step.specs.declared.partial.Partial.{Partial}
-use Rattle.lj_step.specs.OpenSteps.{blocks, block, tile_number_of, first_block, second_block, is_in_order, is_tile}
+use Rattle.lj_step.specs.OpenSteps.{blocks, sites_of, tile_number_of, first_block, second_block, is_in_order, is_tile}
 use Rattle.lj_step.specs.OpenSteps.{is_out_of_reach}
 use Rattle.lj_step.specs.Sums.{HasRoom, HasAdded, IsOpen, IsOutside, force_so_far, energy_so_far}
 use Rattle.lj_step.proofs.BlockSums.{length_in}
@@ -21,9 +22,9 @@ use Rattle.lj_step.proofs.PartialForces.{block_force, task_is, second_is, force_
 use Rattle.lj_step.proofs.PartialEnergies.{energy_task_is, energy_more}
 
 -- a tile more is in
-module _ (u : Units) (frame : List Place) (p q : Partial) (kind : Kind) (work : Work) (few : length frame ≤ 4096)
+module _ (u : Composition) (frame : List Place) (p q : Partial) (kind : Kind) (work : Work) (few : length frame ≤ 4096)
     (open_before : IsOpen u frame p kind) (room : HasRoom (length frame) p)
-    (units : work.units ≡ u) (a : work.a ≡ block frame work.name.bi) (b : work.b ≡ block frame work.name.bj)
+    (mix : work.mix ≡ u.mix) (a : work.a ≡ sites_of u frame work.name.bi) (b : work.b ≡ sites_of u frame work.name.bj)
     (kind_is : work.name.kind ≡ kind)
     (second : work.name.bj < 64) (within : tile_number_of work < length p.awaited.items)
     (awaited : slice_index_or p.awaited.items (tile_number_of work) false ≡ true) where
@@ -70,11 +71,11 @@ module _ (u : Units) (frame : List Place) (p q : Partial) (kind : Kind) (work : 
       leb-true (first_block (tile_number_of work)) (second_block (tile_number_of work)) parts.1 in
       omega (arith, ordered, second)
 
-  first_length : length work.a ≡ length_in work.name.bi (length frame)
-  first_length = ap length a ∙ block_length frame work.name.bi
+  first_length : length work.a.places ≡ length_in work.name.bi (length frame)
+  first_length = ap (λ (sites : Sites). length sites.places) a ∙ block_length frame work.name.bi
 
-  second_length : length work.b ≡ length_in work.name.bj (length frame)
-  second_length = ap length b ∙ block_length frame work.name.bj
+  second_length : length work.b.places ≡ length_in work.name.bj (length frame)
+  second_length = ap (λ (sites : Sites). length sites.places) b ∙ block_length frame work.name.bj
 
   -- what is added to an atom at a place of a block
   pushes_at : (b n : ℕ) (sum : ℕ → Push) → n ≡ length_in b (length frame) → kind ≡ Force
@@ -101,10 +102,10 @@ module _ (u : Units) (frame : List Place) (p q : Partial) (kind : Kind) (work : 
       → slice_index_or q.pushes.items i no_push
       ≡ force_so_far u frame (slice_set p.awaited.items (tile_number_of work) false) i
   pushes_in force added i h here =
-      pushes_at work.name.bi (length work.a) (task_force work) first_length force (added.first (kind_is ∙ force)) i h here
+      pushes_at work.name.bi (length work.a.places) (task_force work) first_length force (added.first (kind_is ∙ force)) i h here
       (λ t below e.
       ap (λ s. plus (force_so_far u frame p.awaited.items i) s)
-      (task_is u frame work t units a b below ∙ ap (λ n. block_force u frame n work.name.bj) e)
+      (task_is u frame work t mix a b below ∙ ap (λ n. block_force u frame n work.name.bj) e)
       ∙ sym (force_more u frame p.awaited.items work.name.bi work.name.bj few in_order second within awaited i here))
 
   pushes_in_second : kind ≡ Force → HasAdded work p.pushes.items q.pushes.items → (i : ℕ)
@@ -113,11 +114,11 @@ module _ (u : Units) (frame : List Place) (p q : Partial) (kind : Kind) (work : 
       ≡ force_so_far u frame (slice_set p.awaited.items (tile_number_of work) false) i
   pushes_in_second force added i h other here =
       let before : work.name.bi < work.name.bj = omega (arith, in_order, other, here) in
-      pushes_at work.name.bj (length work.b) (task_second work) second_length force
+      pushes_at work.name.bj (length work.b.places) (task_second work) second_length force
       (added.second (kind_is ∙ force) before) i h here
       (λ s below e.
       ap (λ m. plus (force_so_far u frame p.awaited.items i) m)
-      (second_is u frame work s units a b below ∙ ap (λ n. block_force u frame n work.name.bi) e)
+      (second_is u frame work s mix a b below ∙ ap (λ n. block_force u frame n work.name.bi) e)
       ∙ sym (force_more_second u frame p.awaited.items work.name.bi work.name.bj few in_order second within
       awaited i here))
 
@@ -134,8 +135,8 @@ module _ (u : Units) (frame : List Place) (p q : Partial) (kind : Kind) (work : 
       → slice_index_or q.pushes.items i no_push
       ≡ force_so_far u frame (slice_set p.awaited.items (tile_number_of work) false) i
   pushes_out force added i h first other =
-      added.others i (apart work.name.bi (length work.a) i first_length h first)
-      (apart work.name.bj (length work.b) i second_length h other)
+      added.others i (apart work.name.bi (length work.a.places) i first_length h first)
+      (apart work.name.bj (length work.b.places) i second_length h other)
       ∙ open_before.pushes force i h
       ∙ sym (force_same u frame p.awaited.items work.name.bi work.name.bj few in_order second within awaited
       i h first other)
@@ -166,7 +167,7 @@ module _ (u : Units) (frame : List Place) (p q : Partial) (kind : Kind) (work : 
     energy = λ e.
         energy (kind_is ∙ e)
         ∙ ap (λ s. s +ℤ task_energy work) (open_before.energy e)
-        ∙ ap (λ s. energy_so_far u frame p.awaited.items +ℤ s) (energy_task_is u frame work units a b)
+        ∙ ap (λ s. energy_so_far u frame p.awaited.items +ℤ s) (energy_task_is u frame work mix a b)
         ∙ sym (ap (energy_so_far u frame) flags ∙ energy_more u frame p.awaited.items work.name.bi
         work.name.bj few in_order second within awaited);
     size = omega (arith, size, less, open_before.size);

@@ -39,3 +39,8 @@ place_in n i h = (omega arith, omega arith)
 pub length_in_most : (b n : ℕ) → length_in b n ≤ 64
 unfolding length_in
 length_in_most b n = omega arith
+
+-- a place of a block is one of 64
+pub in_block : (b n t : ℕ) → t < length_in b n → t < 64
+unfolding length_in
+in_block b n t h = omega arith

@@ -11,8 +11,11 @@ use Rattle.std.proofs.lemmas.List.Sums.{sum_by-cons}
 use Rattle.std.proofs.lemmas.List.FromFn.{fill_by_all, length-map-range_with_len, get_or-map-range_with_len}
 use Rattle.lj_ring.specs.declared.coordinates.Place.{Place}
 use Rattle.lj_ring.specs.Ring.{sum_below, ring_sum, int_sum_below, distance, image}
+use Rattle.lj_tile.specs.Species.{Composition, class_between}
+use Rattle.lj_ring.specs.declared.mixes.Class.{Class}
 use Rattle.lj_ring.specs.Scales.{Units, interacts, entry, bin}
-use Rattle.lj_table.specs.Entries.{energy_entry}
+use Rattle.lj_table.specs.Entries.{energy_entry, weighted}
+use Rattle.lj_table.proofs.Quotients.{weighted_none}
 use Rattle.lj_tile.specs.declared.pairs.Push.{Push}
 use Rattle.lj_tile.specs.Pushes.{push, push_along, no_push, energy}
 use Rattle.lj_tile.specs.Tiles.{Tile, chosen_energy, push_sum, tile_energy, times, are_near, IsForceCover}
@@ -34,8 +37,10 @@ push_far u p q far =
     (ap (λ e. push_along u e (image p.y q.y)) none ∙ along_none u (image p.y q.y))
     (ap (λ e. push_along u e (image p.z q.z)) none ∙ along_none u (image p.z q.z))
 
-pub energy_far : (u : Units) (p q : Place) → interacts u (distance p q) ≡ false → energy u p q ≡ pos 0
-energy_far u p q far = ap (λ (b : Bool). if b then energy_entry (entry (bin u (distance p q))) else pos 0) far
+pub energy_far : (class : Class) (p q : Place) → interacts class.scale (distance p q) ≡ false → energy class p q ≡ pos 0
+energy_far class p q far =
+    ap (weighted class.weight) (ap (λ (b : Bool). if b then energy_entry (entry (bin class.scale (distance p q))) else pos 0) far)
+    ∙ weighted_none class.weight
 
 count_more : (i j : ℕ) (tile : Tile) (tiles : List Tile)
     → times i j (tile ∷ tiles) ≡ cond (tile i j) 1 0 + times i j tiles
@@ -97,44 +102,44 @@ module _ (axis : Push → ℕ) (none : axis no_push ≡ 0) where
       nothing : (a : ℕ) → (0 * a) % 2 ^ 32 ≡ 0 % 2 ^ 32
       nothing a = omega arith
 
-  pair_counts : (u : Units) (frame : List Place) (tiles : List Tile) → IsForceCover u frame tiles → (i j : ℕ)
+  pair_counts : (u : Composition) (frame : List Place) (tiles : List Tile) → IsForceCover u frame tiles → (i j : ℕ)
       → i < length frame → j < length frame
-      → (times i j tiles * axis (push u (place_at frame i) (place_at frame j))) % 2 ^ 32
+      → (times i j tiles * axis (push (class_between u i j).scale (place_at frame i) (place_at frame j))) % 2 ^ 32
       ≡ axis (push_of u frame i j) % 2 ^ 32
   pair_counts u frame tiles covers i j hi hj =
       elim (cases_eq j i) [
         | inl same ↦
             let e : (j == i) ≡ true = grind (arith, nat_tests) in
-            not_in (times i j tiles) (push u (place_at frame i) (place_at frame j)) (push_of u frame i j)
+            not_in (times i j tiles) (push (class_between u i j).scale (place_at frame i) (place_at frame j)) (push_of u frame i j)
             (ap (λ k. times i k tiles) same ∙ covers.itself i hi)
-            (ap (λ (b : Bool). if b then no_push else push u (place_at frame i) (place_at frame j)) e)
+            (ap (λ (b : Bool). if b then no_push else push (class_between u i j).scale (place_at frame i) (place_at frame j)) e)
         | inr other ↦
             let e : (j == i) ≡ false = grind (arith, nat_tests) in
-            let is : push_of u frame i j ≡ push u (place_at frame i) (place_at frame j) =
-            ap (λ (b : Bool). if b then no_push else push u (place_at frame i) (place_at frame j)) e in
+            let is : push_of u frame i j ≡ push (class_between u i j).scale (place_at frame i) (place_at frame j) =
+            ap (λ (b : Bool). if b then no_push else push (class_between u i j).scale (place_at frame i) (place_at frame j)) e in
             elim (cases_Bool (are_near u frame i j)) [
-              | inl near ↦ once (times i j tiles) (push u (place_at frame i) (place_at frame j)) (push_of u frame i j)
+              | inl near ↦ once (times i j tiles) (push (class_between u i j).scale (place_at frame i) (place_at frame j)) (push_of u frame i j)
                   (covers.near i j hi hj (λ f. other (sym f)) near) is
               | inr far ↦
-                  let none_far = push_far u (place_at frame i) (place_at frame j) far in
-                  never (times i j tiles) (push u (place_at frame i) (place_at frame j))
+                  let none_far = push_far (class_between u i j).scale (place_at frame i) (place_at frame j) far in
+                  never (times i j tiles) (push (class_between u i j).scale (place_at frame i) (place_at frame j))
                   (push_of u frame i j) none_far (is ∙ none_far)
             ]
       ]
 
-  cover_along : (u : Units) (frame : List Place) (tiles : List Tile) → IsForceCover u frame tiles
+  cover_along : (u : Composition) (frame : List Place) (tiles : List Tile) → IsForceCover u frame tiles
       → (i : ℕ) → i < length frame
-      → sum_by (λ (tile : Tile). tile_sum (length frame) (λ j. push u (place_at frame i) (place_at frame j)) (tile i))
+      → sum_by (λ (tile : Tile). tile_sum (length frame) (λ j. push (class_between u i j).scale (place_at frame i) (place_at frame j)) (tile i))
       tiles % 2 ^ 32
       ≡ ring_sum (length frame) (λ j. axis (push_of u frame i j))
   cover_along u frame tiles covers i hi =
-      by_times (length frame) i (λ j. push u (place_at frame i) (place_at frame j)) tiles
-      ∙ ring_sum_same (length frame) (λ j. times i j tiles * axis (push u (place_at frame i) (place_at frame j)))
+      by_times (length frame) i (λ j. push (class_between u i j).scale (place_at frame i) (place_at frame j)) tiles
+      ∙ ring_sum_same (length frame) (λ j. times i j tiles * axis (push (class_between u i j).scale (place_at frame i) (place_at frame j)))
       (λ j. axis (push_of u frame i j))
       (λ j hj. pair_counts u frame tiles covers i j hi hj)
 
 -- the sums of a cover are the forces
-pub cover_force : (u : Units) (frame : List Place) (tiles : List Tile) → IsForceCover u frame tiles → (i : ℕ)
+pub cover_force : (u : Composition) (frame : List Place) (tiles : List Tile) → IsForceCover u frame tiles → (i : ℕ)
     → i < length frame → tiles_force u frame tiles i ≡ force u frame i
 unfolding tiles_force push_sum force tile_sum
 cover_force u frame tiles covers i hi =
@@ -143,7 +148,7 @@ cover_force u frame tiles covers i hi =
     (cover_along (λ p. p.z) refl u frame tiles covers i hi)
 
 -- a step over a cover is the step over all pairs
-pub cover_step : (u : Units) (sim : Simulation) (tiles : List Tile) → IsForceCover u sim.cur tiles
+pub cover_step : (u : Composition) (sim : Simulation) (tiles : List Tile) → IsForceCover u sim.cur tiles
     → stepped_by u tiles sim ≡ stepped u sim
 cover_step u sim tiles covers = ap (λ frame. after sim frame) same_frame
   where
@@ -184,10 +189,10 @@ unfolding repeated
 repeated_more true m e = ap (λ k. repeated k e) (one-add m)
 repeated_more false m e = ap (λ k. repeated k e) (zero-add m) ∙ sym (+ℤ_idl (repeated m e))
 
-pair_energy : Units → List Place → ℕ → ℕ → ℤ
-pair_energy u frame i j = energy u (place_at frame i) (place_at frame j)
+pair_energy : Composition → List Place → ℕ → ℕ → ℤ
+pair_energy u frame i j = energy (class_between u i j) (place_at frame i) (place_at frame j)
 
-energies_by_times : (u : Units) (frame : List Place) (tiles : List Tile)
+energies_by_times : (u : Composition) (frame : List Place) (tiles : List Tile)
     → tiles_energy u frame tiles ≡ int_sum_below (length frame)
     (λ j. int_sum_below j (λ i. repeated (times i j tiles) (pair_energy u frame i j)))
 unfolding repeated pair_energy
@@ -197,41 +202,41 @@ energies_by_times u frame [] =
 energies_by_times u frame (tile ∷ tiles) =
     ap (λ s. tile_energy u frame tile +ℤ s) (energies_by_times u frame tiles)
     ∙ sym (int_sum_plus (length frame) (λ j. int_sum_below j
-    (λ i. chosen_energy u (tile i j) (place_at frame i) (place_at frame j)))
+    (λ i. chosen_energy (class_between u i j) (tile i j) (place_at frame i) (place_at frame j)))
     (λ j. int_sum_below j (λ i. repeated (times i j tiles) (pair_energy u frame i j))))
     ∙ int_sum_same (length frame)
-    (λ j. int_sum_below j (λ i. chosen_energy u (tile i j) (place_at frame i) (place_at frame j)) +ℤ int_sum_below j
+    (λ j. int_sum_below j (λ i. chosen_energy (class_between u i j) (tile i j) (place_at frame i) (place_at frame j)) +ℤ int_sum_below j
     (λ i. repeated (times i j tiles) (pair_energy u frame i j)))
     (λ j. int_sum_below j (λ i. repeated (times i j (tile ∷ tiles)) (pair_energy u frame i j)))
     (λ j h. row u frame tile tiles j)
   where
-    row : (u : Units) (frame : List Place) (tile : Tile) (tiles : List Tile) (j : ℕ)
-        → int_sum_below j (λ i. chosen_energy u (tile i j) (place_at frame i) (place_at frame j)) +ℤ int_sum_below j
+    row : (u : Composition) (frame : List Place) (tile : Tile) (tiles : List Tile) (j : ℕ)
+        → int_sum_below j (λ i. chosen_energy (class_between u i j) (tile i j) (place_at frame i) (place_at frame j)) +ℤ int_sum_below j
         (λ i. repeated (times i j tiles) (pair_energy u frame i j))
         ≡ int_sum_below j (λ i. repeated (times i j (tile ∷ tiles)) (pair_energy u frame i j))
     row u frame tile tiles j =
-        sym (int_sum_plus j (λ i. chosen_energy u (tile i j) (place_at frame i) (place_at frame j))
+        sym (int_sum_plus j (λ i. chosen_energy (class_between u i j) (tile i j) (place_at frame i) (place_at frame j))
         (λ i. repeated (times i j tiles) (pair_energy u frame i j)))
-        ∙ int_sum_same j (λ i. chosen_energy u (tile i j) (place_at frame i) (place_at frame j) +ℤ repeated
+        ∙ int_sum_same j (λ i. chosen_energy (class_between u i j) (tile i j) (place_at frame i) (place_at frame j) +ℤ repeated
         (times i j tiles) (pair_energy u frame i j))
         (λ i. repeated (times i j (tile ∷ tiles)) (pair_energy u frame i j))
         (λ i k. sym (ap (λ m. repeated m (pair_energy u frame i j)) (count_more i j tile tiles)
         ∙ repeated_more (tile i j) (times i j tiles) (pair_energy u frame i j)))
 
 -- the sums of a cover are the potential
-pub cover_energy : (u : Units) (frame : List Place) (tiles : List Tile) → IsEnergyCover u frame tiles
+pub cover_energy : (u : Composition) (frame : List Place) (tiles : List Tile) → IsEnergyCover u frame tiles
     → tiles_energy u frame tiles ≡ potential u frame
 unfolding pair_energy
 cover_energy u frame tiles covers =
     energies_by_times u frame tiles
     ∙ int_sum_same (length frame) (λ j. int_sum_below j (λ i. repeated (times i j tiles) (pair_energy u frame i j)))
-    (λ j. int_sum_below j (λ i. energy u (place_at frame i) (place_at frame j)))
+    (λ j. int_sum_below j (λ i. energy (class_between u i j) (place_at frame i) (place_at frame j)))
     (λ j h. int_sum_same j (λ i. repeated (times i j tiles) (pair_energy u frame i j))
-    (λ i. energy u (place_at frame i) (place_at frame j))
+    (λ i. energy (class_between u i j) (place_at frame i) (place_at frame j))
     (λ i k. elim (cases_Bool (are_near u frame i j)) [
-      | inl near ↦ repeated_once (times i j tiles) (energy u (place_at frame i) (place_at frame j))
+      | inl near ↦ repeated_once (times i j tiles) (energy (class_between u i j) (place_at frame i) (place_at frame j))
           (covers.near i j k h near)
       | inr far ↦
-          let none = energy_far u (place_at frame i) (place_at frame j) far in
-          repeated_none (times i j tiles) (energy u (place_at frame i) (place_at frame j)) none ∙ sym none
+          let none = energy_far (class_between u i j) (place_at frame i) (place_at frame j) far in
+          repeated_none (times i j tiles) (energy (class_between u i j) (place_at frame i) (place_at frame j)) none ∙ sym none
     ]))

@@ -1,16 +1,18 @@
 -- The drift: a step keeps it, and a reverse changes its sign.
 use Rattle.std.proofs.Common.{ℕ, zero, suc, ◌+◌, ◌%◌, ◌^◌, ◌<◌, ◌≡◌, List, length, true, false, ◌==◌, inl, inr, refl}
-use Rattle.std.proofs.Common.{sym, ap, ◌∙◌, arith}
+use Rattle.std.proofs.Common.{sym, ap, ◌∙◌, subst, arith}
 use Rattle.std.proofs.lemmas.Bool.{cases_eq}
 use Rattle.std.proofs.lemmas.Bool.Decides.{nat_tests}
 use Rattle.lj_ring.specs.declared.coordinates.Place.{Place}
 use Rattle.lj_ring.specs.Ring.{sum_below, ring_sum}
-use Rattle.lj_ring.specs.Scales.{Units}
+use Rattle.lj_ring.specs.declared.mixes.Class.{Class}
+use Rattle.lj_tile.specs.Species.{Composition, class_between, species_of}
 use Rattle.lj_tile.specs.declared.pairs.Push.{Push}
-use Rattle.lj_tile.specs.Pushes.{no_push}
+use Rattle.lj_tile.specs.Pushes.{no_push, push}
 use Rattle.lj_step.specs.Motion.{Simulation, place_at, push_of, force, next_coordinate, next_place, stepped, steps}
 use Rattle.lj_step.specs.Motion.{reversed}
-use Rattle.lj_step.specs.Laws.{IsOnRing, IsWhole, IsScale, ring_sub, drift_along, drift, opposite}
+use Rattle.lj_step.specs.Laws.{IsOnRing, IsWhole, IsMixture, ring_sub, drift_along, drift, opposite}
+use Rattle.lj_step.proofs.BlockClasses.{class_turned}
 use Rattle.lj_step.proofs.RingSums.{ring_sum_same, ring_sum_zero, sum_plus, square_zero}
 use Rattle.lj_tile.proofs.Opposites.{AddToNone, pushes_opposite}
 use Rattle.lj_step.proofs.Undone.{next_frame_at, next_frame_length, stepped_whole}
@@ -19,7 +21,7 @@ no_pushes : AddToNone no_push no_push
 no_pushes = record { x = refl; y = refl; z = refl }
 
 -- what two atoms of a frame push each other adds up to none
-pair_opposite : (u : Units) (frame : List Place) (i j : ℕ) → IsScale u → IsOnRing (place_at frame i)
+pair_opposite : (u : Composition) (frame : List Place) (i j : ℕ) → IsMixture u.mix → IsOnRing (place_at frame i)
     → IsOnRing (place_at frame j)
     → AddToNone (push_of u frame i j) (push_of u frame j i)
 pair_opposite u frame i j scale hi hj =
@@ -31,18 +33,23 @@ pair_opposite u frame i j scale hi hj =
       | inr other ↦
           let e : (j == i) ≡ false = grind (arith, nat_tests) in
           let f : (i == j) ≡ false = grind (arith, nat_tests) in
-          rw (e, f) (pushes_opposite u (place_at frame j) (place_at frame i) scale hj hi)
+          let p : Place = place_at frame i in
+          let q : Place = place_at frame j in
+          rw (e, f)
+          (subst (λ (class : Class). AddToNone (push class.scale p q) (push (class_between u j i).scale q p))
+          (class_turned u j i)
+          (pushes_opposite (class_between u j i).scale q p (scale (species_of u.seconds j) (species_of u.seconds i)) hj hi))
     ]
 
-itself_none : (u : Units) (frame : List Place) (i : ℕ) → push_of u frame i i ≡ no_push
+itself_none : (u : Composition) (frame : List Place) (i : ℕ) → push_of u frame i i ≡ no_push
 itself_none u frame i = let e : (i == i) ≡ true = grind (arith, nat_tests) in rw e refl
 
 -- the forces on all atoms add up to none, along one axis
 module _ (axis : Push → ℕ) (none : axis no_push ≡ 0) where
-  pushes : Units → List Place → ℕ → ℕ → ℕ
+  pushes : Composition → List Place → ℕ → ℕ → ℕ
   pushes u frame i j = axis (push_of u frame i j)
 
-  forces_none : (u : Units) (frame : List Place) → ((i j : ℕ) → i < length frame → j < length frame
+  forces_none : (u : Composition) (frame : List Place) → ((i j : ℕ) → i < length frame → j < length frame
       → (axis (push_of u frame i j) + axis (push_of u frame j i)) % 2 ^ 32 ≡ 0)
       → ring_sum (length frame) (λ i. ring_sum (length frame) (pushes u frame i)) ≡ 0
   unfolding pushes
@@ -79,7 +86,7 @@ unfolding push_of_axes
 same_push a b x y z =
     ap (λ k. push_of_axes k a.y a.z) x ∙ ap (λ k. push_of_axes b.x k a.z) y ∙ ap (λ k. push_of_axes b.x b.y k) z
 
-module _ (u : Units) (sim : Simulation) (scale : IsScale u) (whole : IsWhole sim) where
+module _ (u : Composition) (sim : Simulation) (scale : IsMixture u.mix) (whole : IsWhole sim) where
   pairs : (i j : ℕ) → i < length sim.cur → j < length sim.cur
       → AddToNone (push_of u sim.cur i j) (push_of u sim.cur j i)
   pairs i j p q = pair_opposite u sim.cur i j scale (whole.cur i p) (whole.cur j q)
@@ -118,7 +125,7 @@ module _ (u : Units) (sim : Simulation) (scale : IsScale u) (whole : IsWhole sim
       (along (λ p. p.y) (λ p. p.y) refl (λ p c f. refl) (λ p h. h.y) (λ i. refl) (λ i j p q. (pairs i j p q).y))
       (along (λ p. p.z) (λ p. p.z) refl (λ p c f. refl) (λ p h. h.z) (λ i. refl) (λ i j p q. (pairs i j p q).z))
 
-pub drift_kept : (u : Units) (n : ℕ) (sim : Simulation) → IsScale u → IsWhole sim → drift (steps u n sim) ≡ drift sim
+pub drift_kept : (u : Composition) (n : ℕ) (sim : Simulation) → IsMixture u.mix → IsWhole sim → drift (steps u n sim) ≡ drift sim
 drift_kept u zero sim scale whole = refl
 drift_kept u (suc n) sim scale whole =
     drift_kept u n (stepped u sim) scale (stepped_whole u sim whole) ∙ step_kept u sim scale whole

@@ -9,7 +9,7 @@ use Rattle.std.proofs.lemmas.List.{get_or-replicate}
 use Rattle.std.proofs.lemmas.List.Sums.{length-filter, count_by-le-length}
 use Rattle.std.proofs.lemmas.List.FromFn.{length-range_with_len}
 use Rattle.lj_ring.specs.declared.coordinates.Place.{Place}
-use Rattle.lj_ring.specs.Scales.{Units}
+use Rattle.lj_tile.specs.Species.{Composition, class_between}
 use Rattle.lj_tile.specs.declared.names.Kind.{Kind}
 use Rattle.lj_tile.specs.Pushes.{no_push, push, energy}
 use Rattle.lj_tile.specs.Tiles.{are_near}
@@ -25,21 +25,21 @@ use Rattle.lj_step.proofs.PartialForces.{force_none}
 use Rattle.lj_step.proofs.PartialEnergies.{energy_none}
 
 -- a pair that does not interact, or is one atom, does not push
-pushes_none : (u : Units) (frame : List Place) (i j : ℕ) → (i ≡ j) ⊎ (are_near u frame i j ≡ false)
+pushes_none : (u : Composition) (frame : List Place) (i j : ℕ) → (i ≡ j) ⊎ (are_near u frame i j ≡ false)
     → push_of u frame i j ≡ no_push
 pushes_none u frame i j (inl same) =
     let itself : (j == i) ≡ true = grind (arith, nat_tests) in
-    ap (λ (b : Bool). if b then no_push else push u (place_at frame i) (place_at frame j)) itself
+    ap (λ (b : Bool). if b then no_push else push (class_between u i j).scale (place_at frame i) (place_at frame j)) itself
 pushes_none u frame i j (inr far) =
-    let none = push_far u (place_at frame i) (place_at frame j) far in
+    let none = push_far (class_between u i j).scale (place_at frame i) (place_at frame j) far in
     elim (cases_Bool (j == i)) [
-      | inl itself ↦ ap (λ (b : Bool). if b then no_push else push u (place_at frame i) (place_at frame j)) itself
+      | inl itself ↦ ap (λ (b : Bool). if b then no_push else push (class_between u i j).scale (place_at frame i) (place_at frame j)) itself
       | inr other ↦
-          ap (λ (b : Bool). if b then no_push else push u (place_at frame i) (place_at frame j)) other ∙ none
+          ap (λ (b : Bool). if b then no_push else push (class_between u i j).scale (place_at frame i) (place_at frame j)) other ∙ none
     ]
 
 -- an opened step awaits each pair that pushes or has an energy
-module _ (u : Units) (frame : List Place) (flags : List Bool) (ring : AreOnRing frame) (few : length frame ≤ 4096)
+module _ (u : Composition) (frame : List Place) (flags : List Bool) (ring : AreOnRing frame) (few : length frame ≤ 4096)
     (opened : flags ≡ map (is_tile u frame) (range_with_len 0 (64 * blocks (length frame)))) where
   near_set : (i j : ℕ) → i < length frame → j < length frame → i ≢ j → are_near u frame i j ≡ true
       → pair_awaited flags i j ≡ true
@@ -59,17 +59,17 @@ module _ (u : Units) (frame : List Place) (flags : List Bool) (ring : AreOnRing 
       ]
 
   energy_awaited : (i j : ℕ) → i < j → j < length frame
-      → (pair_awaited flags i j ≡ true) ⊎ (energy u (place_at frame i) (place_at frame j) ≡ pos 0)
+      → (pair_awaited flags i j ≡ true) ⊎ (energy (class_between u i j) (place_at frame i) (place_at frame j) ≡ pos 0)
   energy_awaited i j before hj =
       let hi : i < length frame = omega arith in
       let other : i ≢ j = omega arith in
       elim (cases_Bool (are_near u frame i j)) [
         | inl near ↦ inl (near_set i j hi hj other near)
-        | inr far ↦ inr (energy_far u (place_at frame i) (place_at frame j) far)
+        | inr far ↦ inr (energy_far (class_between u i j) (place_at frame i) (place_at frame j) far)
       ]
 
 -- an opened step
-pub opened_is : (u : Units) (frame : List Place) (p : Partial) (kind : Kind) → AreOnRing frame → length frame ≤ 4096
+pub opened_is : (u : Composition) (frame : List Place) (p : Partial) (kind : Kind) → AreOnRing frame → length frame ≤ 4096
     → p.tiles.items ≡ cover u frame → p.awaited.items
     ≡ map (is_tile u frame) (range_with_len 0 (64 * blocks (length frame)))
     → p.left ≡ length (cover u frame) → p.pushes.items ≡ replicate (length frame) no_push
@@ -103,10 +103,10 @@ opened_is u frame p kind ring few tiles awaited left pushes energy = record {
     size = rw energy (omega (arith, few_tiles))
 
 -- the open step of a partial by its kind
-pub open_of : (u : Units) (frame : List Place) (p : Partial) (kind : Kind) → p.kind ≡ Some kind
+pub open_of : (u : Composition) (frame : List Place) (p : Partial) (kind : Kind) → p.kind ≡ Some kind
     → IsPartial u frame p p.kind → IsOpen u frame p kind
 open_of u frame p kind e h = subst (λ (o : Option Kind). IsPartial u frame p o) e h
 
-pub partial_of : (u : Units) (frame : List Place) (p : Partial) (kind : Kind) → p.kind ≡ Some kind
+pub partial_of : (u : Composition) (frame : List Place) (p : Partial) (kind : Kind) → p.kind ≡ Some kind
     → IsOpen u frame p kind → IsPartial u frame p p.kind
 partial_of u frame p kind e h = subst (λ (o : Option Kind). IsPartial u frame p o) (sym e) h

@@ -7,7 +7,7 @@ use Rattle.std.proofs.lemmas.Bool.Decides.{nat_tests}
 use Rattle.std.proofs.lemmas.List.{get_or_past}
 use Rattle.std.proofs.lemmas.List.FromFn.{get_or-map-range_with_len, length-map-range_with_len}
 use Rattle.lj_ring.specs.declared.coordinates.Place.{Place}
-use Rattle.lj_ring.specs.Scales.{Units}
+use Rattle.lj_tile.specs.Species.{Composition}
 use Rattle.lj_tile.specs.Tiles.{are_near}
 use Rattle.lj_step.specs.Laws.{AreOnRing}
 use Rattle.lj_step.specs.OpenSteps.{blocks, first_block, second_block, is_in_order, is_out_of_reach, is_tile}
@@ -15,14 +15,14 @@ use Rattle.lj_step.specs.Sums.{pair_number, pair_awaited}
 use Rattle.lj_step.proofs.Reach.{near_in_reach}
 
 -- the first flag of an opened step at each number
-pub opened_flag : (u : Units) (frame : List Place) (k : ℕ) → k < 64 * blocks (length frame)
+pub opened_flag : (u : Composition) (frame : List Place) (k : ℕ) → k < 64 * blocks (length frame)
     → slice_index_or (map (is_tile u frame) (range_with_len 0 (64 * blocks (length frame)))) k false
     ≡ is_tile u frame k
 opened_flag u frame k within =
     get_or-map-range_with_len (is_tile u frame) 0 (64 * blocks (length frame)) k k false within (omega arith)
 
 -- the flags that are set are those of tiles
-pub opened_within : (u : Units) (frame : List Place) (k : ℕ) → slice_index_or
+pub opened_within : (u : Composition) (frame : List Place) (k : ℕ) → slice_index_or
     (map (is_tile u frame) (range_with_len 0 (64 * blocks (length frame)))) k false ≡ true
     → is_tile u frame k ≡ true
 opened_within u frame k set =
@@ -55,7 +55,7 @@ pair_in_order count i j hi hj few =
     and_from (nat_lt (second_block k) (blocks count)) (nat_le (first_block k) (second_block k)) within in_order
 
 -- a step has the tile of two different atoms that interact
-pub near_is_tile : (u : Units) (frame : List Place) → AreOnRing frame → length frame ≤ 4096 → (i j : ℕ)
+pub near_is_tile : (u : Composition) (frame : List Place) → AreOnRing frame → length frame ≤ 4096 → (i j : ℕ)
     → i < length frame → j < length frame → i ≢ j → are_near u frame i j ≡ true
     → is_tile u frame (pair_number i j) ≡ true
 near_is_tile u frame ring few i j hi hj other near =
@@ -63,7 +63,7 @@ near_is_tile u frame ring few i j hi hj other near =
     (pair_in_order (length frame) i j hi hj few) (ap not (near_in_reach u frame ring few i j hi hj other near))
 
 -- an opened step awaits it
-pub near_awaited : (u : Units) (frame : List Place) → AreOnRing frame → length frame ≤ 4096 → (i j : ℕ)
+pub near_awaited : (u : Composition) (frame : List Place) → AreOnRing frame → length frame ≤ 4096 → (i j : ℕ)
     → i < length frame → j < length frame → i ≢ j → are_near u frame i j ≡ true
     → pair_awaited (map (is_tile u frame) (range_with_len 0 (64 * blocks (length frame)))) i j ≡ true
 near_awaited u frame ring few i j hi hj other near =

@@ -7,21 +7,24 @@ use Rattle.std.proofs.lemmas.Bool.{cases_eq, cases_Bool, eqb-true, eqb-false, tr
 use Rattle.std.proofs.lemmas.Bool.Decides.{nat_tests}
 use Rattle.lj_ring.specs.declared.coordinates.Place.{Place}
 use Rattle.lj_ring.specs.Ring.{int_sum_below}
-use Rattle.lj_ring.specs.Scales.{Units}
+use Rattle.lj_tile.specs.Species.{Composition, class_between}
 use Rattle.lj_tile.specs.Pushes.{energy}
 use Rattle.lj_tile.specs.Tiles.{chosen_energy}
-use Rattle.lj_tile.specs.Tasks.{Work, task_energy}
+use Rattle.lj_ring.specs.declared.mixes.Class.{Class}
+use Rattle.lj_tile.specs.Blocks.{Sites}
+use Rattle.lj_tile.specs.Tasks.{Work, class_in, task_energy}
+use Rattle.lj_step.proofs.BlockClasses.{class_is}
 use Rattle.lj_step.specs.Motion.{place_at, potential}
-use Rattle.lj_step.specs.OpenSteps.{block, tile_number}
+use Rattle.lj_step.specs.OpenSteps.{sites_of, tile_number}
 use Rattle.lj_step.specs.Sums.{pair_number, pair_awaited, energy_so_far_of, energy_so_far}
 use Rattle.lj_step.proofs.BlockSums.{length_in, int_block_sum, int_sum_same, int_sum_none, int_sum_plus, int_sum_cut}
-use Rattle.lj_step.proofs.BlockPlaces.{block_length, block_place, atom_within}
+use Rattle.lj_step.proofs.BlockPlaces.{block_length, block_place, atom_within, in_block}
 use Rattle.lj_step.proofs.Flags.{pair_in, pair_first_apart, pair_second_apart, flag_in, flag_before, flag_other}
 use Rattle.lj_step.proofs.Flags.{none_left}
 
 -- the energy of a pair of atoms of a frame
-pair : Units → List Place → ℕ → ℕ → ℤ
-pair u frame i j = energy u (place_at frame i) (place_at frame j)
+pair : Composition → List Place → ℕ → ℕ → ℤ
+pair u frame i j = energy (class_between u i j) (place_at frame i) (place_at frame j)
 
 -- what a pair adds where a tile comes in
 term : (e : ℤ) (before after here : Bool) → (here ≡ true → (before ≡ true) × (after ≡ false))
@@ -117,51 +120,49 @@ module _ (e : ℕ → ℕ → ℤ) (bi bj n : ℕ) (before after : ℕ → ℕ �
       ∙ ap (λ w. int_sum_below n (so_far before) +ℤ w) (block_pairs e bi bj n)
 
 -- the sum of the energies of the pairs of two blocks
-unfoldable pub block_energy : Units → List Place → ℕ → ℕ → ℤ
+unfoldable pub block_energy : Composition → List Place → ℕ → ℕ → ℤ
 block_energy u frame bi bj =
     int_sum_below (length_in bj (length frame)) (λ s. int_sum_below (length_in bi (length frame))
-    (λ t. if nat_lt (64 * bi + t) (64 * bj + s) then energy u (place_at frame (64 * bi + t))
+    (λ t. if nat_lt (64 * bi + t) (64 * bj + s) then energy (class_between u (64 * bi + t) (64 * bj + s))
+    (place_at frame (64 * bi + t))
     (place_at frame (64 * bj + s)) else pos 0))
 
 -- the value of the energy task of two blocks
-pub energy_task_is : (u : Units) (frame : List Place) (work : Work) → work.units ≡ u → work.a ≡ block frame work.name.bi
-    → work.b ≡ block frame work.name.bj
+pub energy_task_is : (u : Composition) (frame : List Place) (work : Work) → work.mix ≡ u.mix
+    → work.a ≡ sites_of u frame work.name.bi → work.b ≡ sites_of u frame work.name.bj
     → task_energy work ≡ block_energy u frame work.name.bi work.name.bj
 unfolding task_energy block_energy
-energy_task_is u frame work units a b =
-    ap (λ m. int_sum_below m (λ s. int_sum_below (length work.a)
-    (λ t. chosen_energy work.units (nat_lt (64 * work.name.bi + t) (64 * work.name.bj + s)) (place_at work.a t)
-    (place_at work.b s)))) second
-    ∙ int_sum_same (length_in work.name.bj (length frame))
-    (λ s. int_sum_below (length work.a) (λ t. chosen_energy work.units
-    (nat_lt (64 * work.name.bi + t) (64 * work.name.bj + s)) (place_at work.a t) (place_at work.b s)))
-    (λ s. int_sum_below (length_in work.name.bi (length frame))
-    (λ t. chosen_energy u (nat_lt (64 * work.name.bi + t) (64 * work.name.bj + s))
-    (place_at frame (64 * work.name.bi + t)) (place_at frame (64 * work.name.bj + s))))
+energy_task_is u frame work mix a b =
+    let bi : ℕ = work.name.bi in
+    let bj : ℕ = work.name.bj in
+    let n : ℕ = length frame in
+    let order : ℕ → ℕ → Bool = λ t s. nat_lt (64 * bi + t) (64 * bj + s) in
+    let kept : ℕ → ℕ → ℤ =
+    λ s t. chosen_energy (class_in work t s) (order t s) (place_at work.a.places t) (place_at work.b.places s) in
+    let meant : ℕ → ℕ → ℤ =
+    λ s t. chosen_energy (class_between u (64 * bi + t) (64 * bj + s)) (order t s) (place_at frame (64 * bi + t))
+    (place_at frame (64 * bj + s)) in
+    ap (λ m. int_sum_below m (λ s. int_sum_below (length work.a.places) (kept s))) second
+    ∙ int_sum_same (length_in bj n) (λ s. int_sum_below (length work.a.places) (kept s))
+    (λ s. int_sum_below (length_in bi n) (meant s))
     (λ s h.
-    ap (λ m. int_sum_below m (λ t. chosen_energy work.units (nat_lt (64 * work.name.bi + t) (64 * work.name.bj + s))
-    (place_at work.a t) (place_at work.b s))) first
-    ∙ int_sum_same (length_in work.name.bi (length frame))
-    (λ t. chosen_energy work.units (nat_lt (64 * work.name.bi + t) (64 * work.name.bj + s))
-    (place_at work.a t) (place_at work.b s))
-    (λ t. chosen_energy u (nat_lt (64 * work.name.bi + t) (64 * work.name.bj + s))
-    (place_at frame (64 * work.name.bi + t)) (place_at frame (64 * work.name.bj + s)))
+    ap (λ m. int_sum_below m (kept s)) first
+    ∙ int_sum_same (length_in bi n) (kept s) (meant s)
     (λ t k.
-    ap (λ w. chosen_energy w (nat_lt (64 * work.name.bi + t) (64 * work.name.bj + s))
-    (place_at work.a t) (place_at work.b s)) units
-    ∙ ap (λ p. chosen_energy u (nat_lt (64 * work.name.bi + t) (64 * work.name.bj + s)) p (place_at work.b s))
-    (ap (λ places. place_at places t) a ∙ block_place frame work.name.bi t k)
-    ∙ ap (λ q. chosen_energy u (nat_lt (64 * work.name.bi + t) (64 * work.name.bj + s))
-    (place_at frame (64 * work.name.bi + t)) q)
-    (ap (λ places. place_at places s) b ∙ block_place frame work.name.bj s h)))
+    ap (λ (class : Class). chosen_energy class (order t s) (place_at work.a.places t) (place_at work.b.places s))
+    (class_is u frame work t s mix a b (in_block bi n t k) (in_block bj n s h))
+    ∙ ap (λ p. chosen_energy (class_between u (64 * bi + t) (64 * bj + s)) (order t s) p (place_at work.b.places s))
+    (ap (λ (sites : Sites). place_at sites.places t) a ∙ block_place frame bi t k)
+    ∙ ap (λ q. chosen_energy (class_between u (64 * bi + t) (64 * bj + s)) (order t s) (place_at frame (64 * bi + t)) q)
+    (ap (λ (sites : Sites). place_at sites.places s) b ∙ block_place frame bj s h)))
   where
-    first : length work.a ≡ length_in work.name.bi (length frame)
-    first = ap length a ∙ block_length frame work.name.bi
+    first : length work.a.places ≡ length_in work.name.bi (length frame)
+    first = ap (λ (sites : Sites). length sites.places) a ∙ block_length frame work.name.bi
 
-    second : length work.b ≡ length_in work.name.bj (length frame)
-    second = ap length b ∙ block_length frame work.name.bj
+    second : length work.b.places ≡ length_in work.name.bj (length frame)
+    second = ap (λ (sites : Sites). length sites.places) b ∙ block_length frame work.name.bj
 
-module _ (u : Units) (frame : List Place) (flags : List Bool) (bi bj : ℕ) (few : length frame ≤ 4096) (ordered : bi ≤ bj)
+module _ (u : Composition) (frame : List Place) (flags : List Bool) (bi bj : ℕ) (few : length frame ≤ 4096) (ordered : bi ≤ bj)
     (second : bj < 64) (within : tile_number bi bj < length flags)
     (awaited : slice_index_or flags (tile_number bi bj) false ≡ true) where
   -- an energy tile that comes in adds its sum
@@ -180,15 +181,15 @@ module _ (u : Units) (frame : List Place) (flags : List Bool) (bi bj : ℕ) (few
       (pair_second_apart bi bj i j second h (omega (arith, k, few)) other))
 
 -- a whole step has the energies of all pairs
-pub energy_whole : (u : Units) (frame : List Place) (flags : List Bool) → count_by (λ awaited. awaited) flags ≡ 0
+pub energy_whole : (u : Composition) (frame : List Place) (flags : List Bool) → count_by (λ awaited. awaited) flags ≡ 0
     → energy_so_far u frame flags ≡ potential u frame
 unfolding energy_so_far
 energy_whole u frame flags whole =
     int_sum_same (length frame) (λ j. int_sum_below j (λ i. energy_so_far_of u frame flags i j))
-    (λ j. int_sum_below j (λ i. energy u (place_at frame i) (place_at frame j)))
+    (λ j. int_sum_below j (λ i. energy (class_between u i j) (place_at frame i) (place_at frame j)))
     (λ j h. int_sum_same j (λ i. energy_so_far_of u frame flags i j)
-    (λ i. energy u (place_at frame i) (place_at frame j))
-    (λ i k. ap (λ (b : Bool). if b then pos 0 else energy u (place_at frame i) (place_at frame j))
+    (λ i. energy (class_between u i j) (place_at frame i) (place_at frame j))
+    (λ i k. ap (λ (b : Bool). if b then pos 0 else energy (class_between u i j) (place_at frame i) (place_at frame j))
     (none_left flags (pair_number i j) whole)))
 
 -- a pair that is awaited, or has no energy, adds nothing
@@ -198,12 +199,12 @@ nothing_yet false e (inl set) = absurd (true≢false (sym set))
 nothing_yet false e (inr none) = none
 
 -- a step that awaits each pair that has an energy has none
-pub energy_none : (u : Units) (frame : List Place) (flags : List Bool)
+pub energy_none : (u : Composition) (frame : List Place) (flags : List Bool)
     → ((i j : ℕ) → i < j → j < length frame
-    → (pair_awaited flags i j ≡ true) ⊎ (energy u (place_at frame i) (place_at frame j) ≡ pos 0))
+    → (pair_awaited flags i j ≡ true) ⊎ (energy (class_between u i j) (place_at frame i) (place_at frame j) ≡ pos 0))
     → energy_so_far u frame flags ≡ pos 0
 unfolding energy_so_far
 energy_none u frame flags all =
     int_sum_none (length frame) (λ j. int_sum_below j (λ i. energy_so_far_of u frame flags i j))
     (λ j h. int_sum_none j (λ i. energy_so_far_of u frame flags i j)
-    (λ i k. nothing_yet (pair_awaited flags i j) (energy u (place_at frame i) (place_at frame j)) (all i j k h)))
+    (λ i k. nothing_yet (pair_awaited flags i j) (energy (class_between u i j) (place_at frame i) (place_at frame j)) (all i j k h)))

@@ -6,18 +6,22 @@ use Rattle.std.proofs.lemmas.Bool.{cases_Bool, eqb-true, eqb-false, true≢false
 use Rattle.std.proofs.lemmas.Bool.Decides.{nat_tests}
 use Rattle.lj_ring.specs.declared.coordinates.Place.{Place}
 use Rattle.lj_ring.specs.Ring.{sum_below, ring_sum}
-use Rattle.lj_ring.specs.Scales.{Units}
+use Rattle.lj_tile.specs.Species.{Composition, class_between}
 use Rattle.lj_tile.specs.declared.pairs.Push.{Push}
 use Rattle.lj_tile.specs.Pushes.{push, no_push, plus}
 use Rattle.lj_tile.specs.Tiles.{chosen_push, push_sum}
-use Rattle.lj_tile.specs.Tasks.{Work, task_force, task_second}
+use Rattle.lj_ring.specs.declared.mixes.Class.{Class}
+use Rattle.lj_ring.specs.Scales.{Units}
+use Rattle.lj_tile.specs.Blocks.{Sites}
+use Rattle.lj_tile.specs.Tasks.{Work, class_in, task_force, task_second}
 use Rattle.lj_step.specs.Motion.{place_at, push_of, force}
-use Rattle.lj_step.specs.OpenSteps.{block, tile_number}
+use Rattle.lj_step.specs.OpenSteps.{block, sites_of, tile_number}
+use Rattle.lj_step.proofs.BlockClasses.{class_is, class_turned}
 use Rattle.lj_step.specs.Sums.{pair_number, pair_awaited, push_so_far, force_so_far}
 use Rattle.lj_step.proofs.RingSums.{sum_same, ring_sum_zero, sum_plus}
 use Rattle.lj_step.proofs.Drift.{same_push}
 use Rattle.lj_step.proofs.BlockSums.{length_in, block_sum}
-use Rattle.lj_step.proofs.BlockPlaces.{block_length, block_place}
+use Rattle.lj_step.proofs.BlockPlaces.{block_length, block_place, in_block}
 use Rattle.lj_step.proofs.Flags.{pair_in, pair_in_turned, pair_second_other, pair_turned_other, pair_outside, flag_in}
 use Rattle.lj_step.proofs.Flags.{flag_before, flag_other, none_left}
 
@@ -74,7 +78,7 @@ module _ (axis : Push → ℕ) (none : axis no_push ≡ 0) where
       ap (λ s. s % 2 ^ 32) (sum_same n (λ j. axis (g j)) (λ j. axis (h j)) (λ j below. ap axis (same j below)))
 
 -- the sum on the ring of the pushes on atom i of the atoms of one block
-unfoldable pub block_force : Units → List Place → ℕ → ℕ → Push
+unfoldable pub block_force : Composition → List Place → ℕ → ℕ → Push
 block_force u frame i b = record {
   x = ring_sum (length_in b (length frame)) (λ s. (push_of u frame i (64 * b + s)).x);
   y = ring_sum (length_in b (length frame)) (λ s. (push_of u frame i (64 * b + s)).y);
@@ -88,62 +92,71 @@ not_chosen u false p q = refl
 same_test : (i j : ℕ) → (i == j) ≡ (j == i)
 same_test i j = grind (arith, nat_tests)
 
-pub chosen_is : (u : Units) (frame : List Place) (i j : ℕ)
-    → chosen_push u (not (i == j)) (place_at frame i) (place_at frame j) ≡ push_of u frame i j
+pub chosen_is : (u : Composition) (frame : List Place) (i j : ℕ)
+    → chosen_push (class_between u i j).scale (not (i == j)) (place_at frame i) (place_at frame j) ≡ push_of u frame i j
 chosen_is u frame i j =
-    ap (λ (b : Bool). chosen_push u (not b) (place_at frame i) (place_at frame j)) (same_test i j)
-    ∙ not_chosen u (j == i) (place_at frame i) (place_at frame j)
+    ap (λ (b : Bool). chosen_push (class_between u i j).scale (not b) (place_at frame i) (place_at frame j)) (same_test i j)
+    ∙ not_chosen (class_between u i j).scale (j == i) (place_at frame i) (place_at frame j)
 
 -- a sum over the places of a block
-sum_is : (u v : Units) (frame : List Place) (p : Place) (places : List Place) (chosen : ℕ → Bool) (i b : ℕ) → v ≡ u
-    → p ≡ place_at frame i → places ≡ block frame b
-    → ((s : ℕ) → chosen_push u (chosen s) (place_at frame i) (place_at frame (64 * b + s))
+sum_is : (u : Composition) (class : ℕ → Class) (frame : List Place) (p : Place) (places : List Place) (chosen : ℕ → Bool)
+    (i b : ℕ) → p ≡ place_at frame i → places ≡ block frame b
+    → ((s : ℕ) → s < length_in b (length frame) → class s ≡ class_between u i (64 * b + s))
+    → ((s : ℕ) → chosen_push (class_between u i (64 * b + s)).scale (chosen s) (place_at frame i) (place_at frame (64 * b + s))
     ≡ push_of u frame i (64 * b + s))
-    → push_sum v p places chosen ≡ block_force u frame i b
+    → push_sum class p places chosen ≡ block_force u frame i b
 unfolding push_sum block_force
-sum_is u v frame p places chosen i b units here block_is terms =
-    same_push (push_sum v p places chosen) (block_force u frame i b) (along (λ p. p.x) refl)
+sum_is u class frame p places chosen i b here block_is classes terms =
+    same_push (push_sum class p places chosen) (block_force u frame i b) (along (λ p. p.x) refl)
     (along (λ p. p.y) refl) (along (λ p. p.z) refl)
   where
     along : (axis : Push → ℕ) → axis no_push ≡ 0
-        → ring_sum (length places) (λ s. axis (chosen_push v (chosen s) p (place_at places s)))
+        → ring_sum (length places) (λ s. axis (chosen_push (class s).scale (chosen s) p (place_at places s)))
         ≡ ring_sum (length_in b (length frame)) (λ s. axis (push_of u frame i (64 * b + s)))
     along axis none =
-        ap (λ m. ring_sum m (λ s. axis (chosen_push v (chosen s) p (place_at places s))))
+        ap (λ m. ring_sum m (λ s. axis (chosen_push (class s).scale (chosen s) p (place_at places s))))
         (ap length block_is ∙ block_length frame b)
         ∙ same_on_ring axis none (length_in b (length frame))
-        (λ s. chosen_push v (chosen s) p (place_at places s)) (λ s. push_of u frame i (64 * b + s))
+        (λ s. chosen_push (class s).scale (chosen s) p (place_at places s)) (λ s. push_of u frame i (64 * b + s))
         (λ s below.
-        ap (λ w. chosen_push w (chosen s) p (place_at places s)) units
-        ∙ ap (λ r. chosen_push u (chosen s) r (place_at places s)) here
-        ∙ ap (λ q. chosen_push u (chosen s) (place_at frame i) q)
+        ap (λ (k : Class). chosen_push k.scale (chosen s) p (place_at places s)) (classes s below)
+        ∙ ap (λ r. chosen_push (class_between u i (64 * b + s)).scale (chosen s) r (place_at places s)) here
+        ∙ ap (λ q. chosen_push (class_between u i (64 * b + s)).scale (chosen s) (place_at frame i) q)
         (ap (λ list. place_at list s) block_is ∙ block_place frame b s below)
         ∙ terms s)
 
 -- the value of the force task of two blocks, for an atom of the first
-pub task_is : (u : Units) (frame : List Place) (work : Work) (t : ℕ) → work.units ≡ u
-    → work.a ≡ block frame work.name.bi → work.b ≡ block frame work.name.bj
+pub task_is : (u : Composition) (frame : List Place) (work : Work) (t : ℕ) → work.mix ≡ u.mix
+    → work.a ≡ sites_of u frame work.name.bi → work.b ≡ sites_of u frame work.name.bj
     → t < length_in work.name.bi (length frame) → task_force work t
     ≡ block_force u frame (64 * work.name.bi + t) work.name.bj
-task_is u frame work t units a b within =
-    sum_is u work.units frame (place_at work.a t) work.b (λ s. not (64 * work.name.bi + t == 64 * work.name.bj + s))
-    (64 * work.name.bi + t) work.name.bj units
-    (ap (λ places. place_at places t) a ∙ block_place frame work.name.bi t within) b
+task_is u frame work t mix a b within =
+    sum_is u (class_in work t) frame (place_at work.a.places t) work.b.places
+    (λ s. not (64 * work.name.bi + t == 64 * work.name.bj + s)) (64 * work.name.bi + t) work.name.bj
+    (ap (λ (sites : Sites). place_at sites.places t) a ∙ block_place frame work.name.bi t within)
+    (ap (λ (sites : Sites). sites.places) b)
+    (λ s below. class_is u frame work t s mix a b (in_block work.name.bi (length frame) t within)
+    (in_block work.name.bj (length frame) s below))
     (λ s. chosen_is u frame (64 * work.name.bi + t) (64 * work.name.bj + s))
 
 -- and for an atom of the second
-pub second_is : (u : Units) (frame : List Place) (work : Work) (s : ℕ) → work.units ≡ u
-    → work.a ≡ block frame work.name.bi → work.b ≡ block frame work.name.bj
+pub second_is : (u : Composition) (frame : List Place) (work : Work) (s : ℕ) → work.mix ≡ u.mix
+    → work.a ≡ sites_of u frame work.name.bi → work.b ≡ sites_of u frame work.name.bj
     → s < length_in work.name.bj (length frame) → task_second work s
     ≡ block_force u frame (64 * work.name.bj + s) work.name.bi
-second_is u frame work s units a b within =
-    sum_is u work.units frame (place_at work.b s) work.a (λ t. not (64 * work.name.bi + t == 64 * work.name.bj + s))
-    (64 * work.name.bj + s) work.name.bi units
-    (ap (λ places. place_at places s) b ∙ block_place frame work.name.bj s within) a
-    (λ t. not_chosen u (64 * work.name.bi + t == 64 * work.name.bj + s) (place_at frame (64 * work.name.bj + s))
+second_is u frame work s mix a b within =
+    sum_is u (λ t. class_in work t s) frame (place_at work.b.places s) work.a.places
+    (λ t. not (64 * work.name.bi + t == 64 * work.name.bj + s)) (64 * work.name.bj + s) work.name.bi
+    (ap (λ (sites : Sites). place_at sites.places s) b ∙ block_place frame work.name.bj s within)
+    (ap (λ (sites : Sites). sites.places) a)
+    (λ t below. class_is u frame work t s mix a b (in_block work.name.bi (length frame) t below)
+    (in_block work.name.bj (length frame) s within)
+    ∙ class_turned u (64 * work.name.bi + t) (64 * work.name.bj + s))
+    (λ t. not_chosen (class_between u (64 * work.name.bj + s) (64 * work.name.bi + t)).scale
+    (64 * work.name.bi + t == 64 * work.name.bj + s) (place_at frame (64 * work.name.bj + s))
     (place_at frame (64 * work.name.bi + t)))
 
-module _ (u : Units) (frame : List Place) (flags : List Bool) (bi bj : ℕ) (few : length frame ≤ 4096) (ordered : bi ≤ bj)
+module _ (u : Composition) (frame : List Place) (flags : List Bool) (bi bj : ℕ) (few : length frame ≤ 4096) (ordered : bi ≤ bj)
     (second : bj < 64) (within : tile_number bi bj < length flags)
     (awaited : slice_index_or flags (tile_number bi bj) false ≡ true) where
   -- an atom all whose pairs in the tile have their other atom in one block gets the sum over this block
@@ -203,7 +216,7 @@ module _ (u : Units) (frame : List Place) (flags : List Bool) (bi bj : ℕ) (few
           (pair_outside bi bj i j second first other (omega (arith, below, few)) (omega (arith, h, few)))))
 
 -- a whole step has all pushes
-pub force_whole : (u : Units) (frame : List Place) (flags : List Bool) (i : ℕ) → count_by (λ awaited. awaited) flags ≡ 0
+pub force_whole : (u : Composition) (frame : List Place) (flags : List Bool) (i : ℕ) → count_by (λ awaited. awaited) flags ≡ 0
     → force_so_far u frame flags i ≡ force u frame i
 unfolding force_so_far force
 force_whole u frame flags i whole =
@@ -225,7 +238,7 @@ nothing_yet false p (inl set) = absurd (true≢false (sym set))
 nothing_yet false p (inr none) = none
 
 -- a step that awaits each pair that pushes has no pushes
-pub force_none : (u : Units) (frame : List Place) (flags : List Bool) (i : ℕ)
+pub force_none : (u : Composition) (frame : List Place) (flags : List Bool) (i : ℕ)
     → ((j : ℕ) → j < length frame → (pair_awaited flags i j ≡ true) ⊎ (push_of u frame i j ≡ no_push))
     → force_so_far u frame flags i ≡ no_push
 unfolding force_so_far

@@ -10,7 +10,12 @@ use Rattle.std.proofs.lemmas.Bool.Decides.{nat_tests}
 use Rattle.lj_ring.specs.declared.coordinates.Place.{Place}
 use Rattle.lj_ring.specs.declared.arcs.Arcs.{Arcs}
 use Rattle.lj_ring.specs.Ring.{IsOnRing, distance}
+use Rattle.lj_tile.specs.Species.{Composition, class_between, species_of}
 use Rattle.lj_ring.specs.Scales.{Units, bin, interacts}
+use Rattle.lj_ring.specs.Mixes.{can_interact}
+use Rattle.lj_ring.specs.declared.mixes.Class.{Class}
+use Rattle.lj_ring.proofs.MixLemmas.{can_interact_from}
+use Rattle.lj_step.proofs.BlockClasses.{class_turned}
 use Rattle.lj_ring.specs.Arcs.{squared_gap}
 use Rattle.lj_ring.proofs.ArcLemmas.{squared_gap_least}
 use Rattle.lj_tile.specs.Tiles.{are_near}
@@ -29,35 +34,35 @@ pub number_parts : (first second : ℕ) → second < 64 → (first_block (tile_n
 number_parts first second few = (omega arith, omega arith)
 
 -- of the number of two blocks, whether they are out of reach
-reach_by_blocks : (u : Units) (frame : List Place) (first second : ℕ) → second < 64
+reach_by_blocks : (u : Composition) (frame : List Place) (first second : ℕ) → second < 64
     → is_out_of_reach u frame (tile_number first second)
     ≡ (if first == second then length (block frame first) == 1
-    else not (interacts u (squared_gap (block_arcs frame first) (block_arcs frame second))))
+    else not (can_interact u.mix (squared_gap (block_arcs frame first) (block_arcs frame second))))
 unfolding is_out_of_reach
 reach_by_blocks u frame first second few =
     let parts = number_parts first second few in
     ap (λ (b : ℕ). if b == second_block (tile_number first second) then length (block frame b) == 1
-    else not (interacts u (squared_gap (block_arcs frame b)
+    else not (can_interact u.mix (squared_gap (block_arcs frame b)
     (block_arcs frame (second_block (tile_number first second)))))) parts.0
     ∙ ap (λ (b : ℕ). if first == b then length (block frame first) == 1
-    else not (interacts u (squared_gap (block_arcs frame first) (block_arcs frame b)))) parts.1
+    else not (can_interact u.mix (squared_gap (block_arcs frame first) (block_arcs frame b)))) parts.1
 
-pub reach_of_one : (u : Units) (frame : List Place) (b : ℕ) → b < 64
+pub reach_of_one : (u : Composition) (frame : List Place) (b : ℕ) → b < 64
     → is_out_of_reach u frame (tile_number b b) ≡ (length (block frame b) == 1)
 reach_of_one u frame b few =
     let same : (b == b) ≡ true = grind (arith, nat_tests) in
     reach_by_blocks u frame b b few
     ∙ ap (λ (t : Bool). if t then length (block frame b) == 1
-    else not (interacts u (squared_gap (block_arcs frame b) (block_arcs frame b)))) same
+    else not (can_interact u.mix (squared_gap (block_arcs frame b) (block_arcs frame b)))) same
 
-pub reach_of_two : (u : Units) (frame : List Place) (first second : ℕ) → second < 64 → first ≢ second
+pub reach_of_two : (u : Composition) (frame : List Place) (first second : ℕ) → second < 64 → first ≢ second
     → is_out_of_reach u frame (tile_number first second)
-    ≡ not (interacts u (squared_gap (block_arcs frame first) (block_arcs frame second)))
+    ≡ not (can_interact u.mix (squared_gap (block_arcs frame first) (block_arcs frame second)))
 reach_of_two u frame first second few other =
     let apart : (first == second) ≡ false = grind (arith, nat_tests) in
     reach_by_blocks u frame first second few
     ∙ ap (λ (t : Bool). if t then length (block frame first) == 1
-    else not (interacts u (squared_gap (block_arcs frame first) (block_arcs frame second)))) apart
+    else not (can_interact u.mix (squared_gap (block_arcs frame first) (block_arcs frame second)))) apart
 
 -- the arcs of a block among those of all blocks
 arcs_at : (frame : List Place) (arcs : List Arcs) (b : ℕ) (d : Arcs)
@@ -122,13 +127,15 @@ gap_least frame ring i j hi hj =
     ≤ distance (place_at (block frame (i / 64)) (i - 64 * (i / 64))) q) second least)
 
 -- the atoms of two blocks in order that interact
-near_in_order : (u : Units) (frame : List Place) → AreOnRing frame → length frame ≤ 4096 → (i j : ℕ)
+near_in_order : (u : Composition) (frame : List Place) → AreOnRing frame → length frame ≤ 4096 → (i j : ℕ)
     → i < length frame → j < length frame → i / 64 < j / 64 → are_near u frame i j ≡ true
     → is_out_of_reach u frame (tile_number (i / 64) (j / 64)) ≡ false
 near_in_order u frame ring few i j hi hj before near =
     let met =
-    nearer u (squared_gap (block_arcs frame (i / 64)) (block_arcs frame (j / 64)))
-    (distance (place_at frame i) (place_at frame j)) (gap_least frame ring i j hi hj) near in
+    can_interact_from u.mix (species_of u.seconds i) (species_of u.seconds j)
+    (squared_gap (block_arcs frame (i / 64)) (block_arcs frame (j / 64)))
+    (nearer (class_between u i j).scale (squared_gap (block_arcs frame (i / 64)) (block_arcs frame (j / 64)))
+    (distance (place_at frame i) (place_at frame j)) (gap_least frame ring i j hi hj) near) in
     reach_of_two u frame (i / 64) (j / 64) (omega arith) (omega arith) ∙ ap not met
 
 -- a block of two atoms
@@ -139,7 +146,7 @@ more_than_one n b count i j e hi hj first second other =
     let more : count ≢ 1 = omega arith in grind (arith, nat_tests)
 
 -- the blocks of two atoms that interact are not out of reach
-pub near_in_reach : (u : Units) (frame : List Place) → AreOnRing frame → length frame ≤ 4096 → (i j : ℕ)
+pub near_in_reach : (u : Composition) (frame : List Place) → AreOnRing frame → length frame ≤ 4096 → (i j : ℕ)
     → i < length frame → j < length frame → i ≢ j → are_near u frame i j ≡ true
     → is_out_of_reach u frame (pair_number i j) ≡ false
 near_in_reach u frame ring few i j hi hj other near =
@@ -152,7 +159,11 @@ near_in_reach u frame ring few i j hi hj other near =
             | inl after ↦
                 let number : pair_number i j ≡ tile_number (j / 64) (i / 64) = omega (arith, after) in
                 let turned : are_near u frame j i ≡ true =
-                ap (interacts u) (distance_symmetric (place_at frame i) (place_at frame j) (ring i hi) (ring j hj)) ∙ near in
+                ap (interacts (class_between u j i).scale)
+                (distance_symmetric (place_at frame i) (place_at frame j) (ring i hi) (ring j hj))
+                ∙ ap (λ (class : Class). interacts class.scale (distance (place_at frame i) (place_at frame j)))
+                (class_turned u j i)
+                ∙ near in
                 ap (is_out_of_reach u frame) number ∙ near_in_order u frame ring few j i hj hi after turned
             | inr not_after ↦
                 let number : pair_number i j ≡ tile_number (i / 64) (i / 64) = omega (arith, not_before, not_after) in

@@ -4,7 +4,7 @@ use Rattle.std.proofs.Common.{Result, Ok, Err, true≢false, refl, sym, ap, ◌�
 use Rattle.std.specs.Option.{IsSome}
 use Rattle.std.specs.Result.{IsOk, OnOk}
 use Rattle.std.proofs.lemmas.Int.{ints}
-use Rattle.lj_ring.specs.Scales.{Units}
+use Rattle.lj_tile.specs.Species.{Composition}
 use Rattle.lj_tile.specs.declared.names.Label.{Label}
 use Rattle.lj_tile.specs.declared.names.Kind.{Kind}
 use Rattle.lj_tile.specs.Tasks.{Work}
@@ -18,8 +18,8 @@ use Rattle.lj_step.proofs.Undone.{undone}
 
 -- each tile of the cover has a task
 pub task_some : (live : Live) (label : Label) (kind : Kind) (i : ℕ) (o : Option Work)
-    → AwaitsFrom kind live.units live.sim.cur i live.part → o ≡ task_at live label i
-    → i < length (cover live.units live.sim.cur) → IsSome o
+    → AwaitsFrom kind live.composition live.sim.cur i live.part → o ≡ task_at live label i
+    → i < length (cover live.composition live.sim.cur) → IsSome o
 task_some live label kind i None h e within = absurd (omega (arith, none_past live label kind i None h e refl))
 task_some live label kind i (Some work) h e within = refl
 
@@ -37,17 +37,17 @@ turned_size s d a n most one fits = omega (arith, ints)
 
 -- the simulations there, back and turned once more
 pub back_again : (start there turned back end : Live) (n : ℕ) → IsWhole start.sim
-    → there.units ≡ start.units → there.sim ≡ steps start.units n start.sim → turned ≡ closed there (reversed there.sim)
-    → back.units ≡ turned.units → back.sim ≡ steps turned.units n turned.sim → end ≡ closed back (reversed back.sim)
+    → there.composition ≡ start.composition → there.sim ≡ steps start.composition n start.sim → turned ≡ closed there (reversed there.sim)
+    → back.composition ≡ turned.composition → back.sim ≡ steps turned.composition n turned.sim → end ≡ closed back (reversed back.sim)
     → end ≡ closed start start.sim
 back_again start there turned back end n whole units motion turns back_units back_motion ends =
-    let same_units : turned.units ≡ start.units = ap (λ (v : Live). v.units) turns ∙ units in
-    let turned_sim : turned.sim ≡ reversed (steps start.units n start.sim) =
+    let same_units : turned.composition ≡ start.composition = ap (λ (v : Live). v.composition) turns ∙ units in
+    let turned_sim : turned.sim ≡ reversed (steps start.composition n start.sim) =
     ap (λ (v : Live). v.sim) turns ∙ ap reversed motion in
     let same_sim : reversed back.sim ≡ start.sim =
-    ap reversed (back_motion ∙ ap (λ u. steps u n turned.sim) same_units ∙ ap (steps start.units n) turned_sim)
-    ∙ undone start.units n start.sim whole in
-    ends ∙ ap (λ u. closed_in u (reversed back.sim)) (back_units ∙ same_units) ∙ ap (closed_in start.units) same_sim
+    ap reversed (back_motion ∙ ap (λ u. steps u n turned.sim) same_units ∙ ap (steps start.composition n) turned_sim)
+    ∙ undone start.composition n start.sim whole in
+    ends ∙ ap (λ u. closed_in u (reversed back.sim)) (back_units ∙ same_units) ∙ ap (closed_in start.composition) same_sim
   where
-    closed_in : Units → Simulation → Live
-    closed_in u sim = record { units = u; sim = sim; part = None }
+    closed_in : Composition → Simulation → Live
+    closed_in u sim = record { composition = u; sim = sim; part = None }

@@ -5,6 +5,7 @@ use Rattle.std.proofs.lemmas.List.{length-set}
 use Rattle.lj_tile.specs.declared.names.Label.{Label}
 use Rattle.lj_tile.specs.declared.names.Kind.{Kind}
 use Rattle.lj_tile.specs.declared.names.Kind.TheVariants.{Energy}
+use Rattle.lj_tile.specs.Species.{Composition}
 use Rattle.lj_tile.specs.Tasks.{Work, task_energy}
 use Rattle.lj_step.specs.declared.partial.Partial.{Partial}
 use Rattle.lj_step.specs.declared.frames.TheConstants.{MAX_ATOMS}
@@ -19,7 +20,7 @@ use Rattle.lj_step.proofs.TakenIn.{awaited_at, left_some, size_fits, partial_aft
 
 -- with another open step
 pub with_partial : (a : Inside) (p : Partial) → IsSound a → HasRoom (length a.cur.items) p
-    → IsPartial a.scale a.cur.items p p.kind
+    → IsPartial a.atoms a.cur.items p p.kind
     → IsSound (record a { partial = p })
 with_partial a p sound room partial = record {
   same = sound.same;
@@ -29,6 +30,7 @@ with_partial a p sound room partial = record {
   cur_on_ring = sound.cur_on_ring;
   step_bound = sound.step_bound;
   last_bound = sound.last_bound;
+  seconds = sound.seconds;
   room = room;
   partial = partial;
 }
@@ -37,8 +39,8 @@ with_partial a p sound room partial = record {
 pub with_frames : (a b : Inside) → IsSound a → b.prev.items ≡ a.cur.items
     → length b.cur.items ≡ length a.cur.items → AreOnRing b.cur.items
     → unsigned_abs b.step ≤ MAX_STEP → unsigned_abs (b.step -ℤ sign_of b.dir) ≤ MAX_STEP
-    → b.partial ≡ record a.partial { kind = None } → IsSound b
-with_frames a b sound prev count cur step last partial =
+    → b.partial ≡ record a.partial { kind = None } → b.atoms ≡ a.atoms → IsSound b
+with_frames a b sound prev count cur step last partial atoms =
     let room = subst (λ n. HasRoom n a.partial) (sym count) sound.room in
     record {
       same = ap length prev ∙ sym count;
@@ -48,9 +50,10 @@ with_frames a b sound prev count cur step last partial =
       cur_on_ring = cur;
       step_bound = step;
       last_bound = last;
+      seconds = ap (λ (u : Composition). length u.seconds) atoms ∙ sound.seconds ∙ sym (ap blocks count);
       room = subst (HasRoom (length b.cur.items)) (sym partial)
           (record { pushes = room.pushes; awaited = room.awaited; tiles = room.tiles; arcs = room.arcs });
-      partial = subst (λ p. IsPartial b.scale b.cur.items p p.kind) (sym partial) tt;
+      partial = subst (λ p. IsPartial b.atoms b.cur.items p p.kind) (sym partial) tt;
     }
 
 -- with one result more, of a task that is awaited

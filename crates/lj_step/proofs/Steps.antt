@@ -11,7 +11,7 @@ use Rattle.std.proofs.lemmas.List.Elements.{filter_passes, All-filter}
 use Rattle.std.proofs.lemmas.List.FromFn.{fill_by_all, get_or-range_with_len, length-range_with_len}
 use Rattle.std.proofs.lemmas.Int.{to_z-of_z, fits_signed_from_abs}
 use Rattle.lj_ring.specs.declared.coordinates.Place.{Place}
-use Rattle.lj_ring.specs.Scales.{Units}
+use Rattle.lj_tile.specs.Species.{Composition}
 use Rattle.lj_tile.specs.declared.pairs.Push.{Push}
 use Rattle.lj_tile.specs.declared.names.Label.{Label}
 use Rattle.lj_tile.specs.declared.names.Kind.{Kind}
@@ -41,14 +41,14 @@ whole_of (Some k) flags kind e whole =
     (e, omega arith)
 
 -- the sums of a whole force step are the forces
-pub forces_of : (u : Units) (frame : List Place) (p : Partial) (i : ℕ) → IsPartial u frame p p.kind
+pub forces_of : (u : Composition) (frame : List Place) (p : Partial) (i : ℕ) → IsPartial u frame p p.kind
     → (p.kind ≡ Some Force) × (count_by (λ awaited. awaited) p.awaited.items ≡ 0)
     → i < length frame → slice_index_or p.pushes.items i no_push ≡ force u frame i
 forces_of u frame p i h whole within =
     (open_of u frame p Force whole.0 h).pushes refl i within ∙ force_whole u frame p.awaited.items i whole.1
 
 -- a frame that was made from these sums is the next frame
-pub frame_is : (u : Units) (prev cur made : List Place) (pushes : List Push) → length made ≡ length cur
+pub frame_is : (u : Composition) (prev cur made : List Place) (pushes : List Push) → length made ≡ length cur
     → ((i : ℕ) → i < length cur → place_at made i ≡ next_place (place_at prev i) (place_at cur i)
     (slice_index_or pushes i no_push))
     → ((i : ℕ) → i < length cur → slice_index_or pushes i no_push ≡ force u cur i) → made ≡ next_frame u prev cur
@@ -57,14 +57,14 @@ frame_is u prev cur made pushes same places forces =
     (λ k h. places k h ∙ ap (λ f. next_place (place_at prev k) (place_at cur k) f) (forces k h))
 
 pub turned_is : (live : Live) (prev cur : List Place) (step : ℤ) → prev ≡ live.sim.cur
-    → cur ≡ next_frame live.units live.sim.prev live.sim.cur → step ≡ live.sim.step +ℤ live.sim.dir
+    → cur ≡ next_frame live.composition live.sim.prev live.sim.cur → step ≡ live.sim.step +ℤ live.sim.dir
     → (let sim : Simulation = record { prev = prev; cur = cur; step = step; dir = live.sim.dir } in
-    let turned : Live = record { units = live.units; sim = sim; part = None } in
-    turned ≡ closed live (stepped live.units live.sim))
+    let turned : Live = record { composition = live.composition; sim = sim; part = None } in
+    turned ≡ closed live (stepped live.composition live.sim))
 turned_is live prev cur step p c s = cc (p, c, s)
 
 -- the sum of a whole energy step is the potential
-pub potential_is : (u : Units) (frame : List Place) (p : Partial) → IsPartial u frame p p.kind
+pub potential_is : (u : Composition) (frame : List Place) (p : Partial) → IsPartial u frame p p.kind
     → (p.kind ≡ Some Energy) × (count_by (λ awaited. awaited) p.awaited.items ≡ 0)
     → to_z w128 (of_z w128 p.energy) ≡ potential u frame
 potential_is u frame p h whole =
@@ -74,7 +74,7 @@ potential_is u frame p h whole =
     ∙ energy_whole u frame p.awaited.items whole.1
 
 -- the sums of an opened step, where the frame is that of the simulation
-pub opened_partial : (u : Units) (frame now : List Place) (q : Partial) (kind : Kind) → frame ≡ now
+pub opened_partial : (u : Composition) (frame now : List Place) (q : Partial) (kind : Kind) → frame ≡ now
     → AreOnRing now → length now ≤ 4096 → q.kind ≡ Some kind
     → q.tiles.items ≡ cover u frame
     → q.awaited.items ≡ map (is_tile u frame) (range_with_len 0 (64 * blocks (length frame)))
@@ -89,11 +89,11 @@ opened_partial u frame now q kind same ring few kind_is tiles awaited left pushe
     (pushes ∙ ap (λ f. replicate (length f) no_push) same) energy)
 
 -- each number of a cover is that of a tile
-pub cover_tile : (u : Units) (frame : List Place) (i d : ℕ) → i < length (cover u frame)
+pub cover_tile : (u : Composition) (frame : List Place) (i d : ℕ) → i < length (cover u frame)
     → is_tile u frame (slice_index_or (cover u frame) i d) ≡ true
 cover_tile u frame i d h = filter_passes (is_tile u frame) (range_with_len 0 (64 * blocks (length frame))) i d h
 
-pub cover_within : (u : Units) (frame : List Place) (i d : ℕ) → i < length (cover u frame)
+pub cover_within : (u : Composition) (frame : List Place) (i d : ℕ) → i < length (cover u frame)
     → slice_index_or (cover u frame) i d < 64 * blocks (length frame)
 cover_within u frame i d h =
     let n = 64 * blocks (length frame) in
@@ -103,7 +103,7 @@ cover_within u frame i d h =
     rw (get_or-range_with_len 0 n k e within) (omega arith)) i d h
 
 -- the i-th number of a cover is that of a tile
-pub number_at : (tiles : List ℕ) (u : Units) (frame : List Place) (i number : ℕ) → tiles ≡ cover u frame
+pub number_at : (tiles : List ℕ) (u : Composition) (frame : List Place) (i number : ℕ) → tiles ≡ cover u frame
     → i < length tiles → number ≡ slice_index_or tiles i number
     → (is_tile u frame number ≡ true) × (number < 64 * blocks (length frame))
     × (slice_get (cover u frame) i ≡ Some number)
@@ -116,37 +116,37 @@ number_at tiles u frame i number is_cover within read =
     )
 
 -- the number that the code reads for the i-th tile of an open step
-pub tile_found : (u : Units) (frame : List Place) (p : Partial) (kind : Kind) (tiles : List ℕ) (now : Live)
+pub tile_found : (u : Composition) (frame : List Place) (p : Partial) (kind : Kind) (tiles : List ℕ) (now : Live)
     (i read number : ℕ) → p.kind ≡ Some kind → IsPartial u frame p p.kind
-    → tiles ≡ p.tiles.items → u ≡ now.units → frame ≡ now.sim.cur → i < length tiles
+    → tiles ≡ p.tiles.items → u ≡ now.composition → frame ≡ now.sim.cur → i < length tiles
     → read ≡ slice_index_or tiles i read → number ≡ read
-    → (is_tile now.units now.sim.cur number ≡ true) × (number < 64 * blocks (length now.sim.cur))
-    × (slice_get (cover now.units now.sim.cur) i ≡ Some number)
+    → (is_tile now.composition now.sim.cur number ≡ true) × (number < 64 * blocks (length now.sim.cur))
+    × (slice_get (cover now.composition now.sim.cur) i ≡ Some number)
 tile_found u frame p kind tiles now i read number kind_is h tiles_are units_are frame_is within read_is number_is =
     let is_cover =
     tiles_are ∙ (open_of u frame p kind kind_is h).tiles ∙ ap (λ v. cover v frame) units_are
-    ∙ ap (cover now.units) frame_is in
-    let found = number_at tiles now.units now.sim.cur i read is_cover within read_is in
-    subst (λ k. (is_tile now.units now.sim.cur k ≡ true) × (k < 64 * blocks (length now.sim.cur))
-    × (slice_get (cover now.units now.sim.cur) i ≡ Some k)) (sym number_is) found
+    ∙ ap (cover now.composition) frame_is in
+    let found = number_at tiles now.composition now.sim.cur i read is_cover within read_is in
+    subst (λ k. (is_tile now.composition now.sim.cur k ≡ true) × (k < 64 * blocks (length now.sim.cur))
+    × (slice_get (cover now.composition now.sim.cur) i ≡ Some k)) (sym number_is) found
 
 -- the i-th task of an open step
 pub task_found : (live : Live) (label : Label) (p : OpenStep) (i number : ℕ) → live.part ≡ Some p
-    → slice_get (cover live.units live.sim.cur) i ≡ Some number
+    → slice_get (cover live.composition live.sim.cur) i ≡ Some number
     → Some (task_of live label p.kind number) ≡ task_at live label i
 task_found live label p i number part found =
     sym (ap (task_in live label i) part ∙ ap (option_map (task_of live label p.kind)) found)
 
 pub awaits_found : (live : Live) (p : OpenStep) (i number : ℕ) → live.part ≡ Some p
-    → slice_get (cover live.units live.sim.cur) i ≡ Some number
+    → slice_get (cover live.composition live.sim.cur) i ≡ Some number
     → slice_index_or p.awaited number false ≡ awaits_tile live i
 awaits_found live p i number part found =
-    sym (ap (awaits_tile_in live.units live.sim.cur i) part ∙ ap (λ o. option_map_or (awaits_number p) o false) found)
+    sym (ap (awaits_tile_in live.composition live.sim.cur i) part ∙ ap (λ o. option_map_or (awaits_number p) o false) found)
 
 pub awaits_past : (live : Live) (p : OpenStep) (i : ℕ) → live.part ≡ Some p
-    → slice_get (cover live.units live.sim.cur) i ≡ None → false ≡ awaits_tile live i
+    → slice_get (cover live.composition live.sim.cur) i ≡ None → false ≡ awaits_tile live i
 awaits_past live p i part past =
-    sym (ap (awaits_tile_in live.units live.sim.cur i) part ∙ ap (λ o. option_map_or (awaits_number p) o false) past)
+    sym (ap (awaits_tile_in live.composition live.sim.cur i) part ∙ ap (λ o. option_map_or (awaits_number p) o false) past)
 
 pub step_part : (live : Live) (now : Live) (o : Option Kind) (flags : List Bool) (kind : Kind) → live ≡ now
     → live.part ≡ open_step_of o flags → o ≡ Some kind

@@ -7,7 +7,7 @@ use Rattle.lj_tile.specs.declared.names.Kind.TheVariants.{Energy}
 use Rattle.lj_tile.specs.Tasks.{Work, task_energy}
 use Rattle.lj_step.specs.declared.partial.Partial.{Partial}
 use Rattle.lj_step.specs.Live.{Live}
-use Rattle.lj_step.specs.OpenSteps.{block, tile_number_of, task_of, IsAwaitedTaskIn, IsAwaitedTask}
+use Rattle.lj_step.specs.OpenSteps.{sites_of, tile_number_of, task_of, IsAwaitedTaskIn, IsAwaitedTask}
 use Rattle.lj_step.specs.Sums.{HasRoom, HasAdded, IsOpen, IsPartial}
 use Rattle.lj_step.specs.Kept.{open_step_of}
 use Rattle.lj_step.proofs.Flags.{set_within}
@@ -32,7 +32,7 @@ awaited_at live now label asked work o flags view part same h =
 
 -- the step that takes in an awaited task
 module _ (live : Live) (label : Label) (work : Work) (p : Partial) (few : length live.sim.cur ≤ 4096)
-    (room : HasRoom (length live.sim.cur) p) (before : IsPartial live.units live.sim.cur p p.kind)
+    (room : HasRoom (length live.sim.cur) p) (before : IsPartial live.composition live.sim.cur p p.kind)
     (wanted : (kind : Kind) × (p.kind ≡ Some kind) × (slice_index_or p.awaited.items (tile_number_of work) false ≡ true)
     × (work ≡ task_of live label kind (tile_number_of work))) where
   within : tile_number_of work < length p.awaited.items
@@ -47,32 +47,32 @@ module _ (live : Live) (label : Label) (work : Work) (p : Partial) (few : length
   second_below : work.name.bj < 64
   second_below = omega (arith, second_is)
 
-  first_block_is : work.a ≡ block live.sim.cur work.name.bi
-  first_block_is = ap (λ (w : Work). w.a) wanted.3 ∙ sym (ap (block live.sim.cur) first_is)
+  first_block_is : work.a ≡ sites_of live.composition live.sim.cur work.name.bi
+  first_block_is = ap (λ (w : Work). w.a) wanted.3 ∙ sym (ap (sites_of live.composition live.sim.cur) first_is)
 
-  second_block_is : work.b ≡ block live.sim.cur work.name.bj
-  second_block_is = ap (λ (w : Work). w.b) wanted.3 ∙ sym (ap (block live.sim.cur) second_is)
+  second_block_is : work.b ≡ sites_of live.composition live.sim.cur work.name.bj
+  second_block_is = ap (λ (w : Work). w.b) wanted.3 ∙ sym (ap (sites_of live.composition live.sim.cur) second_is)
 
-  opened : IsOpen live.units live.sim.cur p wanted.0
-  opened = subst (λ (o : Option Kind). IsPartial live.units live.sim.cur p o) wanted.1 before
+  opened : IsOpen live.composition live.sim.cur p wanted.0
+  opened = subst (λ (o : Option Kind). IsPartial live.composition live.sim.cur p o) wanted.1 before
 
   pub left_some : 1 ≤ p.left
   left_some =
-      one_left live.units live.sim.cur p p wanted.0 work few opened room (ap (λ (w : Work). w.units) wanted.3)
+      one_left live.composition live.sim.cur p p wanted.0 work few opened room (ap (λ (w : Work). w.mix) wanted.3)
       first_block_is second_block_is (ap (λ (w : Work). w.name.kind) wanted.3) second_below within wanted.2
 
   pub size_fits : unsigned_abs p.energy + 2 ^ 63 ≤ 2 ^ 75
   size_fits =
-      size_before live.units live.sim.cur p p wanted.0 work few opened room (ap (λ (w : Work). w.units) wanted.3)
+      size_before live.composition live.sim.cur p p wanted.0 work few opened room (ap (λ (w : Work). w.mix) wanted.3)
       first_block_is second_block_is (ap (λ (w : Work). w.name.kind) wanted.3) second_below within wanted.2
 
   pub partial_after : (q : Partial) → q.kind ≡ p.kind → q.tiles.items ≡ p.tiles.items
       → q.awaited.items ≡ slice_set p.awaited.items (tile_number_of work) false → q.left + 1 ≡ p.left
       → HasAdded work p.pushes.items q.pushes.items
       → (work.name.kind ≡ Energy → q.energy ≡ p.energy +ℤ task_energy work)
-      → unsigned_abs q.energy ≤ unsigned_abs p.energy + 2 ^ 63 → IsPartial live.units live.sim.cur q q.kind
+      → unsigned_abs q.energy ≤ unsigned_abs p.energy + 2 ^ 63 → IsPartial live.composition live.sim.cur q q.kind
   partial_after q kind tiles flags less added energy size =
-      subst (λ (o : Option Kind). IsPartial live.units live.sim.cur q o) (sym (kind ∙ wanted.1))
-      (accepted_is live.units live.sim.cur p q wanted.0 work few opened room (ap (λ (w : Work). w.units) wanted.3)
+      subst (λ (o : Option Kind). IsPartial live.composition live.sim.cur q o) (sym (kind ∙ wanted.1))
+      (accepted_is live.composition live.sim.cur p q wanted.0 work few opened room (ap (λ (w : Work). w.mix) wanted.3)
       first_block_is second_block_is (ap (λ (w : Work). w.name.kind) wanted.3) second_below within wanted.2
       tiles flags less added energy size)

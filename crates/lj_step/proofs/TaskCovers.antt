@@ -9,7 +9,7 @@ use Rattle.std.proofs.lemmas.Bool.{true≢false, false_from_ne_true}
 use Rattle.std.proofs.lemmas.Bool.Decides.{nat_tests}
 use Rattle.std.proofs.lemmas.List.Sums.{sum_by-cons}
 use Rattle.lj_ring.specs.declared.coordinates.Place.{Place}
-use Rattle.lj_ring.specs.Scales.{Units}
+use Rattle.lj_tile.specs.Species.{Composition}
 use Rattle.lj_tile.specs.declared.names.Kind.{Kind}
 use Rattle.lj_tile.specs.declared.names.Kind.TheVariants.{Force, Energy}
 use Rattle.lj_tile.specs.Tiles.{Tile, times, force_tile, energy_tile, are_between, IsForceCover, IsEnergyCover}
@@ -105,7 +105,7 @@ energy_blocks : (bi bj i j : ℕ) → energy_tile bi bj i j ≡ true → (i / 64
 energy_blocks bi bj i j h =
     both_blocks (i / 64) bi (j / 64) bj (and_parts (i / 64 == bi && j / 64 == bj) (nat_lt i j) h).0
 
-tile_ordered : (u : Units) (frame : List Place) (k : ℕ) → is_tile u frame k ≡ true → first_block k ≤ second_block k
+tile_ordered : (u : Composition) (frame : List Place) (k : ℕ) → is_tile u frame k ≡ true → first_block k ≤ second_block k
 tile_ordered u frame k h =
     let in_order = (and_parts (is_in_order (length frame) k) (not (is_out_of_reach u frame k)) h).0 in
     leb-true (first_block k) (second_block k)
@@ -122,7 +122,7 @@ number_is Force k i j ordered h =
 number_is Energy k i j ordered h =
     let b = energy_blocks (first_block k) (second_block k) i j h in omega (arith, ordered, b.0, b.1)
 
-others : (kind : Kind) (u : Units) (frame : List Place) (i j k : ℕ) → k ≢ pair_number i j
+others : (kind : Kind) (u : Composition) (frame : List Place) (i j k : ℕ) → k ≢ pair_number i j
     → (is_tile u frame k && tile_of kind k i j) ≡ false
 others kind u frame i j k other =
     false_from_ne_true (is_tile u frame k && tile_of kind k i j)
@@ -164,7 +164,7 @@ energy_here i j before hj =
     (eq-eqb (j / 64) (second_block k) (omega (arith, parts.1, before)))) (lt-ltb i j before)
 
 -- how often a pair of atoms lies in a tile
-module _ (kind : Kind) (u : Units) (frame : List Place) (few : length frame ≤ 4096) (i j : ℕ) (hi : i < length frame)
+module _ (kind : Kind) (u : Composition) (frame : List Place) (few : length frame ≤ 4096) (i j : ℕ) (hi : i < length frame)
     (hj : j < length frame) where
   times_most : times i j (cover_tiles kind u frame) ≤ 1
   times_most =
@@ -182,7 +182,7 @@ module _ (kind : Kind) (u : Units) (frame : List Place) (few : length frame ≤ 
       (and_from (is_tile u frame (pair_number i j)) (tile_of kind (pair_number i j) i j) made pair)
       (others kind u frame i j)
 
-force_itself : (u : Units) (frame : List Place) (i k : ℕ) → (is_tile u frame k && tile_of Force k i i) ≡ false
+force_itself : (u : Composition) (frame : List Place) (i k : ℕ) → (is_tile u frame k && tile_of Force k i i) ≡ false
 force_itself u frame i k =
     false_from_ne_true (is_tile u frame k && tile_of Force k i i)
     (λ both.
@@ -192,7 +192,7 @@ force_itself u frame i k =
     true≢false (sym apart ∙ ap not same))
 
 -- the force tasks of a step are a cover
-pub force_cover : (u : Units) (frame : List Place) → AreOnRing frame → length frame ≤ 4096
+pub force_cover : (u : Composition) (frame : List Place) → AreOnRing frame → length frame ≤ 4096
     → IsForceCover u frame (cover_tiles Force u frame)
 force_cover u frame ring few = record {
   near = λ i j hi hj other near.
@@ -206,7 +206,7 @@ force_cover u frame ring few = record {
 }
 
 -- the energy tasks of a step are a cover
-pub energy_cover : (u : Units) (frame : List Place) → AreOnRing frame → length frame ≤ 4096
+pub energy_cover : (u : Composition) (frame : List Place) → AreOnRing frame → length frame ≤ 4096
     → IsEnergyCover u frame (cover_tiles Energy u frame)
 energy_cover u frame ring few = record {
   near = λ i j before hj near.

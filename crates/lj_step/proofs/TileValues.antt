@@ -7,6 +7,7 @@ use Rattle.std.proofs.lemmas.List.{get_or-map, length-map}
 use Rattle.std.proofs.lemmas.Option.{slice_get_within, get_or_from_slice_get}
 use Rattle.lj_ring.specs.declared.coordinates.Place.{Place}
 use Rattle.lj_ring.specs.Ring.{ring_sum, int_sum_below}
+use Rattle.lj_tile.specs.Species.{Composition, class_between}
 use Rattle.lj_ring.specs.Scales.{Units}
 use Rattle.lj_tile.specs.declared.pairs.Push.{Push}
 use Rattle.lj_tile.specs.declared.names.Label.{Label}
@@ -48,30 +49,30 @@ module _ (axis : Push → ℕ) (none : axis no_push ≡ 0) where
   pick u true other p q here same = ap axis same
   pick u false other p q here same = none
 
-  tile_along : (u : Units) (frame : List Place) (bi bj i b : ℕ)
+  tile_along : (u : Composition) (frame : List Place) (bi bj i b : ℕ)
       → ((j : ℕ) → are_between bi bj i j ≡ (j / 64 == b))
-      → ring_sum (length frame) (λ j. axis (chosen_push u (force_tile bi bj i j) (place_at frame i) (place_at frame j)))
+      → ring_sum (length frame) (λ j. axis (chosen_push (class_between u i j).scale (force_tile bi bj i j) (place_at frame i) (place_at frame j)))
       ≡ ring_sum (length_in b (length frame)) (λ s. axis (push_of u frame i (64 * b + s)))
   tile_along u frame bi bj i b pairs =
       ap (λ s. s % 2 ^ 32)
-      (sum_same (length frame) (λ j. axis (chosen_push u (force_tile bi bj i j) (place_at frame i) (place_at frame j)))
+      (sum_same (length frame) (λ j. axis (chosen_push (class_between u i j).scale (force_tile bi bj i j) (place_at frame i) (place_at frame j)))
       (λ j. if j / 64 == b then axis (push_of u frame i j) else 0)
-      (λ j h. ap (λ (t : Bool). axis (chosen_push u (t && not (i == j)) (place_at frame i) (place_at frame j))) (pairs j)
-      ∙ pick u (j / 64 == b) (not (i == j)) (place_at frame i) (place_at frame j) (push_of u frame i j)
+      (λ j h. ap (λ (t : Bool). axis (chosen_push (class_between u i j).scale (t && not (i == j)) (place_at frame i) (place_at frame j))) (pairs j)
+      ∙ pick (class_between u i j).scale (j / 64 == b) (not (i == j)) (place_at frame i) (place_at frame j) (push_of u frame i j)
       (chosen_is u frame i j))
       ∙ block_sum (λ j. axis (push_of u frame i j)) b (length frame))
 
-  other_along : (u : Units) (frame : List Place) (bi bj i : ℕ) → i / 64 ≢ bi → i / 64 ≢ bj
-      → ring_sum (length frame) (λ j. axis (chosen_push u (force_tile bi bj i j) (place_at frame i) (place_at frame j)))
+  other_along : (u : Composition) (frame : List Place) (bi bj i : ℕ) → i / 64 ≢ bi → i / 64 ≢ bj
+      → ring_sum (length frame) (λ j. axis (chosen_push (class_between u i j).scale (force_tile bi bj i j) (place_at frame i) (place_at frame j)))
       ≡ 0
   other_along u frame bi bj i first second =
-      ring_sum_zero (length frame) (λ j. axis (chosen_push u (force_tile bi bj i j)
+      ring_sum_zero (length frame) (λ j. axis (chosen_push (class_between u i j).scale (force_tile bi bj i j)
       (place_at frame i) (place_at frame j)))
-      (λ j h. ap (λ (t : Bool). axis (chosen_push u (t && not (i == j)) (place_at frame i)
+      (λ j h. ap (λ (t : Bool). axis (chosen_push (class_between u i j).scale (t && not (i == j)) (place_at frame i)
       (place_at frame j)) % 2 ^ 32) (between_none bi bj i j first second) ∙ ap (λ m. m % 2 ^ 32) none)
 
 -- the value of a force tile for an atom whose pairs in it have their other atom in one block
-tile_force_in : (u : Units) (frame : List Place) (bi bj i b : ℕ) → ((j : ℕ) → are_between bi bj i j ≡ (j / 64 == b))
+tile_force_in : (u : Composition) (frame : List Place) (bi bj i b : ℕ) → ((j : ℕ) → are_between bi bj i j ≡ (j / 64 == b))
     → tile_force u frame (force_tile bi bj) i ≡ block_force u frame i b
 unfolding push_sum block_force
 tile_force_in u frame bi bj i b pairs =
@@ -80,7 +81,7 @@ tile_force_in u frame bi bj i b pairs =
     (tile_along (λ p. p.z) refl u frame bi bj i b pairs)
 
 -- and for an atom of neither block
-tile_force_other : (u : Units) (frame : List Place) (bi bj i : ℕ) → i / 64 ≢ bi → i / 64 ≢ bj
+tile_force_other : (u : Composition) (frame : List Place) (bi bj i : ℕ) → i / 64 ≢ bi → i / 64 ≢ bj
     → tile_force u frame (force_tile bi bj) i ≡ no_push
 unfolding push_sum
 tile_force_other u frame bi bj i first second =
@@ -95,25 +96,25 @@ outside frame b i h (inl below) = omega arith
 outside frame b i h (inr past) = let count = block_length frame b in omega (arith, h, past, count)
 
 force_value : (live : Live) (label : Label) (k : ℕ)
-    → HasForces live.units live.sim.cur (tile_of Force k) (task_of live label Force k)
+    → HasForces live.composition live.sim.cur (tile_of Force k) (task_of live label Force k)
 force_value live label k = record {
   kind = refl;
   first = λ t h.
       let within : t < length_in (first_block k) (length live.sim.cur) =
       subst (λ n. t < n) (block_length live.sim.cur (first_block k)) h in
-      task_is live.units live.sim.cur (task_of live label Force k) t refl refl refl within
-      ∙ sym (tile_force_in live.units live.sim.cur (first_block k) (second_block k) (64 * first_block k + t)
+      task_is live.composition live.sim.cur (task_of live label Force k) t refl refl refl within
+      ∙ sym (tile_force_in live.composition live.sim.cur (first_block k) (second_block k) (64 * first_block k + t)
       (second_block k) (λ j. between_first (first_block k) (second_block k) (64 * first_block k + t) j
       (atom_block (length live.sim.cur) (first_block k) t within)));
   second = λ before s h.
       let within : s < length_in (second_block k) (length live.sim.cur) =
       subst (λ n. s < n) (block_length live.sim.cur (second_block k)) h in
-      second_is live.units live.sim.cur (task_of live label Force k) s refl refl refl within
-      ∙ sym (tile_force_in live.units live.sim.cur (first_block k) (second_block k) (64 * second_block k + s)
+      second_is live.composition live.sim.cur (task_of live label Force k) s refl refl refl within
+      ∙ sym (tile_force_in live.composition live.sim.cur (first_block k) (second_block k) (64 * second_block k + s)
       (first_block k) (λ j. between_second (first_block k) (second_block k) (64 * second_block k + s) j
       (atom_block (length live.sim.cur) (second_block k) s within)));
   others = λ i h first second.
-      tile_force_other live.units live.sim.cur (first_block k) (second_block k) i
+      tile_force_other live.composition live.sim.cur (first_block k) (second_block k) i
       (outside live.sim.cur (first_block k) i h first) (outside live.sim.cur (second_block k) i h second);
 }
 
@@ -130,50 +131,50 @@ all_or_none true n f = refl
 all_or_none false n f = int_sum_none n (λ i. pos 0) (λ k h. refl)
 
 -- the value of an energy tile
-tile_energy_is : (u : Units) (frame : List Place) (bi bj : ℕ)
+tile_energy_is : (u : Composition) (frame : List Place) (bi bj : ℕ)
     → tile_energy u frame (energy_tile bi bj) ≡ block_energy u frame bi bj
 unfolding in_first block_energy
 tile_energy_is u frame bi bj =
     int_sum_same (length frame) (λ j. int_sum_below j
-    (λ i. chosen_energy u (energy_tile bi bj i j) (place_at frame i) (place_at frame j)))
-    (λ j. if j / 64 == bj then in_first (λ i j. energy u (place_at frame i) (place_at frame j)) bi j else pos 0)
+    (λ i. chosen_energy (class_between u i j) (energy_tile bi bj i j) (place_at frame i) (place_at frame j)))
+    (λ j. if j / 64 == bj then in_first (λ i j. energy (class_between u i j) (place_at frame i) (place_at frame j)) bi j else pos 0)
     (λ j h.
-    int_sum_same j (λ i. chosen_energy u (energy_tile bi bj i j) (place_at frame i) (place_at frame j))
-    (λ i. if j / 64 == bj then (if i / 64 == bi then energy u (place_at frame i) (place_at frame j) else pos 0)
+    int_sum_same j (λ i. chosen_energy (class_between u i j) (energy_tile bi bj i j) (place_at frame i) (place_at frame j))
+    (λ i. if j / 64 == bj then (if i / 64 == bi then energy (class_between u i j) (place_at frame i) (place_at frame j) else pos 0)
     else pos 0)
     (λ i below. let t : nat_lt i j ≡ true = grind (arith, nat_tests) in pick_energy (i / 64 == bi) (j / 64 == bj)
-    (nat_lt i j) (energy u (place_at frame i) (place_at frame j)) t)
+    (nat_lt i j) (energy (class_between u i j) (place_at frame i) (place_at frame j)) t)
     ∙ all_or_none (j / 64 == bj) j (λ i. if i / 64 == bi
-    then energy u (place_at frame i) (place_at frame j) else pos 0))
-    ∙ block_pairs (λ i j. energy u (place_at frame i) (place_at frame j)) bi bj (length frame)
+    then energy (class_between u i j) (place_at frame i) (place_at frame j) else pos 0))
+    ∙ block_pairs (λ i j. energy (class_between u i j) (place_at frame i) (place_at frame j)) bi bj (length frame)
 
 energy_value : (live : Live) (label : Label) (k : ℕ)
-    → HasEnergy live.units live.sim.cur (tile_of Energy k) (task_of live label Energy k)
+    → HasEnergy live.composition live.sim.cur (tile_of Energy k) (task_of live label Energy k)
 energy_value live label k = record {
   kind = refl;
   energy =
-      energy_task_is live.units live.sim.cur (task_of live label Energy k) refl refl refl
-      ∙ sym (tile_energy_is live.units live.sim.cur (first_block k) (second_block k));
+      energy_task_is live.composition live.sim.cur (task_of live label Energy k) refl refl refl
+      ∙ sym (tile_energy_is live.composition live.sim.cur (first_block k) (second_block k));
 }
 
 -- the task of a tile has that tile's value
 pub tile_value : (kind : Kind) (live : Live) (label : Label) (k : ℕ)
-    → HasValue kind live.units live.sim.cur (tile_of kind k) (task_of live label kind k)
+    → HasValue kind live.composition live.sim.cur (tile_of kind k) (task_of live label kind k)
 tile_value Force live label k = force_value live label k
 tile_value Energy live label k = energy_value live label k
 
 -- the same of the i-th task of an open step
 pub open_value : (live : Live) (label : Label) (p : OpenStep) (i k : ℕ) (work : Work) → live.part ≡ Some p
-    → slice_get (cover live.units live.sim.cur) i ≡ Some k
+    → slice_get (cover live.composition live.sim.cur) i ≡ Some k
     → work ≡ task_of live label p.kind k → HasTileValue live i work
 open_value live label p i k work part found same =
-    let within = slice_get_within (cover live.units live.sim.cur) i k found in
-    let tile : tile_at (cover_tiles p.kind live.units live.sim.cur) i ≡ tile_of p.kind k =
-    get_or-map (tile_of p.kind) (cover live.units live.sim.cur) i 0 (λ i j. false) within
-    ∙ ap (tile_of p.kind) (get_or_from_slice_get (cover live.units live.sim.cur) i k 0 found) in
-    let value : HasValue p.kind live.units live.sim.cur (tile_at (cover_tiles p.kind live.units live.sim.cur) i) work =
-    subst (λ t. HasValue p.kind live.units live.sim.cur t work) (sym tile)
-    (subst (HasValue p.kind live.units live.sim.cur (tile_of p.kind k)) (sym same) (tile_value p.kind live label k)) in
+    let within = slice_get_within (cover live.composition live.sim.cur) i k found in
+    let tile : tile_at (cover_tiles p.kind live.composition live.sim.cur) i ≡ tile_of p.kind k =
+    get_or-map (tile_of p.kind) (cover live.composition live.sim.cur) i 0 (λ i j. false) within
+    ∙ ap (tile_of p.kind) (get_or_from_slice_get (cover live.composition live.sim.cur) i k 0 found) in
+    let value : HasValue p.kind live.composition live.sim.cur (tile_at (cover_tiles p.kind live.composition live.sim.cur) i) work =
+    subst (λ t. HasValue p.kind live.composition live.sim.cur t work) (sym tile)
+    (subst (HasValue p.kind live.composition live.sim.cur (tile_of p.kind k)) (sym same) (tile_value p.kind live label k)) in
     subst (HasValueIn live i work) (sym part) value
 
 -- the tiles of an open step are a cover
@@ -181,12 +182,12 @@ pub step_covered : (live : Live) → AreOnRing live.sim.cur → length live.sim.
     → live.part ≡ part → IsCoveredIn live part
 step_covered live ring few None e = tt
 step_covered live ring few (Some p) e = record {
-  count = length-map (cover live.units live.sim.cur) (tile_of p.kind)
-      ∙ sym (ap (tiles_in live.units live.sim.cur) e);
-  cover = cover_is p.kind live.units live.sim.cur ring few;
+  count = length-map (cover live.composition live.sim.cur) (tile_of p.kind)
+      ∙ sym (ap (tiles_in live.composition live.sim.cur) e);
+  cover = cover_is p.kind live.composition live.sim.cur ring few;
 }
   where
-    cover_is : (kind : Kind) (u : Units) (frame : List Place) → AreOnRing frame → length frame ≤ 4096
+    cover_is : (kind : Kind) (u : Composition) (frame : List Place) → AreOnRing frame → length frame ≤ 4096
         → IsCover kind u frame (cover_tiles kind u frame)
     cover_is Force u frame ring few = force_cover u frame ring few
     cover_is Energy u frame ring few = energy_cover u frame ring few

@@ -9,7 +9,7 @@ use Rattle.std.proofs.lemmas.List.Sums.{length-filter, sum_by-set}
 use Rattle.std.proofs.lemmas.List.FromFn.{get_or-range_with_len, length-range_with_len}
 use Rattle.std.proofs.lemmas.Option.{slice_get_cases, same_Some, none-some, get_or_from_slice_get}
 use Rattle.lj_ring.specs.declared.coordinates.Place.{Place}
-use Rattle.lj_ring.specs.Scales.{Units}
+use Rattle.lj_tile.specs.Species.{Composition}
 use Rattle.lj_tile.specs.declared.names.Label.{Label}
 use Rattle.lj_tile.specs.declared.names.Kind.{Kind}
 use Rattle.lj_tile.specs.Tasks.{Work}
@@ -28,13 +28,13 @@ range_rises a n i j d before below =
     let first_within : i < n = omega arith in
     rw (get_or-range_with_len a n i d first_within, get_or-range_with_len a n j d within) (omega arith)
 
-pub cover_rises : (u : Units) (frame : List Place) → AllPairs (λ x y. x < y) (cover u frame)
+pub cover_rises : (u : Composition) (frame : List Place) → AllPairs (λ x y. x < y) (cover u frame)
 cover_rises u frame =
     AllPairs-filter (λ x y. x < y) (is_tile u frame) (range_with_len 0 (64 * blocks (length frame)))
     (range_rises 0 (64 * blocks (length frame)))
 
 -- an opened step
-pub opened_awaits : (kind : Kind) (u : Units) (frame : List Place) (part : Option OpenStep) → part ≡ Some (opened kind u frame)
+pub opened_awaits : (kind : Kind) (u : Composition) (frame : List Place) (part : Option OpenStep) → part ≡ Some (opened kind u frame)
     → AwaitsFrom kind u frame 0 part
 opened_awaits kind u frame part e = record {
   flags = map (is_tile u frame) (range_with_len 0 (64 * blocks (length frame)));
@@ -48,12 +48,12 @@ opened_awaits kind u frame part e = record {
       omega (arith, flags, tiles);
 }
 
-pub kind_is : (kind : Kind) (u : Units) (frame : List Place) (i : ℕ) (part : Option OpenStep) → AwaitsFrom kind u frame i part
+pub kind_is : (kind : Kind) (u : Composition) (frame : List Place) (i : ℕ) (part : Option OpenStep) → AwaitsFrom kind u frame i part
     → kind_of part ≡ Some kind
 kind_is kind u frame i part h = ap kind_of h.is_open
 
 -- once all tiles are in, the step is whole
-pub all_taken : (kind : Kind) (u : Units) (frame : List Place) (i : ℕ) (part : Option OpenStep) → AwaitsFrom kind u frame i part
+pub all_taken : (kind : Kind) (u : Composition) (frame : List Place) (i : ℕ) (part : Option OpenStep) → AwaitsFrom kind u frame i part
     → length (cover u frame) ≤ i → is_whole part ≡ true
 all_taken kind u frame i part h past =
     let none : count_by (λ awaited. awaited) h.flags ≡ 0 = omega (arith, h.left, past) in
@@ -64,15 +64,15 @@ number_is live label kind k = omega arith
 
 -- the i-th task of the step is that of the i-th number of the cover
 task_read : (live : Live) (label : Label) (kind : Kind) (i : ℕ) (o : Option Work)
-    → AwaitsFrom kind live.units live.sim.cur i live.part → o ≡ task_at live label i
-    → o ≡ option_map (task_of live label kind) (slice_get (cover live.units live.sim.cur) i)
+    → AwaitsFrom kind live.composition live.sim.cur i live.part → o ≡ task_at live label i
+    → o ≡ option_map (task_of live label kind) (slice_get (cover live.composition live.sim.cur) i)
 task_read live label kind i o h e = e ∙ ap (task_in live label i) h.is_open
 
 pub none_past : (live : Live) (label : Label) (kind : Kind) (i : ℕ) (o : Option Work)
-    → AwaitsFrom kind live.units live.sim.cur i live.part → o ≡ task_at live label i → o ≡ None
-    → length (cover live.units live.sim.cur) ≤ i
+    → AwaitsFrom kind live.composition live.sim.cur i live.part → o ≡ task_at live label i → o ≡ None
+    → length (cover live.composition live.sim.cur) ≤ i
 none_past live label kind i o h e none =
-    elim ((slice_get_cases (cover live.units live.sim.cur) i).1) [
+    elim ((slice_get_cases (cover live.composition live.sim.cur) i).1) [
       | inl r ↦
           absurd (none-some (task_of live label kind r.0)
           (sym none ∙ task_read live label kind i o h e ∙ ap (option_map (task_of live label kind)) r.2))
@@ -80,15 +80,15 @@ none_past live label kind i o h e none =
     ]
 
 pub task_at_place : (live : Live) (label : Label) (kind : Kind) (i : ℕ) (o : Option Work) (work : Work)
-    → AwaitsFrom kind live.units live.sim.cur i live.part → o ≡ task_at live label i → o ≡ Some work
-    → (number : ℕ) × (i < length (cover live.units live.sim.cur))
-    × (slice_index_or (cover live.units live.sim.cur) i 0 ≡ number) × (work ≡ task_of live label kind number)
+    → AwaitsFrom kind live.composition live.sim.cur i live.part → o ≡ task_at live label i → o ≡ Some work
+    → (number : ℕ) × (i < length (cover live.composition live.sim.cur))
+    × (slice_index_or (cover live.composition live.sim.cur) i 0 ≡ number) × (work ≡ task_of live label kind number)
 task_at_place live label kind i o work h e some =
-    elim ((slice_get_cases (cover live.units live.sim.cur) i).1) [
+    elim ((slice_get_cases (cover live.composition live.sim.cur) i).1) [
       | inl r ↦ (
         r.0,
         r.1,
-        get_or_from_slice_get (cover live.units live.sim.cur) i r.0 0 r.2,
+        get_or_from_slice_get (cover live.composition live.sim.cur) i r.0 0 r.2,
         same_Some work (task_of live label kind r.0)
             (sym some ∙ task_read live label kind i o h e ∙ ap (option_map (task_of live label kind)) r.2),
       )
@@ -99,13 +99,13 @@ task_at_place live label kind i o work h e some =
 
 -- the i-th task is awaited, and once it is in those from the next one on
 module _ (live : Live) (label : Label) (kind : Kind) (i : ℕ) (o : Option Work) (work : Work)
-    (h : AwaitsFrom kind live.units live.sim.cur i live.part)
+    (h : AwaitsFrom kind live.composition live.sim.cur i live.part)
     (e : o ≡ task_at live label i) (some : o ≡ Some work) where
-  place : (number : ℕ) × (i < length (cover live.units live.sim.cur))
-      × (slice_index_or (cover live.units live.sim.cur) i 0 ≡ number) × (work ≡ task_of live label kind number)
+  place : (number : ℕ) × (i < length (cover live.composition live.sim.cur))
+      × (slice_index_or (cover live.composition live.sim.cur) i 0 ≡ number) × (work ≡ task_of live label kind number)
   place = task_at_place live label kind i o work h e some
 
-  number_same : tile_number_of work ≡ slice_index_or (cover live.units live.sim.cur) i 0
+  number_same : tile_number_of work ≡ slice_index_or (cover live.composition live.sim.cur) i 0
   number_same = ap tile_number_of place.3 ∙ number_is live label kind place.0 ∙ sym place.2
 
   flag_set : slice_index_or h.flags (tile_number_of work) false ≡ true
@@ -117,20 +117,20 @@ module _ (live : Live) (label : Label) (kind : Kind) (i : ℕ) (o : Option Work)
   pub is_awaited : IsAwaitedTask live label work
   is_awaited = subst (IsAwaitedTaskIn live label work) (sym h.is_open) (flag_set, work_is)
 
-  waiting_after : (k : ℕ) → i + 1 ≤ k → k < length (cover live.units live.sim.cur)
+  waiting_after : (k : ℕ) → i + 1 ≤ k → k < length (cover live.composition live.sim.cur)
       → slice_index_or (slice_set h.flags (tile_number_of work) false)
-      (slice_index_or (cover live.units live.sim.cur) k 0) false ≡ true
+      (slice_index_or (cover live.composition live.sim.cur) k 0) false ≡ true
   waiting_after k from within =
-      let rises : slice_index_or (cover live.units live.sim.cur) i 0 < slice_index_or
-      (cover live.units live.sim.cur) k 0 =
-      cover_rises live.units live.sim.cur i k 0 (omega arith) within in
-      let other : slice_index_or (cover live.units live.sim.cur) k 0 ≢ tile_number_of work =
+      let rises : slice_index_or (cover live.composition live.sim.cur) i 0 < slice_index_or
+      (cover live.composition live.sim.cur) k 0 =
+      cover_rises live.composition live.sim.cur i k 0 (omega arith) within in
+      let other : slice_index_or (cover live.composition live.sim.cur) k 0 ≢ tile_number_of work =
       omega (arith, number_same, rises) in
-      get_or-set_other h.flags (tile_number_of work) (slice_index_or (cover live.units live.sim.cur) k 0)
+      get_or-set_other h.flags (tile_number_of work) (slice_index_or (cover live.composition live.sim.cur) k 0)
       false false other ∙ h.waiting k (omega arith) within
 
   left_after : count_by (λ awaited. awaited) (slice_set h.flags (tile_number_of work) false)
-      ≡ length (cover live.units live.sim.cur) - (i + 1)
+      ≡ length (cover live.composition live.sim.cur) - (i + 1)
   left_after =
       let set : count_by (λ awaited. awaited) (slice_set h.flags (tile_number_of work) false)
       + cond (slice_index_or h.flags (tile_number_of work) false) 1 0
@@ -139,7 +139,7 @@ module _ (live : Live) (label : Label) (kind : Kind) (i : ℕ) (o : Option Work)
       (set_within h.flags (tile_number_of work) flag_set) in
       omega (arith, h.left, rw flag_set at set)
 
-  pub awaits_next : AwaitsFrom kind live.units live.sim.cur (i + 1) (with_tile (tile_number_of work) live.part)
+  pub awaits_next : AwaitsFrom kind live.composition live.sim.cur (i + 1) (with_tile (tile_number_of work) live.part)
   awaits_next = record {
     flags = slice_set h.flags (tile_number_of work) false;
     is_open = ap (with_tile (tile_number_of work)) h.is_open;

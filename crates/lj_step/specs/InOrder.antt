@@ -2,13 +2,13 @@
 use Rattle.std.specs.Prelude.{◌≡◌, ◌-◌, ◌<◌, ◌≤◌, ℕ, Bool, true, false, List, length, count_by, slice_index_or, Option}
 use Rattle.std.specs.Prelude.{Some}
 use Rattle.lj_ring.specs.declared.coordinates.Place.{Place}
-use Rattle.lj_ring.specs.Scales.{Units}
+use Rattle.lj_tile.specs.Species.{Composition}
 use Rattle.lj_tile.specs.declared.names.Kind.{Kind}
 use Rattle.lj_step.specs.Live.{OpenStep}
 use Rattle.lj_step.specs.OpenSteps.{cover}
 
 -- a step of a kind is open, the first i tiles of its cover are in, and the others are awaited
-pub record AwaitsFrom (kind : Kind) (u : Units) (frame : List Place) (i : ℕ) (part : Option OpenStep) : Type 0 where
+pub record AwaitsFrom (kind : Kind) (u : Composition) (frame : List Place) (i : ℕ) (part : Option OpenStep) : Type 0 where
   pub flags : List Bool
   pub is_open : part ≡ Some (record { kind = kind; awaited = flags })
   pub waiting : (k : ℕ) → i ≤ k → k < length (cover u frame)

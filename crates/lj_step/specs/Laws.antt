@@ -4,8 +4,8 @@ use Rattle.std.specs.List.{range_with_len}
 use Rattle.lj_ring.specs.declared.coordinates.Place.{Place}
 use Rattle.lj_ring.specs.Ring.{ring_sum}
 pub use Rattle.lj_ring.specs.Ring.{IsOnRing, ring_sub}
-use Rattle.lj_ring.specs.Scales.{Units}
-pub use Rattle.lj_ring.specs.Scales.{IsScale}
+use Rattle.lj_tile.specs.Species.{Composition}
+pub use Rattle.lj_ring.specs.Mixes.{IsMixture}
 use Rattle.lj_tile.specs.declared.pairs.Push.{Push}
 pub use Rattle.lj_tile.specs.Pushes.{opposite}
 use Rattle.lj_tile.specs.Tiles.{Tile, tile_force, tile_energy}
@@ -31,7 +31,7 @@ unfoldable pub drift : Simulation → Push
 drift sim = record { x = drift_along (λ p. p.x) sim; y = drift_along (λ p. p.y) sim; z = drift_along (λ p. p.z) sim }
 
 -- the sum on the ring of the values of tiles, for atom i
-unfoldable pub tiles_force : Units → List Place → List Tile → ℕ → Push
+unfoldable pub tiles_force : Composition → List Place → List Tile → ℕ → Push
 tiles_force u frame tiles i = record {
   x = sum_by (λ tile. (tile_force u frame tile i).x) tiles % 2 ^ 32;
   y = sum_by (λ tile. (tile_force u frame tile i).y) tiles % 2 ^ 32;
@@ -39,7 +39,7 @@ tiles_force u frame tiles i = record {
 }
 
 -- one step by the sums of tiles
-abbrev pub stepped_by : Units → List Tile → Simulation → Simulation
+abbrev pub stepped_by : Composition → List Tile → Simulation → Simulation
 stepped_by u tiles sim = record {
   prev = sim.cur;
   cur =
@@ -50,6 +50,6 @@ stepped_by u tiles sim = record {
 }
 
 -- the sum of the values of energy tiles
-abbrev pub tiles_energy : Units → List Place → List Tile → ℤ
+abbrev pub tiles_energy : Composition → List Place → List Tile → ℤ
 tiles_energy u frame [] = pos 0
 tiles_energy u frame (tile ∷ tiles) = tile_energy u frame tile +ℤ tiles_energy u frame tiles

@@ -1,6 +1,6 @@
--- The value of a simulation in the code: its scale, the simulation itself, and the step that is open.
+-- The value of a simulation in the code: what its atoms are, the simulation itself, and the step that is open.
 use Rattle.std.specs.Prelude.{Bool, List, Option}
-use Rattle.lj_ring.specs.Scales.{Units}
+use Rattle.lj_tile.specs.Species.{Composition}
 use Rattle.lj_tile.specs.declared.names.Kind.{Kind}
 use Rattle.lj_step.specs.Motion.{Simulation}
 
@@ -9,8 +9,8 @@ pub record OpenStep : Type 0 where
   pub kind : Kind
   pub awaited : List Bool
 
--- a simulation with its scale, and the open step if there is one
+-- a simulation with what its atoms are, and the open step if there is one
 pub record Live : Type 0 where
-  pub units : Units
+  pub composition : Composition
   pub sim : Simulation
   pub part : Option OpenStep

@@ -4,7 +4,7 @@ use Rattle.std.specs.Prelude.{slice_set, if◌then◌else◌}
 use Rattle.std.specs.List.{range_with_len}
 use Rattle.lj_ring.specs.declared.coordinates.Place.{Place}
 use Rattle.lj_ring.specs.Ring.{image, distance, in_ring, sum_below, ring_sum, int_sum_below}
-use Rattle.lj_ring.specs.Scales.{Units}
+use Rattle.lj_tile.specs.Species.{Composition, class_between}
 use Rattle.lj_tile.specs.declared.pairs.Push.{Push}
 use Rattle.lj_tile.specs.Pushes.{push, no_push, energy}
 pub use Rattle.lj_tile.specs.Tiles.{place_at}
@@ -21,11 +21,12 @@ abbrev pub opening : List Place → List Place → Simulation
 opening prev cur = record { prev = prev; cur = cur; step = pos 0; dir = pos 1 }
 
 -- what atom j adds to the push on atom i: its push, and nothing where it is atom i itself
-abbrev pub push_of : Units → List Place → ℕ → ℕ → Push
-push_of u frame i j = if j == i then no_push else push u (place_at frame i) (place_at frame j)
+abbrev pub push_of : Composition → List Place → ℕ → ℕ → Push
+push_of u frame i j =
+    if j == i then no_push else push (class_between u i j).scale (place_at frame i) (place_at frame j)
 
 -- the sum on the ring of the pushes on atom i of all other atoms
-unfoldable pub force : Units → List Place → ℕ → Push
+unfoldable pub force : Composition → List Place → ℕ → Push
 force u frame i = record {
   x = ring_sum (length frame) (λ j. (push_of u frame i j).x);
   y = ring_sum (length frame) (λ j. (push_of u frame i j).y);
@@ -45,20 +46,20 @@ next_place prev cur push = record {
 }
 
 -- the next place of atom i under the pushes of all other atoms
-abbrev pub moved : Units → List Place → List Place → ℕ → Place
+abbrev pub moved : Composition → List Place → List Place → ℕ → Place
 moved u prev cur i = next_place (place_at prev i) (place_at cur i) (force u cur i)
 
 -- the frame after cur
-abbrev pub next_frame : Units → List Place → List Place → List Place
+abbrev pub next_frame : Composition → List Place → List Place → List Place
 next_frame u prev cur = map (moved u prev cur) (range_with_len 0 (length cur))
 
 -- one step
-abbrev pub stepped : Units → Simulation → Simulation
+abbrev pub stepped : Composition → Simulation → Simulation
 stepped u sim =
     record { prev = sim.cur; cur = next_frame u sim.prev sim.cur; step = sim.step +ℤ sim.dir; dir = sim.dir }
 
 -- n steps
-abbrev pub steps : Units → ℕ → Simulation → Simulation
+abbrev pub steps : Composition → ℕ → Simulation → Simulation
 steps u zero sim = sim
 steps u (suc n) sim = steps u n (stepped u sim)
 
@@ -95,6 +96,7 @@ abbrev pub kinetic : Simulation → ℕ
 kinetic sim = sum_below (length sim.cur) (λ i. distance (place_at sim.cur i) (place_at sim.prev i))
 
 -- the potential: the sum of the energies of all pairs of atoms i < j, in units of 2^-24 ε
-abbrev pub potential : Units → List Place → ℤ
+abbrev pub potential : Composition → List Place → ℤ
 potential u frame =
-    int_sum_below (length frame) (λ j. int_sum_below j (λ i. energy u (place_at frame i) (place_at frame j)))
+    int_sum_below (length frame) (λ j.
+    int_sum_below j (λ i. energy (class_between u i j) (place_at frame i) (place_at frame j)))

@@ -4,12 +4,14 @@ use Rattle.std.specs.Prelude.{map, count_by, slice_index_or, slice_set, slice_ra
 use Rattle.std.specs.List.{range_with_len, filter}
 use Rattle.std.specs.Option.{option_map, option_map_or}
 use Rattle.lj_ring.specs.declared.coordinates.Place.{Place}
-use Rattle.lj_ring.specs.Scales.{Units, interacts}
+use Rattle.lj_tile.specs.Species.{Composition}
+use Rattle.lj_ring.specs.Mixes.{can_interact}
 use Rattle.lj_ring.specs.Arcs.{arcs_of, squared_gap}
 use Rattle.lj_tile.specs.declared.names.Label.{Label}
 use Rattle.lj_tile.specs.declared.names.Kind.{Kind}
 use Rattle.lj_tile.specs.declared.names.Kind.TheVariants.{Force, Energy}
 use Rattle.lj_tile.specs.Tiles.{Tile, force_tile, energy_tile}
+use Rattle.lj_tile.specs.Blocks.{Sites}
 use Rattle.lj_tile.specs.Tasks.{Work}
 use Rattle.lj_step.specs.Motion.{Simulation}
 use Rattle.lj_step.specs.Live.{Live, OpenStep}
@@ -32,33 +34,37 @@ second_block k = k % 64
 abbrev pub block : List Place → ℕ → List Place
 block frame b = slice_range frame (64 * b) (min (64 * b + 64) (length frame))
 
+-- a block of a frame: its places, and which of them are of atoms of the second species
+abbrev pub sites_of : Composition → List Place → ℕ → Sites
+sites_of u frame b = record { places = block frame b; seconds = slice_index_or u.seconds b 0 }
+
 -- a number is that of two blocks in order, the last of them one of so many atoms
 abbrev pub is_in_order : ℕ → ℕ → Bool
 is_in_order count k = nat_lt (second_block k) (blocks count) && nat_le (first_block k) (second_block k)
 
 -- no pair of atoms of two blocks can interact: the gaps between their arcs are out of reach, or it is one block twice,
 -- and that is of one atom
-unfoldable pub is_out_of_reach : Units → List Place → ℕ → Bool
+unfoldable pub is_out_of_reach : Composition → List Place → ℕ → Bool
 is_out_of_reach u frame k =
     let a = block frame (first_block k) in
     let b = block frame (second_block k) in
-    if first_block k == second_block k then length a == 1 else not (interacts u (squared_gap (arcs_of a) (arcs_of b)))
+    if first_block k == second_block k then length a == 1 else not (can_interact u.mix (squared_gap (arcs_of a) (arcs_of b)))
 
 -- a step over a frame has a tile of this number
-abbrev pub is_tile : Units → List Place → ℕ → Bool
+abbrev pub is_tile : Composition → List Place → ℕ → Bool
 is_tile u frame k = is_in_order (length frame) k && not (is_out_of_reach u frame k)
 
 -- the cover of a step: the numbers of its tiles, in order of the first block, then of the second
-abbrev pub cover : Units → List Place → List ℕ
+abbrev pub cover : Composition → List Place → List ℕ
 cover u frame = filter (is_tile u frame) (range_with_len 0 (64 * blocks (length frame)))
 
 -- how many tiles the open step has
-abbrev pub tiles_in : Units → List Place → Option OpenStep → ℕ
+abbrev pub tiles_in : Composition → List Place → Option OpenStep → ℕ
 tiles_in u frame None = 0
 tiles_in u frame (Some p) = length (cover u frame)
 
 abbrev pub tiles_of : Live → ℕ
-tiles_of live = tiles_in live.units live.sim.cur live.part
+tiles_of live = tiles_in live.composition live.sim.cur live.part
 
 -- the pairs of atoms that a tile covers
 abbrev pub tile_of : Kind → ℕ → Tile
@@ -66,16 +72,16 @@ tile_of Force k = force_tile (first_block k) (second_block k)
 tile_of Energy k = energy_tile (first_block k) (second_block k)
 
 -- the tiles of a step, in the order of its tasks
-abbrev pub cover_tiles : Kind → Units → List Place → List Tile
+abbrev pub cover_tiles : Kind → Composition → List Place → List Tile
 cover_tiles kind u frame = map (tile_of kind) (cover u frame)
 
 -- the task of a tile of the present step
 abbrev pub task_of : Live → Label → Kind → ℕ → Work
 task_of live label kind k = record {
   name = record { label = label; step = live.sim.step; kind = kind; bi = first_block k; bj = second_block k };
-  units = live.units;
-  a = block live.sim.cur (first_block k);
-  b = block live.sim.cur (second_block k);
+  mix = live.composition.mix;
+  a = sites_of live.composition live.sim.cur (first_block k);
+  b = sites_of live.composition live.sim.cur (second_block k);
 }
 
 -- the tile whose task this is by its blocks
@@ -86,13 +92,13 @@ tile_number_of work = tile_number work.name.bi work.name.bj
 abbrev pub task_in : Live → Label → ℕ → Option OpenStep → Option Work
 task_in live label i None = None
 task_in live label i (Some p) =
-    option_map (task_of live label p.kind) (slice_get (cover live.units live.sim.cur) i)
+    option_map (task_of live label p.kind) (slice_get (cover live.composition live.sim.cur) i)
 
 abbrev pub task_at : Live → Label → ℕ → Option Work
 task_at live label i = task_in live label i live.part
 
 -- an open step that awaits all its tiles
-abbrev pub opened : Kind → Units → List Place → OpenStep
+abbrev pub opened : Kind → Composition → List Place → OpenStep
 opened kind u frame =
     record { kind = kind; awaited = map (is_tile u frame) (range_with_len 0 (64 * blocks (length frame))) }
 
@@ -101,12 +107,12 @@ abbrev pub awaits_number : OpenStep → ℕ → Bool
 awaits_number p k = slice_index_or p.awaited k false
 
 -- the open step awaits the i-th tile of its cover
-abbrev pub awaits_tile_in : Units → List Place → ℕ → Option OpenStep → Bool
+abbrev pub awaits_tile_in : Composition → List Place → ℕ → Option OpenStep → Bool
 awaits_tile_in u frame i None = false
 awaits_tile_in u frame i (Some p) = option_map_or (awaits_number p) (slice_get (cover u frame) i) false
 
 abbrev pub awaits_tile : Live → ℕ → Bool
-awaits_tile live i = awaits_tile_in live.units live.sim.cur i live.part
+awaits_tile live i = awaits_tile_in live.composition live.sim.cur i live.part
 
 -- the task is that of a tile that the open step awaits: none is where no step is open
 abbrev pub IsAwaitedTaskIn : Live → Label → Work → Option OpenStep → Type 0
@@ -138,4 +144,4 @@ is_whole (Some p) = nat_le (left p) 0
 
 -- a simulation with no step open
 abbrev pub closed : Live → Simulation → Live
-closed live sim = record { units = live.units; sim = sim; part = None }
+closed live sim = record { composition = live.composition; sim = sim; part = None }

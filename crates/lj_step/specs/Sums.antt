@@ -3,7 +3,7 @@ use Rattle.std.specs.Prelude.{ℕ, ◌+◌, ◌*◌, ◌^◌, ◌<◌, ◌≤◌
 use Rattle.std.specs.Prelude.{length, slice_index_or, vec_capacity, count_by, min, max, Option, Some, None, if◌then◌else◌}
 use Rattle.lj_ring.specs.declared.coordinates.Place.{Place}
 use Rattle.lj_ring.specs.Ring.{ring_sum, int_sum_below}
-use Rattle.lj_ring.specs.Scales.{Units}
+use Rattle.lj_tile.specs.Species.{Composition, class_between}
 use Rattle.lj_tile.specs.declared.pairs.Push.{Push}
 use Rattle.lj_tile.specs.declared.names.Kind.{Kind}
 use Rattle.lj_tile.specs.declared.names.Kind.TheVariants.{Force, Energy}
@@ -22,11 +22,11 @@ abbrev pub pair_awaited : List Bool → ℕ → ℕ → Bool
 pair_awaited awaited i j = slice_index_or awaited (pair_number i j) false
 
 -- what atom j adds to the push on atom i so far: nothing where the tile of the pair is still awaited
-abbrev pub push_so_far : Units → List Place → List Bool → ℕ → ℕ → Push
+abbrev pub push_so_far : Composition → List Place → List Bool → ℕ → ℕ → Push
 push_so_far u frame awaited i j = if pair_awaited awaited i j then no_push else push_of u frame i j
 
 -- the sum on the ring of the pushes on atom i, of the tiles that are in
-unfoldable pub force_so_far : Units → List Place → List Bool → ℕ → Push
+unfoldable pub force_so_far : Composition → List Place → List Bool → ℕ → Push
 force_so_far u frame awaited i = record {
   x = ring_sum (length frame) (λ j. (push_so_far u frame awaited i j).x);
   y = ring_sum (length frame) (λ j. (push_so_far u frame awaited i j).y);
@@ -34,12 +34,12 @@ force_so_far u frame awaited i = record {
 }
 
 -- what the pair i < j adds to the potential so far
-abbrev pub energy_so_far_of : Units → List Place → List Bool → ℕ → ℕ → ℤ
+abbrev pub energy_so_far_of : Composition → List Place → List Bool → ℕ → ℕ → ℤ
 energy_so_far_of u frame awaited i j =
-    if pair_awaited awaited i j then pos 0 else energy u (place_at frame i) (place_at frame j)
+    if pair_awaited awaited i j then pos 0 else energy (class_between u i j) (place_at frame i) (place_at frame j)
 
 -- the sum of the energies of the tiles that are in
-unfoldable pub energy_so_far : Units → List Place → List Bool → ℤ
+unfoldable pub energy_so_far : Composition → List Place → List Bool → ℤ
 energy_so_far u frame awaited =
     int_sum_below (length frame) (λ j. int_sum_below j (λ i. energy_so_far_of u frame awaited i j))
 
@@ -51,7 +51,7 @@ pub record HasRoom (count : ℕ) (p : Partial) : Type 0 where
   pub arcs : blocks count ≤ vec_capacity p.arcs
 
 -- the tiles, flags and sums of an open step are those of the tiles that are in
-pub record IsOpen (u : Units) (frame : List Place) (p : Partial) (kind : Kind) : Type 0 where
+pub record IsOpen (u : Composition) (frame : List Place) (p : Partial) (kind : Kind) : Type 0 where
   pub tiles : p.tiles.items ≡ cover u frame
   pub within : (k : ℕ) → slice_index_or p.awaited.items k false ≡ true → is_tile u frame k ≡ true
   pub left : p.left ≡ count_by (λ awaited. awaited) p.awaited.items
@@ -60,7 +60,7 @@ pub record IsOpen (u : Units) (frame : List Place) (p : Partial) (kind : Kind) :
   pub energy : kind ≡ Energy → p.energy ≡ energy_so_far u frame p.awaited.items
   pub size : unsigned_abs p.energy + p.left * 2 ^ 63 ≤ 2 ^ 75
 
-abbrev pub IsPartial : Units → List Place → Partial → Option Kind → Type 0
+abbrev pub IsPartial : Composition → List Place → Partial → Option Kind → Type 0
 IsPartial u frame p None = Unit {0}
 IsPartial u frame p (Some kind) = IsOpen u frame p kind
 
@@ -79,11 +79,11 @@ pub record HasBlockAdded (b places : ℕ) (sums : ℕ → Push) (old new : List 
 -- are as they were
 pub record HasAdded (work : Work) (old new : List Push) : Type 0 where
   pub count : length new ≡ length old
-  pub first : work.name.kind ≡ Force → (t : ℕ) → t < length work.a
+  pub first : work.name.kind ≡ Force → (t : ℕ) → t < length work.a.places
       → slice_index_or new (tile_number work.name.bi t) no_push
       ≡ plus (slice_index_or old (tile_number work.name.bi t) no_push) (task_force work t)
-  pub second : work.name.kind ≡ Force → work.name.bi < work.name.bj → (s : ℕ) → s < length work.b
+  pub second : work.name.kind ≡ Force → work.name.bi < work.name.bj → (s : ℕ) → s < length work.b.places
       → slice_index_or new (tile_number work.name.bj s) no_push
       ≡ plus (slice_index_or old (tile_number work.name.bj s) no_push) (task_second work s)
-  pub others : (i : ℕ) → IsOutside work.name.bi (length work.a) i → IsOutside work.name.bj (length work.b) i
+  pub others : (i : ℕ) → IsOutside work.name.bi (length work.a.places) i → IsOutside work.name.bj (length work.b.places) i
       → slice_index_or new i no_push ≡ slice_index_or old i no_push

@@ -1,7 +1,7 @@
 -- What the tasks of a step are to the tiles of its cover.
 use Rattle.std.specs.Prelude.{ℕ, ◌<◌, ◌≡◌, false, List, length, slice_index_or, Option, Some, None}
 use Rattle.lj_ring.specs.declared.coordinates.Place.{Place}
-use Rattle.lj_ring.specs.Scales.{Units}
+use Rattle.lj_tile.specs.Species.{Composition}
 use Rattle.lj_tile.specs.declared.names.Kind.{Kind}
 use Rattle.lj_tile.specs.declared.names.Kind.TheVariants.{Force, Energy}
 use Rattle.lj_tile.specs.Pushes.{no_push}
@@ -13,26 +13,26 @@ use Rattle.lj_step.specs.Sums.{IsOutside}
 
 -- a task has the value of a force tile on a frame: at each place of its two blocks the sum that its result keeps is
 -- the tile's push on that atom, and the tile pushes no other atom
-pub record HasForces (u : Units) (frame : List Place) (tile : Tile) (work : Work) : Type 0 where
+pub record HasForces (u : Composition) (frame : List Place) (tile : Tile) (work : Work) : Type 0 where
   pub kind : work.name.kind ≡ Force
-  pub first : (t : ℕ) → t < length work.a → task_force work t ≡ tile_force u frame tile (atom work.name.bi t)
-  pub second : work.name.bi < work.name.bj → (s : ℕ) → s < length work.b
+  pub first : (t : ℕ) → t < length work.a.places → task_force work t ≡ tile_force u frame tile (atom work.name.bi t)
+  pub second : work.name.bi < work.name.bj → (s : ℕ) → s < length work.b.places
       → task_second work s ≡ tile_force u frame tile (atom work.name.bj s)
-  pub others : (i : ℕ) → i < length frame → IsOutside work.name.bi (length work.a) i
-      → IsOutside work.name.bj (length work.b) i → tile_force u frame tile i ≡ no_push
+  pub others : (i : ℕ) → i < length frame → IsOutside work.name.bi (length work.a.places) i
+      → IsOutside work.name.bj (length work.b.places) i → tile_force u frame tile i ≡ no_push
 
 -- a task has the value of an energy tile on a frame: the sum that its result keeps is the tile's energy
-pub record HasEnergy (u : Units) (frame : List Place) (tile : Tile) (work : Work) : Type 0 where
+pub record HasEnergy (u : Composition) (frame : List Place) (tile : Tile) (work : Work) : Type 0 where
   pub kind : work.name.kind ≡ Energy
   pub energy : task_energy work ≡ tile_energy u frame tile
 
 -- a task has the value of a tile of a kind
-abbrev pub HasValue : Kind → Units → List Place → Tile → Work → Type 0
+abbrev pub HasValue : Kind → Composition → List Place → Tile → Work → Type 0
 HasValue Force u frame tile work = HasForces u frame tile work
 HasValue Energy u frame tile work = HasEnergy u frame tile work
 
 -- tiles are a cover for sums of a kind
-abbrev pub IsCover : Kind → Units → List Place → List Tile → Type 0
+abbrev pub IsCover : Kind → Composition → List Place → List Tile → Type 0
 IsCover Force u frame tiles = IsForceCover u frame tiles
 IsCover Energy u frame tiles = IsEnergyCover u frame tiles
 
@@ -44,15 +44,15 @@ tile_at tiles i = slice_index_or tiles i (λ i j. false)
 abbrev pub HasValueIn : Live → ℕ → Work → Option OpenStep → Type 0
 HasValueIn live i work None = ⊥
 HasValueIn live i work (Some p) =
-    HasValue p.kind live.units live.sim.cur (tile_at (cover_tiles p.kind live.units live.sim.cur) i) work
+    HasValue p.kind live.composition live.sim.cur (tile_at (cover_tiles p.kind live.composition live.sim.cur) i) work
 
 abbrev pub HasTileValue : Live → ℕ → Work → Type 0
 HasTileValue live i work = HasValueIn live i work live.part
 
 -- the tiles of the open step, as many as its tasks, are a cover of its kind
 pub record IsStepCover (live : Live) (p : OpenStep) : Type 0 where
-  pub count : length (cover_tiles p.kind live.units live.sim.cur) ≡ tiles_of live
-  pub cover : IsCover p.kind live.units live.sim.cur (cover_tiles p.kind live.units live.sim.cur)
+  pub count : length (cover_tiles p.kind live.composition live.sim.cur) ≡ tiles_of live
+  pub cover : IsCover p.kind live.composition live.sim.cur (cover_tiles p.kind live.composition live.sim.cur)
 
 abbrev pub IsCoveredIn : Live → Option OpenStep → Type 0
 IsCoveredIn live None = Unit {0}

@@ -2,8 +2,9 @@
 -- measures after the second, and the way back.
 use Rattle.std.specs.Prelude.{◌≡◌, ◌∷◌, [], ℕ, pos, negsuc, List, refl}
 use Rattle.lj_ring.specs.declared.coordinates.Place.{Place}
-use Rattle.lj_ring.specs.Scales.{Units}
+use Rattle.lj_tile.specs.Species.{Composition}
 use Rattle.lj_table.specs.Entries.{push_entry, energy_entry}
+use Rattle.lj_ring.specs.Mixes.{pure}
 use Rattle.lj_tile.specs.Pushes.{push}
 use Rattle.lj_step.specs.Motion.{Simulation, opening, stepped, steps, reversed, tugged, force, momentum, kinetic}
 use Rattle.lj_step.specs.Motion.{potential}
@@ -12,9 +13,9 @@ use Rattle.lj_step.specs.Motion.{potential}
 abbrev pub on_x : ℕ → Place
 on_x x = record { x = x; y = 0; z = 0 }
 
--- an edge of 256, sigma 1, and a step factor of 2^17 in units of 2^-32
-abbrev pub dimer_units : Units
-dimer_units = record { edge = 256000000000; sigma = 16777216; strength = 131072 }
+-- atoms that are all alike: an edge of 256, sigma 1, and a step factor of 2^17 in units of 2^-32
+abbrev pub dimer_atoms : Composition
+dimer_atoms = record { mix = pure (record { edge = 256000000000; sigma = 16777216; strength = 131072 }); seconds = 0 ∷ [] }
 
 -- at rest, 1.5 sigma apart
 abbrev pub dimer_frame : List Place
@@ -25,7 +26,7 @@ dimer = opening dimer_frame dimer_frame
 
 -- after n steps
 unfoldable pub after : ℕ → Simulation
-after n = steps dimer_units n dimer
+after n = steps dimer_atoms n dimer
 
 pub after_one : (after 1).cur ≡ on_x 589 ∷ on_x 25165235 ∷ []
 unfolding after push force push_entry
@@ -39,7 +40,7 @@ pub kinetic_after_two : kinetic (after 2) ≡ 2808450
 unfolding after push force push_entry
 kinetic_after_two = refl
 
-pub potential_after_two : potential dimer_units (after 2).cur ≡ negsuc 5399726
+pub potential_after_two : potential dimer_atoms (after 2).cur ≡ negsuc 5399726
 unfolding after push force push_entry energy_entry
 potential_after_two = refl
 
@@ -52,12 +53,12 @@ pub back_at_one : (reversed (after 2)).cur ≡ on_x 589 ∷ on_x 25165235 ∷ []
 unfolding after push force push_entry
 back_at_one = refl
 
-pub back_past_opening : (steps dimer_units 2 (reversed (after 2))).cur ≡ dimer_frame
+pub back_past_opening : (steps dimer_atoms 2 (reversed (after 2))).cur ≡ dimer_frame
 unfolding after push force push_entry
 back_past_opening = refl
 
 -- a tug of 5 along x at step 1 shows in the next step
-pub tugged_then_stepped : (stepped dimer_units (tugged 0 (record { x = pos 5; y = pos 0; z = pos 0 }) (after 1))).cur
+pub tugged_then_stepped : (stepped dimer_atoms (tugged 0 (record { x = pos 5; y = pos 0; z = pos 0 }) (after 1))).cur
     ≡ on_x 1779 ∷ on_x 25164050 ∷ []
 unfolding after push force push_entry
 tugged_then_stepped = refl

@@ -5,11 +5,12 @@ ghost use Rattle.lj_step.specs.declared.frames.TheConstants.{MAX_ATOMS};
 ghost use Rattle.lj_step.specs.OpenSteps as steps;
 ghost use Rattle.lj_step.specs.Kept.{block_arcs};
 
-use lj_ring::{Arcs, Place, Scale};
+use crate::atoms::Atoms;
+use lj_ring::{Arcs, Place};
 use lj_tile::BLOCK;
 
-/// How many blocks so many atoms have.
-pub(crate) fn blocks(count: usize) -> usize
+/// How many blocks so many atoms have, at most [`MAX_ATOMS`](crate::MAX_ATOMS).
+pub fn blocks(count: usize) -> usize
     requires { count ≤ MAX_ATOMS }
     ensures value { result ≡ steps.blocks count }
     ensures most { result ≤ 64 }
@@ -29,16 +30,16 @@ pub(crate) fn block(frame: &[Place], index: usize) -> &[Place]
 }
 
 /// Whether a step over a frame has a tile of this number, by the arcs of its blocks.
-pub(crate) fn is_tile(number: usize, arcs: &[Arcs], scale: &Scale, frame: &[Place]) -> bool
+pub(crate) fn is_tile(number: usize, arcs: &[Arcs], atoms: &Atoms, frame: &[Place]) -> bool
     requires within { number < 64 * steps.blocks (length frame.now) }
     requires most { length frame.now ≤ MAX_ATOMS }
     requires arcs { arcs.now ≡ map (block_arcs frame.now) (range_with_len 0 (steps.blocks (length frame.now))) }
-    ensures { result ≡ steps.is_tile scale.now frame.now number }
+    ensures { result ≡ steps.is_tile atoms.now frame.now number }
 {
     let (first, second) = (number / BLOCK, number % BLOCK);
     second < blocks(frame.len())
         && first <= second
-        && !is_out_of_reach(first, second, arcs, scale, frame)
+        && !is_out_of_reach(first, second, arcs, atoms, frame)
 }
 
 /// Whether no pair of atoms of two blocks can interact, by the arcs of the blocks.
@@ -46,18 +47,18 @@ fn is_out_of_reach(
     first: usize,
     second: usize,
     arcs: &[Arcs],
-    scale: &Scale,
+    atoms: &Atoms,
     frame: &[Place],
 ) -> bool
     requires first { first < steps.blocks (length frame.now) }
     requires second { second < steps.blocks (length frame.now) }
     requires most { length frame.now ≤ MAX_ATOMS }
     requires arcs { arcs.now ≡ map (block_arcs frame.now) (range_with_len 0 (steps.blocks (length frame.now))) }
-    ensures { result ≡ steps.is_out_of_reach scale.now frame.now (steps.tile_number first second) }
+    ensures { result ≡ steps.is_out_of_reach atoms.now frame.now (steps.tile_number first second) }
 {
     if first == second {
         block(frame, first).len() == 1
     } else {
-        scale.reach() <= arcs[first].squared_gap(&arcs[second])
+        atoms.mix().reach() <= arcs[first].squared_gap(&arcs[second])
     }
 }

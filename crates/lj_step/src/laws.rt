@@ -1,7 +1,7 @@
 //! Laws of the motion, over all simulations. The functions do nothing: what counts is what they ensure.
 ghost use Rattle.std.specs.Prelude.{◌≡◌, ◌≤◌, ℕ, List, length};
 ghost use Rattle.lj_ring.specs.declared.coordinates.Place.{Place};
-ghost use Rattle.lj_ring.specs.Scales.{Units};
+ghost use Rattle.lj_tile.specs.Species.{Composition};
 ghost use Rattle.lj_tile.specs.declared.names.Kind.TheVariants.{Force, Energy};
 ghost use Rattle.lj_tile.specs.Tiles.{Tile, IsForceCover, IsEnergyCover};
 ghost use Rattle.lj_step.specs.Motion.{Simulation, steps, stepped, reversed, potential};
@@ -10,18 +10,18 @@ ghost use Rattle.lj_step.specs.declared.frames.TheConstants.{MAX_ATOMS};
 ghost use Rattle.lj_step.specs.Live.{Live};
 ghost use Rattle.lj_step.specs.OpenSteps.{cover_tiles, task_of, tile_of};
 ghost use Rattle.lj_step.specs.TileTasks.{HasEnergy, HasForces};
-ghost use Rattle.lj_step.specs.Laws.{AreOnRing, IsWhole, IsScale, drift, opposite, stepped_by, tiles_energy};
+ghost use Rattle.lj_step.specs.Laws.{AreOnRing, IsWhole, IsMixture, drift, opposite, stepped_by, tiles_energy};
 
 /// Any number of steps can be undone: reversed, walked back as many steps and reversed again, a simulation is as it
 /// was, bit for bit.
 pub fn steps_are_undone()
-    ensures { (u : Units) (n : ℕ) (sim : Simulation) → IsWhole sim
+    ensures { (u : Composition) (n : ℕ) (sim : Simulation) → IsWhole sim
         → reversed (steps u n (reversed (steps u n sim))) ≡ sim }
 {}
 
 /// The drift, the ring sum of `cur - prev`, is conserved: a step leaves it, and a reverse changes its sign.
 pub fn drift_is_conserved()
-    ensures steps { (u : Units) (n : ℕ) (sim : Simulation) → IsScale u → IsWhole sim
+    ensures steps { (u : Composition) (n : ℕ) (sim : Simulation) → IsMixture u.mix → IsWhole sim
         → drift (steps u n sim) ≡ drift sim }
     ensures reverse { (sim : Simulation) → IsWhole sim → drift (reversed sim) ≡ opposite (drift sim) }
 {}
@@ -29,17 +29,17 @@ pub fn drift_is_conserved()
 /// A step by the sums of any cover of its frame, the tiles in any order, is the step over all pairs; and the energies
 /// of any cover add up to the potential.
 pub fn covers_are_all_pairs()
-    ensures step { (u : Units) (sim : Simulation) (tiles : List Tile) → IsForceCover u sim.cur tiles
+    ensures step { (u : Composition) (sim : Simulation) (tiles : List Tile) → IsForceCover u sim.cur tiles
         → stepped_by u tiles sim ≡ stepped u sim }
-    ensures energy { (u : Units) (frame : List Place) (tiles : List Tile) → IsEnergyCover u frame tiles
+    ensures energy { (u : Composition) (frame : List Place) (tiles : List Tile) → IsEnergyCover u frame tiles
         → tiles_energy u frame tiles ≡ potential u frame }
 {}
 
 /// The tiles of a step of up to `MAX_ATOMS` atoms, all on the ring, are a cover, of each kind.
 pub fn tasks_are_a_cover()
-    ensures force { (u : Units) (frame : List Place) → AreOnRing frame → length frame ≤ MAX_ATOMS
+    ensures force { (u : Composition) (frame : List Place) → AreOnRing frame → length frame ≤ MAX_ATOMS
         → IsForceCover u frame (cover_tiles Force u frame) }
-    ensures energy { (u : Units) (frame : List Place) → AreOnRing frame → length frame ≤ MAX_ATOMS
+    ensures energy { (u : Composition) (frame : List Place) → AreOnRing frame → length frame ≤ MAX_ATOMS
         → IsEnergyCover u frame (cover_tiles Energy u frame) }
 {}
 
@@ -47,7 +47,7 @@ pub fn tasks_are_a_cover()
 /// energy.
 pub fn tasks_are_the_tiles()
     ensures force { (live : Live) (label : Label) (k : ℕ)
-        → HasForces live.units live.sim.cur (tile_of Force k) (task_of live label Force k) }
+        → HasForces live.composition live.sim.cur (tile_of Force k) (task_of live label Force k) }
     ensures energy { (live : Live) (label : Label) (k : ℕ)
-        → HasEnergy live.units live.sim.cur (tile_of Energy k) (task_of live label Energy k) }
+        → HasEnergy live.composition live.sim.cur (tile_of Energy k) (task_of live label Energy k) }
 {}

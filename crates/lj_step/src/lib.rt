@@ -1,6 +1,7 @@
 //! The simulation: two frames of places, stepped reversibly, each step cut into tasks.
 #![tactic(auto)]
 
+mod atoms;
 mod cover;
 mod frames;
 pub mod laws;
@@ -10,6 +11,7 @@ pub mod round_trip;
 mod simulations;
 mod snapshots;
 
+pub use cover::blocks;
 pub use frames::{Frame, Frames, MAX_ATOMS};
 pub use simulations::{Displacement, MAX_STEP, NotAwaited, Sim, Stray};
 pub use snapshots::Snapshot;

@@ -11,8 +11,9 @@ ghost use Rattle.lj_step.specs.OpenSteps as steps;
 ghost use Rattle.lj_step.specs.Sums.{HasRoom, HasAdded, HasBlockAdded};
 ghost use Rattle.lj_step.specs.Kept.{block_arcs, set_numbers};
 
+use crate::atoms::Atoms;
 use crate::cover::{block, blocks, is_tile};
-use lj_ring::{Arcs, Place, Scale};
+use lj_ring::{Arcs, Place};
 use lj_tile::{BLOCK, Done, Kind, Push};
 use std::alloc::{AllocError, Global};
 
@@ -56,20 +57,20 @@ impl Partial {
     }
 
     /// Opens a step over a frame that awaits all its tiles.
-    pub fn open(&mut self, kind: Kind, scale: &Scale, frame: &[Place])
+    pub fn open(&mut self, kind: Kind, atoms: &Atoms, frame: &[Place])
         requires room { HasRoom (length frame.now) self.old }
         requires most { length frame.now ≤ MAX_ATOMS }
         ensures room { HasRoom (length frame.now) self.new }
         ensures kind { self.new.kind ≡ Some kind }
-        ensures tiles { self.new.tiles.items ≡ steps.cover scale.now frame.now }
+        ensures tiles { self.new.tiles.items ≡ steps.cover atoms.now frame.now }
         ensures awaited { self.new.awaited.items
-            ≡ map (steps.is_tile scale.now frame.now) (range_with_len 0 (64 * steps.blocks (length frame.now))) }
-        ensures left { self.new.left ≡ length (steps.cover scale.now frame.now) }
+            ≡ map (steps.is_tile atoms.now frame.now) (range_with_len 0 (64 * steps.blocks (length frame.now))) }
+        ensures left { self.new.left ≡ length (steps.cover atoms.now frame.now) }
         ensures pushes { self.new.pushes.items ≡ replicate (length frame.now) no_push }
         ensures energy { self.new.energy ≡ pos 0 }
     {
         list_arcs(&mut self.arcs, frame);
-        await_tiles(&mut self.awaited, self.arcs.as_slice(), scale, frame);
+        await_tiles(&mut self.awaited, self.arcs.as_slice(), atoms, frame);
         list_tiles(&mut self.tiles, self.awaited.as_slice());
         clear(&mut self.pushes);
         self.left = self.tiles.as_slice().len();
@@ -79,8 +80,8 @@ impl Partial {
 
     /// Adds the sums of a tile that is awaited, of blocks of so many places, and awaits it no more.
     pub fn add(&mut self, done: &Done, first: usize, second: usize)
-        requires first { first ≡ length done.now.a }
-        requires second { second ≡ length done.now.b }
+        requires first { first ≡ length done.now.a.places }
+        requires second { second ≡ length done.now.b.places }
         requires awaited { steps.tile_number_of done.now < length self.old.awaited.items }
         requires left { 1 ≤ self.old.left }
         requires first_count { steps.tile_number done.now.name.bi first ≤ length self.old.pushes.items }
@@ -122,15 +123,15 @@ fn list_arcs(arcs: &mut Vec<Arcs>, frame: &[Place])
 }
 
 /// Awaits each tile of the cover, and no other number.
-fn await_tiles(awaited: &mut Vec<bool>, arcs: &[Arcs], scale: &Scale, frame: &[Place])
+fn await_tiles(awaited: &mut Vec<bool>, arcs: &[Arcs], atoms: &Atoms, frame: &[Place])
     requires room { length awaited.old.items ≡ 64 * steps.blocks (length frame.now) }
     requires most { length frame.now ≤ MAX_ATOMS }
     requires arcs { arcs.now ≡ map (block_arcs frame.now) (range_with_len 0 (steps.blocks (length frame.now))) }
     ensures { awaited.new.items
-        ≡ map (steps.is_tile scale.now frame.now) (range_with_len 0 (64 * steps.blocks (length frame.now))) }
+        ≡ map (steps.is_tile atoms.now frame.now) (range_with_len 0 (64 * steps.blocks (length frame.now))) }
 {
     for number in 0..BLOCK * blocks(frame.len()) {
-        awaited[number] = is_tile(number, arcs, scale, frame);
+        awaited[number] = is_tile(number, arcs, atoms, frame);
     }
 }
 
@@ -158,8 +159,8 @@ fn clear(pushes: &mut Vec<Push>)
 /// Adds the sums of a force task to those of its two blocks' atoms, once where they are one block.
 fn add_pushes(pushes: &mut Vec<Push>, done: &Done, first: usize, second: usize)
     requires kind { done.now.name.kind ≡ Force }
-    requires first { first ≡ length done.now.a }
-    requires second { second ≡ length done.now.b }
+    requires first { first ≡ length done.now.a.places }
+    requires second { second ≡ length done.now.b.places }
     requires first_count { steps.tile_number done.now.name.bi first ≤ length pushes.old.items }
     requires second_count { steps.tile_number done.now.name.bj second ≤ length pushes.old.items }
     ensures { HasAdded done.now pushes.old.items pushes.new.items }
@@ -174,7 +175,7 @@ fn add_pushes(pushes: &mut Vec<Push>, done: &Done, first: usize, second: usize)
 /// Adds its sums for the places of the first block.
 fn add_first(pushes: &mut Vec<Push>, done: &Done, places: usize)
     requires kind { done.now.name.kind ≡ Force }
-    requires places { places ≡ length done.now.a }
+    requires places { places ≡ length done.now.a.places }
     requires count { steps.tile_number done.now.name.bi places ≤ length pushes.old.items }
     ensures { HasBlockAdded done.now.name.bi places (task_force done.now) pushes.old.items pushes.new.items }
 {
@@ -189,7 +190,7 @@ fn add_first(pushes: &mut Vec<Push>, done: &Done, places: usize)
 fn add_second(pushes: &mut Vec<Push>, done: &Done, places: usize)
     requires kind { done.now.name.kind ≡ Force }
     requires apart { done.now.name.bi < done.now.name.bj }
-    requires places { places ≡ length done.now.b }
+    requires places { places ≡ length done.now.b.places }
     requires count { steps.tile_number done.now.name.bj places ≤ length pushes.old.items }
     ensures { HasBlockAdded done.now.name.bj places (task_second done.now) pushes.old.items pushes.new.items }
 {

@@ -25,13 +25,13 @@ pub fn there_and_back(sim: &mut Sim, steps: u32, label: &Label, table: &Table)
 /// Goes so many steps on, each task computed here.
 pub fn go(sim: &mut Sim, steps: u32, label: &Label, table: &Table)
     requires { unsigned_abs sim.old.sim.step + steps ≤ MAX_STEP }
-    ensures units { sim.new.units ≡ sim.old.units }
-    ensures motion { sim.new.sim ≡ motion.steps sim.old.units steps sim.old.sim }
+    ensures composition { sim.new.composition ≡ sim.old.composition }
+    ensures motion { sim.new.sim ≡ motion.steps sim.old.composition steps sim.old.sim }
     ensures drift { drift sim.new.sim ≡ drift sim.old.sim }
     ensures step { unsigned_abs sim.new.sim.step ≤ unsigned_abs sim.old.sim.step + steps }
     ensures dir { unsigned_abs sim.new.sim.dir ≡ 1 }
 {
-    let (_whole, _near, _dir) = (sim.count(), sim.scale(), sim.dir());
+    let (_whole, _near, _dir) = (sim.count(), sim.mix(), sim.dir());
     for _ in 0..steps {
         step(sim, label, table);
     }
@@ -40,7 +40,7 @@ pub fn go(sim: &mut Sim, steps: u32, label: &Label, table: &Table)
 /// Goes a step on, its tasks computed one after the other.
 fn step(sim: &mut Sim, label: &Label, table: &Table)
     requires { unsigned_abs (sim.old.sim.step +ℤ sim.old.sim.dir) ≤ MAX_STEP }
-    ensures { sim.new ≡ closed sim.old (motion.stepped sim.old.units sim.old.sim) }
+    ensures { sim.new ≡ closed sim.old (motion.stepped sim.old.composition sim.old.sim) }
 {
     sim.open_step(Kind::Force);
     for i in 0..sim.tiles() {

@@ -4,20 +4,22 @@ ghost use Rattle.std.specs.Prelude.{IfSome, IsOk, IsTrue, OnOk, OnErr, Some, Non
 ghost use Rattle.std.specs.Prelude.{◌∷◌};
 ghost use Rattle.lj_tile.specs.declared.names.Kind.TheVariants.{Force, Energy};
 ghost use Rattle.lj_ring.specs.Ring.{in_ring};
+ghost use Rattle.lj_ring.specs.Mixes.{edge_of};
 ghost use Rattle.lj_tile.specs.Pushes.{no_push};
 ghost use Rattle.lj_step.specs.declared.frames.TheConstants.{MAX_ATOMS};
 ghost use Rattle.lj_step.specs.declared.simulations.TheConstants.{MAX_STEP};
 ghost use Rattle.lj_step.specs.Motion as motion;
 ghost use Rattle.lj_step.specs.OpenSteps as steps;
-ghost use Rattle.lj_step.specs.Laws.{IsScale, IsWhole};
+ghost use Rattle.lj_step.specs.Laws.{IsMixture, IsWhole};
 ghost use Rattle.lj_step.specs.TileTasks.{HasTileValue, IsCovered};
 
+use crate::atoms::Atoms;
 use crate::cover;
 use crate::frames::{Frames, next_place, overwrite};
 use crate::measures::{self, Momentum};
 use crate::partial::Partial;
 use crate::snapshots::Snapshot;
-use lj_ring::{Edge, Place, Scale};
+use lj_ring::{Edge, Mix, Place};
 use lj_tile::{BLOCK, Block, Done, Kind, Label, Push, Task, TaskName};
 use std::alloc::{AllocError, Global};
 use std::marker::Model;
@@ -75,11 +77,11 @@ pub struct Stray {
     pub done: Done,
 }
 
-/// A simulation: two frames one step apart, its step number and direction, its scale, and the step that is open. A step
+/// A simulation: two frames one step apart, its step number and direction, what its atoms are, and the step that is open. A step
 /// is opened, its tasks are computed by anyone in any order, the results accepted, and when it is whole it is turned.
 #[derive(Drop)]
 pub struct Sim {
-    scale: Scale,
+    atoms: Atoms,
     prev: Vec<Place>,
     cur: Vec<Place>,
     step: i64,
@@ -102,16 +104,28 @@ impl Model for Sim {
 impl Sim {
     /// A simulation that stands at step 0 and goes forward. Its room for steps is made here, and no other call takes
     /// memory.
-    pub fn new(alloc: Global, frames: Frames, scale: Scale) -> Result<Sim, AllocError>
+    ///
+    /// For each block of 64 atoms bit `t` of `seconds` tells whether its atom `t` is of the second species of the
+    /// mixture.
+    pub fn new(
+        alloc: Global,
+        frames: Frames,
+        seconds: Vec<u64>,
+        mix: Mix,
+    ) -> Result<Sim, AllocError>
         requires same { length frames.prev ≡ length frames.cur }
         requires some { 1 ≤ length frames.cur }
         requires most { length frames.cur ≤ MAX_ATOMS }
-        ensures { IfOk result
-            (λ s. s ≡ record { units = scale; sim = motion.opening frames.prev frames.cur; part = None }) }
+        requires seconds { length seconds.items ≡ steps.blocks (length frames.cur) }
+        ensures { IfOk result (λ s. s ≡ record {
+          composition = record { mix = mix; seconds = seconds.items };
+          sim = motion.opening frames.prev frames.cur;
+          part = None;
+        }) }
     {
         let partial = Partial::new(alloc, frames.cur.count())?;
         Ok(Sim {
-            scale,
+            atoms: Atoms::new(mix, seconds),
             prev: frames.prev.into_places(),
             cur: frames.cur.into_places(),
             step: 0,
@@ -194,9 +208,9 @@ impl Sim {
     /// lie within reach of each other, and for each block of two atoms and more. A step without tiles is whole at once.
     /// A step that was open is dropped.
     pub fn open_step(&mut self, kind: Kind)
-        ensures { self.new ≡ record self.old { part = Some (steps.opened kind self.old.units self.old.sim.cur) } }
+        ensures { self.new ≡ record self.old { part = Some (steps.opened kind self.old.composition self.old.sim.cur) } }
     {
-        self.partial.open(kind, &self.scale, self.cur.as_slice());
+        self.partial.open(kind, &self.atoms, self.cur.as_slice());
     }
 
     /// How many tiles the open step has; 0 where no step is open.
@@ -279,7 +293,7 @@ impl Sim {
         requires kind { steps.kind_of self.old.part ≡ Some Force }
         requires whole { steps.is_whole self.old.part ≡ true }
         requires step { unsigned_abs (self.old.sim.step +ℤ self.old.sim.dir) ≤ MAX_STEP }
-        ensures { self.new ≡ steps.closed self.old (motion.stepped self.old.units self.old.sim) }
+        ensures { self.new ≡ steps.closed self.old (motion.stepped self.old.composition self.old.sim) }
     {
         advance(
             &mut self.prev,
@@ -295,7 +309,7 @@ impl Sim {
     pub fn potential(&self) -> i128
         requires kind { steps.kind_of self.now.part ≡ Some Energy }
         requires whole { steps.is_whole self.now.part ≡ true }
-        ensures { result ≡ motion.potential self.now.units self.now.sim.cur }
+        ensures { result ≡ motion.potential self.now.composition self.now.sim.cur }
     {
         self.partial.energy
     }
@@ -317,26 +331,28 @@ impl Sim {
 
     /// Whether this is the task of a tile of the present step. It copies no places.
     fn is_task_of(&self, task: &Task, label: &Label, kind: Kind, number: usize) -> bool
-        requires tile { steps.is_tile self.now.units self.now.sim.cur number ≡ true }
+        requires tile { steps.is_tile self.now.composition self.now.sim.cur number ≡ true }
         requires within { number < 64 * steps.blocks (length self.now.sim.cur) }
         ensures { IsTrue result ↔ (task.now ≡ steps.task_of self.now label.now kind number) }
     {
         let name = self.name_of(label, kind, number);
-        let first = self.block(number / BLOCK);
-        let second = self.block(number % BLOCK);
-        task.is_of(&name, &self.scale, first, second)
+        let (first, second) = (number / BLOCK, number % BLOCK);
+        let a = (self.block(first), self.atoms.seconds(first));
+        let b = (self.block(second), self.atoms.seconds(second));
+        task.is_of(&name, self.atoms.mix(), a, b)
     }
 
     /// The task of a tile of the present step.
     fn task_of(&self, label: &Label, kind: Kind, number: usize) -> Task
-        requires tile { steps.is_tile self.now.units self.now.sim.cur number ≡ true }
+        requires tile { steps.is_tile self.now.composition self.now.sim.cur number ≡ true }
         requires within { number < 64 * steps.blocks (length self.now.sim.cur) }
         ensures { result ≡ steps.task_of self.now label.now kind number }
     {
         let name = self.name_of(label, kind, number);
-        let first = Block::new(self.block(number / BLOCK));
-        let second = Block::new(self.block(number % BLOCK));
-        Task::new(name, self.scale, first, second)
+        let (first, second) = (number / BLOCK, number % BLOCK);
+        let a = Block::new(self.block(first), self.atoms.seconds(first));
+        let b = Block::new(self.block(second), self.atoms.seconds(second));
+        Task::new(name, *self.atoms.mix(), a, b)
     }
 
     /// The name of that task.
@@ -371,18 +387,19 @@ impl Sim {
 
     /// The edge of the box.
     pub fn edge(&self) -> Edge
-        ensures { result ≡ self.now.units.edge }
+        ensures { result ≡ edge_of self.now.composition.mix }
     {
-        self.scale.edge()
+        self.atoms.mix().edge()
     }
 
-    /// The scale: the edge of the box, sigma and the step factor. No pair that interacts lies half the box apart.
-    pub fn scale(&self) -> Scale
-        ensures value { result ≡ self.now.units }
-        ensures near { IsScale self.now.units }
+    /// The mixture. No pair that interacts lies half the box apart.
+    pub fn mix(&self) -> Mix
+        ensures value { result ≡ self.now.composition.mix }
+        ensures near { IsMixture self.now.composition.mix }
     {
-        let _reach = self.scale.reach();
-        self.scale
+        let mix = self.atoms.mix();
+        let _reach = mix.reach();
+        *mix
     }
 
     /// The step number, at most `MAX_STEP` in size.

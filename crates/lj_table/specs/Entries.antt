@@ -24,9 +24,13 @@ looked_up entry_of u s = if interacts u s then entry_of (entry (bin u s)) else p
 abbrev pub push_at : Units → ℕ → ℤ
 push_at u s = looked_up push_entry u s
 
--- the energy of a pair at a squared distance
+-- the energy of a pair at a squared distance, before it is weighted
 abbrev pub energy_at : Units → ℕ → ℤ
 energy_at u s = looked_up energy_entry u s
+
+-- an energy by a weight in 256ths, rounded toward zero
+abbrev pub weighted : ℕ → ℤ → ℤ
+weighted weight energy = int_div (energy *ℤ pos weight) (pos 256)
 
 -- the cells of a table are the entries of the bins, each below bin 64 that of bin 64
 abbrev pub HasEntries : (ℕ → ℤ) → List ℤ → Type 0

@@ -1,9 +1,10 @@
 //! The tables of the entries of all bins within reach.
 ghost use Rattle.std.specs.Prelude.{◌≡◌, ℕ, ℤ, ◌≤◌, ◌<◌, ◌^◌, unsigned_abs};
 ghost use Rattle.lj_table.specs.Entries.{HasEntries, AreSmall, push_entry, energy_entry, push_at, energy_at, looked_up};
+ghost use Rattle.lj_table.specs.Entries.{weighted};
 
 use crate::entries;
-use lj_ring::{BINS, MIN_BIN, Scale};
+use lj_ring::{BINS, MIN_BIN, Scale, Weight};
 
 /// The pushes and energies of the bins within reach. The cells below bin [`MIN_BIN`] repeat that of this bin.
 #[derive(Drop)]
@@ -37,14 +38,25 @@ impl Table {
         looked_up(&self.pushes, s, scale)
     }
 
-    /// The energy of a pair at squared distance `s` (square ring units), in units of 2^-24 ε; 0 out of reach.
+    /// The energy of a pair at squared distance `s` (square ring units) by its weight, in units of 2^-24 ε and toward
+    /// zero; 0 out of reach.
     #[inline]
-    pub fn energy(&self, s: u64, scale: &Scale) -> i64
-        ensures value { result ≡ energy_at scale.now s }
-        ensures size { unsigned_abs result < 2 ^ 37 }
+    pub fn energy(&self, s: u64, scale: &Scale, weight: Weight) -> i64
+        ensures value { result ≡ weighted weight (energy_at scale.now s) }
+        ensures size { unsigned_abs result < 2 ^ 45 }
     {
-        looked_up(&self.energies, s, scale)
+        weighted(looked_up(&self.energies, s, scale), weight)
     }
+}
+
+/// An entry by a weight in 256ths, toward zero.
+#[inline]
+fn weighted(entry: i64, weight: Weight) -> i64
+    requires { unsigned_abs entry < 2 ^ 37 }
+    ensures value { result ≡ weighted weight entry }
+    ensures size { unsigned_abs result < 2 ^ 45 }
+{
+    entry * i64::from(weight.parts()) / 256
 }
 
 // The cell of a pair at squared distance `s`, and 0 out of reach.

@@ -1,7 +1,7 @@
 //! A task for tests in which its blocks do not matter.
 
 use lj_fixed::Nano;
-use lj_ring::{Place, Scale};
+use lj_ring::{Mix, Place, Scale};
 use lj_tile::{Block, Kind, Label, Name, Task, TaskName};
 use std::process::Abort;
 
@@ -19,7 +19,7 @@ pub fn task(rt: &impl Abort, user: u8, step: i64) -> Task {
         bi: 0,
         bj: 0,
     };
-    let block = Block::new(&[Place { x: 0, y: 0, z: 0 }]);
+    let block = Block::new(&[Place { x: 0, y: 0, z: 0 }], 0);
     let scale = Scale::new(edge, sigma, 131_072).ok().expect(rt, "a scale");
-    Task::new(name, scale, block.copy(), block)
+    Task::new(name, Mix::one(scale), block.copy(), block)
 }

@@ -11,7 +11,6 @@ use Rattle.std.proofs.lemmas.Grind.{pow_more, div_ceil_times}
 use Rattle.std.proofs.lemmas.Nat.Bits.{bit_at_and}
 use Rattle.std.proofs.lemmas.Simd.{get_or-zip2, length-zip2, bit_mask_l}
 use Rattle.lj_ring.specs.Ring.{image}
-use Rattle.lj_ring.specs.Scales.{Units, interacts}
 use Rattle.lj_tile.specs.Near.{grains, square_unit, SpansFew}
 
 -- each lane with one number
@@ -221,13 +220,13 @@ bit_of_either a b k e =
     ]
 
 -- from the reach on, no pair interacts
-pub reach_out : (u : Units) (reach : ℕ) → ((s : ℕ) → interacts u s ≡ nat_lt s reach) → (s : ℕ) → reach ≤ s → interacts u s ≡ false
-reach_out u reach exact s h = exact s ∙ le-ltb s reach h
+pub reach_out : (interact : ℕ → Bool) (reach : ℕ) → ((s : ℕ) → interact s ≡ nat_lt s reach) → (s : ℕ) → reach ≤ s → interact s ≡ false
+reach_out interact reach exact s h = exact s ∙ le-ltb s reach h
 
 -- a grain whose reach spans few of them
-pub few_grains : (u : Units) (reach grain : ℕ) → ((s : ℕ) → interacts u s ≡ nat_lt s reach)
-    → reach < 2 ^ 22 * (2 ^ grain * 2 ^ grain) → SpansFew u grain
-few_grains u reach grain exact few s h = reach_out u reach exact s (omega (arith, few, h))
+pub few_grains : (interact : ℕ → Bool) (reach grain : ℕ) → ((s : ℕ) → interact s ≡ nat_lt s reach)
+    → reach < 2 ^ 22 * (2 ^ grain * 2 ^ grain) → SpansFew interact grain
+few_grains interact reach grain exact few s h = reach_out interact reach exact s (omega (arith, few, h))
 
 one_more : (q d n : ℕ) → q < n → q * d + d ≤ n * d
 one_more q d n h = let more : (q + 1) * d ≤ n * d = mul-le (q + 1) d n d (omega (arith, h)) (omega arith) in omega (arith, more)

@@ -1,14 +1,14 @@
 -- Pushes: their size, their rounding, and which are none.
-use Rattle.std.proofs.Common.{ℕ, zero, suc, ◌-◌, ◌*◌, ◌/◌, ◌%◌, ◌^◌, ◌<◌, ◌≤◌, ◌≡◌, ℤ, pos, negsuc, ◌+ℤ◌, ◌-ℤ◌, ◌*ℤ◌}
-use Rattle.std.proofs.Common.{int_div, unsigned_abs, FitsSigned, w32, w64, of_z, to_z, neg_ℤ, refl, sym, ap, ◌∙◌, arith}
-use Rattle.std.proofs.lemmas.Int.{ints, unsigned_abs-mul, fits_signed_from_abs, to_z-of_z}
-use Rattle.std.proofs.lemmas.Nat.{mul-le}
+use Rattle.std.proofs.Common.{ℕ, zero, suc, ◌-◌, ◌*◌, ◌%◌, ◌^◌, ◌<◌, ◌≤◌, ◌≡◌, ℤ, pos, negsuc, ◌+ℤ◌, ◌-ℤ◌, ◌*ℤ◌}
+use Rattle.std.proofs.Common.{int_div, unsigned_abs, FitsSigned, w32, w64, of_z, to_z, refl, sym, ap, ◌∙◌, arith}
+use Rattle.std.proofs.lemmas.Int.{ints, fits_signed_from_abs, to_z-of_z}
 use Rattle.std.proofs.Math.IntN.{zero-*ℤ, *ℤ-zero}
 use Rattle.std.specs.Int.{w128}
 use Rattle.lj_ring.specs.declared.coordinates.Place.{Place}
 use Rattle.lj_ring.specs.Ring.{in_ring, image, distance, IsLeastImage}
 use Rattle.lj_ring.specs.Scales.{Units}
 use Rattle.lj_table.specs.Entries.{push_at}
+use Rattle.lj_table.proofs.Quotients.{quotient_size, small_product}
 use Rattle.lj_tile.specs.declared.pairs.Push.{Push}
 use Rattle.lj_tile.specs.Pushes.{push, no_push}
 
@@ -16,19 +16,6 @@ use Rattle.lj_tile.specs.Pushes.{push, no_push}
 pub low_bits : (z : ℤ) → FitsSigned w64 z → of_z w64 z % 2 ^ 32 ≡ in_ring z
 low_bits (pos n) fits = refl
 low_bits (negsuc n) fits = let small : n < 2 ^ 63 = omega (arith, fits.sfits) in omega arith
-
--- a product of two sizes is small
-pub small_product : (a b : ℤ) (m n : ℕ) → unsigned_abs a ≤ m → unsigned_abs b ≤ n → unsigned_abs (a *ℤ b) ≤ m * n
-small_product a b m n p q = rw (unsigned_abs-mul a b) (mul-le (unsigned_abs a) (unsigned_abs b) m n p q)
-
-abs_neg : (m : ℕ) → unsigned_abs (neg_ℤ (pos m)) ≡ m
-abs_neg zero = refl
-abs_neg (suc m) = refl
-
--- the size of a quotient toward zero
-quotient_size : (z : ℤ) (d : ℕ) → unsigned_abs (int_div z (pos d)) ≡ unsigned_abs z / d
-quotient_size (pos n) d = refl
-quotient_size (negsuc n) d = abs_neg (suc n / d)
 
 image_size : (image : ℤ) → FitsSigned w32 image → unsigned_abs image ≤ 2 ^ 31
 image_size (pos n) fits = omega (arith, fits.sfits)

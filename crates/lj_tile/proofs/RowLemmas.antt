@@ -1,18 +1,25 @@
 -- The sums of rows of pairs, and what they come to.
-use Rattle.std.proofs.Common.{ℕ, zero, suc, ◌+◌, ◌%◌, ◌^◌, ◌<◌, ◌≤◌, ◌≡◌, Bool, true, false, length, min}
-use Rattle.std.proofs.Common.{List, replicate, pos, refl, sym, ap, ◌∙◌, inl, inr, add-one, arith}
+use Rattle.std.proofs.Common.{ℕ, zero, suc, ◌+◌, ◌%◌, ◌^◌, ◌<◌, ◌≤◌, ◌≡◌, Bool, true, false, length}
+use Rattle.std.proofs.Common.{List, replicate, pos, slice_index_or, slice_set, refl, sym, ap, ◌∙◌, inl, inr, add-one, arith}
+use Rattle.std.proofs.Common.{get_or-set_same, get_or-set_other, ◌≢◌, rules}
 use Rattle.std.proofs.lemmas.List.{get_or-replicate}
 use Rattle.std.proofs.lemmas.Bool.{cases_eq, cases_lt, cases_Bool}
 use Rattle.std.proofs.lemmas.Bool.Decides.{nat_tests}
 use Rattle.lj_ring.specs.Ring.{sum_below, ring_sum, distance, IsOnRing}
 use Rattle.lj_ring.specs.Scales.{Units, interacts}
+use Rattle.lj_ring.specs.Mixes.{class_of}
+use Rattle.lj_ring.proofs.MixLemmas.{class_symmetric}
 use Rattle.lj_ring.specs.declared.coordinates.Place.{Place}
 use Rattle.lj_table.specs.Entries.{push_at}
 use Rattle.lj_tile.specs.declared.pairs.Push.{Push}
-use Rattle.lj_tile.specs.Pushes.{push, no_push, plus, opposite}
+use Rattle.lj_tile.specs.Pushes.{push, no_push, plus}
 use Rattle.lj_tile.specs.Tiles.{place_at, chosen_push, push_sum}
-use Rattle.lj_tile.specs.Tasks.{Work, IsTask, are_apart, are_in_order, task_force, task_second}
-use Rattle.lj_tile.specs.Rows.{push_of, push_back, on_first, on_second, IsSilent, AreRows}
+use Rattle.lj_tile.specs.Blocks.{Sites}
+use Rattle.lj_tile.specs.Species.{species_at}
+use Rattle.std.specs.Int.{bit_at}
+use Rattle.lj_tile.specs.Tasks.{Work, IsTask, are_apart, are_in_order, class_in, task_force, task_second}
+use Rattle.lj_tile.specs.Rows.{push_of, push_back, on_first, on_second, push_in, pushes_in}
+use Rattle.lj_tile.specs.Rows.{IsSilent, AreRows, ArePushed}
 use Rattle.lj_tile.proofs.PushLemmas.{nothing_is}
 use Rattle.lj_tile.proofs.Opposites.{same_push, entry_far, nothing_back}
 
@@ -20,11 +27,12 @@ sum_more : (f : ℕ → ℕ) (n p : ℕ) → p ≡ f n → (ring_sum n f + p) % 
 sum_more f n p e = rw (add-one, e) (omega arith)
 
 -- one place more
-pub first_more : (w : Work) (t n : ℕ) (p : Push) → p ≡ push_of w t n → plus (on_first w t n) p ≡ on_first w t (n + 1)
-first_more w t n p counts =
-    let x = sum_more (λ s. (push_of w t s).x) n p.x (ap (λ (q : Push). q.x) counts) in
-    let y = sum_more (λ s. (push_of w t s).y) n p.y (ap (λ (q : Push). q.y) counts) in
-    let z = sum_more (λ s. (push_of w t s).z) n p.z (ap (λ (q : Push). q.z) counts) in
+pub pushes_more : (u : Units) (set : ℕ) (here : Place) (places : List Place) (n : ℕ) (p : Push)
+    → p ≡ push_in u set here places n → plus (pushes_in u set here places n) p ≡ pushes_in u set here places (n + 1)
+pushes_more u set here places n p counts =
+    let x = sum_more (λ s. (push_in u set here places s).x) n p.x (ap (λ (q : Push). q.x) counts) in
+    let y = sum_more (λ s. (push_in u set here places s).y) n p.y (ap (λ (q : Push). q.y) counts) in
+    let z = sum_more (λ s. (push_in u set here places s).z) n p.z (ap (λ (q : Push). q.z) counts) in
     cc (x, y, z)
 
 -- one row more
@@ -50,25 +58,67 @@ sum_far f m (suc n) le none =
           omega (arith, last, before)
     ]
 
--- places that do not push leave the sum as it is
-first_far : (w : Work) (t m n : ℕ) → m ≤ n → ((s : ℕ) → m ≤ s → s < n → push_of w t s ≡ no_push)
-    → on_first w t m ≡ on_first w t n
-first_far w t m n le none =
-    let x = sum_far (λ s. (push_of w t s).x) m n le (λ s h k. ap (λ (p : Push). p.x) (none s h k)) in
-    let y = sum_far (λ s. (push_of w t s).y) m n le (λ s h k. ap (λ (p : Push). p.y) (none s h k)) in
-    let z = sum_far (λ s. (push_of w t s).z) m n le (λ s h k. ap (λ (p : Push). p.z) (none s h k)) in
+-- what a place in a set adds, and one that is in none
+pub inside : (u : Units) (set : ℕ) (here : Place) (places : List Place) (s : ℕ) (p : Push) → bit_at set s ≡ 1
+    → p ≡ push u here (place_at places s) → p ≡ push_in u set here places s
+inside u set here places s p in_set value = rw in_set value
+
+outside : (u : Units) (set : ℕ) (here : Place) (places : List Place) (s : ℕ) → bit_at set s ≡ 0
+    → push_in u set here places s ≡ no_push
+outside u set here places s not = rw not refl
+
+-- places outside of the set leave the sum as it is
+pub pushes_past : (u : Units) (set : ℕ) (here : Place) (places : List Place) (m n : ℕ) → m ≤ n
+    → ((s : ℕ) → m ≤ s → s < n → bit_at set s ≡ 0) → pushes_in u set here places m ≡ pushes_in u set here places n
+pushes_past u set here places m n le none =
+    let each : (s : ℕ) → m ≤ s → s < n → push_in u set here places s ≡ no_push =
+    λ s h k. outside u set here places s (none s h k) in
+    let x = sum_far (λ s. (push_in u set here places s).x) m n le (λ s h k. ap (λ (p : Push). p.x) (each s h k)) in
+    let y = sum_far (λ s. (push_in u set here places s).y) m n le (λ s h k. ap (λ (p : Push). p.y) (each s h k)) in
+    let z = sum_far (λ s. (push_in u set here places s).z) m n le (λ s h k. ap (λ (p : Push). p.z) (each s h k)) in
     rw (x, y, z) refl
 
--- silent places leave the sum of the row as it is
-pub first_silent : (w : Work) (t from to : ℕ) → from ≤ to
-    → ((s : ℕ) → s < length w.b → from ≤ s → s < to → IsSilent w t s)
-    → on_first w t (min from (length w.b)) ≡ on_first w t (min to (length w.b))
-first_silent w t from to le silent =
-    first_far w t (min from (length w.b)) (min to (length w.b)) (omega arith)
-    (λ s h k. (silent s (omega arith) (omega arith) (omega arith)).there)
+-- at first no place has its push
+pub pushed_none : (u : Units) (set : ℕ) (here : Place) (places : List Place) (sums : List Push)
+    → ArePushed u set here places 0 sums sums
+pushed_none u set here places sums = record {
+  passed = λ s within below. absurd (omega (arith, below));
+  ahead = λ s within above. refl;
+}
+
+-- places outside of the set keep their sums
+pub pushed_past : (u : Units) (set : ℕ) (here : Place) (places : List Place) (from to : ℕ) (old new : List Push)
+    → ArePushed u set here places from old new → from ≤ to
+    → ((s : ℕ) → from ≤ s → s < to → bit_at set s ≡ 0) → ArePushed u set here places to old new
+pushed_past u set here places from to old new pushed le none = record {
+  passed = λ s within below. elim (cases_lt s from) [
+    | inl less ↦ pushed.passed s within less
+    | inr more ↦ rw (none s more below) (pushed.ahead s within more)
+  ];
+  ahead = λ s within above. pushed.ahead s within (omega arith);
+}
+
+pub length_set : (sums : List Push) (n : ℕ) (sum : Push) → length (slice_set sums n sum) ≡ length sums
+length_set sums n sum = search (rules, arith)
+
+-- a place in the set has its push more
+pub pushed_next : (u : Units) (set : ℕ) (here : Place) (places : List Place) (n : ℕ) (old mid : List Push) (sum : Push)
+    → ArePushed u set here places n old mid → n < length mid → n < length places → bit_at set n ≡ 1
+    → sum ≡ plus (slice_index_or mid n no_push) (push u (place_at places n) here)
+    → ArePushed u set here places (n + 1) old (slice_set mid n sum)
+pushed_next u set here places n old mid sum pushed room within in_set value = record {
+  passed = λ s also below. elim (cases_lt s n) [
+    | inl less ↦ let other : s ≢ n = omega arith in rw get_or-set_other (pushed.passed s also less)
+    | inr more ↦
+        let same : s ≡ n = omega arith in
+        rw (same, in_set, get_or-set_same)
+        (value ∙ ap (λ p. plus p (push u (place_at places n) here)) (pushed.ahead n within (omega arith)))
+  ];
+  ahead = λ s also above. let other : s ≢ n = omega arith in rw get_or-set_other (pushed.ahead s also (omega arith));
+}
 
 -- a row that does not push leaves a sum as it is
-second_silent : (w : Work) (s t : ℕ) → push_back w t s ≡ no_push → on_second w s t ≡ on_second w s (t + 1)
+pub second_silent : (w : Work) (s t : ℕ) → push_back w t s ≡ no_push → on_second w s t ≡ on_second w s (t + 1)
 second_silent w s t none =
     let x = sum_far (λ k. (push_back w k s).x) t (t + 1) (omega arith) (λ k h l. last (λ p. p.x) refl k h l) in
     let y = sum_far (λ k. (push_back w k s).y) t (t + 1) (omega arith) (λ k h l. last (λ p. p.y) refl k h l) in
@@ -80,54 +130,25 @@ second_silent w s t none =
         let e : k ≡ t = omega arith in
         ap (λ n. axis (push_back w n s)) e ∙ ap axis none ∙ zeros
 
--- silent places keep the sums of the second block as they are
-pub rows_silent : (w : Work) (t from to : ℕ) (sums : List Push) → AreRows w t from sums → from ≤ to
-    → ((s : ℕ) → s < length w.b → from ≤ s → s < to → IsSilent w t s) → AreRows w t to sums
-rows_silent w t from to sums rows le silent = record {
-  passed = λ s within below. elim (cases_lt s from) [
-    | inl less ↦ rows.passed s within less
-    | inr more ↦ rows.ahead s within more ∙ second_silent w s t (silent s within more below).back
-  ];
-  ahead = λ s within above. rows.ahead s within (omega arith);
-}
-
 -- before the first row each sum is none
-pub rows_start : (w : Work) → length w.b ≤ 64 → AreRows w 0 0 (replicate 64 no_push)
-rows_start w few = record {
-  passed = λ s within below. absurd (omega (arith, below));
-  ahead = λ s within above. get_or-replicate 64 s no_push no_push (omega (arith, within, few));
-}
-
--- the sums after a row are those before the next
-pub rows_next : (w : Work) (t n : ℕ) (sums : List Push) → AreRows w t n sums → length w.b ≤ n → AreRows w (t + 1) 0 sums
-rows_next w t n sums rows all = record {
-  passed = λ s within below. absurd (omega arith);
-  ahead = λ s within above. rows.passed s within (omega arith);
-}
+pub rows_start : (w : Work) → length w.b.places ≤ 64 → AreRows w 0 (replicate 64 no_push)
+rows_start w few s within = get_or-replicate 64 s no_push no_push (omega (arith, within, few))
 
 -- a pair that is not in order is looked at from its other side, or not at all
 pub not_in_order : (w : Work) (t s : ℕ) → are_in_order w t s ≡ false → IsSilent w t s
 not_in_order w t s e = record { there = rw e refl; back = rw e refl }
 
--- what is added for a pair in order
-pub counts : (w : Work) (t s : ℕ) (p : Push) → are_in_order w t s ≡ true
-    → p ≡ push w.units (place_at w.a t) (place_at w.b s) → p ≡ push_of w t s
-counts w t s p e value = rw e value
-
-pub counts_back : (w : Work) (t s : ℕ) (p : Push) → are_in_order w t s ≡ true
-    → push w.units (place_at w.b s) (place_at w.a t) ≡ opposite p → opposite p ≡ push_back w t s
-counts_back w t s p e value = rw e (sym value)
-
 -- a pair out of reach is silent
-pub far_silent : (w : Work) (t s : ℕ) → IsOnRing (place_at w.a t) → IsOnRing (place_at w.b s)
-    → interacts w.units (distance (place_at w.a t) (place_at w.b s)) ≡ false → IsSilent w t s
+pub far_silent : (w : Work) (t s : ℕ) → IsOnRing (place_at w.a.places t) → IsOnRing (place_at w.b.places s)
+    → interacts (class_in w t s).scale (distance (place_at w.a.places t) (place_at w.b.places s)) ≡ false
+    → IsSilent w t s
 far_silent w t s here there far =
-    let none : push_at w.units (distance (place_at w.a t) (place_at w.b s)) ≡ pos 0 =
-    entry_far w.units (distance (place_at w.a t) (place_at w.b s)) far in
-    let one : push w.units (place_at w.a t) (place_at w.b s) ≡ no_push =
-    sym (nothing_is w.units (place_at w.a t) (place_at w.b s) none) in
-    let other : push w.units (place_at w.b s) (place_at w.a t) ≡ no_push =
-    nothing_back w.units (place_at w.a t) (place_at w.b s) here there none in
+    let u : Units = (class_in w t s).scale in
+    let p : Place = place_at w.a.places t in
+    let q : Place = place_at w.b.places s in
+    let none : push_at u (distance p q) ≡ pos 0 = entry_far u (distance p q) far in
+    let one : push u p q ≡ no_push = sym (nothing_is u p q none) in
+    let other : push u q p ≡ no_push = nothing_back u p q here there none in
     elim (cases_Bool (are_in_order w t s)) [
       | inl ordered ↦ record { there = rw (ordered, one) refl; back = rw (ordered, other) refl }
       | inr not ↦ not_in_order w t s not
@@ -141,7 +162,7 @@ sum_same (suc n) f g same =
     let last = same n (omega arith) in
     omega (arith, before, last)
 
-sum_both : (n : ℕ) (f g h : ℕ → ℕ) → ((k : ℕ) → k < n → f k + g k ≡ h k) → sum_below n f + sum_below n g ≡ sum_below n h
+pub sum_both : (n : ℕ) (f g h : ℕ → ℕ) → ((k : ℕ) → k < n → f k + g k ≡ h k) → sum_below n f + sum_below n g ≡ sum_below n h
 sum_both zero f g h same = refl
 sum_both (suc n) f g h same =
     let before = sum_both n f g h (λ k l. same k (omega arith)) in
@@ -156,32 +177,43 @@ apart : (w : Work) (t s : ℕ) → t < 64 → w.name.bi < w.name.bj → are_apar
 apart w t s t_in less = grind (arith, nat_tests)
 
 -- so the sums of their pairs in order are those of the task
-pub first_is : (w : Work) (t : ℕ) → IsTask w → w.name.bi < w.name.bj → t < length w.a
-    → on_first w t (length w.b) ≡ task_force w t
+pub first_is : (w : Work) (t : ℕ) → IsTask w → w.name.bi < w.name.bj → t < length w.a.places
+    → on_first w t (length w.b.places) ≡ task_force w t
 unfolding push_sum
 first_is w t sound less t_in =
-    same_push (on_first w t (length w.b)) (task_force w t) (along (λ p. p.x)) (along (λ p. p.y)) (along (λ p. p.z))
+    same_push (on_first w t (length w.b.places)) (task_force w t) (along (λ p. p.x)) (along (λ p. p.y)) (along (λ p. p.z))
   where
-    along : (axis : Push → ℕ) → ring_sum (length w.b) (λ s. axis (push_of w t s))
-        ≡ ring_sum (length w.b) (λ s. axis (chosen_push w.units (are_apart w t s) (place_at w.a t) (place_at w.b s)))
+    along : (axis : Push → ℕ) → ring_sum (length w.b.places) (λ s. axis (push_of w t s))
+        ≡ ring_sum (length w.b.places) (λ s. axis (chosen_push (class_in w t s).scale (are_apart w t s) (place_at w.a.places t) (place_at w.b.places s)))
     along axis =
-        ap (λ n. n % 2 ^ 32) (sum_same (length w.b) _ _ (λ s h.
+        ap (λ n. n % 2 ^ 32) (sum_same (length w.b.places) _ _ (λ s h.
         let few : t < 64 = omega (arith, sound.most_first) in
-        ap (λ chosen. axis (chosen_push w.units chosen (place_at w.a t) (place_at w.b s)))
+        ap (λ chosen. axis (chosen_push (class_in w t s).scale chosen (place_at w.a.places t) (place_at w.b.places s)))
         (in_order w t s few less ∙ sym (apart w t s few less))))
 
-pub second_is : (w : Work) (s : ℕ) → IsTask w → w.name.bi < w.name.bj → on_second w s (length w.a) ≡ task_second w s
+pub second_is : (w : Work) (s : ℕ) → IsTask w → w.name.bi < w.name.bj → on_second w s (length w.a.places) ≡ task_second w s
 unfolding push_sum
 second_is w s sound less =
-    same_push (on_second w s (length w.a)) (task_second w s) (along (λ p. p.x)) (along (λ p. p.y)) (along (λ p. p.z))
+    same_push (on_second w s (length w.a.places)) (task_second w s) (along (λ p. p.x)) (along (λ p. p.y)) (along (λ p. p.z))
   where
-    along : (axis : Push → ℕ) → ring_sum (length w.a) (λ t. axis (push_back w t s))
-        ≡ ring_sum (length w.a) (λ t. axis (chosen_push w.units (are_apart w t s) (place_at w.b s) (place_at w.a t)))
+    along : (axis : Push → ℕ) → ring_sum (length w.a.places) (λ t. axis (push_back w t s))
+        ≡ ring_sum (length w.a.places) (λ t. axis (chosen_push (class_in w t s).scale (are_apart w t s) (place_at w.b.places s) (place_at w.a.places t)))
     along axis =
-        ap (λ n. n % 2 ^ 32) (sum_same (length w.a) _ _ (λ t h.
+        ap (λ n. n % 2 ^ 32) (sum_same (length w.a.places) _ _ (λ t h.
         let few : t < 64 = omega (arith, sound.most_first) in
-        ap (λ chosen. axis (chosen_push w.units chosen (place_at w.b s) (place_at w.a t)))
+        ap (λ chosen. axis (chosen_push (class_in w t s).scale chosen (place_at w.b.places s) (place_at w.a.places t)))
         (in_order w t s few less ∙ sym (apart w t s few less))))
+
+-- of one block twice it is that of the places exchanged
+class_turned : (w : Work) (t s : ℕ) → w.a ≡ w.b → class_in w s t ≡ class_in w t s
+class_turned w t s blocks =
+    let here : species_at w.b.seconds t ≡ species_at w.a.seconds t =
+    ap (λ (block : Sites). species_at block.seconds t) (sym blocks) in
+    let there : species_at w.a.seconds s ≡ species_at w.b.seconds s =
+    ap (λ (block : Sites). species_at block.seconds s) blocks in
+    ap (λ sp. class_of w.mix sp (species_at w.b.seconds t)) there
+    ∙ ap (class_of w.mix (species_at w.b.seconds s)) here
+    ∙ class_symmetric w.mix (species_at w.b.seconds s) (species_at w.a.seconds t)
 
 -- a part of a push where one of two tests chooses it, or neither
 module _ (axis : Push → ℕ) (none : axis no_push ≡ 0) (u : Units) (p q : Place) where
@@ -229,28 +261,31 @@ module _ (axis : Push → ℕ) (none : axis no_push ≡ 0) (u : Units) (p q : Pl
 
 either_way : (axis : Push → ℕ) → axis no_push ≡ 0 → (w : Work) (t s : ℕ) → w.name.bi ≡ w.name.bj → w.a ≡ w.b
     → axis (push_of w t s) + axis (push_back w s t)
-    ≡ axis (chosen_push w.units (are_apart w t s) (place_at w.a t) (place_at w.b s))
+    ≡ axis (chosen_push (class_in w t s).scale (are_apart w t s) (place_at w.a.places t) (place_at w.b.places s))
 unfolding chosen_part
 either_way axis none w t s same blocks =
-    let here : place_at w.b t ≡ place_at w.a t = ap (λ places. place_at places t) (sym blocks) in
-    let there : place_at w.a s ≡ place_at w.b s = ap (λ places. place_at places s) blocks in
-    rw (here, there) (either_part axis none w.units (place_at w.a t) (place_at w.b s) w t s same)
+    let here : place_at w.b.places t ≡ place_at w.a.places t = ap (λ (block : Sites). place_at block.places t) (sym blocks) in
+    let there : place_at w.a.places s ≡ place_at w.b.places s = ap (λ (block : Sites). place_at block.places s) blocks in
+    let turned : class_in w s t ≡ class_in w t s = class_turned w t s blocks in
+    rw (here, there, turned)
+    (either_part axis none (class_in w t s).scale (place_at w.a.places t) (place_at w.b.places s) w t s same)
 
 -- the two sums of an atom of one block make up that of the task
 pub joined_is : (w : Work) (t : ℕ) → IsTask w → w.name.bi ≡ w.name.bj
-    → plus (on_first w t (length w.b)) (on_second w t (length w.a)) ≡ task_force w t
+    → plus (on_first w t (length w.b.places)) (on_second w t (length w.a.places)) ≡ task_force w t
 unfolding push_sum
 joined_is w t sound same =
-    same_push (plus (on_first w t (length w.b)) (on_second w t (length w.a))) (task_force w t)
+    same_push (plus (on_first w t (length w.b.places)) (on_second w t (length w.a.places))) (task_force w t)
     (along (λ p. p.x) refl) (along (λ p. p.y) refl) (along (λ p. p.z) refl)
   where
     along : (axis : Push → ℕ) → axis no_push ≡ 0
-        → (ring_sum (length w.b) (λ s. axis (push_of w t s)) + ring_sum (length w.a) (λ s. axis (push_back w s t))) % 2 ^ 32
-        ≡ ring_sum (length w.b) (λ s. axis (chosen_push w.units (are_apart w t s) (place_at w.a t) (place_at w.b s)))
+        → (ring_sum (length w.b.places) (λ s. axis (push_of w t s)) + ring_sum (length w.a.places) (λ s. axis (push_back w s t))) % 2 ^ 32
+        ≡ ring_sum (length w.b.places) (λ s.
+        axis (chosen_push (class_in w t s).scale (are_apart w t s) (place_at w.a.places t) (place_at w.b.places s)))
     along axis none =
         let blocks : w.a ≡ w.b = sound.diagonal same in
-        let sizes : length w.a ≡ length w.b = ap length blocks in
-        let both = sum_both (length w.b) (λ s. axis (push_of w t s)) (λ s. axis (push_back w s t)) _
+        let sizes : length w.a.places ≡ length w.b.places = ap (λ (block : Sites). length block.places) blocks in
+        let both = sum_both (length w.b.places) (λ s. axis (push_of w t s)) (λ s. axis (push_back w s t)) _
         (λ s h. either_way axis none w t s same blocks) in
         let counted = ap (λ n. sum_below n (λ s. axis (push_back w s t))) sizes in
         omega (arith, both, counted)

@@ -1,5 +1,5 @@
 -- Sums of pushes and of energies, place by place, and the bits of a mask.
-use Rattle.std.proofs.Common.{ℕ, zero, suc, ◌+◌, ◌-◌, ◌*◌, ◌/◌, ◌%◌, ◌^◌, ◌<◌, ◌≤◌, ◌≡◌, ◌≢◌, Bool, true, false}
+use Rattle.std.proofs.Common.{ℕ, zero, suc, ◌+◌, ◌-◌, ◌*◌, ◌/◌, ◌%◌, ◌^◌, ◌<◌, ◌≤◌, ◌≡◌, Bool, true, false, List}
 use Rattle.std.proofs.Common.{ℤ, pos, ◌+ℤ◌, unsigned_abs, FitsSigned, w64, to_z, of_z, length, refl, sym, ap, ◌∙◌}
 use Rattle.std.proofs.Common.{inl, inr, add-one, if◌then◌else◌, arith}
 use Rattle.std.specs.Int.{bit_at, trailing_zeros}
@@ -8,33 +8,21 @@ use Rattle.std.proofs.Math.Pow.{mod-mod-pow}
 use Rattle.std.proofs.Math.Nat.{mod-lt}
 use Rattle.std.proofs.lemmas.Nat.Bits.{bit_at-trailing_zeros, bit_at_above, bit_at-zero}
 use Rattle.std.proofs.Math.IntN.{+ℤ_idr}
-use Rattle.std.proofs.lemmas.Bool.{cases_eq, cases_lt}
+use Rattle.lj_table.proofs.Quotients.{weighted_none}
+use Rattle.std.proofs.lemmas.Bool.{cases_lt}
 use Rattle.std.proofs.lemmas.Nat.{mul-le}
-use Rattle.std.proofs.lemmas.Bool.Decides.{nat_tests}
 use Rattle.std.proofs.lemmas.Int.{ints, fits_signed_from_abs, to_z-of_z}
 use Rattle.lj_ring.specs.Ring.{int_sum_below, distance}
 use Rattle.lj_ring.specs.Ring.{IsOnRing}
 use Rattle.lj_ring.specs.Scales.{Units, interacts, bin, entry}
 use Rattle.lj_ring.specs.declared.coordinates.Place.{Place}
-use Rattle.lj_table.specs.Entries.{energy_entry}
+use Rattle.lj_table.specs.Entries.{energy_entry, energy_at}
 use Rattle.lj_tile.proofs.Opposites.{distance_symmetric}
 use Rattle.lj_tile.specs.Pushes.{energy}
-use Rattle.lj_tile.specs.declared.names.Kind.TheVariants.{Energy}
+use Rattle.lj_ring.specs.declared.mixes.Class.{Class}
 use Rattle.lj_tile.specs.Tiles.{place_at, chosen_energy}
-use Rattle.lj_tile.specs.Tasks.{Work, IsTask, atom, are_in_order}
-use Rattle.lj_tile.specs.Tasks.{task_energy}
-
--- the energy that places t of the first block and s of the second add
-abbrev pub energy_of : Work → ℕ → ℕ → ℤ
-energy_of w s t = chosen_energy w.units (are_in_order w t s) (place_at w.a t) (place_at w.b s)
-
--- the energy of place s of the second block with the earlier atoms of the first
-abbrev pub energy_row : Work → ℕ → ℤ
-energy_row w s = int_sum_below (length w.a) (energy_of w s)
-
-pub energy_all : (w : Work) → int_sum_below (length w.b) (energy_row w) ≡ task_energy w
-unfolding task_energy
-energy_all w = refl
+use Rattle.lj_tile.specs.Tasks.{Work, task_energy}
+use Rattle.lj_tile.specs.Rows.{energy_row, energy_in}
 
 -- a sum whose later terms are 0 is the sum of the earlier ones
 pub sum_front : (n m : ℕ) (f g : ℕ → ℤ) → m ≤ n → ((t : ℕ) → t < m → f t ≡ g t) → ((t : ℕ) → t < n → m ≤ t → g t ≡ pos 0)
@@ -58,31 +46,9 @@ sum_front (suc n) (suc m) f g le same none =
           (λ t h k. absurd (omega arith))))
     ]
 
-before : (w : Work) (s t : ℕ) → atom w.name.bi t < atom w.name.bj s
-    → energy_of w s t ≡ energy w.units (place_at w.a t) (place_at w.b s)
-before w s t h = let e : are_in_order w t s ≡ true = grind (arith, nat_tests) in rw e refl
-
-not_before : (w : Work) (s t : ℕ) → atom w.name.bj s ≤ atom w.name.bi t → energy_of w s t ≡ pos 0
-not_before w s t h = let e : are_in_order w t s ≡ false = grind (arith, nat_tests) in rw e refl
-
--- the atoms of the first block that stand before one of the second: those at lesser places of the same block, and all
--- of an earlier block
-pub energy_row_is : (w : Work) (s count : ℕ) (sum : ℤ) → IsTask w → w.name.kind ≡ Energy → s < length w.b
-    → (w.name.bi ≡ w.name.bj → count ≡ s) → (w.name.bi ≢ w.name.bj → count ≡ length w.a)
-    → sum ≡ int_sum_below count (λ t. energy w.units (place_at w.a t) (place_at w.b s)) → sum ≡ energy_row w s
-energy_row_is w s count sum sound kind s_in same other value =
-    let ordered : w.name.bi ≤ w.name.bj = sound.in_order in
-    elim (cases_eq w.name.bi w.name.bj) [
-      | inl e ↦
-          let first : count ≡ s = same e in
-          let sizes : length w.a ≡ length w.b = ap length (sound.diagonal e) in
-          value ∙ sum_front (length w.a) count _ (energy_of w s) (omega arith)
-          (λ t h. sym (before w s t (omega arith))) (λ t h k. not_before w s t (omega arith))
-      | inr ne ↦
-          let first : count ≡ length w.a = other ne in
-          value ∙ sum_front (length w.a) count _ (energy_of w s) (omega arith)
-          (λ t h. sym (before w s t (omega (arith, sound.most_first)))) (λ t h k. absurd (omega arith))
-    ]
+pub energy_all : (w : Work) → int_sum_below (length w.b.places) (energy_row w) ≡ task_energy w
+unfolding task_energy
+energy_all w = refl
 
 abs_add : (a b : ℤ) (m n : ℕ) → unsigned_abs a ≤ m → unsigned_abs b ≤ n → unsigned_abs (a +ℤ b) ≤ m + n
 abs_add a b m n p q = omega (arith, ints)
@@ -91,14 +57,14 @@ abs_add a b m n p q = omega (arith, ints)
 pub sum_size : (a b : ℤ) (k m : ℕ) → unsigned_abs a ≤ k * m → unsigned_abs b ≤ m → unsigned_abs (a +ℤ b) ≤ (k + 1) * m
 sum_size a b k m p q = let both = abs_add a b (k * m) m p q in omega (arith, both)
 
-pub sum_fits : (a b : ℤ) (k m : ℕ) → unsigned_abs a ≤ k * m → unsigned_abs b ≤ m → k < 64 → m ≤ 2 ^ 43
+pub sum_fits : (a b : ℤ) (k m : ℕ) → unsigned_abs a ≤ k * m → unsigned_abs b ≤ m → k < 64 → m ≤ 2 ^ 56
     → FitsSigned w64 (a +ℤ to_z w64 (of_z w64 b))
 sum_fits a b k m p q few small =
     let b_fits : FitsSigned w64 b = fits_signed_from_abs w64 b (omega arith) in
-    let most : k * m ≤ 63 * 2 ^ 43 = mul-le k m 63 (2 ^ 43) (omega arith) small in
+    let most : k * m ≤ 63 * 2 ^ 56 = mul-le k m 63 (2 ^ 56) (omega arith) small in
     rw (to_z-of_z w64 b b_fits) (fits_signed_from_abs w64 _ (omega (arith, abs_add a b (k * m) m p q)))
 
-pub sum_is : (a b : ℤ) (k m : ℕ) → unsigned_abs a ≤ k * m → unsigned_abs b ≤ m → k < 64 → m ≤ 2 ^ 43
+pub sum_is : (a b : ℤ) (k m : ℕ) → unsigned_abs a ≤ k * m → unsigned_abs b ≤ m → k < 64 → m ≤ 2 ^ 56
     → to_z w64 (of_z w64 (a +ℤ to_z w64 (of_z w64 b))) ≡ a +ℤ b
 sum_is a b k m p q few small =
     let fits = sum_fits a b k m p q few small in
@@ -117,6 +83,9 @@ bits_left rest n k =
 -- `rest` is a mask from bit s on
 abbrev pub IsFrom : ℕ → ℕ → ℕ → Type 0
 IsFrom mask s rest = (k : ℕ) → bit_at rest k ≡ bit_at mask (s + k)
+
+pub from_all : (mask : ℕ) → IsFrom mask 0 mask
+from_all mask k = ap (bit_at mask) (omega arith)
 
 -- the lowest bit that is set in the rest of a mask of 64
 pub record HasNext (mask s n : ℕ) : Type 0 where
@@ -176,9 +145,29 @@ pub sum_past : (f : ℕ → ℤ) (from to : ℕ) → from ≤ to → ((t : ℕ) 
 sum_past f from to le none = sum_front to from f f le (λ t h. refl) (λ t h k. none t k h)
 
 -- a pair out of reach has no energy
-pub far_energy : (u : Units) (here there : Place) → IsOnRing here → IsOnRing there
-    → interacts u (distance there here) ≡ false → energy u here there ≡ pos 0
-far_energy u here there on also none =
+pub far_energy : (class : Class) (here there : Place) → IsOnRing here → IsOnRing there
+    → interacts class.scale (distance there here) ≡ false → energy class here there ≡ pos 0
+far_energy class here there on also none =
+    let u : Units = class.scale in
     let same : interacts u (distance here there) ≡ false =
     ap (interacts u) (sym (distance_symmetric here there on also)) ∙ none in
-    ap (λ (b : Bool). if b then energy_entry (entry (bin u (distance here there))) else pos 0) same
+    let entry_none : energy_at u (distance here there) ≡ pos 0 =
+    ap (λ (b : Bool). if b then energy_entry (entry (bin u (distance here there))) else pos 0) same in
+    rw entry_none (weighted_none class.weight)
+
+-- nor has a pair that is chosen where it has none
+pub unchosen : (class : Class) (chosen : Bool) (p q : Place) → energy class p q ≡ pos 0 → chosen_energy class chosen p q ≡ pos 0
+unchosen class true p q none = none
+unchosen class false p q none = refl
+
+pub not_chosen : (class : Class) (chosen : Bool) (p q : Place) → chosen ≡ false → chosen_energy class chosen p q ≡ pos 0
+not_chosen class chosen p q e = rw e refl
+
+-- what a place in a set adds, and one that is in none
+pub counted : (class : Class) (set : ℕ) (there : Place) (places : List Place) (t : ℕ) (z : ℤ) → bit_at set t ≡ 1
+    → z ≡ energy class (place_at places t) there → z ≡ energy_in class set there places t
+counted class set there places t z in_set value = rw in_set value
+
+pub uncounted : (class : Class) (set : ℕ) (there : Place) (places : List Place) (t : ℕ) → bit_at set t ≡ 0
+    → energy_in class set there places t ≡ pos 0
+uncounted class set there places t not = rw not refl

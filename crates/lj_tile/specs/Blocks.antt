@@ -1,5 +1,5 @@
--- When two lists of places are equal.
-use Rattle.std.specs.Prelude.{Bool, ◌==◌, List}
+-- Blocks of places, and when two lists of places are equal.
+use Rattle.std.specs.Prelude.{ℕ, Bool, ◌==◌, List}
 use Rattle.std.specs.Ordering.{on, eq_of_both}
 use Rattle.std.specs.Cmp.Lexicographic.{pointwise}
 use Rattle.lj_ring.specs.declared.coordinates.Place.{Place}
@@ -11,3 +11,8 @@ same_place = eq_of_both (eq_of_both (on (λ p. p.x) ◌==◌) (on (λ p. p.y) �
 -- two lists have equal places, one by one
 abbrev pub same_places : List Place → List Place → Bool
 same_places = pointwise same_place
+
+-- the value of a block: its places, and which of them are of atoms of the second species
+pub record Sites : Type 0 where
+  pub places : List Place
+  pub seconds : ℕ

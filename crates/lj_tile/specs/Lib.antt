@@ -1,3 +1,4 @@
+pub mod Species
 pub mod Pushes
 pub mod Names
 pub mod Blocks

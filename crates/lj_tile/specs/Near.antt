@@ -1,8 +1,7 @@
 -- A quick test of which places are out of reach, by the coordinates of a block in grains of a few ring units.
-use Rattle.std.specs.Prelude.{ℕ, ◌+◌, ◌*◌, ◌/◌, ◌%◌, ◌^◌, ◌≡◌, ◌<◌, ◌≤◌, false, List, length, slice_index}
+use Rattle.std.specs.Prelude.{ℕ, Bool, ◌+◌, ◌*◌, ◌/◌, ◌%◌, ◌^◌, ◌≡◌, ◌<◌, ◌≤◌, false, List, length, slice_index}
 use Rattle.lj_ring.specs.declared.coordinates.Place.{Place}
 use Rattle.lj_ring.specs.Ring.{IsOnRing, place_at}
-use Rattle.lj_ring.specs.Scales.{Units, interacts}
 use Rattle.lj_tile.specs.declared.near.Columns.{Columns}
 use Rattle.lj_tile.specs.declared.near.Lanes.{Lanes}
 
@@ -25,19 +24,20 @@ pub record IsLane (grain : ℕ) (lanes : Lanes) (s : ℕ) (p : Place) : Type 0 w
 abbrev pub HasLanes : ℕ → Lanes → List Place → Type 0
 HasLanes grain lanes places = (s : ℕ) → s < length places → IsLane grain lanes s (place_at places s)
 
--- no pair interacts whose squared distance is `reach` less 3, in units of 2^16 square grains, or more
-abbrev pub IsReach : Units → ℕ → ℕ → Type 0
-IsReach u grain reach = (s : ℕ) → reach * square_unit grain ≤ s + 3 * square_unit grain → interacts u s ≡ false
+-- no pair interacts, by a test of squared distances, whose squared distance is `reach` less 3, in units of 2^16 square
+-- grains, or more
+abbrev pub IsReach : (ℕ → Bool) → ℕ → ℕ → Type 0
+IsReach interact grain reach = (s : ℕ) → reach * square_unit grain ≤ s + 3 * square_unit grain → interact s ≡ false
 
 -- no pair interacts that is 2048 grains apart, or more
-abbrev pub SpansFew : Units → ℕ → Type 0
-SpansFew u grain = (s : ℕ) → 2 ^ 11 * 2 ^ grain * (2 ^ 11 * 2 ^ grain) ≤ s → interacts u s ≡ false
+abbrev pub SpansFew : (ℕ → Bool) → ℕ → Type 0
+SpansFew interact grain = (s : ℕ) → 2 ^ 11 * 2 ^ grain * (2 ^ 11 * 2 ^ grain) ≤ s → interact s ≡ false
 
 -- the columns are those of the places, and what they take for out of reach is
-pub record HasColumns (u : Units) (columns : Columns) (places : List Place) : Type 0 where
+pub record HasColumns (interact : ℕ → Bool) (columns : Columns) (places : List Place) : Type 0 where
   pub grain : columns.grain ≤ 16
-  pub reach : IsReach u columns.grain columns.reach
-  pub few : columns.grain < 16 → SpansFew u columns.grain
+  pub reach : IsReach interact columns.grain columns.reach
+  pub few : columns.grain < 16 → SpansFew interact columns.grain
   pub most : length places ≤ 64
   pub fine : HasLanes columns.grain columns.fine places
   pub whole : HasLanes 16 columns.whole places

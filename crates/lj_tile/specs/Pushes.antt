@@ -3,7 +3,8 @@ use Rattle.std.specs.Prelude.{ℕ, ◌+◌, ◌%◌, ◌^◌, ℤ, pos, ◌*ℤ�
 use Rattle.lj_ring.specs.declared.coordinates.Place.{Place}
 use Rattle.lj_ring.specs.Ring.{image, distance, in_ring, ring_sub}
 use Rattle.lj_ring.specs.Scales.{Units}
-use Rattle.lj_table.specs.Entries.{push_at, energy_at}
+use Rattle.lj_ring.specs.declared.mixes.Class.{Class}
+use Rattle.lj_table.specs.Entries.{push_at, energy_at, weighted}
 use Rattle.lj_tile.specs.declared.pairs.Push.{Push}
 
 -- no push
@@ -24,9 +25,9 @@ push u p q =
       z = push_along u entry (image p.z q.z);
     }
 
--- the energy of the pair, in units of 2^-24 ε: 0 where it does not interact
-abbrev pub energy : Units → Place → Place → ℤ
-energy u p q = energy_at u (distance p q)
+-- the energy of the pair by the weight of its class, in units of 2^-24 ε and toward zero: 0 where it does not interact
+abbrev pub energy : Class → Place → Place → ℤ
+energy k p q = weighted k.weight (energy_at k.scale (distance p q))
 
 -- the same push the other way
 abbrev pub opposite : Push → Push

@@ -25,6 +25,6 @@ kept_energy (Energies sum) = sum
 -- the sums are the value of the task
 pub record AreSums (w : Work) (sums : Sums) : Type 0 where
   pub sound : IsTask w
-  pub pushes : w.name.kind ≡ Force → (t : ℕ) → t < length w.a → kept_push sums t ≡ task_force w t
-  pub second : w.name.kind ≡ Force → w.name.bi < w.name.bj → (s : ℕ) → s < length w.b → kept_second sums s ≡ task_second w s
+  pub pushes : w.name.kind ≡ Force → (t : ℕ) → t < length w.a.places → kept_push sums t ≡ task_force w t
+  pub second : w.name.kind ≡ Force → w.name.bi < w.name.bj → (s : ℕ) → s < length w.b.places → kept_second sums s ≡ task_second w s
   pub energy : w.name.kind ≡ Energy → kept_energy sums ≡ task_energy w

@@ -1,18 +1,22 @@
 -- The sums of a task's pairs of atoms i < j, i in the first block and j in the second, row by row of the first.
-use Rattle.std.specs.Prelude.{ℕ, ◌≡◌, ◌<◌, ◌≤◌, ◌+◌, List, length, slice_index_or}
-use Rattle.lj_ring.specs.Ring.{ring_sum}
+use Rattle.std.specs.Prelude.{ℕ, ◌≡◌, ◌<◌, ◌≤◌, Bool, ℤ, List, length, slice_index_or, if◌then◌else◌}
+use Rattle.lj_ring.specs.Ring.{ring_sum, int_sum_below}
+use Rattle.lj_ring.specs.declared.mixes.Class.{Class}
+use Rattle.lj_ring.specs.declared.coordinates.Place.{Place}
+use Rattle.lj_ring.specs.Scales.{Units}
 use Rattle.lj_tile.specs.declared.pairs.Push.{Push}
-use Rattle.lj_tile.specs.Pushes.{no_push}
-use Rattle.lj_tile.specs.Tiles.{place_at, chosen_push}
-use Rattle.lj_tile.specs.Tasks.{Work, are_in_order}
+use Rattle.lj_tile.specs.Pushes.{no_push, plus, push}
+use Rattle.lj_tile.specs.Species.{is_in}
+use Rattle.lj_tile.specs.Tiles.{place_at, chosen_push, chosen_energy}
+use Rattle.lj_tile.specs.Tasks.{Work, are_in_order, class_in}
 
 -- the push on place t of the first block of place s of the second, where the two are such a pair
 abbrev pub push_of : Work → ℕ → ℕ → Push
-push_of w t s = chosen_push w.units (are_in_order w t s) (place_at w.a t) (place_at w.b s)
+push_of w t s = chosen_push (class_in w t s).scale (are_in_order w t s) (place_at w.a.places t) (place_at w.b.places s)
 
 -- the push the other way
 abbrev pub push_back : Work → ℕ → ℕ → Push
-push_back w t s = chosen_push w.units (are_in_order w t s) (place_at w.b s) (place_at w.a t)
+push_back w t s = chosen_push (class_in w t s).scale (are_in_order w t s) (place_at w.b.places s) (place_at w.a.places t)
 
 -- the ring sum of the pushes on place t of the first block of the first n places of the second
 abbrev pub on_first : Work → ℕ → ℕ → Push
@@ -35,7 +39,45 @@ pub record IsSilent (w : Work) (t s : ℕ) : Type 0 where
   pub there : push_of w t s ≡ no_push
   pub back : push_back w t s ≡ no_push
 
--- the sums of the second block's places: those below n have the pushes of the first t + 1 places, the others of t
-pub record AreRows (w : Work) (t n : ℕ) (sums : List Push) : Type 0 where
-  pub passed : (s : ℕ) → s < length w.b → s < n → slice_index_or sums s no_push ≡ on_second w s (t + 1)
-  pub ahead : (s : ℕ) → s < length w.b → n ≤ s → slice_index_or sums s no_push ≡ on_second w s t
+-- the sums of the second block's places have the pushes of the first t places of the first
+abbrev pub AreRows : Work → ℕ → List Push → Type 0
+AreRows w t sums = (s : ℕ) → s < length w.b.places → slice_index_or sums s no_push ≡ on_second w s t
+
+-- the push of place s of a block on an atom `here`, where the place is in a set
+abbrev pub push_in : Units → ℕ → Place → List Place → ℕ → Push
+push_in u set here places s = chosen_push u (is_in set s) here (place_at places s)
+
+-- the ring sum of those of the first n places
+abbrev pub pushes_in : Units → ℕ → Place → List Place → ℕ → Push
+pushes_in u set here places n = record {
+  x = ring_sum n (λ s. (push_in u set here places s).x);
+  y = ring_sum n (λ s. (push_in u set here places s).y);
+  z = ring_sum n (λ s. (push_in u set here places s).z);
+}
+
+-- a sum of pushes, to which the push comes of an atom `here` on one at `there`, if it does
+abbrev pub pushed_if : Bool → Units → Place → Place → Push → Push
+pushed_if pushes u here there sum = if pushes then plus sum (push u there here) else sum
+
+-- the sums of places of a block below n have the push of an atom `here` more, where the place is in a set
+pub record ArePushed (u : Units) (set : ℕ) (here : Place) (places : List Place) (n : ℕ) (old new : List Push) : Type 0 where
+  pub passed : (s : ℕ) → s < length places → s < n
+      → slice_index_or new s no_push
+      ≡ pushed_if (is_in set s) u here (place_at places s) (slice_index_or old s no_push)
+  pub ahead : (s : ℕ) → s < length places → n ≤ s → slice_index_or new s no_push ≡ slice_index_or old s no_push
+
+-- the energy that place t of the first block and place s of the second add
+abbrev pub energy_of : Work → ℕ → ℕ → ℤ
+energy_of w s t = chosen_energy (class_in w t s) (are_in_order w t s) (place_at w.a.places t) (place_at w.b.places s)
+
+-- the energy of place s of the second block with the earlier atoms of the first
+abbrev pub energy_row : Work → ℕ → ℤ
+energy_row w s = int_sum_below (length w.a.places) (energy_of w s)
+
+-- the energy of an atom at `there` with place t of a block, where the place is in a set
+abbrev pub energy_in : Class → ℕ → Place → List Place → ℕ → ℤ
+energy_in class set there places t = chosen_energy class (is_in set t) (place_at places t) there
+
+-- the sum of those of the first n places
+abbrev pub energies_in : Class → ℕ → Place → List Place → ℕ → ℤ
+energies_in class set there places n = int_sum_below n (energy_in class set there places)

@@ -4,25 +4,27 @@ use Rattle.std.specs.Prelude.{length, count_by, if◌then◌else◌}
 use Rattle.lj_ring.specs.declared.coordinates.Place.{Place}
 use Rattle.lj_ring.specs.Ring.{distance, ring_sum, int_sum_below}
 pub use Rattle.lj_ring.specs.Ring.{place_at}
+use Rattle.lj_ring.specs.declared.mixes.Class.{Class}
 use Rattle.lj_ring.specs.Scales.{Units, interacts}
 use Rattle.lj_tile.specs.declared.blocks.TheConstants.{BLOCK}
 use Rattle.lj_tile.specs.declared.pairs.Push.{Push}
 use Rattle.lj_tile.specs.Pushes.{push, no_push, energy}
+use Rattle.lj_tile.specs.Species.{Composition, class_between}
 
 -- the push on an atom at p of the atom at q where the two are a chosen pair, and none where they are not
 abbrev pub chosen_push : Units → Bool → Place → Place → Push
 chosen_push u chosen p q = if chosen then push u p q else no_push
 
 -- the energy of a chosen pair, and 0 of one that is not
-abbrev pub chosen_energy : Units → Bool → Place → Place → ℤ
-chosen_energy u chosen p q = if chosen then energy u p q else pos 0
+abbrev pub chosen_energy : Class → Bool → Place → Place → ℤ
+chosen_energy k chosen p q = if chosen then energy k p q else pos 0
 
--- the sum on the ring of the pushes on an atom at p of those atoms of a list that are chosen
-unfoldable pub push_sum : Units → Place → List Place → (ℕ → Bool) → Push
-push_sum u p places chosen = record {
-  x = ring_sum (length places) (λ j. (chosen_push u (chosen j) p (place_at places j)).x);
-  y = ring_sum (length places) (λ j. (chosen_push u (chosen j) p (place_at places j)).y);
-  z = ring_sum (length places) (λ j. (chosen_push u (chosen j) p (place_at places j)).z);
+-- the sum on the ring of the pushes on an atom at p of those atoms of a list that are chosen, each by its class
+unfoldable pub push_sum : (ℕ → Class) → Place → List Place → (ℕ → Bool) → Push
+push_sum class p places chosen = record {
+  x = ring_sum (length places) (λ j. (chosen_push (class j).scale (chosen j) p (place_at places j)).x);
+  y = ring_sum (length places) (λ j. (chosen_push (class j).scale (chosen j) p (place_at places j)).y);
+  z = ring_sum (length places) (λ j. (chosen_push (class j).scale (chosen j) p (place_at places j)).z);
 }
 
 -- a tile is a set of ordered pairs of atoms, each atom by its number: the pairs that the test picks
@@ -38,33 +40,33 @@ abbrev pub IsEnergyTile : Tile → Type 0
 IsEnergyTile tile = (i j : ℕ) → tile i j ≡ true → i < j
 
 -- the value of a force tile on a frame, for atom i: the ring sum of the pushes of its pairs (i, j)
-abbrev pub tile_force : Units → List Place → Tile → ℕ → Push
-tile_force u frame tile i = push_sum u (place_at frame i) frame (tile i)
+abbrev pub tile_force : Composition → List Place → Tile → ℕ → Push
+tile_force c frame tile i = push_sum (class_between c i) (place_at frame i) frame (tile i)
 
 -- the value of an energy tile on a frame: the sum of the energies of its pairs i < j
-abbrev pub tile_energy : Units → List Place → Tile → ℤ
-tile_energy u frame tile =
+abbrev pub tile_energy : Composition → List Place → Tile → ℤ
+tile_energy c frame tile =
     int_sum_below (length frame) (λ j.
-    int_sum_below j (λ i. chosen_energy u (tile i j) (place_at frame i) (place_at frame j)))
+    int_sum_below j (λ i. chosen_energy (class_between c i j) (tile i j) (place_at frame i) (place_at frame j)))
 
 -- in how many tiles of a list the pair lies
 abbrev pub times : ℕ → ℕ → List Tile → ℕ
 times i j tiles = count_by (λ tile. tile i j) tiles
 
 -- atoms i and j of a frame interact
-abbrev pub are_near : Units → List Place → ℕ → ℕ → Bool
-are_near u frame i j = interacts u (distance (place_at frame i) (place_at frame j))
+abbrev pub are_near : Composition → List Place → ℕ → ℕ → Bool
+are_near c frame i j = interacts (class_between c i j).scale (distance (place_at frame i) (place_at frame j))
 
 -- a cover for forces: each ordered pair of different atoms lies in one tile if it interacts, and else in one at most
-pub record IsForceCover (u : Units) (frame : List Place) (tiles : List Tile) : Type 0 where
-  pub near : (i j : ℕ) → i < length frame → j < length frame → i ≢ j → are_near u frame i j ≡ true → times i j tiles ≡ 1
-  pub far : (i j : ℕ) → i < length frame → j < length frame → i ≢ j → are_near u frame i j ≡ false → times i j tiles ≤ 1
+pub record IsForceCover (c : Composition) (frame : List Place) (tiles : List Tile) : Type 0 where
+  pub near : (i j : ℕ) → i < length frame → j < length frame → i ≢ j → are_near c frame i j ≡ true → times i j tiles ≡ 1
+  pub far : (i j : ℕ) → i < length frame → j < length frame → i ≢ j → are_near c frame i j ≡ false → times i j tiles ≤ 1
   pub itself : (i : ℕ) → i < length frame → times i i tiles ≡ 0
 
 -- a cover for energies: the same of the pairs i < j
-pub record IsEnergyCover (u : Units) (frame : List Place) (tiles : List Tile) : Type 0 where
-  pub near : (i j : ℕ) → i < j → j < length frame → are_near u frame i j ≡ true → times i j tiles ≡ 1
-  pub far : (i j : ℕ) → i < j → j < length frame → are_near u frame i j ≡ false → times i j tiles ≤ 1
+pub record IsEnergyCover (c : Composition) (frame : List Place) (tiles : List Tile) : Type 0 where
+  pub near : (i j : ℕ) → i < j → j < length frame → are_near c frame i j ≡ true → times i j tiles ≡ 1
+  pub far : (i j : ℕ) → i < j → j < length frame → are_near c frame i j ≡ false → times i j tiles ≤ 1
 
 -- the block that an atom stands in
 abbrev pub block_of : ℕ → ℕ

@@ -1,11 +1,13 @@
 -- Two atoms 1.5 sigma apart in a box of 256 sigma, as one block and as two: values of tasks as theorems by computation.
 use Rattle.std.specs.Prelude.{◌≡◌, ◌∷◌, [], ℕ, true, pos, negsuc, List, refl}
 use Rattle.lj_ring.specs.declared.coordinates.Place.{Place}
+use Rattle.lj_ring.specs.Mixes.{pure}
 use Rattle.lj_ring.specs.Scales.{Units}
 use Rattle.lj_table.specs.Entries.{push_entry, energy_entry}
 use Rattle.lj_tile.specs.declared.names.Kind.{Kind}
 use Rattle.lj_tile.specs.declared.names.Kind.TheVariants.{Force, Energy}
 use Rattle.lj_tile.specs.Pushes.{push}
+use Rattle.lj_tile.specs.Species.{Composition}
 use Rattle.lj_tile.specs.Tiles.{push_sum, tile_force, tile_energy, force_tile, energy_tile}
 use Rattle.lj_tile.specs.Tasks.{Work, task_force, task_second, task_energy}
 use Rattle.lj_tile.specs.Rows.{on_first, on_second}
@@ -13,6 +15,10 @@ use Rattle.lj_tile.specs.Rows.{on_first, on_second}
 -- an edge of 256, sigma 1, and a step factor of 2^17 in units of 2^-32
 abbrev pub dimer_units : Units
 dimer_units = record { edge = 256000000000; sigma = 16777216; strength = 131072 }
+
+-- atoms that are all alike
+abbrev pub dimer : Composition
+dimer = record { mix = pure dimer_units; seconds = 0 ∷ [] }
 
 -- a place on the x axis
 abbrev pub on_x : ℕ → Place
@@ -34,9 +40,9 @@ both = on_x 0 ∷ on_x 25165824 ∷ []
 abbrev pub task_of : Kind → ℕ → ℕ → List Place → List Place → Work
 task_of kind bi bj first second = record {
   name = record { label = record { user = 0; session = 97 ∷ [] }; step = pos 0; kind = kind; bi = bi; bj = bj };
-  units = dimer_units;
-  a = first;
-  b = second;
+  mix = pure dimer_units;
+  a = record { places = first; seconds = 0 };
+  b = record { places = second; seconds = 0 };
 }
 
 -- in one block each atom is pushed by the other, and not by itself
@@ -89,14 +95,14 @@ pub tile_both_ways : force_tile 0 1 70 3 ≡ true
 tile_both_ways = refl
 
 -- on a frame of these two atoms the tile of their block with itself, and that of another block, with no pair of them
-pub tile_left : tile_force dimer_units both (force_tile 0 0) 0 ≡ record { x = 589; y = 0; z = 0 }
+pub tile_left : tile_force dimer both (force_tile 0 0) 0 ≡ record { x = 589; y = 0; z = 0 }
 unfolding push_sum push push_entry
 tile_left = refl
 
-pub tile_of_others : tile_force dimer_units both (force_tile 0 1) 0 ≡ record { x = 0; y = 0; z = 0 }
+pub tile_of_others : tile_force dimer both (force_tile 0 1) 0 ≡ record { x = 0; y = 0; z = 0 }
 unfolding push_sum push push_entry
 tile_of_others = refl
 
-pub tile_pair : tile_energy dimer_units both (energy_tile 0 0) ≡ negsuc 5349131
+pub tile_pair : tile_energy dimer both (energy_tile 0 0) ≡ negsuc 5349131
 unfolding energy_entry
 tile_pair = refl

@@ -9,31 +9,33 @@ use std::marker::Model;
 /// The most atoms of a block.
 pub const BLOCK: usize = 64;
 
-/// A block of places of atoms that stand next to each other in the file, at most `BLOCK`.
+/// A block of places of atoms that stand next to each other in the file, at most `BLOCK`. Bit `t` of `seconds` tells
+/// whether the atom at place `t` is of the second species.
 #[derive(PartialEq, Eq, Debug, Drop)]
 pub struct Block {
     places: ArrayVec<Place, BLOCK>,
+    seconds: u64,
 }
 
 impl Model for Block {
-    ghost use Rattle.std.specs.Prelude.{List};
-    ghost use Rattle.lj_ring.specs.declared.coordinates.Place.{Place};
+    ghost use Rattle.lj_tile.specs.Blocks.{Sites};
 
-    ghost Value = { List Place };
+    ghost Value = { Sites };
 
-    ghost view = { λ b. b.places.items };
+    ghost view = { λ b. record { places = b.places.items; seconds = b.seconds } };
 
-    ghost inverse = { λ places. record { places = record { items = places } } };
+    ghost inverse = { λ sites. record { places = record { items = sites.places }; seconds = sites.seconds } };
 }
 
 impl Block {
-    /// The block of these places.
-    pub fn new(places: &[Place]) -> Block
+    /// The block of these places, of which those of the second species are told by their bits.
+    pub fn new(places: &[Place], seconds: u64) -> Block
         requires { length places.now ≤ BLOCK }
-        ensures { result ≡ places.now }
+        ensures { result ≡ record { places = places.now; seconds = seconds } }
     {
         let mut block = Block {
             places: ArrayVec::new(),
+            seconds,
         };
         let _fits = block.places.try_extend_from_slice(places);
         block
@@ -42,17 +44,25 @@ impl Block {
     /// Its places, in order.
     #[inline]
     pub fn places(&self) -> &[Place]
-        ensures value { result.now ≡ self.now }
+        ensures value { result.now ≡ self.now.places }
         ensures most { length result.now ≤ BLOCK }
     {
         self.places.as_slice()
+    }
+
+    /// Which of its places are of atoms of the second species, bit by bit.
+    #[inline]
+    pub fn seconds(&self) -> u64
+        ensures { result ≡ self.now.seconds }
+    {
+        self.seconds
     }
 
     /// An equal block.
     pub fn copy(&self) -> Block
         ensures { result ≡ self.now }
     {
-        Block::new(self.places())
+        Block::new(self.places(), self.seconds())
     }
 
     /// Makes this block equal to the other.
@@ -61,26 +71,34 @@ impl Block {
     {
         self.places.clear();
         let _fits = self.places.try_extend_from_slice(other.places());
+        self.seconds = other.seconds();
     }
 
-    /// Whether these are its places.
+    /// Whether it is the block of these places and species.
     #[inline]
-    pub fn has(&self, places: &[Place]) -> bool
-        ensures { IsTrue result ↔ (self.now ≡ places.now) }
+    pub fn has(&self, places: &[Place], seconds: u64) -> bool
+        ensures { IsTrue result ↔ (self.now ≡ record { places = places.now; seconds = seconds }) }
     {
-        are_same(self.places(), places)
+        self.seconds() == seconds && are_same(self.places(), places)
     }
 
-    /// Whether the other block has the same places.
+    /// Whether the other block is equal.
     pub fn is(&self, other: &Block) -> bool
         ensures { IsTrue result ↔ (self.now ≡ other.now) }
     {
-        self.has(other.places())
+        self.has(other.places(), other.seconds())
     }
 }
 
 #[inline]
 fn are_same(a: &[Place], b: &[Place]) -> bool
+    ensures { IsTrue result ↔ (a.now ≡ b.now) }
+{
+    is_same_list(a, b)
+}
+
+#[inline]
+fn is_same_list(a: &[Place], b: &[Place]) -> bool
     ensures { result ≡ same_places a.now b.now }
 {
     a == b

@@ -1,14 +1,14 @@
 //! A quick test of which places of a block may be near one, all of them at once.
-ghost use Rattle.std.specs.Prelude.{◌≡◌, ◌≤◌, ◌<◌, ◌+◌, ◌-◌, ◌*◌, ◌/◌, ◌%◌, ◌^◌, ℕ, List, length, slice_index};
+ghost use Rattle.std.specs.Prelude.{◌≡◌, ◌≤◌, ◌<◌, ◌+◌, ◌-◌, ◌*◌, ◌/◌, ◌%◌, ◌^◌, ℕ, Bool, List, length, slice_index};
 ghost use Rattle.std.specs.Prelude.{unsigned_abs, false};
 ghost use Rattle.std.specs.Int.{bit_at};
 ghost use Rattle.lj_ring.specs.declared.coordinates.Place.{Place};
 ghost use Rattle.lj_ring.specs.Ring.{distance, image, place_at};
-ghost use Rattle.lj_ring.specs.Scales.{Units, interacts};
+ghost use Rattle.lj_ring.specs.Mixes.{can_interact};
 ghost use Rattle.lj_tile.specs.Near.{HasColumns, HasLanes, IsLane, grains, square_unit};
 
 use crate::blocks::BLOCK;
-use lj_ring::{Place, Scale};
+use lj_ring::{Mix, Place};
 use std::simd::prelude::*;
 
 /// The binary logarithm of the coarsest grain, of which the box has 2^16 to its edge.
@@ -37,11 +37,11 @@ struct Lanes {
 }
 
 impl Columns {
-    pub(crate) fn new(places: &[Place], scale: &Scale) -> Columns
+    pub(crate) fn new(places: &[Place], mix: &Mix) -> Columns
         requires { length places.now ≤ BLOCK }
-        ensures { HasColumns scale.now result places.now }
+        ensures { HasColumns (can_interact mix.now) result places.now }
     {
-        let reach = scale.reach();
+        let reach = mix.reach();
         let grain = grain_of(reach);
         let fine = Lanes::new(places, grain);
         let whole = if grain < COARSEST {
@@ -63,8 +63,8 @@ impl Columns {
     #[inline]
     pub(crate) fn near(&self, here: &Place) -> u64
         requires { self.now.grain ≤ 16 }
-        ensures { (u : Units) (places : List Place) → HasColumns u self.now places → (k : ℕ) → k < length places
-            → bit_at result k ≡ 0 → interacts u (distance here.now (place_at places k)) ≡ false }
+        ensures { (interact : ℕ → Bool) (places : List Place) → HasColumns interact self.now places → (k : ℕ)
+            → k < length places → bit_at result k ≡ 0 → interact (distance here.now (place_at places k)) ≡ false }
     {
         let near = self.fine.near(here, self.grain, self.reach);
         if near == 0 || self.grain == COARSEST {

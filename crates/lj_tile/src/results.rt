@@ -80,7 +80,7 @@ impl Done {
     /// The sum of the pushes on place `t` of the first block, along each axis.
     pub fn sum_at(&self, t: usize) -> [u32; 3]
         requires force { self.now.name.kind ≡ Force }
-        requires within { t < length self.now.a }
+        requires within { t < length self.now.a.places }
         ensures { let sum = task_force self.now t in result ≡ sum.x ∷ sum.y ∷ sum.z ∷ [] }
     {
         let sum = self.sums.push_at(t);
@@ -92,7 +92,7 @@ impl Done {
     pub fn second_at(&self, s: usize) -> [u32; 3]
         requires force { self.now.name.kind ≡ Force }
         requires apart { self.now.name.bi < self.now.name.bj }
-        requires within { s < length self.now.b }
+        requires within { s < length self.now.b.places }
         ensures { let sum = task_second self.now s in result ≡ sum.x ∷ sum.y ∷ sum.z ∷ [] }
     {
         let other = self.sums.second_at(s);

@@ -5,7 +5,7 @@ ghost use Rattle.lj_tile.specs.Tasks.{IsTask};
 
 use crate::blocks::Block;
 use crate::names::TaskName;
-use lj_ring::{Place, Scale};
+use lj_ring::{Mix, Place};
 use std::marker::Model;
 
 /// A task: one tile of a step, with all that it takes to compute it. A force task gives the sums of the atoms of both
@@ -13,7 +13,7 @@ use std::marker::Model;
 #[derive(PartialEq, Eq, Debug, Drop)]
 pub struct Task {
     name: TaskName,
-    scale: Scale,
+    mix: Mix,
     first: Block,
     second: Block,
 }
@@ -23,27 +23,27 @@ impl Model for Task {
 
     ghost Value = { Work };
 
-    ghost view = { λ t. record { name = t.name; units = t.scale; a = t.first; b = t.second } };
+    ghost view = { λ t. record { name = t.name; mix = t.mix; a = t.first; b = t.second } };
 
-    ghost inverse = { λ w. record { name = w.name; scale = w.units; first = w.a; second = w.b } };
+    ghost inverse = { λ w. record { name = w.name; mix = w.mix; first = w.a; second = w.b } };
 
-    ghost invariant = { λ t. IsTask (record { name = t.name; units = t.scale; a = t.first; b = t.second }) };
+    ghost invariant = { λ t. IsTask (record { name = t.name; mix = t.mix; a = t.first; b = t.second }) };
 }
 
 impl Task {
-    /// The task of this name over two blocks of places, the same block twice where the name has one index twice.
-    pub fn new(name: TaskName, scale: Scale, a: Block, b: Block) -> Task
-        requires some_first { 1 ≤ length a }
-        requires some_second { 1 ≤ length b }
+    /// The task of this name over two blocks, the same block twice where the name has one index twice.
+    pub fn new(name: TaskName, mix: Mix, a: Block, b: Block) -> Task
+        requires some_first { 1 ≤ length a.places }
+        requires some_second { 1 ≤ length b.places }
         requires first_index { name.bi < 64 }
         requires second_index { name.bj < 64 }
         requires diagonal { name.bi ≡ name.bj → a ≡ b }
         requires in_order { name.bi ≤ name.bj }
-        ensures { result ≡ record { name = name; units = scale; a = a; b = b } }
+        ensures { result ≡ record { name = name; mix = mix; a = a; b = b } }
     {
         Task {
             name,
-            scale,
+            mix,
             first: a,
             second: b,
         }
@@ -57,24 +57,24 @@ impl Task {
         &self.name
     }
 
-    pub(crate) fn scale(&self) -> &Scale
-        ensures { result.now ≡ self.now.units }
+    pub(crate) fn mix(&self) -> &Mix
+        ensures { result.now ≡ self.now.mix }
     {
-        &self.scale
+        &self.mix
     }
 
-    pub(crate) fn first(&self) -> &[Place]
+    pub(crate) fn first(&self) -> &Block
         ensures value { result.now ≡ self.now.a }
         ensures sound { IsTask self.now }
     {
-        self.first.places()
+        &self.first
     }
 
-    pub(crate) fn second(&self) -> &[Place]
+    pub(crate) fn second(&self) -> &Block
         ensures value { result.now ≡ self.now.b }
         ensures sound { IsTask self.now }
     {
-        self.second.places()
+        &self.second
     }
 
     /// An equal task.
@@ -83,7 +83,7 @@ impl Task {
     {
         Task {
             name: self.name.copy(),
-            scale: self.scale,
+            mix: self.mix,
             first: self.first.copy(),
             second: self.second.copy(),
         }
@@ -94,31 +94,40 @@ impl Task {
         ensures { self.new ≡ other.now }
     {
         self.name = other.name.copy();
-        self.scale = other.scale;
+        self.mix = other.mix;
         self.first.copy_from(&other.first);
         self.second.copy_from(&other.second);
     }
 
-    /// Whether the other task is equal: its name, its scale and its two blocks.
+    /// Whether the other task is equal: its name, its mixture and its two blocks.
     pub fn is(&self, other: &Task) -> bool
         ensures { IsTrue result ↔ (self.now ≡ other.now) }
     {
-        self.is_of(&other.name, &other.scale, other.first(), other.second())
+        self.name.is(&other.name)
+            && is_same_mix(&self.mix, &other.mix)
+            && self.first.is(&other.first)
+            && self.second.is(&other.second)
     }
 
-    /// Whether this is the task of this name and scale over these places. It copies no places.
+    /// Whether this is the task of this name and mixture over these two blocks, of places and of bits that tell which
+    /// are of the second species. It copies no places.
     #[inline]
-    pub fn is_of(&self, name: &TaskName, scale: &Scale, a: &[Place], b: &[Place]) -> bool
-        ensures { IsTrue result ↔ (self.now ≡ record { name = name.now; units = scale.now; a = a.now; b = b.now }) }
+    pub fn is_of(&self, name: &TaskName, mix: &Mix, a: (&[Place], u64), b: (&[Place], u64)) -> bool
+        ensures { IsTrue result ↔ (self.now ≡ record {
+          name = name.now;
+          mix = mix.now;
+          a = record { places = a.entry.0.now; seconds = a.entry.1 };
+          b = record { places = b.entry.0.now; seconds = b.entry.1 };
+        }) }
     {
         self.name.is(name)
-            && is_same_scale(&self.scale, scale)
-            && self.first.has(a)
-            && self.second.has(b)
+            && is_same_mix(&self.mix, mix)
+            && self.first.has(a.0, a.1)
+            && self.second.has(b.0, b.1)
     }
 }
 
-fn is_same_scale(a: &Scale, b: &Scale) -> bool
+fn is_same_mix(a: &Mix, b: &Mix) -> bool
     ensures { IsTrue result ↔ (a.now ≡ b.now) }
 {
     a == b

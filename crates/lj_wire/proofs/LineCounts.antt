@@ -11,6 +11,7 @@ use Rattle.std.proofs.lemmas.List.{drop_more, take_more}
 use Rattle.std.proofs.lemmas.List.Folds.{concat-append}
 use Rattle.std.proofs.lemmas.Option.{slice_get_within, get_or_from_slice_get, none-some, slice_get-get_or}
 use Rattle.std.proofs.lemmas.Bool.{cases_lt}
+use Rattle.lj_ring.specs.Mixes.{edge_of}
 use Rattle.lj_ring.specs.declared.coordinates.Place.{Place}
 use Rattle.lj_step.specs.Live.{Live}
 use Rattle.lj_step.specs.Motion.{Simulation}
@@ -33,7 +34,7 @@ pub dump-few : (entry : Option Held) (live : Live) (name : List ℕ) (count : �
 dump-few None live name count is counted = tt
 dump-few (Some held) live name count is counted =
     let same : held.live ≡ live = cc in
-    let few = atom_lines-few held.live.units.edge held.symbols held.live.sim.cur in
+    let few = atom_lines-few (edge_of held.live.composition.mix) held.symbols held.live.sim.cur in
     let atoms : count ≡ length held.live.sim.cur = counted ∙ ap (λ l. length l.sim.cur) (sym same) in
     omega (arith, few, atoms)
 

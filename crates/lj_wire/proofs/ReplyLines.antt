@@ -14,6 +14,7 @@ use Rattle.std.proofs.lemmas.Option.{slice_get-get_or}
 use Rattle.std.proofs.lemmas.List.Quantifiers.{position-Some}
 use Rattle.std.specs.Option.{option_map, option_and_then, ForSome}
 use Rattle.std.proofs.lemmas.Option.{slice_get-map, slice_get_past}
+use Rattle.lj_ring.specs.Mixes.{edge_of}
 use Rattle.lj_ring.specs.declared.coordinates.Place.{Place}
 use Rattle.lj_step.specs.Motion.{Simulation}
 use Rattle.lj_step.specs.Live.{Live}
@@ -75,19 +76,19 @@ join-after word (next ∷ words) = ap (λ t. word ++ (32 ∷ t)) (join-after nex
 
 -- atom t's line in the frame of a session, by what its readers answer
 pub held_atom_line : (entry : Option Held) (edge t : ℕ) (live : Live) (symbol line : List ℕ)
-    → option_map (λ held. held.live.units.edge) entry ≡ Some edge
+    → option_map (λ held. edge_of held.live.composition.mix) entry ≡ Some edge
     → option_map (λ held. held.live) entry ≡ Some live
     → IfSome entry (λ held. slice_get held.symbols t ≡ Some symbol)
     → ForSome entry (λ held. t < length held.live.sim.cur)
     → line ≡ atom_line edge symbol (slice_index_or live.sim.cur t (record { x = 0; y = 0; z = 0 }))
-    → IfSome entry (λ held. Some line ≡ slice_get (atom_lines held.live.units.edge held.symbols held.live.sim.cur) t)
+    → IfSome entry (λ held. Some line ≡ slice_get (atom_lines (edge_of held.live.composition.mix) held.symbols held.live.sim.cur) t)
 held_atom_line None edge t live symbol line is_edge is_live is_symbol within is_line = tt
 held_atom_line (Some held) edge t live symbol line is_edge is_live is_symbol within is_line =
-    let e : held.live.units.edge ≡ edge = cc in
+    let e : edge_of held.live.composition.mix ≡ edge = cc in
     let l : held.live ≡ live = cc in
-    let text : line ≡ atom_line held.live.units.edge symbol
+    let text : line ≡ atom_line (edge_of held.live.composition.mix) symbol
     (slice_index_or held.live.sim.cur t (record { x = 0; y = 0; z = 0 })) = rw (e, l) is_line in
-    ap Some text ∙ atom_lines-get held.live.units.edge held.symbols held.live.sim.cur t
+    ap Some text ∙ atom_lines-get (edge_of held.live.composition.mix) held.symbols held.live.sim.cur t
     symbol is_symbol (within held refl)
 
 -- parts of a line, grouped another way
@@ -223,19 +224,19 @@ saved_line (Some held) saved k head line some is_saved is_line =
 
 -- a line of an atom in a frame
 pub dumped_atom : (entry : Option Held) (k : ℕ) (a b c : Held → List ℕ) (line : Option (List ℕ)) → 3 ≤ k
-    → IfSome entry (λ held. line ≡ slice_get (atom_lines held.live.units.edge held.symbols held.live.sim.cur) (k - 3))
+    → IfSome entry (λ held. line ≡ slice_get (atom_lines (edge_of held.live.composition.mix) held.symbols held.live.sim.cur) (k - 3))
     → IfSome entry (λ held. line ≡ slice_get (a held ∷ b held ∷ c held
-    ∷ atom_lines held.live.units.edge held.symbols held.live.sim.cur) k)
+    ∷ atom_lines (edge_of held.live.composition.mix) held.symbols held.live.sim.cur) k)
 dumped_atom None k a b c line some is_line = tt
 dumped_atom (Some held) k a b c line some is_line =
     is_line ∙ sym (after_third_line (a held) (b held) (c held)
-    (atom_lines held.live.units.edge held.symbols held.live.sim.cur) k some)
+    (atom_lines (edge_of held.live.composition.mix) held.symbols held.live.sim.cur) k some)
 
 -- past the last atom of a session there is none
 pub past_last_atom : (entry : Option Held) (live : Live) (t : ℕ) → option_map (λ held. held.live) entry ≡ Some live
     → length live.sim.cur ≤ t
-    → IfSome entry (λ held. None ≡ slice_get (atom_lines held.live.units.edge held.symbols held.live.sim.cur) t)
+    → IfSome entry (λ held. None ≡ slice_get (atom_lines (edge_of held.live.composition.mix) held.symbols held.live.sim.cur) t)
 past_last_atom None live t is_live past = tt
 past_last_atom (Some held) live t is_live past =
     let l : held.live ≡ live = cc in
-    sym (atom_lines-past held.live.units.edge held.symbols held.live.sim.cur t (rw l past))
+    sym (atom_lines-past (edge_of held.live.composition.mix) held.symbols held.live.sim.cur t (rw l past))

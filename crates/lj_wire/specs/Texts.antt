@@ -3,6 +3,7 @@ use Rattle.std.specs.Prelude.{ℕ, ◌+◌, Bool, List, [], ◌∷◌, ◌++◌,
 use Rattle.std.specs.Fmt.{decimal, signed_decimal}
 use Rattle.std.specs.List.{join_with_byte, concat}
 use Rattle.std.specs.Str.{bytes_eq}
+use Rattle.lj_ring.specs.Mixes.{edge_of}
 use Rattle.lj_ring.specs.declared.coordinates.Place.{Place}
 use Rattle.lj_ring.specs.Places.{micro_of}
 use Rattle.lj_step.specs.Motion.{Simulation}
@@ -54,7 +55,7 @@ atom_lines edge [] places = []
 abbrev pub frame_lines : Session → List (List ℕ)
 frame_lines session =
     ended (count_text (atoms_of session)) ∷ ended (comment_text session.sim.step)
-    ∷ atom_lines session.units.edge session.symbols session.sim.cur
+    ∷ atom_lines (edge_of session.composition.mix) session.symbols session.sim.cur
 
 -- `OK DUMP`, and the frame
 abbrev pub dump_lines : List ℕ → Option Session → List (List ℕ)

@@ -5,6 +5,7 @@ ghost use Rattle.std.specs.List.{flat_map};
 ghost use Rattle.std.specs.Fmt.{decimal, signed_decimal};
 ghost use Rattle.std.specs.Option.{ForSome, option_map};
 ghost use Rattle.arrayvec.specs.ArrayVec.{array_vec_len};
+ghost use Rattle.lj_ring.specs.Mixes.{edge_of};
 ghost use Rattle.lj_session.specs.Refusals.{refusal_text};
 ghost use Rattle.lj_branch.specs.Named.{named};
 ghost use Rattle.lj_session.specs.Users.{User};
@@ -302,7 +303,7 @@ fn atom_line(line: &mut Line, state: &UserState, i: usize, atom: usize)
     requires session { i < length state.now.sessions }
     requires atom { ForSome (held_at state.now i) (λ held. atom < length held.live.sim.cur) }
     ensures { IfSome (held_at state.now i) (λ held.
-        Some line.new.items ≡ slice_get (atom_lines held.live.units.edge held.symbols held.live.sim.cur) atom) }
+        Some line.new.items ≡ slice_get (atom_lines (edge_of held.live.composition.mix) held.symbols held.live.sim.cur) atom) }
 {
     let edge = state.edge_at(i);
     let Place { x, y, z } = state.sim_at(i).place(atom);

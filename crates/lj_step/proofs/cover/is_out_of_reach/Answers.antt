@@ -22,10 +22,10 @@ bounds-arcs-second c =
 pub returns-then-first-second : goal.returns-then-first-second
 returns-then-first-second c =
     let one =
-    reach_of_one c.args.scale.now c.args.frame.now c.args.first
+    reach_of_one c.args.atoms.now c.args.frame.now c.args.first
     (omega (arith, c.requires.first, c.requires.most)) in
     ap (λ places. length places == 1) c.block.ensures
-    ∙ sym one ∙ ap (λ b. is_out_of_reach c.args.scale.now c.args.frame.now (tile_number c.args.first b))
+    ∙ sym one ∙ ap (λ b. is_out_of_reach c.args.atoms.now c.args.frame.now (tile_number c.args.first b))
     c.if-first-second.true
 
 pub returns-else-first-second : goal.returns-else-first-second
@@ -36,7 +36,7 @@ returns-else-first-second c =
     gap_at frame c.args.arcs.now c.args.first c.args.second c.squared_gap.result _ _ c.requires.arcs c.requires.first
     c.requires.second c.squared_gap.ensures.value in
     let two =
-    reach_of_two c.args.scale.now frame c.args.first c.args.second
+    reach_of_two c.args.atoms.now frame c.args.first c.args.second
     (omega (arith, c.requires.second, c.requires.most)) c.if-first-second.false in
     let turned : nat_le c.reach.result gap ≡ not (nat_lt gap c.reach.result) = grind (arith, nat_tests) in
-    ap (nat_le c.reach.result) gap_is ∙ turned ∙ sym (ap not (c.reach.ensures.value gap)) ∙ sym two
+    ap (nat_le c.reach.result) gap_is ∙ turned ∙ sym (ap not (rw c.mix.ensures at (c.reach.ensures.value gap))) ∙ sym two

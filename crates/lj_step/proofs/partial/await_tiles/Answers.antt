@@ -6,6 +6,6 @@ use Rattle.lj_step.proofs.partial.await_tiles.Goals as goal
 pub returns : goal.returns
 returns c =
     let all : 64 * blocks (length c.args.frame.now) ≤ c.loop-number.number = omega arith in
-    fill_by_all (is_tile c.args.scale.now c.args.frame.now) c.loop-number.awaited.items
+    fill_by_all (is_tile c.args.atoms.now c.args.frame.now) c.loop-number.awaited.items
     (64 * blocks (length c.args.frame.now)) _ (omega arith)
     (λ k h. c.loop-number.invariant.done k (omega arith))

@@ -22,13 +22,13 @@ loop-preserved c =
     c.loop.counter c.args.steps c.loop.invariant.step c.loop.invariant.dir c.requires c.loop-test.true).0 in
     let same = c.step.ensures in
     record {
-      units = ap (λ (v : Live). v.units) same ∙ c.loop.invariant.units;
+      composition = ap (λ (v : Live). v.composition) same ∙ c.loop.invariant.composition;
       motion =
           ap (λ (v : Live). v.sim) same
-          ∙ ap (λ u. stepped u sim) c.loop.invariant.units
-          ∙ ap (stepped old.units) c.loop.invariant.motion
-          ∙ sym (ap (λ n. steps old.units n old.sim) (add-one c.loop.counter)
-          ∙ steps_more old.units c.loop.counter old.sim);
+          ∙ ap (λ u. stepped u sim) c.loop.invariant.composition
+          ∙ ap (stepped old.composition) c.loop.invariant.motion
+          ∙ sym (ap (λ n. steps old.composition n old.sim) (add-one c.loop.counter)
+          ∙ steps_more old.composition c.loop.counter old.sim);
       step = subst (λ (v : Live). unsigned_abs v.sim.step ≤ unsigned_abs old.sim.step + (c.loop.counter + 1))
           (sym same) size;
       dir = ap (λ (v : Live). unsigned_abs v.sim.dir) same ∙ c.loop.invariant.dir;
@@ -37,7 +37,7 @@ loop-preserved c =
 pub returns-clause-drift : goal.returns-clause-drift
 returns-clause-drift c =
     let old = c.args.sim.now in
-    let motion : c.loop.sim.sim ≡ steps old.units c.args.steps old.sim =
-    c.loop.invariant.motion ∙ ap (λ n. steps old.units n old.sim)
+    let motion : c.loop.sim.sim ≡ steps old.composition c.args.steps old.sim =
+    c.loop.invariant.motion ∙ ap (λ n. steps old.composition n old.sim)
     (let e : c.loop.counter ≡ c.args.steps = omega arith in e) in
-    ap drift motion ∙ drift_kept old.units c.args.steps old.sim c.scale-near.ensures.near c.count-whole.ensures.whole
+    ap drift motion ∙ drift_kept old.composition c.args.steps old.sim c.mix-near.ensures.near c.count-whole.ensures.whole

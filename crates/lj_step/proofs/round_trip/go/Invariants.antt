@@ -4,8 +4,8 @@ use Rattle.lj_step.proofs.round_trip.go.Given as goal
 
 abbrev pub invariant-loop : goal.invariant-loop
 invariant-loop l = record {
-  units : l.sim.units ≡ l.fn.sim.units;
-  motion : l.sim.sim ≡ steps l.fn.sim.units l.counter l.fn.sim.sim;
+  composition : l.sim.composition ≡ l.fn.sim.composition;
+  motion : l.sim.sim ≡ steps l.fn.sim.composition l.counter l.fn.sim.sim;
   step : unsigned_abs l.sim.sim.step ≤ unsigned_abs l.fn.sim.sim.step + l.counter;
   dir : unsigned_abs l.sim.sim.dir ≡ 1;
 }

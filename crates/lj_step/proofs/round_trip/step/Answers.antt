@@ -12,19 +12,19 @@ use Rattle.lj_step.proofs.round_trip.step.Goals as goal
 pub unwrap-task-requires : goal.unwrap-task-requires
 unwrap-task-requires c =
     let live = c.loop-i.sim in
-    let within : c.loop-i.i < length (cover live.units live.sim.cur) = omega arith in
+    let within : c.loop-i.i < length (cover live.composition live.sim.cur) = omega arith in
     task_some live c.args.label.now Force c.loop-i.i c.task.result c.loop-i.invariant.tiles c.task.ensures.value within
 
 pub loop-i-init : goal.loop-i-init
 loop-i-init c =
     let opened = c.open_step.ensures in
     record {
-      units = ap (λ (v : Live). v.units) opened;
+      composition = ap (λ (v : Live). v.composition) opened;
       motion = ap (λ (v : Live). v.sim) opened;
       end = c.tiles-i-end.ensures.value ∙ ap tiles_of opened
-          ∙ sym (ap (λ (v : Live). length (cover v.units v.sim.cur)) opened);
-      tiles = subst (λ (v : Live). AwaitsFrom Force v.units v.sim.cur 0 v.part) (sym opened)
-          (opened_awaits Force c.args.sim.now.units c.args.sim.now.sim.cur _ refl);
+          ∙ sym (ap (λ (v : Live). length (cover v.composition v.sim.cur)) opened);
+      tiles = subst (λ (v : Live). AwaitsFrom Force v.composition v.sim.cur 0 v.part) (sym opened)
+          (opened_awaits Force c.args.sim.now.composition c.args.sim.now.sim.cur _ refl);
     }
 
 pub loop-i-preserved : goal.loop-i-preserved
@@ -39,26 +39,26 @@ loop-i-preserved c =
     c.task.ensures.value is_work in
     let taken = when_ok c.accept.result (c.accept.ensures.accepted.1 awaited) c.accept.ensures.taken in
     record {
-      units = ap (λ (v : Live). v.units) taken ∙ c.loop-i.invariant.units;
+      composition = ap (λ (v : Live). v.composition) taken ∙ c.loop-i.invariant.composition;
       motion = ap (λ (v : Live). v.sim) taken ∙ c.loop-i.invariant.motion;
-      end = c.loop-i.invariant.end ∙ sym (ap (λ (v : Live). length (cover v.units v.sim.cur)) taken);
-      tiles = subst (λ (v : Live). AwaitsFrom Force v.units v.sim.cur (c.loop-i.i + 1) v.part) (sym taken) next;
+      end = c.loop-i.invariant.end ∙ sym (ap (λ (v : Live). length (cover v.composition v.sim.cur)) taken);
+      tiles = subst (λ (v : Live). AwaitsFrom Force v.composition v.sim.cur (c.loop-i.i + 1) v.part) (sym taken) next;
     }
 
 pub turn-requires : goal.turn-requires
 turn-requires c =
     let live = c.loop-i.sim in
-    let past : length (cover live.units live.sim.cur) ≤ c.loop-i.i = omega arith in
+    let past : length (cover live.composition live.sim.cur) ≤ c.loop-i.i = omega arith in
     record {
-      kind = kind_is Force live.units live.sim.cur c.loop-i.i live.part c.loop-i.invariant.tiles;
-      whole = all_taken Force live.units live.sim.cur c.loop-i.i live.part c.loop-i.invariant.tiles past;
+      kind = kind_is Force live.composition live.sim.cur c.loop-i.i live.part c.loop-i.invariant.tiles;
+      whole = all_taken Force live.composition live.sim.cur c.loop-i.i live.part c.loop-i.invariant.tiles past;
       step = subst (λ (s : Simulation). unsigned_abs (s.step +ℤ s.dir) ≤ 10 ^ 12)
           (sym c.loop-i.invariant.motion) c.requires;
     }
 
 pub returns : goal.returns
 returns c =
-    let units = c.loop-i.invariant.units in
+    let composition = c.loop-i.invariant.composition in
     let motion = c.loop-i.invariant.motion in
     let turned = c.turn.ensures in
-    cc (units, motion, turned)
+    cc (composition, motion, turned)

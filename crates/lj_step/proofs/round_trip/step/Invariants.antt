@@ -6,8 +6,8 @@ use Rattle.lj_step.proofs.round_trip.step.Given as goal
 
 abbrev pub invariant-loop-i : goal.invariant-loop-i
 invariant-loop-i l = record {
-  units : l.sim.units ≡ l.fn.sim.units;
+  composition : l.sim.composition ≡ l.fn.sim.composition;
   motion : l.sim.sim ≡ l.fn.sim.sim;
-  end : l.i-end ≡ length (cover l.sim.units l.sim.sim.cur);
-  tiles : AwaitsFrom Force l.sim.units l.sim.sim.cur l.i l.sim.part;
+  end : l.i-end ≡ length (cover l.sim.composition l.sim.sim.cur);
+  tiles : AwaitsFrom Force l.sim.composition l.sim.sim.cur l.i l.sim.part;
 }

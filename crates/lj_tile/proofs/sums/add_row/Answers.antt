@@ -1,76 +1,77 @@
-use Rattle.std.proofs.Common.{◌≡◌, ◌≤◌, ◌<◌, ◌+◌, ℕ, min, length, ap, ◌∙◌, w64, arith}
+use Rattle.std.proofs.Common.{◌<◌, ◌+◌, ℕ, length, slice_index_or, ap, sym, ◌∙◌, refl, w64, arith}
 use Rattle.std.specs.Int.{trailing_zeros}
-use Rattle.lj_tile.specs.Rows.{on_first, IsSilent}
-use Rattle.lj_tile.proofs.SumLemmas.{HasNext, next_set, from_next, from_empty}
-use Rattle.lj_tile.proofs.RowLemmas.{first_silent, rows_silent, rows_next, not_in_order}
+use Rattle.lj_tile.specs.Pushes.{plus, no_push}
+use Rattle.lj_tile.proofs.SumLemmas.{next_set, from_next, from_empty, from_all}
+use Rattle.lj_tile.proofs.RowLemmas.{pushes_more, pushes_past, inside, pushed_none, pushed_past, pushed_next, length_set}
 use Rattle.lj_tile.proofs.sums.add_row.Goals as goal
 
-earlier : (c : goal.After-bits_from-rest) (s : ℕ) → s < c.first_later-s.result → IsSilent c.args.task.now c.args.t s
-earlier c s below = not_in_order c.args.task.now c.args.t s (c.first_later-s.ensures.earlier s below)
-
 pub loop-rest-init : goal.loop-rest-init
-loop-rest-init c =
-    let w = c.args.task.now in
-    let none : 0 ≡ min 0 (length w.b) = omega arith in
-    record {
-      within = c.first_later-s.ensures.most;
-      bits = c.bits_from-rest.ensures;
-      later = c.first_later-s.ensures.later;
-      sum = ap (on_first w c.args.t) none
-          ∙ first_silent w c.args.t 0 c.first_later-s.result (omega arith) (λ s within least below. earlier c s below);
-      rows = rows_silent w c.args.t 0 c.first_later-s.result c.args.second.now c.requires.before (omega arith)
-          (λ s within least below. earlier c s below);
-    }
-
-found : (c : goal.After-add_pair-arg-1) → HasNext c.args.near c.loop-rest.s (trailing_zeros w64 c.loop-rest.rest)
-found c =
-    next_set c.args.near c.loop-rest.s c.loop-rest.rest c.ranges.near.fits c.loop-rest.auto.rest-fits.fits
-    (omega (arith, c.loop-rest-test.true)) c.loop-rest.invariant.bits
-
-skipped : (c : goal.After-add_pair-arg-1) (s : ℕ) → s < length c.args.task.now.b → c.loop-rest.s ≤ s
-    → s < c.loop-rest.s + trailing_zeros w64 c.loop-rest.rest → IsSilent c.args.task.now c.args.t s
-skipped c s within least below = c.requires.near s within ((found c).before s least below)
-
-pub add_pair-sum-requires-clause-before : goal.add_pair-sum-requires-clause-before
-add_pair-sum-requires-clause-before c =
-    c.loop-rest.invariant.sum
-    ∙ first_silent c.args.task.now c.args.t c.loop-rest.s _ (omega arith) (skipped c)
-
-pub add_pair-sum-requires-clause-rows : goal.add_pair-sum-requires-clause-rows
-add_pair-sum-requires-clause-rows c =
-    rows_silent c.args.task.now c.args.t c.loop-rest.s _ c.loop-rest.second c.loop-rest.invariant.rows (omega arith) (skipped c)
-
-pub loop-rest-smaller : goal.loop-rest-smaller
-loop-rest-smaller c = omega (arith, (found c.before).within)
-
-pub loop-rest-preserved : goal.loop-rest-preserved
-loop-rest-preserved c = record {
-  within = omega (arith, (found c.before).within);
-  bits = from_next c.args.near c.loop-rest.s c.loop-rest.rest _ c.loop-rest.invariant.bits;
-  later = λ k least. c.loop-rest.invariant.later k (omega arith);
-  sum = c.add_pair-sum.ensures.sum;
-  rows = c.add_pair-sum.ensures.rows;
+loop-rest-init c = record {
+  within = omega arith;
+  bits = from_all c.args.set;
+  sum = refl;
+  room = c.told-second;
+  rows = pushed_none c.args.scale.now c.args.set c.args.here.now c.args.places.now c.args.second.now;
 }
 
--- no place is left
-over : (c : goal.After-loop-rest) (s : ℕ) → s < length c.args.task.now.b → c.loop-rest.s ≤ s → s < 64
-    → IsSilent c.args.task.now c.args.t s
-over c s within least below =
-    c.requires.near s within
-    (from_empty c.args.near c.loop-rest.s c.loop-rest.rest c.loop-rest.invariant.bits c.loop-rest-test.false s least)
+pub bounds-places-s : goal.bounds-places-s
+bounds-places-s c =
+    let found = next_set c.args.set c.loop-rest.s c.loop-rest.rest c.ranges.set.fits c.loop-rest.auto.rest-fits.fits
+    (omega (arith, c.loop-rest-test.true)) c.loop-rest.invariant.bits in
+    omega (arith, c.requires.within _ found.set)
+
+pub bounds-second-s : goal.bounds-second-s
+bounds-second-s c =
+    let found = next_set c.args.set c.loop-rest.s c.loop-rest.rest c.ranges.set.fits c.loop-rest.auto.rest-fits.fits
+    (omega (arith, c.loop-rest-test.true)) c.loop-rest.invariant.bits in
+    omega (arith, found.within)
+
+pub bounds-second-s-in-loop-rest : goal.bounds-second-s-in-loop-rest
+bounds-second-s-in-loop-rest c =
+    let found = next_set c.args.set c.loop-rest.s c.loop-rest.rest c.ranges.set.fits c.loop-rest.auto.rest-fits.fits
+    (omega (arith, c.loop-rest-test.true)) c.loop-rest.invariant.bits in
+    omega (arith, found.within)
+
+pub loop-rest-smaller : goal.loop-rest-smaller
+loop-rest-smaller c =
+    let found = next_set c.args.set c.loop-rest.s c.loop-rest.rest c.ranges.set.fits c.loop-rest.auto.rest-fits.fits
+    (omega (arith, c.loop-rest-test.true)) c.loop-rest.invariant.bits in
+    omega (arith, found.within)
+
+pub loop-rest-preserved : goal.loop-rest-preserved
+loop-rest-preserved c =
+    let found = next_set c.args.set c.loop-rest.s c.loop-rest.rest c.ranges.set.fits c.loop-rest.auto.rest-fits.fits
+    (omega (arith, c.loop-rest-test.true)) c.loop-rest.invariant.bits in
+    let u = c.args.scale.now in
+    let set = c.args.set in
+    let here = c.args.here.now in
+    let places = c.args.places.now in
+    let next : ℕ = c.loop-rest.s + trailing_zeros w64 c.loop-rest.rest in
+    let within : next < length places = c.requires.within next found.set in
+    record {
+      within = omega (arith, within);
+      bits = from_next set c.loop-rest.s c.loop-rest.rest _ c.loop-rest.invariant.bits;
+      sum = c.plus-sum.ensures
+          ∙ ap (λ p. plus p c.pair_push-push.result)
+          (c.loop-rest.invariant.sum ∙ pushes_past u set here places c.loop-rest.s next (omega arith) found.before)
+          ∙ pushes_more u set here places next c.pair_push-push.result
+          (inside u set here places next c.pair_push-push.result found.set c.pair_push-push.ensures.value);
+      room = length_set c.loop-rest.second next c.minus.result ∙ c.loop-rest.invariant.room;
+      rows = pushed_next u set here places next c.args.second.now c.loop-rest.second c.minus.result
+          (pushed_past u set here places c.loop-rest.s next c.args.second.now c.loop-rest.second c.loop-rest.invariant.rows
+          (omega arith) found.before) (omega (arith, found.within, c.loop-rest.invariant.room)) within found.set
+          (c.minus.ensures ∙ ap (plus (slice_index_or c.loop-rest.second next no_push)) (sym c.pair_push-push.ensures.back));
+    }
 
 pub returns-clause-sum : goal.returns-clause-sum
 returns-clause-sum c =
-    let w = c.args.task.now in
-    let all : min 64 (length w.b) ≡ length w.b = omega (arith, c.requires.most) in
     c.loop-rest.invariant.sum
-    ∙ first_silent w c.args.t c.loop-rest.s 64 c.loop-rest.invariant.within (over c)
-    ∙ ap (on_first w c.args.t) all
+    ∙ pushes_past c.args.scale.now c.args.set c.args.here.now c.args.places.now c.loop-rest.s (length c.args.places.now)
+    c.loop-rest.invariant.within (λ k least less.
+    from_empty c.args.set c.loop-rest.s c.loop-rest.rest c.loop-rest.invariant.bits c.loop-rest-test.false k least)
 
 pub returns-clause-after : goal.returns-clause-after
 returns-clause-after c =
-    let w = c.args.task.now in
-    rows_next w c.args.t 64 c.loop-rest.second
-    (rows_silent w c.args.t c.loop-rest.s 64 c.loop-rest.second c.loop-rest.invariant.rows c.loop-rest.invariant.within
-    (over c))
-    c.requires.most
+    pushed_past c.args.scale.now c.args.set c.args.here.now c.args.places.now c.loop-rest.s (length c.args.places.now)
+    c.args.second.now c.loop-rest.second c.loop-rest.invariant.rows c.loop-rest.invariant.within (λ k least less.
+    from_empty c.args.set c.loop-rest.s c.loop-rest.rest c.loop-rest.invariant.bits c.loop-rest-test.false k least)

@@ -1,60 +1,93 @@
-use Rattle.std.proofs.Common.{◌≡◌, ◌≢◌, ◌≤◌, ◌<◌, inl, inr, length, ap, sym, ◌∙◌, FitsSigned, w64, rules, arith}
-use Rattle.std.proofs.lemmas.Int.{to_z-of_z}
-use Rattle.std.proofs.lemmas.Bool.{cases_eq}
-use Rattle.lj_tile.specs.declared.names.TaskName.{TaskName}
+use Rattle.std.proofs.Common.{◌≡◌, ◌<◌, ◌*◌, ◌^◌, ℕ, pos, ◌-◌, length, ap, subst, ◌∙◌, false, unsigned_abs, List, bit_and, arith}
+use Rattle.std.specs.Int.{bit_at}
+use Rattle.std.proofs.lemmas.Int.{fits_signed_from_abs, to_z-of_z}
+use Rattle.std.proofs.Common.{◌≤◌, w64}
+use Rattle.lj_ring.specs.declared.mixes.Class.{Class}
+use Rattle.lj_ring.specs.declared.mixes.Species.{Species}
+use Rattle.lj_ring.specs.declared.mixes.Species.TheVariants.{First, Second}
+use Rattle.lj_ring.specs.declared.coordinates.Place.{Place}
+use Rattle.lj_ring.specs.Mixes.{Mixture, class_of, can_interact}
+use Rattle.lj_ring.specs.Ring.{IsOnRing}
+use Rattle.lj_ring.proofs.MixLemmas.{cannot_interact}
+use Rattle.lj_tile.specs.Blocks.{Sites}
+use Rattle.lj_tile.specs.Species.{species_at}
 use Rattle.lj_tile.specs.Tiles.{place_at}
-use Rattle.lj_tile.proofs.SumLemmas.{energy_row_is, far_energy}
+use Rattle.lj_tile.specs.Tasks.{are_in_order, class_in}
+use Rattle.lj_tile.specs.Rows.{energy_of}
+use Rattle.lj_tile.proofs.SumLemmas.{far_energy, unchosen, not_chosen, sum_is}
+use Rattle.lj_tile.proofs.Splits.{IsSplit, ColumnSplit, split_of, part_within, column_total}
 use Rattle.lj_tile.proofs.sums.energy_before.Goals as goal
-use Rattle.lj_tile.proofs.sums.energy_before.Goals.{then-name, else-name}
 
-first : (c : goal.After-scale) → c.name.result.now.bi ≡ c.args.task.now.name.bi
-first c = ap (λ (n : TaskName). n.bi) c.name.ensures.value
+block_is : (c : goal.After-energy_with) → c.places-places.result.now ≡ c.args.task.now.a.places
+block_is c = c.places-places.ensures.value ∙ ap (λ (block : Sites). block.places) c.first.ensures.value
 
-second : (c : goal.After-scale) → c.name-2.result.now.bj ≡ c.args.task.now.name.bj
-second c = ap (λ (n : TaskName). n.bj) c.name-2.ensures.value
+pub energy_with-of_firsts-requires-clause-within : goal.energy_with-of_firsts-requires-clause-within
+energy_with-of_firsts-requires-clause-within c t set =
+    rw (c.places-places.ensures.value, c.first.ensures.value)
+    (part_within c.near.result c.earlier.result _ t (length c.args.task.now.a.places) _ (c.earlier.ensures t) set)
 
-same : (c : goal.After-scale) → c.args.task.now.name.bi ≡ c.args.task.now.name.bj → c.if-name.earlier ≡ c.args.s
-same c e =
-    elim c.if-name.branch [
-      | then-name w ↦ w.earlier-is
-      | else-name w ↦ absurd (w.if-name.false (first c ∙ e ∙ sym (second c)))
-    ]
+pub energy_with-requires-clause-within : goal.energy_with-requires-clause-within
+energy_with-requires-clause-within c t set =
+    rw (c.places-places.ensures.value, c.first.ensures.value)
+    (part_within c.near.result c.earlier.result _ t (length c.args.task.now.a.places) _ (c.earlier.ensures t) set)
 
-other : (c : goal.After-scale) → c.args.task.now.name.bi ≢ c.args.task.now.name.bj
-    → c.if-name.earlier ≡ length c.args.task.now.a
-other c ne =
-    elim c.if-name.branch [
-      | then-name w ↦ absurd (ne (sym (first c) ∙ w.if-name.true ∙ second c))
-      | else-name w ↦ w.earlier-is ∙ ap length w.first.ensures.value
-    ]
+own_is : (c : goal.After-energy_with) → c.species_at-own.result ≡ species_at c.args.task.now.b.seconds c.args.s
+own_is c =
+    c.species_at-own.ensures
+    ∙ ap (λ set. species_at set c.args.s) (c.seconds.ensures ∙ ap (λ (block : Sites). block.seconds) c.second-2.ensures.value)
 
-most : (c : goal.After-scale) → c.if-name.earlier ≤ length c.args.task.now.a
-most c =
-    elim (cases_eq c.args.task.now.name.bi c.args.task.now.name.bj) [
-      | inl e ↦
-          let sizes = ap length (c.name.ensures.sound.diagonal e) in
-          omega (arith, same c e, sizes, c.requires.within)
-      | inr ne ↦ omega (arith, other c ne)
-    ]
+there_is : (c : goal.After-energy_with) → place_at c.places.result.now c.args.s ≡ place_at c.args.task.now.b.places c.args.s
+there_is c =
+    ap (λ (places : List Place). place_at places c.args.s)
+    (c.places.ensures.value ∙ ap (λ (block : Sites). block.places) c.second.ensures.value)
 
-pub near-near-requires : goal.near-near-requires
-near-near-requires c = c.requires.columns.grain
+seconds_is : (c : goal.After-energy_with) → c.seconds-seconds.result ≡ c.args.task.now.a.seconds
+seconds_is c = c.seconds-seconds.ensures ∙ ap (λ (block : Sites). block.seconds) c.first-2.ensures.value
 
-pub energy_with-requires-clause-near : goal.energy_with-requires-clause-near
-energy_with-requires-clause-near c t less none =
+firsts : (c : goal.After-energy_with) → ℕ
+firsts c = bit_and (bit_and c.near.result c.earlier.result) (18446744073709551615 - c.seconds-seconds.result)
+
+seconds : (c : goal.After-energy_with) → ℕ
+seconds c = bit_and (bit_and c.near.result c.earlier.result) c.seconds-seconds.result
+
+split : (c : goal.After-energy_with) (t : ℕ) → t < length c.args.task.now.a.places
+    → ColumnSplit c.args.task.now c.args.s (firsts c) (seconds c) t
+unfolding firsts seconds
+split c t within =
     let w = c.args.task.now in
-    let within : t < length w.a = omega (arith, less, most c) in
-    let here = rw c.second.ensures.value at c.read.ensures in
-    let far =
-    rw c.second.ensures.value at
-    (c.near-near.ensures w.units w.a c.requires.columns t within none) in
-    rw (c.scale.ensures, c.first-2.ensures.value, c.second.ensures.value)
-    (far_energy w.units (place_at w.a t) (place_at w.b c.args.s) (c.requires.on_ring t within) here far)
+    let here : Place = place_at w.a.places t in
+    let there : Place = place_at w.b.places c.args.s in
+    let on_ring : IsOnRing there = rw (there_is c) at c.read.ensures in
+    let far : bit_at c.near.result t ≡ 0 → energy_of w c.args.s t ≡ pos 0 =
+    λ none. unchosen (class_in w t c.args.s) (are_in_order w t c.args.s) here there
+    (far_energy (class_in w t c.args.s) here there (c.requires.on_ring t within) on_ring
+    (cannot_interact w.mix (species_at w.a.seconds t) (species_at w.b.seconds c.args.s) _
+    (rw (there_is c) at (c.near.ensures (can_interact w.mix) w.a.places c.requires.columns t within none)))) in
+    let other : are_in_order w t c.args.s ≡ false → energy_of w c.args.s t ≡ pos 0 =
+    not_chosen (class_in w t c.args.s) (are_in_order w t c.args.s) here there in
+    subst
+    (λ (seconds : ℕ). IsSplit (bit_and (bit_and c.near.result c.earlier.result) (18446744073709551615 - c.seconds-seconds.result))
+    (bit_and (bit_and c.near.result c.earlier.result) c.seconds-seconds.result) seconds t (are_in_order w t c.args.s)
+    (energy_of w c.args.s t ≡ pos 0))
+    (seconds_is c)
+    (split_of c.near.result c.earlier.result c.seconds-seconds.result t (length w.a.places) (are_in_order w t c.args.s)
+    (energy_of w c.args.s t ≡ pos 0) (omega arith) (omega (arith, within, c.first.ensures.sound.most_first)) within
+    (c.earlier.ensures t) far other)
+
+class_is : (mix : Mixture) (class : Class) (own : Species) (of : Species) (other : Mixture) (there : Species)
+    → class ≡ class_of mix of own → mix ≡ other → own ≡ there → class ≡ class_of other of there
+class_is mix class own of other there e f g = e ∙ ap (λ m. class_of m of own) f ∙ ap (class_of other of) g
 
 pub returns-clause-value : goal.returns-clause-value
+unfolding firsts seconds
 returns-clause-value c =
-    let fits : FitsSigned w64 c.energy_with.result = search rules in
-    let value = rw (c.scale.ensures, c.first-2.ensures.value, c.second.ensures.value) at c.energy_with.ensures.value in
-    to_z-of_z w64 _ fits
-    ∙ energy_row_is c.args.task.now c.args.s c.if-name.earlier c.energy_with.result c.name.ensures.sound c.requires.kind
-    c.requires.within (same c.before) (other c.before) value
+    let w = c.args.task.now in
+    let size : unsigned_abs c.energy_with-of_firsts.result ≤ 64 * 2 ^ 45 = c.energy_with-of_firsts.ensures.size in
+    rw (to_z-of_z w64 c.energy_with-of_firsts.result (fits_signed_from_abs w64 _ (omega (arith, size))))
+    (sum_is c.energy_with-of_firsts.result c.energy_with.result 1 (64 * 2 ^ 45)
+    (omega (arith, c.energy_with-of_firsts.ensures.size)) c.energy_with.ensures.size (omega arith) (omega arith)
+    ∙ column_total w c.args.s c.class-first_class.result.now c.class-second_class.result.now (firsts c) (seconds c)
+    (place_at c.places.result.now c.args.s) c.places-places.result.now c.energy_with-of_firsts.result c.energy_with.result
+    (class_is c.mix.result.now _ c.species_at-own.result First w.mix _ c.class-first_class.ensures.value c.mix.ensures (own_is c))
+    (class_is c.mix-2.result.now _ c.species_at-own.result Second w.mix _ c.class-second_class.ensures.value c.mix-2.ensures (own_is c))
+    (there_is c) (block_is c) c.energy_with-of_firsts.ensures.value c.energy_with.ensures.value (split c))

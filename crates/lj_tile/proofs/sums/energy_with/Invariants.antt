@@ -1,16 +1,14 @@
-use Rattle.std.proofs.Common.{◌≡◌, ◌≤◌, ◌-◌, ◌*◌, ◌%◌, ◌^◌, unsigned_abs}
-use Rattle.lj_ring.specs.Ring.{int_sum_below}
-use Rattle.lj_tile.specs.Pushes.{energy}
-use Rattle.lj_tile.specs.Tiles.{place_at}
+use Rattle.std.proofs.Common.{◌≡◌, ◌≤◌, ◌-◌, ◌*◌, ◌^◌, unsigned_abs, length}
+use Rattle.lj_tile.specs.Rows.{energies_in}
 use Rattle.lj_tile.proofs.SumLemmas.{IsFrom}
 use Rattle.lj_tile.proofs.sums.energy_with.Given as goal
 
 abbrev pub invariant-loop-rest : goal.invariant-loop-rest
 invariant-loop-rest l = record {
-  within : l.t ≤ l.count;
-  bits : IsFrom (l.near % 2 ^ l.count) l.t l.rest;
-  value : l.sum ≡ int_sum_below l.t (λ t. energy l.scale (place_at l.places t) l.there);
-  size : unsigned_abs l.sum ≤ l.t * 2 ^ 37;
+  within : l.t ≤ length l.places;
+  bits : IsFrom l.set l.t l.rest;
+  value : l.sum ≡ energies_in l.class l.set l.there l.places l.t;
+  size : unsigned_abs l.sum ≤ l.t * 2 ^ 45;
 }
 
 abbrev pub decreases-loop-rest : goal.decreases-loop-rest

@@ -1,4 +1,5 @@
 use Rattle.std.proofs.Common.{◌≡◌, ◌<◌, length, slice_index_or, ap, ◌∙◌, arith}
+use Rattle.lj_tile.specs.Blocks.{Sites}
 use Rattle.lj_tile.specs.Pushes.{no_push, plus}
 use Rattle.lj_tile.specs.Rows.{on_first}
 use Rattle.lj_tile.proofs.RowLemmas.{first_is, second_is, joined_is}
@@ -19,10 +20,11 @@ returns-then-name-clause-first c t within =
     let w = c.args.task.now in
     let sound = c.name.ensures.sound in
     let same : w.name.bi ≡ w.name.bj = rw (c.name.ensures.value, c.name-2.ensures.value) at c.if-name.true in
-    let also : t < length w.b = omega (arith, within, ap length (sound.diagonal same)) in
+    let also : t < length w.b.places =
+    omega (arith, within, ap (λ (block : Sites). length block.places) (sound.diagonal same)) in
     c.join.ensures.first t (omega (arith, within, sound.most_first))
     ∙ ap (λ p. plus p (slice_index_or c.pair_sums-sums.result.second t no_push)) (c.pair_sums-sums.ensures.first t within)
-    ∙ ap (plus (on_first w t (length w.b))) (c.pair_sums-sums.ensures.second t also)
+    ∙ ap (plus (on_first w t (length w.b.places))) (c.pair_sums-sums.ensures.second t also)
     ∙ joined_is w t sound same
 
 pub returns-then-name-clause-second : goal.returns-then-name-clause-second

@@ -6,6 +6,6 @@ use Rattle.lj_tile.proofs.sums.pair_sums.Given as goal
 abbrev pub invariant-loop-t : goal.invariant-loop-t
 invariant-loop-t l = record {
   room : length l.sums.first ≡ 64;
-  done : (k : ℕ) → k < l.t → slice_index_or l.sums.first k no_push ≡ on_first l.task k (length l.task.b);
-  rows : AreRows l.task l.t 0 l.sums.second;
+  done : (k : ℕ) → k < l.t → slice_index_or l.sums.first k no_push ≡ on_first l.task k (length l.task.b.places);
+  rows : AreRows l.task l.t l.sums.second;
 }

@@ -8,7 +8,7 @@ use Rattle.lj_session.proofs.session.Session.turn.Goals as goal
 pub invariant_of-self : goal.invariant_of-self
 invariant_of-self c =
     let live = c.self.inside.sim in
-    let same = ap (λ (l : Live). length l.sim.cur) c.turn.ensures ∙ count-stepped live.units live.sim in
+    let same = ap (λ (l : Live). length l.sim.cur) c.turn.ensures ∙ count-stepped live.composition live.sim in
     record {
       symbols = c.self.invariant.symbols ∙ sym same;
       saved = subst (λ m. AllByRecursion (HasCount m) c.self.inside.branches) (sym same) c.self.invariant.saved;

@@ -20,4 +20,4 @@ returns c = λ mark.
     (c.momentum.ensures ∙ ap (λ (l : Live). let m = momentum l.sim in m.x ∷ m.y ∷ m.z ∷ []) live)
     (c.kinetic.ensures ∙ ap (λ (l : Live). kinetic l.sim) live)
     (read-potential c.potential.result (record { sfits = c.potential.type_inv })
-    ∙ (c.potential.ensures ∙ ap (λ (l : Live). potential l.units l.sim.cur) live))
+    ∙ (c.potential.ensures ∙ ap (λ (l : Live). potential l.composition l.sim.cur) live))

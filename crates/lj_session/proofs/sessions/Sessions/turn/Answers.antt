@@ -17,7 +17,7 @@ pub invariant_of-self-2 : goal.invariant_of-self-2
 invariant_of-self-2 c =
     let held = c.in-Some.session.now in
     totals_kept (written (goal.at.invariant_of-self-2 c).After-turn)
-    (ap (λ (h : Held). length h.live.sim.cur) c.turn.ensures ∙ count-stepped held.live.units held.live.sim)
+    (ap (λ (h : Held). length h.live.sim.cur) c.turn.ensures ∙ count-stepped held.live.composition held.live.sim)
     (ap (λ (h : Held). length h.saved) c.turn.ensures)
 
 pub returns-clause-turned : goal.returns-clause-turned

@@ -11,9 +11,9 @@ index-requires c =
     let read = c.in-Some-get.ensures.lookup in
     let frame = ap (λ (v : Live). v.sim.cur) c.self.view_is in
     let found =
-    tile_found a.scale a.cur.items a.partial c.in-Some.field-0 c.as_slice.result.now c.args.self.now c.args.i
+    tile_found a.atoms a.cur.items a.partial c.in-Some.field-0 c.as_slice.result.now c.args.self.now c.args.i
     c.in-Some-get.number.now c.from.result c.in-Some.is c.self.invariant.partial
-    c.as_slice.ensures.value (ap (λ (v : Live). v.units) c.self.view_is) frame read.3.0 read.1 c.from.ensures in
+    c.as_slice.ensures.value (ap (λ (v : Live). v.composition) c.self.view_is) frame read.3.0 read.1 c.from.ensures in
     omega (arith, found.1, c.self.invariant.room.awaited, ap length frame, a.partial.awaited.ok.0)
 
 pub returns : goal.returns
@@ -25,9 +25,9 @@ returns c =
     step_part (live_of a) c.args.self.now a.partial.kind a.partial.awaited.items c.in-Some.field-0
     c.self.view_is refl c.in-Some.is in
     let found =
-    tile_found a.scale a.cur.items a.partial c.in-Some.field-0 c.as_slice.result.now c.args.self.now c.args.i
+    tile_found a.atoms a.cur.items a.partial c.in-Some.field-0 c.as_slice.result.now c.args.self.now c.args.i
     c.in-Some-get.number.now c.from.result c.in-Some.is c.self.invariant.partial
-    c.as_slice.ensures.value (ap (λ (v : Live). v.units) c.self.view_is) frame read.3.0 read.1 c.from.ensures in
+    c.as_slice.ensures.value (ap (λ (v : Live). v.composition) c.self.view_is) frame read.3.0 read.1 c.from.ensures in
     let within : c.from.result < length a.partial.awaited.items =
     omega (arith, found.1, c.self.invariant.room.awaited, ap length frame) in
     c.index.ensures

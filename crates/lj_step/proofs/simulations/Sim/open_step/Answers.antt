@@ -11,6 +11,6 @@ invariant_of-self c =
     let frame = c.as_slice.ensures.value in
     let room = subst (λ f. HasRoom (length f) c.open.new.self) frame opened.room in
     with_partial a c.open.new.self c.self.invariant room
-    (opened_partial a.scale c.as_slice.result.now a.cur.items c.open.new.self c.args.kind
+    (opened_partial a.atoms c.as_slice.result.now a.cur.items c.open.new.self c.args.kind
     frame c.self.invariant.cur_on_ring c.self.invariant.most
     opened.kind opened.tiles opened.awaited opened.left opened.pushes opened.energy)

@@ -11,5 +11,5 @@ returns c =
     let kind = ap (λ (v : Live). kind_of v.part) c.self.view_is ∙ c.requires.kind in
     let all = ap (λ (v : Live). is_whole v.part) c.self.view_is ∙ c.requires.whole in
     let whole = whole_of c.self.inside.partial.kind c.self.inside.partial.awaited.items Energy kind all in
-    potential_is c.self.inside.scale c.self.inside.cur.items c.self.inside.partial c.self.invariant.partial whole
-    ∙ ap (λ (v : Live). potential v.units v.sim.cur) c.self.view_is
+    potential_is c.self.inside.atoms c.self.inside.cur.items c.self.inside.partial c.self.invariant.partial whole
+    ∙ ap (λ (v : Live). potential v.composition v.sim.cur) c.self.view_is

@@ -11,10 +11,10 @@ task_of-requires c =
     let a = c.self.inside in
     let read = c.in_ok-number.ensures.lookup in
     let found =
-    tile_found a.scale a.cur.items a.partial c.in_ok-kind.kind c.as_slice.result.now c.args.self.now c.args.i
+    tile_found a.atoms a.cur.items a.partial c.in_ok-kind.kind c.as_slice.result.now c.args.self.now c.args.i
     c.in_ok-number.field-0.now c.from.result c.in_ok-kind.was
     c.self.invariant.partial c.as_slice.ensures.value
-    (ap (λ (v : Live). v.units) c.self.view_is) (ap (λ (v : Live). v.sim.cur) c.self.view_is)
+    (ap (λ (v : Live). v.composition) c.self.view_is) (ap (λ (v : Live). v.sim.cur) c.self.view_is)
     read.3.0 read.1 c.from.ensures in
     record { tile = found.0; within = found.1 }
 
@@ -27,10 +27,10 @@ returns c =
     step_part (live_of a) c.args.self.now a.partial.kind a.partial.awaited.items c.in_ok-kind.kind
     c.self.view_is refl c.in_ok-kind.was in
     let found =
-    tile_found a.scale a.cur.items a.partial c.in_ok-kind.kind c.as_slice.result.now c.args.self.now c.args.i
+    tile_found a.atoms a.cur.items a.partial c.in_ok-kind.kind c.as_slice.result.now c.args.self.now c.args.i
     c.in_ok-number.field-0.now c.from.result c.in_ok-kind.was
     c.self.invariant.partial c.as_slice.ensures.value
-    (ap (λ (v : Live). v.units) c.self.view_is) (ap (λ (v : Live). v.sim.cur) c.self.view_is)
+    (ap (λ (v : Live). v.composition) c.self.view_is) (ap (λ (v : Live). v.sim.cur) c.self.view_is)
     read.3.0 read.1 c.from.ensures in
     record {
       value = ap Some c.task_of.ensures ∙ task_found c.args.self.now c.args.label.now open_step

@@ -26,36 +26,36 @@ next_step c =
     ∙ ap (λ d. c.self.inside.step +ℤ d) c.sign.ensures.value
 
 forces : (c : goal.After-self-3-1) (i : ℕ) → i < length c.as_slice.result.now
-    → slice_index_or c.as_slice-2.result.now i no_push ≡ force c.self.inside.scale c.as_slice.result.now i
+    → slice_index_or c.as_slice-2.result.now i no_push ≡ force c.self.inside.atoms c.as_slice.result.now i
 forces c i h =
     let kind = ap (λ (v : Live). kind_of v.part) c.self.view_is ∙ c.requires.kind in
     let all = ap (λ (v : Live). is_whole v.part) c.self.view_is ∙ c.requires.whole in
     let whole = whole_of c.self.inside.partial.kind c.self.inside.partial.awaited.items Force kind all in
     let within : i < length c.self.inside.cur.items = subst (λ xs. i < length xs) c.as_slice.ensures.value h in
     ap (λ xs. slice_index_or xs i no_push) c.as_slice-2.ensures.value
-    ∙ forces_of c.self.inside.scale c.self.inside.cur.items c.self.inside.partial i
+    ∙ forces_of c.self.inside.atoms c.self.inside.cur.items c.self.inside.partial i
     c.self.invariant.partial whole within
-    ∙ sym (ap (λ frame. force c.self.inside.scale frame i) c.as_slice.ensures.value)
+    ∙ sym (ap (λ frame. force c.self.inside.atoms frame i) c.as_slice.ensures.value)
 
 next_is : (c : goal.After-self-3-1) → c.swap.new.y.items
-    ≡ next_frame c.self.inside.scale c.self.inside.prev.items c.self.inside.cur.items
+    ≡ next_frame c.self.inside.atoms c.self.inside.prev.items c.self.inside.cur.items
 next_is c =
     ap (λ v. v.items) c.swap.ensures.y_after
-    ∙ frame_is c.self.inside.scale c.self.inside.prev.items c.as_slice.result.now c.advance.new.prev.items
+    ∙ frame_is c.self.inside.atoms c.self.inside.prev.items c.as_slice.result.now c.advance.new.prev.items
     c.as_slice-2.result.now c.advance.ensures.count c.advance.ensures.places (forces c)
-    ∙ ap (next_frame c.self.inside.scale c.self.inside.prev.items) c.as_slice.ensures.value
+    ∙ ap (next_frame c.self.inside.atoms c.self.inside.prev.items) c.as_slice.ensures.value
 
 pub returns : goal.returns
 returns c =
     turned_is (live_of c.self.inside) c.swap.new.x.items c.swap.new.y.items
     (to_z w64 (of_z w64 (to_z w64 (of_z w64 c.self.inside.step) +ℤ to_z w64 (of_z w64 c.sign.result))))
     (ap (λ v. v.items) c.swap.ensures.x_after) (next_is c) (next_step c)
-    ∙ ap (λ (v : Live). closed v (stepped v.units v.sim)) c.self.view_is
+    ∙ ap (λ (v : Live). closed v (stepped v.composition v.sim)) c.self.view_is
 
 pub invariant_of-self : goal.invariant_of-self
 invariant_of-self c =
     let a = c.self.inside in
     with_frames a _ c.self.invariant (ap (λ v. v.items) c.swap.ensures.x_after)
-    (ap length (next_is c) ∙ next_frame_length a.scale a.prev.items a.cur.items)
-    (subst AreOnRing (sym (next_is c)) (next_on_ring a.scale a.prev.items a.cur.items))
-    (rw (next_step c) (sum_bound c)) (search rules) refl
+    (ap length (next_is c) ∙ next_frame_length a.atoms a.prev.items a.cur.items)
+    (subst AreOnRing (sym (next_is c)) (next_on_ring a.atoms a.prev.items a.cur.items))
+    (rw (next_step c) (sum_bound c)) (search rules) refl refl

@@ -1,0 +1,343 @@
+-- The places of a block that may interact with an atom, split by their species.
+use Rattle.std.proofs.Common.{ℕ, zero, suc, ◌+◌, ◌-◌, ◌%◌, ◌^◌, ◌<◌, ◌≤◌, ◌≡◌, ◌&&◌, Bool, true, false, nat_lt, nat_le, min, pos, length, List, bit_and, w64, refl, sym, ap, ◌∙◌, inl, inr, ℤ, ◌+ℤ◌, arith}
+use Rattle.std.specs.Int.{bit_at, bit_not}
+use Rattle.std.proofs.lemmas.Nat.Bits.{bit_at_and, bit_at_not, bit_at-lt, bit_at_ones, bit_at_ones_above}
+use Rattle.std.proofs.lemmas.Bool.{cases_lt}
+use Rattle.std.proofs.lemmas.Bool.Decides.{nat_tests}
+use Rattle.std.proofs.Math.IntN.{+ℤ_idr, +ℤ_idl}
+use Rattle.std.proofs.lemmas.Int.{ints}
+use Rattle.lj_ring.specs.declared.coordinates.Place.{Place}
+use Rattle.lj_ring.specs.declared.mixes.Class.{Class}
+use Rattle.lj_ring.specs.declared.mixes.Species.{Species}
+use Rattle.lj_ring.specs.declared.mixes.Species.TheVariants.{First, Second}
+use Rattle.lj_ring.specs.Mixes.{class_of}
+use Rattle.lj_ring.specs.Ring.{ring_sum, int_sum_below}
+use Rattle.lj_ring.specs.Scales.{Units}
+use Rattle.lj_tile.specs.declared.pairs.Push.{Push}
+use Rattle.lj_tile.specs.Pushes.{push, no_push, plus, energy}
+use Rattle.lj_tile.specs.Species.{is_in, species_at}
+use Rattle.lj_tile.specs.Tiles.{place_at, chosen_push, chosen_energy}
+use Rattle.lj_tile.specs.Tasks.{Work, are_in_order, class_in}
+use Rattle.lj_tile.specs.Rows.{push_of, push_back, on_first, pushes_in, push_in, IsSilent, AreRows, ArePushed}
+use Rattle.lj_tile.specs.Rows.{energy_of, energy_row, energies_in, energy_in}
+use Rattle.lj_tile.proofs.Opposites.{same_push}
+use Rattle.lj_tile.proofs.RowLemmas.{sum_both, second_more, second_silent}
+
+-- a place is in none of two sets, and silent there; or it is in the one set, in order, and of the first species; or it is
+-- in the other, in order, and of the second
+pub data IsSplit (firsts seconds here s : ℕ) (ordered : Bool) (silent : Type 0) : Type 0 where
+  in_none : is_in firsts s ≡ false → is_in seconds s ≡ false → silent → IsSplit firsts seconds here s ordered silent
+  in_firsts : is_in firsts s ≡ true → is_in seconds s ≡ false → ordered ≡ true → species_at here s ≡ First
+      → IsSplit firsts seconds here s ordered silent
+  in_seconds : is_in firsts s ≡ false → is_in seconds s ≡ true → ordered ≡ true → species_at here s ≡ Second
+      → IsSplit firsts seconds here s ordered silent
+
+set_is : (set s : ℕ) → bit_at set s ≡ 1 → is_in set s ≡ true
+set_is set s e = rw e refl
+
+clear_is : (set s : ℕ) → bit_at set s ≡ 0 → is_in set s ≡ false
+clear_is set s e = rw e refl
+
+pub is_set : (set s : ℕ) → is_in set s ≡ true → bit_at set s ≡ 1
+is_set set s e = grind (arith, nat_tests)
+
+zero_or_one : (n : ℕ) → n < 2 → 0 < n → n ≡ 1
+zero_or_one n h k = omega arith
+
+not_some : (n : ℕ) → n ≤ 0 → n ≡ 0
+not_some n h = omega arith
+
+-- a mask of near places, of those that are in order, split by species
+pub split_of : (near ordered_set here s n : ℕ) (ordered : Bool) (silent : Type 0) → here < 2 ^ 64 → s < 64 → s < n
+    → is_in ordered_set s ≡ (nat_lt s n && ordered) → (bit_at near s ≡ 0 → silent) → (ordered ≡ false → silent)
+    → IsSplit (bit_and (bit_and near ordered_set) (bit_not w64 here)) (bit_and (bit_and near ordered_set) here) here s ordered silent
+split_of near ordered_set here s n ordered silent small within below chosen far other =
+    let both : bit_at (bit_and near ordered_set) s ≡ min (bit_at near s) (bit_at ordered_set s) = bit_at_and near ordered_set s in
+    let firsts : bit_at (bit_and (bit_and near ordered_set) (bit_not w64 here)) s
+    ≡ min (bit_at (bit_and near ordered_set) s) (bit_at (bit_not w64 here) s) =
+    bit_at_and (bit_and near ordered_set) (bit_not w64 here) s in
+    let turned : bit_at (bit_not w64 here) s ≡ 1 - bit_at here s = bit_at_not w64 here s small within in
+    let seconds : bit_at (bit_and (bit_and near ordered_set) here) s
+    ≡ min (bit_at (bit_and near ordered_set) s) (bit_at here s) = bit_at_and (bit_and near ordered_set) here s in
+    let inside : nat_lt s n ≡ true = grind (arith, nat_tests) in
+    let is_chosen : is_in ordered_set s ≡ ordered = rw inside at chosen in
+    elim (cases_lt 0 (bit_at near s)) [
+      | inr none ↦
+          let e : bit_at near s ≡ 0 = not_some (bit_at near s) none in
+          in_none (clear_is _ s (omega (arith, firsts, both, e))) (clear_is _ s (omega (arith, seconds, both, e))) (far e)
+      | inl some ↦ elim (cases_lt 0 (bit_at ordered_set s)) [
+        | inr none ↦
+            let e : bit_at ordered_set s ≡ 0 = not_some (bit_at ordered_set s) none in
+            in_none (clear_is _ s (omega (arith, firsts, both, e))) (clear_is _ s (omega (arith, seconds, both, e)))
+            (other (sym is_chosen ∙ clear_is ordered_set s e))
+        | inl chosen_some ↦
+            let e : bit_at near s ≡ 1 = zero_or_one (bit_at near s) (bit_at-lt near s) some in
+            let f : bit_at ordered_set s ≡ 1 = zero_or_one (bit_at ordered_set s) (bit_at-lt ordered_set s) chosen_some in
+            let is_ordered : ordered ≡ true = sym is_chosen ∙ set_is ordered_set s f in
+            elim (cases_lt 0 (bit_at here s)) [
+              | inr none ↦
+                  let g : bit_at here s ≡ 0 = not_some (bit_at here s) none in
+                  in_firsts (set_is _ s (omega (arith, firsts, turned, both, e, f, g)))
+                  (clear_is _ s (omega (arith, seconds, both, e, f, g))) is_ordered (rw g refl)
+              | inl second ↦
+                  let g : bit_at here s ≡ 1 = zero_or_one (bit_at here s) (bit_at-lt here s) second in
+                  in_seconds (clear_is _ s (omega (arith, firsts, turned, both, e, f, g)))
+                  (set_is _ s (omega (arith, seconds, both, e, f, g))) is_ordered (rw g refl)
+            ]
+      ]
+    ]
+
+-- a place of one of the two sets lies within the block
+pub part_within : (near ordered_set other s n : ℕ) (ordered : Bool) → is_in ordered_set s ≡ (nat_lt s n && ordered)
+    → bit_at (bit_and (bit_and near ordered_set) other) s ≡ 1 → s < n
+part_within near ordered_set other s n ordered chosen set =
+    let both : bit_at (bit_and near ordered_set) s ≡ min (bit_at near s) (bit_at ordered_set s) = bit_at_and near ordered_set s in
+    let part : bit_at (bit_and (bit_and near ordered_set) other) s
+    ≡ min (bit_at (bit_and near ordered_set) s) (bit_at other s) = bit_at_and (bit_and near ordered_set) other s in
+    let e : bit_at ordered_set s ≡ 1 = zero_or_one (bit_at ordered_set s) (bit_at-lt ordered_set s) (omega (arith, both, part, set)) in
+    let f : (nat_lt s n && ordered) ≡ true = sym chosen ∙ set_is ordered_set s e in
+    elim (cases_lt s n) [
+      | inl below ↦ below
+      | inr above ↦
+          let g : nat_lt s n ≡ false = grind (arith, nat_tests) in
+          let h : false ≡ true = rw g at f in
+          cc
+    ]
+
+-- the scale of place t of the first block and of an atom of a species
+abbrev pub scale_with : Work → ℕ → Species → Units
+scale_with w t species = (class_of w.mix (species_at w.a.seconds t) species).scale
+
+-- which of the two sets a place of the second block is in
+abbrev pub RowSplit : Work → ℕ → ℕ → ℕ → ℕ → Type 0
+RowSplit w t firsts seconds s = IsSplit firsts seconds w.b.seconds s (are_in_order w t s) (IsSilent w t s)
+
+by_class : (w : Work) (t s : ℕ) (species : Species) → species_at w.b.seconds s ≡ species
+    → (class_in w t s).scale ≡ scale_with w t species
+by_class w t s species e = ap (scale_with w t) e
+
+first_part : (axis : Push → ℕ) → axis no_push ≡ 0 → (u v : Units) (p q : Place) (x y ordered : Bool) (all : Units)
+    → x ≡ true → y ≡ false → ordered ≡ true → all ≡ u
+    → axis (chosen_push u x p q) + axis (chosen_push v y p q) ≡ axis (chosen_push all ordered p q)
+first_part axis none u v p q x y ordered all e f g h = rw (e, f, g, h, none) (omega arith)
+
+second_part : (axis : Push → ℕ) → axis no_push ≡ 0 → (u v : Units) (p q : Place) (x y ordered : Bool) (all : Units)
+    → x ≡ false → y ≡ true → ordered ≡ true → all ≡ v
+    → axis (chosen_push u x p q) + axis (chosen_push v y p q) ≡ axis (chosen_push all ordered p q)
+second_part axis none u v p q x y ordered all e f g h = rw (e, f, g, h, none) (omega arith)
+
+no_part : (axis : Push → ℕ) → axis no_push ≡ 0 → (u v : Units) (p q : Place) (x y : Bool) (whole : Push)
+    → x ≡ false → y ≡ false → whole ≡ no_push
+    → axis (chosen_push u x p q) + axis (chosen_push v y p q) ≡ axis whole
+no_part axis none u v p q x y whole e f g = rw (e, f, g, none) (omega arith)
+
+split_push : (axis : Push → ℕ) → axis no_push ≡ 0 → (w : Work) (t firsts seconds s : ℕ) → RowSplit w t firsts seconds s
+    → axis (push_in (scale_with w t First) firsts (place_at w.a.places t) w.b.places s)
+    + axis (push_in (scale_with w t Second) seconds (place_at w.a.places t) w.b.places s) ≡ axis (push_of w t s)
+split_push axis none w t firsts seconds s split =
+    elim split [
+      | in_none e f silent ↦ no_part axis none _ _ _ _ _ _ (push_of w t s) e f silent.there
+      | in_firsts e f ordered species ↦
+          first_part axis none _ _ _ _ _ _ (are_in_order w t s) (class_in w t s).scale e f ordered (by_class w t s First species)
+      | in_seconds e f ordered species ↦
+          second_part axis none _ _ _ _ _ _ (are_in_order w t s) (class_in w t s).scale e f ordered (by_class w t s Second species)
+    ]
+
+-- the pushes on place t of the first block of the places of both sets are those of the row
+pub row_sum : (w : Work) (t firsts seconds : ℕ) → ((s : ℕ) → s < length w.b.places → RowSplit w t firsts seconds s)
+    → plus (pushes_in (scale_with w t First) firsts (place_at w.a.places t) w.b.places (length w.b.places))
+    (pushes_in (scale_with w t Second) seconds (place_at w.a.places t) w.b.places (length w.b.places))
+    ≡ on_first w t (length w.b.places)
+row_sum w t firsts seconds split =
+    same_push (plus (pushes_in (scale_with w t First) firsts (place_at w.a.places t) w.b.places (length w.b.places))
+    (pushes_in (scale_with w t Second) seconds (place_at w.a.places t) w.b.places (length w.b.places)))
+    (on_first w t (length w.b.places)) (along (λ p. p.x) refl) (along (λ p. p.y) refl) (along (λ p. p.z) refl)
+  where
+    along : (axis : Push → ℕ) → axis no_push ≡ 0
+        → (ring_sum (length w.b.places) (λ s. axis (push_in (scale_with w t First) firsts (place_at w.a.places t) w.b.places s))
+        + ring_sum (length w.b.places) (λ s. axis (push_in (scale_with w t Second) seconds (place_at w.a.places t) w.b.places s))) % 2 ^ 32
+        ≡ ring_sum (length w.b.places) (λ s. axis (push_of w t s))
+    along axis none =
+        let both = sum_both (length w.b.places) _ _ (λ s. axis (push_of w t s))
+        (λ s h. split_push axis none w t firsts seconds s (split s h)) in
+        omega (arith, both)
+
+-- the sums of the second block have the pushes of one row more
+pub row_added : (w : Work) (t firsts seconds : ℕ) (old mid new : List Push)
+    → ((s : ℕ) → s < length w.b.places → RowSplit w t firsts seconds s) → AreRows w t old
+    → ArePushed (scale_with w t First) firsts (place_at w.a.places t) w.b.places (length w.b.places) old mid
+    → ArePushed (scale_with w t Second) seconds (place_at w.a.places t) w.b.places (length w.b.places) mid new
+    → AreRows w (t + 1) new
+row_added w t firsts seconds old mid new split rows one other s within =
+    let p : Place = place_at w.a.places t in
+    let q : Place = place_at w.b.places s in
+    let before = rows s within in
+    let first = one.passed s within within in
+    let last = other.passed s within within in
+    elim (split s within) [
+      | in_none e f silent ↦ (rw f at last) ∙ (rw e at first) ∙ before ∙ second_silent w s t silent.back
+      | in_firsts e f ordered species ↦
+          (rw f at last) ∙ (rw e at first) ∙ ap (λ sum. plus sum (push (scale_with w t First) q p)) before
+          ∙ second_more w s t (push (scale_with w t First) q p) (by_order w t s First ordered species)
+      | in_seconds e f ordered species ↦
+          (rw f at last) ∙ ap (λ sum. plus sum (push (scale_with w t Second) q p)) ((rw e at first) ∙ before)
+          ∙ second_more w s t (push (scale_with w t Second) q p) (by_order w t s Second ordered species)
+    ]
+  where
+    by_order : (w : Work) (t s : ℕ) (species : Species) → are_in_order w t s ≡ true → species_at w.b.seconds s ≡ species
+        → push (scale_with w t species) (place_at w.b.places s) (place_at w.a.places t) ≡ push_back w t s
+    by_order w t s species ordered e =
+        rw ordered (ap (λ u. push u (place_at w.b.places s) (place_at w.a.places t)) (sym (by_class w t s species e)))
+
+-- the class of an atom of a species and of place s of the second block
+abbrev pub class_with : Work → ℕ → Species → Class
+class_with w s species = class_of w.mix species (species_at w.b.seconds s)
+
+-- which of the two sets a place of the first block is in
+abbrev pub ColumnSplit : Work → ℕ → ℕ → ℕ → ℕ → Type 0
+ColumnSplit w s firsts seconds t = IsSplit firsts seconds w.a.seconds t (are_in_order w t s) (energy_of w s t ≡ pos 0)
+
+by_species : (w : Work) (s t : ℕ) (species : Species) → species_at w.a.seconds t ≡ species
+    → class_in w t s ≡ class_with w s species
+by_species w s t species e = ap (class_with w s) e
+
+first_energy : (k l : Class) (p q : Place) (x y ordered : Bool) (all : Class)
+    → x ≡ true → y ≡ false → ordered ≡ true → all ≡ k
+    → chosen_energy k x p q +ℤ chosen_energy l y p q ≡ chosen_energy all ordered p q
+first_energy k l p q x y ordered all e f g h = rw (e, f, g, h) (+ℤ_idr (energy k p q))
+
+second_energy : (k l : Class) (p q : Place) (x y ordered : Bool) (all : Class)
+    → x ≡ false → y ≡ true → ordered ≡ true → all ≡ l
+    → chosen_energy k x p q +ℤ chosen_energy l y p q ≡ chosen_energy all ordered p q
+second_energy k l p q x y ordered all e f g h = rw (e, f, g, h) (+ℤ_idl (energy l p q))
+
+no_energy : (k l : Class) (p q : Place) (x y : Bool) (whole : ℤ) → x ≡ false → y ≡ false → whole ≡ pos 0
+    → chosen_energy k x p q +ℤ chosen_energy l y p q ≡ whole
+no_energy k l p q x y whole e f g = rw (e, f, g) refl
+
+split_energy : (w : Work) (s firsts seconds t : ℕ) → ColumnSplit w s firsts seconds t
+    → energy_in (class_with w s First) firsts (place_at w.b.places s) w.a.places t
+    +ℤ energy_in (class_with w s Second) seconds (place_at w.b.places s) w.a.places t ≡ energy_of w s t
+split_energy w s firsts seconds t split =
+    elim split [
+      | in_none e f silent ↦ no_energy (class_with w s First) (class_with w s Second) (place_at w.a.places t) (place_at w.b.places s) _ _
+          (energy_of w s t) e f silent
+      | in_firsts e f ordered species ↦
+          first_energy (class_with w s First) (class_with w s Second) (place_at w.a.places t) (place_at w.b.places s) _ _
+          (are_in_order w t s) (class_in w t s) e f ordered (by_species w s t First species)
+      | in_seconds e f ordered species ↦
+          second_energy (class_with w s First) (class_with w s Second) (place_at w.a.places t) (place_at w.b.places s) _ _
+          (are_in_order w t s) (class_in w t s) e f ordered (by_species w s t Second species)
+    ]
+
+int_sum_both : (n : ℕ) (f g h : ℕ → ℤ) → ((k : ℕ) → k < n → f k +ℤ g k ≡ h k)
+    → int_sum_below n f +ℤ int_sum_below n g ≡ int_sum_below n h
+int_sum_both zero f g h same = refl
+int_sum_both (suc n) f g h same =
+    let before = int_sum_both n f g h (λ k l. same k (omega arith)) in
+    let last = same n (omega arith) in
+    exchanged (int_sum_below n f) (f n) (int_sum_below n g) (g n) (int_sum_below n h) (h n) before last
+  where
+    exchanged : (a b c d x y : ℤ) → a +ℤ c ≡ x → b +ℤ d ≡ y → (a +ℤ b) +ℤ (c +ℤ d) ≡ x +ℤ y
+    exchanged a b c d x y p q = omega (arith, ints, p, q)
+
+-- the energies of place s of the second block with the places of both sets are those of the row
+pub column_sum : (w : Work) (s firsts seconds : ℕ)
+    → ((t : ℕ) → t < length w.a.places → ColumnSplit w s firsts seconds t)
+    → energies_in (class_with w s First) firsts (place_at w.b.places s) w.a.places (length w.a.places)
+    +ℤ energies_in (class_with w s Second) seconds (place_at w.b.places s) w.a.places (length w.a.places)
+    ≡ energy_row w s
+column_sum w s firsts seconds split =
+    int_sum_both (length w.a.places) _ _ (energy_of w s) (λ t h. split_energy w s firsts seconds t (split t h))
+
+-- so are they where the row's parts are known by equations
+pub row_total : (w : Work) (t : ℕ) (u v : Units) (firsts seconds : ℕ) (here : Place) (places : List Place) (p q r : Push)
+    → u ≡ scale_with w t First → v ≡ scale_with w t Second → here ≡ place_at w.a.places t → places ≡ w.b.places
+    → p ≡ pushes_in u firsts here places (length places) → q ≡ pushes_in v seconds here places (length places)
+    → r ≡ plus p q → ((s : ℕ) → s < length w.b.places → RowSplit w t firsts seconds s)
+    → r ≡ on_first w t (length w.b.places)
+row_total w t u v firsts seconds here places p q r u_is v_is here_is places_is p_is q_is r_is split =
+    r_is ∙ rw (p_is, q_is, u_is, v_is, here_is, places_is) (row_sum w t firsts seconds split)
+
+pub rows_total : (w : Work) (t : ℕ) (u v : Units) (firsts seconds : ℕ) (here : Place) (places : List Place)
+    (old mid new : List Push)
+    → u ≡ scale_with w t First → v ≡ scale_with w t Second → here ≡ place_at w.a.places t → places ≡ w.b.places
+    → ArePushed u firsts here places (length places) old mid → ArePushed v seconds here places (length places) mid new
+    → AreRows w t old → ((s : ℕ) → s < length w.b.places → RowSplit w t firsts seconds s) → AreRows w (t + 1) new
+rows_total w t u v firsts seconds here places old mid new u_is v_is here_is places_is one other rows split =
+    row_added w t firsts seconds old mid new split rows (rw (u_is, here_is, places_is) at one)
+    (rw (v_is, here_is, places_is) at other)
+
+pub column_total : (w : Work) (s : ℕ) (k l : Class) (firsts seconds : ℕ) (there : Place) (places : List Place) (p q : ℤ)
+    → k ≡ class_with w s First → l ≡ class_with w s Second → there ≡ place_at w.b.places s → places ≡ w.a.places
+    → p ≡ energies_in k firsts there places (length places) → q ≡ energies_in l seconds there places (length places)
+    → ((t : ℕ) → t < length w.a.places → ColumnSplit w s firsts seconds t) → p +ℤ q ≡ energy_row w s
+column_total w s k l firsts seconds there places p q k_is l_is there_is places_is p_is q_is split =
+    rw (p_is, q_is, k_is, l_is, there_is, places_is) (column_sum w s firsts seconds split)
+
+-- the lowest bits of a number
+pub ones_are : (n count k : ℕ) → n ≡ 2 ^ count - 1 → is_in n k ≡ nat_lt k count
+ones_are n count k e =
+    elim (cases_lt k count) [
+      | inl below ↦
+          let f : bit_at n k ≡ 1 = ap (λ m. bit_at m k) e ∙ bit_at_ones count k below in
+          let g : nat_lt k count ≡ true = grind (arith, nat_tests) in
+          rw g (set_is n k f)
+      | inr above ↦
+          let f : bit_at n k ≡ 0 = ap (λ m. bit_at m k) e ∙ bit_at_ones_above count k above in
+          let g : nat_lt k count ≡ false = grind (arith, nat_tests) in
+          rw g (clear_is n k f)
+    ]
+
+-- places up to a count but for the lowest ones, which are all that is in order within one block
+pub later_are : (all low s n m : ℕ) (ordered : Bool) → low < 2 ^ 64 → n ≤ 64 → is_in all s ≡ nat_lt s n
+    → is_in low s ≡ nat_lt s m → ordered ≡ nat_le m s → is_in (bit_and all (bit_not w64 low)) s ≡ (nat_lt s n && ordered)
+later_are all low s n m ordered small few all_is low_is order =
+    let both : bit_at (bit_and all (bit_not w64 low)) s ≡ min (bit_at all s) (bit_at (bit_not w64 low) s) =
+    bit_at_and all (bit_not w64 low) s in
+    elim (cases_lt s n) [
+      | inr above ↦
+          let g : nat_lt s n ≡ false = grind (arith, nat_tests) in
+          let h : bit_at all s ≡ 0 = clear_from all s (all_is ∙ g) in
+          rw g (clear_is _ s (omega (arith, both, h)))
+      | inl below ↦
+          let g : nat_lt s n ≡ true = grind (arith, nat_tests) in
+          let h : bit_at all s ≡ 1 = is_set all s (all_is ∙ g) in
+          let turned : bit_at (bit_not w64 low) s ≡ 1 - bit_at low s = bit_at_not w64 low s small (omega arith) in
+          elim (cases_lt s m) [
+            | inl lower ↦
+                let a : nat_lt s m ≡ true = grind (arith, nat_tests) in
+                let b : nat_le m s ≡ false = grind (arith, nat_tests) in
+                let d : bit_at low s ≡ 1 = is_set low s (low_is ∙ a) in
+                rw (g, order, b) (clear_is _ s (omega (arith, both, h, turned, d)))
+            | inr higher ↦
+                let a : nat_lt s m ≡ false = grind (arith, nat_tests) in
+                let b : nat_le m s ≡ true = grind (arith, nat_tests) in
+                let d : bit_at low s ≡ 0 = clear_from low s (low_is ∙ a) in
+                rw (g, order, b) (set_is _ s (omega (arith, both, h, turned, d)))
+          ]
+    ]
+  where
+    clear_from : (set s : ℕ) → is_in set s ≡ false → bit_at set s ≡ 0
+    clear_from set s e =
+        elim (cases_lt 0 (bit_at set s)) [
+          | inr none ↦ not_some (bit_at set s) none
+          | inl some ↦
+              let f : bit_at set s ≡ 1 = zero_or_one (bit_at set s) (bit_at-lt set s) some in
+              let h : true ≡ false = sym (set_is set s f) ∙ e in
+              cc
+        ]
+
+-- within one block atoms are in order as their places are
+pub within_one : (w : Work) (t s : ℕ) → w.name.bj ≡ w.name.bi → are_in_order w t s ≡ nat_le (t + 1) s
+within_one w t s same =
+    elim (cases_lt t s) [
+      | inl less ↦
+          let e : are_in_order w t s ≡ true = grind (arith, nat_tests) in
+          let f : nat_le (t + 1) s ≡ true = grind (arith, nat_tests) in
+          rw (e, f) refl
+      | inr more ↦
+          let e : are_in_order w t s ≡ false = grind (arith, nat_tests) in
+          let f : nat_le (t + 1) s ≡ false = grind (arith, nat_tests) in
+          rw (e, f) refl
+    ]
