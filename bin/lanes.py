@@ -7,9 +7,13 @@ import threading
 from queue import SimpleQueue
 from typing import Any, Callable, Dict, List, Tuple
 
-Key = Tuple[str, str]
+# The name of a crate, what is done for it, and of an edit its number.
+Key = Tuple[Any, ...]
 # What a task waits for, its work in lines, its memory in bytes, and a call that gets what was given and how many jobs it may use.
 Task = Tuple[List[Key], int, float, Callable[[Dict[Key, Any], int], Any]]
+
+# What fills the processors that proofs and tests leave free.
+FILLS = ("seed", "edits", "sound", "again")
 
 # How far a task stands back behind the first one, as `nice` counts it.
 NICENESS = 10
@@ -35,7 +39,7 @@ class Lanes:
 
     def __init__(self, rt: Any, tasks: Dict[Key, Task]) -> None:
         self.tasks, self.behind = tasks, lines_behind(tasks)
-        self.left = sorted(tasks, key=lambda key: -self.behind[key])
+        self.left = sorted(tasks, key=lambda key: (key[1] in FILLS, -self.behind[key]))
         # The jobs and the memory of each task that runs.
         self.running: Dict[Key, Tuple[int, float]] = {}
         self.given: Dict[Key, Any] = {}
@@ -80,7 +84,7 @@ class Lanes:
 
     def jobs(self, key: Key, is_first: bool) -> int:
         """The first proof has half of the processors, or all that nothing else could use now, and all else one."""
-        if not is_first or key[1] == "edits":
+        if not is_first or key[1] != "proof":
             return 1
         ready = [other for other in self.left if other != key and self.is_ready(other)]
         return max(1, self.processors // 2, self.processors - len(self.running) - len(ready))
