@@ -88,6 +88,17 @@ pub enum ClassFault {
     Weight,
 }
 
+impl From<ScaleFault> for ClassFault {
+    ghost use Rattle.std.specs.Prelude.{◌≡◌};
+    ghost use Rattle.lj_ring.specs.declared.mixes.ClassFault.TheVariants as faults;
+
+    ghost from_gives = { λ fault class_fault. class_fault ≡ faults.Scale fault };
+
+    fn from(fault: ScaleFault) -> ClassFault {
+        ClassFault::Scale(fault)
+    }
+}
+
 impl fmt::Display for ClassFault {
     ghost use Rattle.std.specs.Prelude.{Some};
     ghost use Rattle.lj_ring.specs.FaultTexts.{class_fault_text};
@@ -218,25 +229,20 @@ fn whole_class(scale: &Scale) -> Class
     }
 }
 
-/// The class of that number, of an edge and of a sigma, a step factor and a weight.
+/// The class of that number: of an edge, and of a sigma, a step factor and a weight.
 fn class_at(class: u8, edge: Nano, numbers: (Nano, u64, u64)) -> Result<Class, MixFault>
     ensures { result ≡ mixtures.class_at class (mixtures.class_of_numbers edge numbers) }
 {
-    match class_from(edge, numbers.0, numbers.1, numbers.2) {
-        Ok(made) => Ok(made),
-        Err(fault) => Err(MixFault { class, fault }),
-    }
+    let (sigma, h, parts) = numbers;
+    class_from(edge, sigma, h, parts).map_err(|fault| MixFault { class, fault })
 }
 
+/// The class of a box of this edge, of a sigma in nano, a step factor in units of 2^-32 and a weight in 256ths, or the
+/// first of them that does not fit.
 fn class_from(edge: Nano, sigma: Nano, h: u64, parts: u64) -> Result<Class, ClassFault>
     ensures { result ≡ mixtures.class_of_numbers edge (sigma, h, parts) }
 {
-    let scale = match Scale::new(edge, sigma, h) {
-        Ok(scale) => scale,
-        Err(fault) => return Err(ClassFault::Scale(fault)),
-    };
-    match Weight::new(parts) {
-        Some(weight) => Ok(Class { scale, weight }),
-        None => Err(ClassFault::Weight),
-    }
+    let scale = Scale::new(edge, sigma, h)?;
+    let weight = Weight::new(parts).ok_or(ClassFault::Weight)?;
+    Ok(Class { scale, weight })
 }

@@ -1,6 +1,6 @@
 -- Worked entries of the tables, as theorems by computation.
 use Rattle.std.specs.Prelude.{◌≡◌, pos, negsuc, refl}
-use Rattle.lj_table.specs.Entries.{push_entry, energy_entry}
+use Rattle.lj_table.specs.Entries.{push_entry, energy_entry, weighted}
 
 pub push_at_64 : push_entry 64 ≡ pos 91369185901
 unfolding push_entry
@@ -33,3 +33,12 @@ energy_at_288 = refl
 pub energy_at_799 : energy_entry 799 ≡ negsuc 274262
 unfolding energy_entry
 energy_at_799 = refl
+
+-- the energy of a pair at bin 288 by the least weight and by twice the whole one
+pub energy_at_288_by_weight_1 : weighted 1 (energy_entry 288) ≡ negsuc 20894
+unfolding energy_entry
+energy_at_288_by_weight_1 = refl
+
+pub energy_at_288_by_weight_512 : weighted 512 (energy_entry 288) ≡ negsuc 10698263
+unfolding energy_entry
+energy_at_288_by_weight_512 = refl

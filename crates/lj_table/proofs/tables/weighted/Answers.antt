@@ -25,11 +25,4 @@ returns-clause-value c =
     refl
 
 pub returns-clause-size : goal.returns-clause-size
-returns-clause-size c =
-    rw (
-      entry c,
-      weight c,
-      to_z-of_z w64 _ (weighted_fits c.args.entry c.args.weight c.requires (few c)),
-      to_z-of_z w64 _ (part_fits c.args.entry c.args.weight c.requires (few c)),
-    )
-    (part_size c.args.entry c.args.weight c.requires (few c))
+returns-clause-size c = rw (returns-clause-value c) (part_size c.args.entry c.args.weight c.requires (few c))
