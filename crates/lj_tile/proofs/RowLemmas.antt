@@ -130,6 +130,20 @@ second_silent w s t none =
         let e : k ≡ t = omega arith in
         ap (λ n. axis (push_back w n s)) e ∙ ap axis none ∙ zeros
 
+-- a row of silent places adds nothing
+pub row_silent : (w : Work) (t : ℕ) → ((s : ℕ) → s < length w.b.places → IsSilent w t s)
+    → no_push ≡ on_first w t (length w.b.places)
+row_silent w t silent =
+    let n : ℕ = length w.b.places in
+    let x = sum_far (λ s. (push_of w t s).x) 0 n (omega arith) (λ s h k. ap (λ (p : Push). p.x) (silent s k).there) in
+    let y = sum_far (λ s. (push_of w t s).y) 0 n (omega arith) (λ s h k. ap (λ (p : Push). p.y) (silent s k).there) in
+    let z = sum_far (λ s. (push_of w t s).z) 0 n (omega arith) (λ s h k. ap (λ (p : Push). p.z) (silent s k).there) in
+    rw (sym x, sym y, sym z) refl
+
+pub rows_silent : (w : Work) (t : ℕ) (sums : List Push) → AreRows w t sums
+    → ((s : ℕ) → s < length w.b.places → IsSilent w t s) → AreRows w (t + 1) sums
+rows_silent w t sums rows silent s within = rows s within ∙ second_silent w s t (silent s within).back
+
 -- before the first row each sum is none
 pub rows_start : (w : Work) → length w.b.places ≤ 64 → AreRows w 0 (replicate 64 no_push)
 rows_start w few s within = get_or-replicate 64 s no_push no_push (omega (arith, within, few))

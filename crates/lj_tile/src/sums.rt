@@ -10,7 +10,7 @@ ghost use Rattle.lj_tile.specs.Species.{is_in};
 ghost use Rattle.lj_tile.specs.Tiles.{place_at};
 ghost use Rattle.lj_tile.specs.Near.{HasColumns};
 ghost use Rattle.lj_tile.specs.Tasks.{task_force, task_second, task_energy, are_in_order};
-ghost use Rattle.lj_tile.specs.Rows.{on_first, on_second, pushes_in, energies_in, energy_row, AreRows, ArePushed};
+ghost use Rattle.lj_tile.specs.Rows.{on_first, on_second, pushes_in, energies_in, energy_row, AreRows, ArePushed, IsSilent};
 
 use crate::blocks::BLOCK;
 use crate::near::Columns;
@@ -86,8 +86,7 @@ fn read(_place: Place)
 {}
 
 /// The sum of the pushes on place `t` of the first block of later atoms of the second, to whose sums in `second` the
-/// opposite pushes come. It looks closely only at those places of the second block that may interact with it, first at
-/// those of the first species, then at those of the second.
+/// opposite pushes come. It looks closely only at those places of the second block that may interact with it.
 #[inline]
 fn row(t: usize, task: &Task, columns: &Columns, table: &Table, second: &mut [Push; BLOCK]) -> Push
     requires first { t < length task.now.a.places }
@@ -99,13 +98,31 @@ fn row(t: usize, task: &Task, columns: &Columns, table: &Table, second: &mut [Pu
 {
     let here = task.first().places()[t];
     read(here);
-    let near = columns.near(&here) & later(t, task);
+    let near = columns.near(&here);
+    if near == 0 {
+        return Push::NONE;
+    }
+    near_row(near, t, task, table, second)
+}
+
+/// The same, where only those places of the second block push whose bit in `near` is set: first those of the first
+/// species, then those of the second.
+#[inline]
+fn near_row(near: u64, t: usize, task: &Task, table: &Table, second: &mut [Push; BLOCK]) -> Push
+    requires first { t < length task.now.a.places }
+    requires near { (s : ℕ) → s < length task.now.b.places → bit_at near s ≡ 0 → IsSilent task.now t s }
+    requires before { AreRows task.now t second.old }
+    ensures sum { result ≡ on_first task.now t (length task.now.b.places) }
+    ensures after { AreRows task.now (t + 1) second.new }
+{
+    let near = near & later(t, task);
+    let here = &task.first().places()[t];
     let own = species_at(task.first().seconds(), t);
     let (places, seconds) = (task.second().places(), task.second().seconds());
     let first_class = task.mix().class(own, Species::First);
     let of_firsts = add_row(
         near & !seconds,
-        &here,
+        here,
         places,
         &first_class.scale,
         table,
@@ -114,7 +131,7 @@ fn row(t: usize, task: &Task, columns: &Columns, table: &Table, second: &mut [Pu
     let second_class = task.mix().class(own, Species::Second);
     let of_seconds = add_row(
         near & seconds,
-        &here,
+        here,
         places,
         &second_class.scale,
         table,

@@ -1,96 +1,52 @@
-use Rattle.std.proofs.Common.{◌≡◌, ◌<◌, ◌-◌, ℕ, length, ap, subst, ◌∙◌, arith}
+use Rattle.std.proofs.Common.{◌≡◌, ◌<◌, ℕ, length, List, false, ap, ◌∙◌}
 use Rattle.std.specs.Int.{bit_at}
-use Rattle.lj_ring.specs.declared.mixes.Class.{Class}
-use Rattle.lj_ring.specs.declared.mixes.Species.{Species}
-use Rattle.lj_ring.specs.declared.mixes.Species.TheVariants.{First, Second}
+use Rattle.std.proofs.lemmas.Nat.Bits.{bit_at-zero}
 use Rattle.lj_ring.specs.declared.coordinates.Place.{Place}
-use Rattle.lj_ring.specs.Mixes.{Mixture, class_of, can_interact}
-use Rattle.lj_ring.specs.Ring.{IsOnRing}
+use Rattle.lj_ring.specs.Mixes.{can_interact}
+use Rattle.lj_ring.specs.Ring.{IsOnRing, distance}
 use Rattle.lj_ring.proofs.MixLemmas.{cannot_interact}
-use Rattle.std.proofs.Common.{List, bit_and}
 use Rattle.lj_tile.specs.Blocks.{Sites}
 use Rattle.lj_tile.specs.Species.{species_at}
 use Rattle.lj_tile.specs.Tiles.{place_at}
-use Rattle.lj_tile.specs.Tasks.{are_in_order}
 use Rattle.lj_tile.specs.Rows.{IsSilent}
-use Rattle.lj_tile.proofs.RowLemmas.{far_silent, not_in_order}
-use Rattle.lj_tile.proofs.Splits.{IsSplit, RowSplit, split_of, part_within, row_total, rows_total}
+use Rattle.lj_tile.specs.Tasks.{Work}
+use Rattle.lj_tile.proofs.RowLemmas.{far_silent, row_silent, rows_silent}
 use Rattle.lj_tile.proofs.sums.row.Goals as goal
 
-block_is : (c : goal.After-plus) → c.places-places.result.now ≡ c.args.task.now.b.places
-block_is c = c.places-places.ensures.value ∙ ap (λ (block : Sites). block.places) c.second.ensures.value
+-- a place whose bit is not set does not push
+far_of : (w : Work) (t near : ℕ) (here : Place) → here ≡ place_at w.a.places t → IsOnRing here
+    → ((s : ℕ) → s < length w.b.places → IsOnRing (place_at w.b.places s))
+    → ((s : ℕ) → s < length w.b.places → bit_at near s ≡ 0
+    → can_interact w.mix (distance here (place_at w.b.places s)) ≡ false)
+    → (s : ℕ) → s < length w.b.places → bit_at near s ≡ 0 → IsSilent w t s
+far_of w t near here its on_ring all far s within none =
+    let ring : IsOnRing (place_at w.a.places t) = rw its at on_ring in
+    far_silent w t s ring (all s within)
+    (cannot_interact w.mix (species_at w.a.seconds t) (species_at w.b.seconds s) _ (rw its at (far s within none)))
 
-pub add_row-of_firsts-requires-clause-within : goal.add_row-of_firsts-requires-clause-within
-add_row-of_firsts-requires-clause-within c s set =
-    rw (c.places-places.ensures.value, c.second.ensures.value)
-    (part_within c.near.result c.later.result _ s (length c.args.task.now.b.places) _ (c.later.ensures s) set)
+here_is : (block : List Place) (sites : Sites) (w : Work) (t : ℕ) → block ≡ sites.places → sites ≡ w.a
+    → place_at block t ≡ place_at w.a.places t
+here_is block sites w t of is = ap (λ (places : List Place). place_at places t) (of ∙ ap (λ (a : Sites). a.places) is)
 
-pub add_row-of_seconds-requires-clause-within : goal.add_row-of_seconds-requires-clause-within
-add_row-of_seconds-requires-clause-within c s set =
-    rw (c.places-places.ensures.value, c.second.ensures.value)
-    (part_within c.near.result c.later.result _ s (length c.args.task.now.b.places) _ (c.later.ensures s) set)
-
-own_is : (c : goal.After-plus) → c.species_at-own.result ≡ species_at c.args.task.now.a.seconds c.args.t
-own_is c =
-    c.species_at-own.ensures
-    ∙ ap (λ set. species_at set c.args.t) (c.seconds.ensures ∙ ap (λ (block : Sites). block.seconds) c.first-2.ensures.value)
-
-here_is : (c : goal.After-plus) → place_at c.places.result.now c.args.t ≡ place_at c.args.task.now.a.places c.args.t
-here_is c =
-    ap (λ (places : List Place). place_at places c.args.t)
-    (c.places.ensures.value ∙ ap (λ (block : Sites). block.places) c.first.ensures.value)
-
-seconds_is : (c : goal.After-plus) → c.seconds-seconds.result ≡ c.args.task.now.b.seconds
-seconds_is c = c.seconds-seconds.ensures ∙ ap (λ (block : Sites). block.seconds) c.second-2.ensures.value
-
-firsts : (c : goal.After-plus) → ℕ
-firsts c = bit_and (bit_and c.near.result c.later.result) (18446744073709551615 - c.seconds-seconds.result)
-
-seconds : (c : goal.After-plus) → ℕ
-seconds c = bit_and (bit_and c.near.result c.later.result) c.seconds-seconds.result
-
-split : (c : goal.After-plus) (s : ℕ) → s < length c.args.task.now.b.places
-    → RowSplit c.args.task.now c.args.t (firsts c) (seconds c) s
-unfolding firsts seconds
-split c s within =
+pub near_row-requires-clause-near : goal.near_row-requires-clause-near
+near_row-requires-clause-near c =
     let w = c.args.task.now in
-    let on_ring : IsOnRing (place_at w.a.places c.args.t) = rw (here_is c) at c.read.ensures in
-    let far : bit_at c.near.result s ≡ 0 → IsSilent w c.args.t s =
-    λ none. far_silent w c.args.t s on_ring (c.requires.on_ring s within)
-    (cannot_interact w.mix (species_at w.a.seconds c.args.t) (species_at w.b.seconds s) _
-    (rw (here_is c) at (c.near.ensures (can_interact w.mix) w.b.places c.requires.columns s within none))) in
-    subst
-    (λ (here : ℕ). IsSplit (bit_and (bit_and c.near.result c.later.result) (18446744073709551615 - c.seconds-seconds.result))
-    (bit_and (bit_and c.near.result c.later.result) c.seconds-seconds.result) here s (are_in_order w c.args.t s)
-    (IsSilent w c.args.t s))
-    (seconds_is c)
-    (split_of c.near.result c.later.result c.seconds-seconds.result s (length w.b.places) (are_in_order w c.args.t s)
-    (IsSilent w c.args.t s) (omega arith) (omega (arith, within, c.second.ensures.sound.most_second)) within
-    (c.later.ensures s) far (not_in_order w c.args.t s))
+    far_of w c.args.t c.near-near.result (place_at c.places.result.now c.args.t)
+    (here_is c.places.result.now c.first.result.now w c.args.t c.places.ensures.value c.first.ensures.value) c.read.ensures
+    c.requires.on_ring (c.near-near.ensures (can_interact w.mix) w.b.places c.requires.columns)
 
-scale_is : (mix : Mixture) (class : Class) (own : Species) (of : Species) (other : Mixture) (there : Species)
-    → class ≡ class_of mix own of → mix ≡ other → own ≡ there → class.scale ≡ (class_of other there of).scale
-scale_is mix class own of other there e f g =
-    ap (λ (k : Class). k.scale) (e ∙ ap (λ m. class_of m own of) f ∙ ap (λ sp. class_of other sp of) g)
-
-pub returns-clause-sum : goal.returns-clause-sum
-unfolding firsts seconds
-returns-clause-sum c =
+-- where nothing is near, no place pushes
+none_pushes : (c : goal.Then-near-eq0) (s : ℕ) → s < length c.args.task.now.b.places → IsSilent c.args.task.now c.args.t s
+none_pushes c s within =
     let w = c.args.task.now in
-    row_total w c.args.t c.class-first_class.result.now.scale c.class-second_class.result.now.scale (firsts c) (seconds c)
-    (place_at c.places.result.now c.args.t) c.places-places.result.now c.add_row-of_firsts.result c.add_row-of_seconds.result
-    c.plus.result
-    (scale_is c.mix.result.now _ c.species_at-own.result First w.mix _ c.class-first_class.ensures.value c.mix.ensures (own_is c))
-    (scale_is c.mix-2.result.now _ c.species_at-own.result Second w.mix _ c.class-second_class.ensures.value c.mix-2.ensures (own_is c))
-    (here_is c) (block_is c) c.add_row-of_firsts.ensures.sum c.add_row-of_seconds.ensures.sum c.plus.ensures (split c)
+    far_of w c.args.t c.near-near.result (place_at c.places.result.now c.args.t)
+    (here_is c.places.result.now c.first.result.now w c.args.t c.places.ensures.value c.first.ensures.value) c.read.ensures
+    c.requires.on_ring (c.near-near.ensures (can_interact w.mix) w.b.places c.requires.columns) s within
+    (ap (λ n. bit_at n s) c.if-near-eq0.true ∙ bit_at-zero s)
 
-pub returns-clause-after : goal.returns-clause-after
-unfolding firsts seconds
-returns-clause-after c =
-    let w = c.args.task.now in
-    rows_total w c.args.t c.class-first_class.result.now.scale c.class-second_class.result.now.scale (firsts c) (seconds c)
-    (place_at c.places.result.now c.args.t) c.places-places.result.now _ c.add_row-of_firsts.new.second
-    c.add_row-of_seconds.new.second
-    (scale_is c.mix.result.now _ c.species_at-own.result First w.mix _ c.class-first_class.ensures.value c.mix.ensures (own_is c))
-    (scale_is c.mix-2.result.now _ c.species_at-own.result Second w.mix _ c.class-second_class.ensures.value c.mix-2.ensures (own_is c))
-    (here_is c) (block_is c) c.add_row-of_firsts.ensures.after c.add_row-of_seconds.ensures.after c.requires.before (split c)
+pub returns-then-near-eq0-clause-sum : goal.returns-then-near-eq0-clause-sum
+returns-then-near-eq0-clause-sum c = row_silent c.args.task.now c.args.t (none_pushes c)
+
+pub returns-then-near-eq0-clause-after : goal.returns-then-near-eq0-clause-after
+returns-then-near-eq0-clause-after c =
+    rows_silent c.args.task.now c.args.t c.args.second.now c.requires.before (none_pushes c)
