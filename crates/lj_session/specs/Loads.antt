@@ -1,5 +1,5 @@
 -- LOAD: what it is refused, and the session that it gives.
-use Rattle.std.specs.Prelude.{ℕ, ◌+◌, Bool, true, false, not, nat_le, nat_lt, is_some, ℤ, pos, List, [], ◌∷◌, length, map, replicate}
+use Rattle.std.specs.Prelude.{ℕ, ◌+◌, Bool, true, false, not, nat_le, nat_lt, is_some, ℤ, pos, List, [], ◌∷◌, map}
 use Rattle.std.specs.Prelude.{Option, None, Result, Ok, Err}
 use Rattle.std.specs.Option.{unwrap_or}
 use Rattle.lj_ring.specs.declared.coordinates.Place.{Place}
@@ -10,7 +10,6 @@ use Rattle.lj_ring.specs.Mixes.{pure}
 use Rattle.lj_ring.specs.Scales.{Units, scale_of}
 use Rattle.lj_tile.specs.Species.{Composition}
 use Rattle.lj_step.specs.Motion.{opening}
-use Rattle.lj_step.specs.OpenSteps.{blocks}
 use Rattle.lj_xyz.specs.declared.fault.XyzFault.{XyzFault}
 use Rattle.lj_xyz.specs.declared.row.Row.{Row}
 use Rattle.lj_xyz.specs.Atoms.{◌>>=◌}
@@ -74,15 +73,15 @@ place_in edge row = record { x = place_of edge row.x; y = place_of edge row.y; z
 abbrev pub places_in : ℕ → List Row → List Place
 places_in edge rows = map (place_in edge) rows
 
--- so many atoms that are all alike
-abbrev pub alike : Units → ℕ → Composition
-alike units count = record { mix = pure units; seconds = replicate (blocks count) 0 }
+-- atoms that are all alike
+abbrev pub alike : Units → Composition
+alike units = record { mix = pure units; seconds = 0 }
 
 -- the session that opens with two frames, under the symbols of the first
 abbrev pub session_from : Units → List Row → List Row → Session
 session_from units first second = record {
   symbols = map (λ row. row.symbol) first;
-  composition = alike units (length first);
+  composition = alike units;
   sim = opening (places_in units.edge first) (places_in units.edge second);
   saved = [];
 }

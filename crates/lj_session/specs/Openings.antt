@@ -1,5 +1,5 @@
 -- The frames that a LOAD opens a session with, and the session as it is held then.
-use Rattle.std.specs.Prelude.{List, [], ◌∷◌, length, map, Option, Some, None}
+use Rattle.std.specs.Prelude.{List, [], ◌∷◌, map, Option, Some, None}
 use Rattle.lj_xyz.specs.declared.row.Row.{Row}
 use Rattle.lj_ring.specs.Scales.{Units}
 use Rattle.lj_step.specs.Motion.{opening}
@@ -21,7 +21,7 @@ abbrev pub held_from : Units → List Row → List Row → Held
 held_from units first last = record {
   symbols = map (λ row. row.symbol) first;
   live = record {
-    composition = alike units (length first);
+    composition = alike units;
     sim = opening (places_in units.edge first) (places_in units.edge last);
     part = None;
   };

@@ -12,7 +12,7 @@ use crate::command::Mode;
 use crate::session::Session;
 use lj_branch::Branches;
 use lj_ring::{Edge, Mix, Place, Scale, place_of};
-use lj_step::{Frame, Frames, Sim, blocks};
+use lj_step::{Frame, Frames, Sim};
 use lj_xyz::{Row, Rows, Symbol, XyzError, read_pair, read_rest};
 use std::alloc::{AllocError, Global};
 
@@ -65,8 +65,7 @@ impl Opening {
             prev: Frame::new(prev),
             cur: Frame::new(cur),
         };
-        let seconds = vec![in alloc; 0; blocks(self.count())]?;
-        let sim = Sim::new(alloc, frames, seconds, Mix::one(scale))?;
+        let sim = Sim::new(alloc, frames, Vec::new(alloc), Mix::one(scale))?;
         let symbols = symbols_of(alloc, self.first)?;
         Ok(Session::new(symbols, sim, Branches::new(alloc)))
     }

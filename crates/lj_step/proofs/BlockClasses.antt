@@ -1,37 +1,33 @@
 -- The classes of the places of blocks are those of their atoms.
-use Rattle.std.proofs.Common.{ℕ, ◌+◌, ◌*◌, ◌/◌, ◌%◌, ◌<◌, ◌≡◌, List, slice_index_or, sym, ap, ◌∙◌, arith}
+use Rattle.std.proofs.Common.{ℕ, ◌+◌, ◌*◌, ◌<◌, ◌≡◌, ◌==◌, List, sym, ap, ◌∙◌}
 use Rattle.lj_ring.specs.declared.coordinates.Place.{Place}
 use Rattle.lj_ring.specs.declared.mixes.Species.{Species}
 use Rattle.lj_ring.specs.Mixes.{Mixture, class_of}
 use Rattle.lj_ring.proofs.MixLemmas.{class_symmetric}
 use Rattle.lj_tile.specs.Blocks.{Sites}
-use Rattle.lj_tile.specs.Species.{Composition, species_at, species_of, class_between}
+use Rattle.lj_tile.specs.Species.{Composition, species_if, species_at, class_between}
 use Rattle.lj_tile.specs.Tasks.{Work, class_in}
 use Rattle.lj_step.specs.OpenSteps.{sites_of}
+use Rattle.lj_step.specs.Sets.{seconds_in}
+use Rattle.lj_step.proofs.SetLemmas.{bit_in_block}
 
 -- the species of the atom at a place of a block
-species_in : (seconds : List ℕ) (b t : ℕ) → t < 64
-    → species_of seconds (64 * b + t) ≡ species_at (slice_index_or seconds b 0) t
-species_in seconds b t few =
-    let block : (64 * b + t) / 64 ≡ b = omega arith in
-    let place : (64 * b + t) % 64 ≡ t = omega arith in
-    ap (λ n. species_at (slice_index_or seconds n 0) ((64 * b + t) % 64)) block
-    ∙ ap (species_at (slice_index_or seconds b 0)) place
+species_in : (seconds b t : ℕ) → t < 64 → species_at seconds (64 * b + t) ≡ species_at (seconds_in seconds b) t
+species_in seconds b t few = ap (λ bit. species_if (bit == 1)) (sym (bit_in_block seconds b t few))
 
 -- the class of two places of a task is that of their atoms
 pub class_is : (u : Composition) (frame : List Place) (work : Work) (t s : ℕ) → work.mix ≡ u.mix
     → work.a ≡ sites_of u frame work.name.bi → work.b ≡ sites_of u frame work.name.bj → t < 64 → s < 64
     → class_in work t s ≡ class_between u (64 * work.name.bi + t) (64 * work.name.bj + s)
 class_is u frame work t s mix a b few also =
-    let first : ℕ = slice_index_or u.seconds work.name.bi 0 in
-    let second : ℕ = slice_index_or u.seconds work.name.bj 0 in
+    let first : ℕ = seconds_in u.seconds work.name.bi in
     ap (λ (m : Mixture). class_of m (species_at work.a.seconds t) (species_at work.b.seconds s)) mix
     ∙ ap (λ (block : Sites). class_of u.mix (species_at block.seconds t) (species_at work.b.seconds s)) a
     ∙ ap (λ (block : Sites). class_of u.mix (species_at first t) (species_at block.seconds s)) b
-    ∙ sym (ap (λ (sp : Species). class_of u.mix sp (species_of u.seconds (64 * work.name.bj + s)))
+    ∙ sym (ap (λ (sp : Species). class_of u.mix sp (species_at u.seconds (64 * work.name.bj + s)))
     (species_in u.seconds work.name.bi t few)
     ∙ ap (class_of u.mix (species_at first t)) (species_in u.seconds work.name.bj s also))
 
 -- and in either order
 pub class_turned : (u : Composition) (i j : ℕ) → class_between u i j ≡ class_between u j i
-class_turned u i j = class_symmetric u.mix (species_of u.seconds i) (species_of u.seconds j)
+class_turned u i j = class_symmetric u.mix (species_at u.seconds i) (species_at u.seconds j)

@@ -6,7 +6,7 @@ use Rattle.std.proofs.lemmas.Bool.Decides.{nat_tests}
 use Rattle.lj_ring.specs.declared.coordinates.Place.{Place}
 use Rattle.lj_ring.specs.Ring.{sum_below, ring_sum}
 use Rattle.lj_ring.specs.declared.mixes.Class.{Class}
-use Rattle.lj_tile.specs.Species.{Composition, class_between, species_of}
+use Rattle.lj_tile.specs.Species.{Composition, class_between, species_at}
 use Rattle.lj_tile.specs.declared.pairs.Push.{Push}
 use Rattle.lj_tile.specs.Pushes.{no_push, push}
 use Rattle.lj_step.specs.Motion.{Simulation, place_at, push_of, force, next_coordinate, next_place, stepped, steps}
@@ -38,7 +38,7 @@ pair_opposite u frame i j scale hi hj =
           rw (e, f)
           (subst (λ (class : Class). AddToNone (push class.scale p q) (push (class_between u j i).scale q p))
           (class_turned u j i)
-          (pushes_opposite (class_between u j i).scale q p (scale (species_of u.seconds j) (species_of u.seconds i)) hj hi))
+          (pushes_opposite (class_between u j i).scale q p (scale (species_at u.seconds j) (species_at u.seconds i)) hj hi))
     ]
 
 itself_none : (u : Composition) (frame : List Place) (i : ℕ) → push_of u frame i i ≡ no_push

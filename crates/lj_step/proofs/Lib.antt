@@ -8,6 +8,7 @@ pub mod BlockSums
 pub mod Flags
 pub mod OpenedFlags
 pub mod BlockPlaces
+pub mod SetLemmas
 pub mod BlockClasses
 pub mod Reach
 pub mod PartialForces

@@ -10,7 +10,7 @@ use Rattle.std.proofs.lemmas.Bool.Decides.{nat_tests}
 use Rattle.lj_ring.specs.declared.coordinates.Place.{Place}
 use Rattle.lj_ring.specs.declared.arcs.Arcs.{Arcs}
 use Rattle.lj_ring.specs.Ring.{IsOnRing, distance}
-use Rattle.lj_tile.specs.Species.{Composition, class_between, species_of}
+use Rattle.lj_tile.specs.Species.{Composition, class_between, species_at}
 use Rattle.lj_ring.specs.Scales.{Units, bin, interacts}
 use Rattle.lj_ring.specs.Mixes.{can_interact}
 use Rattle.lj_ring.specs.declared.mixes.Class.{Class}
@@ -132,7 +132,7 @@ near_in_order : (u : Composition) (frame : List Place) → AreOnRing frame → l
     → is_out_of_reach u frame (tile_number (i / 64) (j / 64)) ≡ false
 near_in_order u frame ring few i j hi hj before near =
     let met =
-    can_interact_from u.mix (species_of u.seconds i) (species_of u.seconds j)
+    can_interact_from u.mix (species_at u.seconds i) (species_at u.seconds j)
     (squared_gap (block_arcs frame (i / 64)) (block_arcs frame (j / 64)))
     (nearer (class_between u i j).scale (squared_gap (block_arcs frame (i / 64)) (block_arcs frame (j / 64)))
     (distance (place_at frame i) (place_at frame j)) (gap_least frame ring i j hi hj) near) in

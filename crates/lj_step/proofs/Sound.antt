@@ -5,7 +5,6 @@ use Rattle.std.proofs.lemmas.List.{length-set}
 use Rattle.lj_tile.specs.declared.names.Label.{Label}
 use Rattle.lj_tile.specs.declared.names.Kind.{Kind}
 use Rattle.lj_tile.specs.declared.names.Kind.TheVariants.{Energy}
-use Rattle.lj_tile.specs.Species.{Composition}
 use Rattle.lj_tile.specs.Tasks.{Work, task_energy}
 use Rattle.lj_step.specs.declared.partial.Partial.{Partial}
 use Rattle.lj_step.specs.declared.frames.TheConstants.{MAX_ATOMS}
@@ -30,7 +29,6 @@ with_partial a p sound room partial = record {
   cur_on_ring = sound.cur_on_ring;
   step_bound = sound.step_bound;
   last_bound = sound.last_bound;
-  seconds = sound.seconds;
   room = room;
   partial = partial;
 }
@@ -50,7 +48,6 @@ with_frames a b sound prev count cur step last partial atoms =
       cur_on_ring = cur;
       step_bound = step;
       last_bound = last;
-      seconds = ap (λ (u : Composition). length u.seconds) atoms ∙ sound.seconds ∙ sym (ap blocks count);
       room = subst (HasRoom (length b.cur.items)) (sym partial)
           (record { pushes = room.pushes; awaited = room.awaited; tiles = room.tiles; arcs = room.arcs });
       partial = subst (λ p. IsPartial b.atoms b.cur.items p p.kind) (sym partial) tt;

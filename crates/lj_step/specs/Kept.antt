@@ -12,7 +12,7 @@ use Rattle.lj_step.specs.declared.simulations.Direction.TheVariants.{Forward, Ba
 use Rattle.lj_step.specs.declared.simulations.Sim.TheInside.{Inside}
 use Rattle.lj_step.specs.Laws.{AreOnRing}
 use Rattle.lj_step.specs.Live.{Live, OpenStep}
-use Rattle.lj_step.specs.OpenSteps.{block, blocks}
+use Rattle.lj_step.specs.OpenSteps.{block}
 use Rattle.lj_step.specs.Sums.{HasRoom, IsPartial}
 
 -- the arcs of a block of a frame
@@ -40,8 +40,8 @@ live_of a = record {
   part = open_step_of a.partial.kind a.partial.awaited.items;
 }
 
--- both frames have one count of atoms and lie on the ring, each block has the bits of its species, this and the last step
--- number are at most MAX_STEP in size, and the sums of the open step are those of the tiles that are in
+-- both frames have one count of atoms and lie on the ring, this and the last step number are at most MAX_STEP in size,
+-- and the sums of the open step are those of the tiles that are in
 pub record IsSound (a : Inside) : Type 0 where
   pub same : length a.prev.items ≡ length a.cur.items
   pub some : 1 ≤ length a.cur.items
@@ -50,6 +50,5 @@ pub record IsSound (a : Inside) : Type 0 where
   pub cur_on_ring : AreOnRing a.cur.items
   pub step_bound : unsigned_abs a.step ≤ MAX_STEP
   pub last_bound : unsigned_abs (a.step -ℤ sign_of a.dir) ≤ MAX_STEP
-  pub seconds : length a.atoms.seconds ≡ blocks (length a.cur.items)
   pub room : HasRoom (length a.cur.items) a.partial
   pub partial : IsPartial a.atoms a.cur.items a.partial a.partial.kind

@@ -1,5 +1,6 @@
 pub mod Motion
 pub mod Live
+pub mod Sets
 pub mod OpenSteps
 pub mod TileTasks
 pub mod Sums

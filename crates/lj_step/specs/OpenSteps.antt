@@ -15,6 +15,7 @@ use Rattle.lj_tile.specs.Blocks.{Sites}
 use Rattle.lj_tile.specs.Tasks.{Work}
 use Rattle.lj_step.specs.Motion.{Simulation}
 use Rattle.lj_step.specs.Live.{Live, OpenStep}
+use Rattle.lj_step.specs.Sets.{seconds_in}
 
 -- how many blocks of 64 a count of atoms has, the last one perhaps not full
 abbrev pub blocks : ℕ → ℕ
@@ -36,7 +37,7 @@ block frame b = slice_range frame (64 * b) (min (64 * b + 64) (length frame))
 
 -- a block of a frame: its places, and which of them are of atoms of the second species
 abbrev pub sites_of : Composition → List Place → ℕ → Sites
-sites_of u frame b = record { places = block frame b; seconds = slice_index_or u.seconds b 0 }
+sites_of u frame b = record { places = block frame b; seconds = seconds_in u.seconds b }
 
 -- a number is that of two blocks in order, the last of them one of so many atoms
 abbrev pub is_in_order : ℕ → ℕ → Bool

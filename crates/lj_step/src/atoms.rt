@@ -1,5 +1,6 @@
 //! What the atoms of a simulation are: their mixture, and which of them are of the second species.
-ghost use Rattle.std.specs.Prelude.{◌≡◌, ◌<◌, length, slice_index_or};
+ghost use Rattle.std.specs.Prelude.{◌≡◌};
+ghost use Rattle.lj_step.specs.Sets.{joined, seconds_in};
 
 use lj_ring::Mix;
 use std::marker::Model;
@@ -13,15 +14,16 @@ pub(crate) struct Atoms {
 
 impl Model for Atoms {
     ghost use Rattle.lj_tile.specs.Species.{Composition};
+    ghost use Rattle.lj_step.specs.Sets.{joined};
 
     ghost Value = { Composition };
 
-    ghost view = { λ a. record { mix = a.mix; seconds = a.seconds.items } };
+    ghost view = { λ a. record { mix = a.mix; seconds = joined a.seconds.items } };
 }
 
 impl Atoms {
     pub fn new(mix: Mix, seconds: Vec<u64>) -> Atoms
-        ensures { result ≡ record { mix = mix; seconds = seconds.items } }
+        ensures { result ≡ record { mix = mix; seconds = joined seconds.items } }
     {
         Atoms { mix, seconds }
     }
@@ -34,9 +36,8 @@ impl Atoms {
 
     /// Which atoms of a block are of the second species, bit by bit.
     pub fn seconds(&self, block: usize) -> u64
-        requires { block < length self.now.seconds }
-        ensures { result ≡ slice_index_or self.now.seconds block 0 }
+        ensures { result ≡ seconds_in self.now.seconds block }
     {
-        self.seconds[block]
+        self.seconds.get(block).copied().unwrap_or(0)
     }
 }

@@ -9,8 +9,8 @@ use crate::atoms::Atoms;
 use lj_ring::{Arcs, Place};
 use lj_tile::BLOCK;
 
-/// How many blocks so many atoms have, at most [`MAX_ATOMS`](crate::MAX_ATOMS).
-pub fn blocks(count: usize) -> usize
+/// How many blocks so many atoms have.
+pub(crate) fn blocks(count: usize) -> usize
     requires { count ≤ MAX_ATOMS }
     ensures value { result ≡ steps.blocks count }
     ensures most { result ≤ 64 }

@@ -11,7 +11,6 @@ pub mod round_trip;
 mod simulations;
 mod snapshots;
 
-pub use cover::blocks;
 pub use frames::{Frame, Frames, MAX_ATOMS};
 pub use simulations::{Displacement, MAX_STEP, NotAwaited, Sim, Stray};
 pub use snapshots::Snapshot;

@@ -10,6 +10,7 @@ ghost use Rattle.lj_step.specs.declared.frames.TheConstants.{MAX_ATOMS};
 ghost use Rattle.lj_step.specs.declared.simulations.TheConstants.{MAX_STEP};
 ghost use Rattle.lj_step.specs.Motion as motion;
 ghost use Rattle.lj_step.specs.OpenSteps as steps;
+ghost use Rattle.lj_step.specs.Sets.{joined};
 ghost use Rattle.lj_step.specs.Laws.{IsMixture, IsWhole};
 ghost use Rattle.lj_step.specs.TileTasks.{HasTileValue, IsCovered};
 
@@ -77,8 +78,9 @@ pub struct Stray {
     pub done: Done,
 }
 
-/// A simulation: two frames one step apart, its step number and direction, what its atoms are, and the step that is open. A step
-/// is opened, its tasks are computed by anyone in any order, the results accepted, and when it is whole it is turned.
+/// A simulation: two frames one step apart, its step number and direction, what its atoms are, and the step that is
+/// open. A step is opened, its tasks are computed by anyone in any order, the results accepted, and when it is whole it
+/// is turned.
 #[derive(Drop)]
 pub struct Sim {
     atoms: Atoms,
@@ -106,7 +108,7 @@ impl Sim {
     /// memory.
     ///
     /// For each block of 64 atoms bit `t` of `seconds` tells whether its atom `t` is of the second species of the
-    /// mixture.
+    /// mixture; those of blocks past the last of `seconds` are of the first.
     pub fn new(
         alloc: Global,
         frames: Frames,
@@ -116,9 +118,8 @@ impl Sim {
         requires same { length frames.prev ≡ length frames.cur }
         requires some { 1 ≤ length frames.cur }
         requires most { length frames.cur ≤ MAX_ATOMS }
-        requires seconds { length seconds.items ≡ steps.blocks (length frames.cur) }
         ensures { IfOk result (λ s. s ≡ record {
-          composition = record { mix = mix; seconds = seconds.items };
+          composition = record { mix = mix; seconds = joined seconds.items };
           sim = motion.opening frames.prev frames.cur;
           part = None;
         }) }

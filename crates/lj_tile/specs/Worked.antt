@@ -18,7 +18,7 @@ dimer_units = record { edge = 256000000000; sigma = 16777216; strength = 131072 
 
 -- atoms that are all alike
 abbrev pub dimer : Composition
-dimer = record { mix = pure dimer_units; seconds = 0 ∷ [] }
+dimer = record { mix = pure dimer_units; seconds = 0 }
 
 -- a place on the x axis
 abbrev pub on_x : ℕ → Place
