@@ -3,6 +3,7 @@ pub mod Holding
 pub mod Others
 pub mod Reaching
 pub mod Performing
+pub mod PlacesWhere
 pub mod Loading
 pub mod Turning
 pub mod Tiles

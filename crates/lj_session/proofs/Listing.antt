@@ -9,7 +9,10 @@ use Rattle.lj_session.specs.declared.refusal.Refusal.{Refusal}
 use Rattle.lj_session.specs.declared.refusal.Refusal.TheVariants.{NoSession, BranchExists, QuotaBranches, StepRange, Memory}
 use Rattle.lj_session.specs.declared.reply.Reply.{Reply}
 use Rattle.lj_session.specs.declared.reply.Reply.TheVariants as reply
-use Rattle.lj_session.specs.Users.{Session, User, branches_used}
+use Rattle.lj_session.specs.declared.substance.Substance.{Substance}
+use Rattle.lj_session.specs.declared.substance.Substance.TheVariants.{Pure, Mixed}
+use Rattle.lj_session.specs.Substances.{loaded}
+use Rattle.lj_session.specs.Users.{Session, User, atoms_of, branches_used}
 use Rattle.lj_session.specs.Loads.{admitted, body_held, session_read, unless}
 use Rattle.lj_session.specs.Answers.{or_refusal, session_of, saved_in, has_atom, can_advance, performed, answer, settled}
 use Rattle.lj_session.specs.Laws.{session_listed}
@@ -34,10 +37,15 @@ found : (user : User) (name : List ℕ) (made : Reply) → session_listed made �
 found user name made lists None e = tt
 found user name made lists (Some session) e = rw (lists, e) refl
 
+-- what is loaded is not listed
+loaded-lists : (substance : Substance) (name : List ℕ) (atoms : ℕ) → session_listed (loaded substance name atoms) ≡ None
+loaded-lists (Pure sigma step_factor) name atoms = refl
+loaded-lists (Mixed symbols first unlike second) name atoms = refl
+
 pub listed : (user : User) (command : Command) (mark : Bool) → IsThere (answer user command mark)
 unfolding performed
-listed user (Load load) mark = after user (admitted user load) _ (λ units. after user (body_held load.body mark) _ (λ body.
-    after user (session_read user units load.mode body) _ (λ session. tt)))
+listed user (Load load) mark = after user (admitted user load) _ (λ mix. after user (body_held load.body mark) _ (λ body.
+    after user (session_read user mix load body) _ (λ session. rw (loaded-lists load.substance load.name (atoms_of session)) tt)))
 listed user (Advance name n) mark = after user (session_of user name) _ (λ session. after user (unless (can_advance session n) StepRange) _ (λ near. tt))
 listed user (Reverse name) mark = after user (session_of user name) _ (λ session. tt)
 listed user (Branch name branch) mark = after user (session_of user name) _ (λ session.

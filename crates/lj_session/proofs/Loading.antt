@@ -1,29 +1,29 @@
--- LOAD, case by case.
+-- LOAD and LOADMIX, case by case.
 use Rattle.std.proofs.Common.{◌≡◌, ℕ, ◌+◌, Bool, true, false, List, length, Option, Some, None, Result, Ok, Err, nat_le}
 use Rattle.std.proofs.Common.{nat_lt, refl, sym, ap, ◌∙◌}
 use Rattle.std.specs.Prelude.{is_some}
 use Rattle.std.specs.Option.{option_map}
 use Rattle.std.proofs.lemmas.Bool.{true≢false}
 use Rattle.std.proofs.lemmas.List.{length-map}
-use Rattle.lj_ring.specs.declared.scales.ScaleFault.{ScaleFault}
-use Rattle.lj_ring.specs.Scales.{Units}
+use Rattle.lj_ring.specs.Mixes.{Mixture, edge_of}
 use Rattle.lj_xyz.specs.declared.fault.XyzFault.{XyzFault}
 use Rattle.lj_xyz.specs.declared.fault.XyzError.{XyzError}
 use Rattle.lj_xyz.specs.declared.fault.XyzError.TheVariants as errors
 use Rattle.lj_xyz.specs.declared.row.Row.{Row}
 use Rattle.lj_xyz.specs.Lines.{lines_of}
 use Rattle.lj_xyz.specs.Reading.{reading, Fails}
+use Rattle.lj_xyz.specs.Symbols.{SymbolPair}
 use Rattle.lj_session.specs.declared.body.LoadBody.{LoadBody}
 use Rattle.lj_session.specs.declared.body.LoadBody.TheVariants.{Unread, Lost, Read}
 use Rattle.lj_session.specs.declared.command.Load.{Load}
 use Rattle.lj_session.specs.declared.command.Command.TheVariants as commands
 use Rattle.lj_session.specs.declared.refusal.Refusal.{Refusal}
 use Rattle.lj_session.specs.declared.refusal.Refusal.TheVariants.{Exists, QuotaSessions, QuotaAtoms, Xyz, Memory}
-use Rattle.lj_session.specs.declared.reply.Reply.TheVariants as reply
 use Rattle.lj_branch.specs.Named.{named}
 use Rattle.lj_session.specs.Users.{Session, User, with_session, atoms_of, atoms_used, sessions_used}
-use Rattle.lj_session.specs.Loads.{admitted, body_held, scale_of_load, scale_refusal, reading_mode, place_in}
+use Rattle.lj_session.specs.Loads.{admitted, body_held, reading_mode, place_in}
 use Rattle.lj_session.specs.Loads.{session_from, session_of_frames}
+use Rattle.lj_session.specs.Substances.{loaded, mixture_said, nano_or_zero, symbols_of}
 use Rattle.lj_session.specs.Answers.{performed}
 use Rattle.lj_session.specs.Openings.{frames_of, last_of, held_from}
 use Rattle.lj_session.specs.Faults.{xyz_refusal}
@@ -34,12 +34,12 @@ use Rattle.lj_session.proofs.Others.{others-put}
 use Rattle.lj_session.proofs.Performing.{done, refused, starved}
 
 -- the session of the frames that were read
-pub session-frames : (units : Units) (first : List Row) (second : Option (List Row))
-    → session_of_frames units (frames_of first second) ≡ session_from units first (last_of first second)
-session-frames units first None = refl
-session-frames units first (Some second) = refl
+pub session-frames : (mix : Mixture) (symbols : Option SymbolPair) (first : List Row) (second : Option (List Row))
+    → session_of_frames mix symbols (frames_of first second) ≡ session_from mix symbols first (last_of first second)
+session-frames mix symbols first None = refl
+session-frames mix symbols first (Some second) = refl
 
--- a LOAD that memory is refused to has no body
+-- a load that memory is refused to has no body
 body-refused : (body : LoadBody) → body_held body true ≡ Err Memory
 body-refused Unread = refl
 body-refused Lost = refl
@@ -54,22 +54,18 @@ module _ (user : User) (load : Load) where
     admitted-over over = rw (new, over) refl
 
     module _ (room : nat_lt (sessions_used user) user.quota.sessions ≡ true) where
-      pub admitted-fault : (fault : ScaleFault) → scale_of_load load ≡ Err fault
-          → admitted user load ≡ Err (scale_refusal fault)
-      admitted-fault fault e = rw (new, room, e) refl
-
-      pub admitted-scale : (units : Units) → scale_of_load load ≡ Ok units → admitted user load ≡ Ok units
-      admitted-scale units e = rw (new, room, e) refl
+      pub admitted-mix : admitted user load ≡ mixture_said (nano_or_zero load.edge) load.substance
+      admitted-mix = rw (new, room) refl
 
   pub load-refused : (mark : Bool) (refusal : Refusal) → admitted user load ≡ Err refusal
       → performed user (commands.Load load) mark ≡ Err refusal
   unfolding performed
   load-refused mark refusal e = rw e refl
 
-  -- what a LOAD that is admitted may rest on
-  pub new-admitted : (units : Units) → admitted user load ≡ Ok units
+  -- what a load that is admitted may rest on
+  pub new-admitted : (mix : Mixture) → admitted user load ≡ Ok mix
       → (is_some (named load.name user.sessions) ≡ false) × (nat_lt (sessions_used user) user.quota.sessions ≡ true)
-  new-admitted units admitted = by_test (is_some (named load.name user.sessions))
+  new-admitted mix admitted = by_test (is_some (named load.name user.sessions))
       (λ taken. absurd (not_refused Exists (sym (admitted-exists taken) ∙ admitted)))
       (λ new. (
         new,
@@ -78,87 +74,87 @@ module _ (user : User) (load : Load) where
             (λ over. absurd (not_refused QuotaSessions (sym (admitted-over new over) ∙ admitted))),
       ))
     where
-      not_refused : (refusal : Refusal) → ◌≡◌ {A = Result Units Refusal} (Err refusal) (Ok units) → ⊥
+      not_refused : (refusal : Refusal) → ◌≡◌ {A = Result Mixture Refusal} (Err refusal) (Ok mix) → ⊥
       not_refused refusal e = cc
 
-  module _ (units : Units) (scale : admitted user load ≡ Ok units) where
+  module _ (mix : Mixture) (is_mix : admitted user load ≡ Ok mix) where
     pub load-memory : performed user (commands.Load load) true ≡ Err Memory
     unfolding performed
-    load-memory = rw (scale, body-refused load.body) refl
+    load-memory = rw (is_mix, body-refused load.body) refl
 
     module _ (body : List ℕ) (held : load.body ≡ Read body) where
-      pub load-fault : (fault : XyzFault) → reading None (reading_mode load.mode) (lines_of body) ≡ Err fault
+      pub load-fault : (fault : XyzFault) → reading (symbols_of load.substance) (reading_mode load.mode) (lines_of body) ≡ Err fault
           → performed user (commands.Load load) false ≡ Err (Xyz fault)
       unfolding performed
-      load-fault fault read = rw (scale, held, read) refl
+      load-fault fault read = rw (is_mix, held, read) refl
 
       module _ (first : List Row) (second : Option (List Row))
-          (read : reading None (reading_mode load.mode) (lines_of body) ≡ Ok (frames_of first second)) where
+          (read : reading (symbols_of load.substance) (reading_mode load.mode) (lines_of body) ≡ Ok (frames_of first second)) where
         abbrev session_loaded : Session
-        session_loaded = session_from units first (last_of first second)
+        session_loaded = session_from mix (symbols_of load.substance) first (last_of first second)
 
         pub load-over : nat_le (atoms_used user + atoms_of session_loaded) user.quota.atoms ≡ false
             → performed user (commands.Load load) false ≡ Err QuotaAtoms
         unfolding performed
-        load-over over = rw (scale, held, read, session-frames units first second, over) refl
+        load-over over = rw (is_mix, held, read, session-frames mix (symbols_of load.substance) first second, over) refl
 
         pub load-done : nat_le (atoms_used user + atoms_of session_loaded) user.quota.atoms ≡ true
             → performed user (commands.Load load) false
-            ≡ Ok (reply.Loaded load.name (atoms_of session_loaded), with_session load.name session_loaded user)
+            ≡ Ok (loaded load.substance load.name (atoms_of session_loaded), with_session load.name session_loaded user)
         unfolding performed
-        load-done room = rw (scale, held, read, session-frames units first second, room) refl
+        load-done room = rw (is_mix, held, read, session-frames mix (symbols_of load.substance) first second, room) refl
 
 -- how many atoms a session has that opens with frames of one count
-pub atoms-opened : (units : Units) (first last : List Row) → length last ≡ length first
-    → atoms_of (session_from units first last) ≡ length first
-atoms-opened units first last same = length-map last (place_in units.edge) ∙ same
+pub atoms-opened : (mix : Mixture) (symbols : Option SymbolPair) (first last : List Row) → length last ≡ length first
+    → atoms_of (session_from mix symbols first last) ≡ length first
+atoms-opened mix symbols first last same = length-map last (place_in (edge_of mix)) ∙ same
 
-module _ (old new : Owned) (load : Load) (units : Units) (scale : admitted (user_of old) load ≡ Ok units) where
+module _ (old new : Owned) (load : Load) (mix : Mixture) (is_mix : admitted (user_of old) load ≡ Ok mix) where
   -- the name is new among those that are held
   pub absent-admitted : held_in old load.name ≡ None
   absent-admitted =
       none-held (held_in old load.name) (sym (ap is_some (named-seen as_session load.name old.sessions))
-      ∙ (new-admitted (user_of old) load units scale).0)
+      ∙ (new-admitted (user_of old) load mix is_mix).0)
     where
       none-held : (o : Option Held) → is_some (option_map as_session o) ≡ false → o ≡ None
       none-held None h = refl
       none-held (Some held) h = absurd (true≢false h)
 
   pub load-starved : Performs old (commands.Load load) (Err Memory) new
-  load-starved = starved old new _ (load-memory (user_of old) load units scale)
+  load-starved = starved old new _ (load-memory (user_of old) load mix is_mix)
 
   module _ (body : List ℕ) (held : load.body ≡ Read body) where
     -- a body that is not read is refused for its fault, or for want of memory
-    pub not-read : (error : XyzError) → Fails error (reading None (reading_mode load.mode) (lines_of body))
+    pub not-read : (error : XyzError) → Fails error (reading (symbols_of load.substance) (reading_mode load.mode) (lines_of body))
         → Performs old (commands.Load load) (Err (xyz_refusal error)) new
     not-read (errors.Fault fault) read =
-        refused old new _ _ (load-fault (user_of old) load units scale body held fault read)
+        refused old new _ _ (load-fault (user_of old) load mix is_mix body held fault read)
     not-read errors.Memory read = load-starved
 
     module _ (first : List Row) (second : Option (List Row))
-        (read : reading None (reading_mode load.mode) (lines_of body) ≡ Ok (frames_of first second))
+        (read : reading (symbols_of load.substance) (reading_mode load.mode) (lines_of body) ≡ Ok (frames_of first second))
         (same : length (last_of first second) ≡ length first) where
       pub too-many : nat_le (atoms_used (user_of old) + length first) old.quota.atoms ≡ false
           → Performs old (commands.Load load) (Err QuotaAtoms) new
-      too-many over = refused old new _ _ (load-over (user_of old) load units scale body held first second read
+      too-many over = refused old new _ _ (load-over (user_of old) load mix is_mix body held first second read
           (ap (λ n. nat_le (atoms_used (user_of old) + n) old.quota.atoms)
-          (atoms-opened units first (last_of first second) same) ∙ over))
+          (atoms-opened mix (symbols_of load.substance) first (last_of first second) same) ∙ over))
 
-      pub loaded : (atoms : ℕ) → atoms ≡ length first
+      pub load-loads : (atoms : ℕ) → atoms ≡ length first
           → nat_le (atoms_used (user_of old) + length first) old.quota.atoms ≡ true
-          → new ≡ with_held load.name (held_from units first (last_of first second)) old
-          → Performs old (commands.Load load) (Ok (reply.Loaded load.name atoms)) new
-      loaded atoms its room is = done old new _ _
-          (load-done (user_of old) load units scale body held first second read
+          → new ≡ with_held load.name (held_from mix (symbols_of load.substance) first (last_of first second)) old
+          → Performs old (commands.Load load) (Ok (loaded load.substance load.name atoms)) new
+      load-loads atoms its room is = done old new _ _
+          (load-done (user_of old) load mix is_mix body held first second read
           (ap (λ n. nat_le (atoms_used (user_of old) + n) old.quota.atoms) count ∙ room)
           ∙ (ap (λ n. Ok (
-            reply.Loaded load.name n,
-            with_session load.name (session_from units first (last_of first second)) (user_of old),
+            loaded load.substance load.name n,
+            with_session load.name (session_from mix (symbols_of load.substance) first (last_of first second)) (user_of old),
           )) (count ∙ sym its)
-          ∙ ap (λ (u : User). Ok (reply.Loaded load.name atoms, u))
-          (sym (ap user_of is ∙ user_of-put old load.name (held_from units first (last_of first second))))))
+          ∙ ap (λ (u : User). Ok (loaded load.substance load.name atoms, u))
+          (sym (ap user_of is ∙ user_of-put old load.name (held_from mix (symbols_of load.substance) first (last_of first second))))))
           (λ other apart. ap (λ (o : Owned). held_in o other) is
-          ∙ others-put old load.name (held_from units first (last_of first second)) other apart)
+          ∙ others-put old load.name (held_from mix (symbols_of load.substance) first (last_of first second)) other apart)
         where
-          count : atoms_of (session_from units first (last_of first second)) ≡ length first
-          count = atoms-opened units first (last_of first second) same
+          count : atoms_of (session_from mix (symbols_of load.substance) first (last_of first second)) ≡ length first
+          count = atoms-opened mix (symbols_of load.substance) first (last_of first second) same

@@ -12,7 +12,10 @@ use Rattle.lj_session.specs.declared.refusal.Refusal.{Refusal}
 use Rattle.lj_session.specs.declared.refusal.Refusal.TheVariants.{BranchExists, QuotaBranches, StepRange, Memory}
 use Rattle.lj_session.specs.declared.reply.Reply.{Reply}
 use Rattle.lj_session.specs.declared.reply.Reply.TheVariants as reply
-use Rattle.lj_session.specs.Users.{User, branches_used}
+use Rattle.lj_session.specs.declared.substance.Substance.{Substance}
+use Rattle.lj_session.specs.declared.substance.Substance.TheVariants.{Pure, Mixed}
+use Rattle.lj_session.specs.Substances.{loaded}
+use Rattle.lj_session.specs.Users.{User, atoms_of, branches_used}
 use Rattle.lj_session.specs.Answers.{session_of, saved_in, has_atom, can_advance, performed}
 use Rattle.lj_session.specs.Loads.{admitted, body_held, session_read, unless}
 use Rattle.lj_session.specs.Begins.{OnRefused, reply_of}
@@ -54,6 +57,10 @@ abbrev IsDone : Reply → Type 0
 IsDone (reply.Refused refusal) = ⊥
 IsDone _ = Unit {0}
 
+loaded-is_done : (substance : Substance) (name : List ℕ) (atoms : ℕ) → IsDone (loaded substance name atoms)
+loaded-is_done (Pure sigma step_factor) name atoms = tt
+loaded-is_done (Mixed symbols first unlike second) name atoms = tt
+
 after : {A : Type 0} (m : Result A Refusal) (f : A → Result (Reply × User) Refusal)
     → ((x : A) → IfOk (f x) (λ made. IsDone made.0))
     → IfOk (m >>= f) (λ made. IsDone made.0)
@@ -64,8 +71,9 @@ after (Err refusal) f h = tt
 is_done : (user : User) (command : Command) (mark : Bool) → IfOk (performed user command mark) (λ made. IsDone made.0)
 unfolding performed
 is_done user (Load load) mark =
-    after (admitted user load) _ (λ units. after (body_held load.body mark) _
-    (λ body. after (session_read user units load.mode body) _ (λ session. tt)))
+    after (admitted user load) _ (λ mix. after (body_held load.body mark) _
+    (λ body. after (session_read user mix load body) _
+    (λ session. loaded-is_done load.substance load.name (atoms_of session))))
 is_done user (Advance name n) mark =
     after (session_of user name) _ (λ session. after (unless (can_advance session n) StepRange) _ (λ near. tt))
 is_done user (Reverse name) mark = after (session_of user name) _ (λ session. tt)

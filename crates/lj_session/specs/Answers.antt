@@ -16,6 +16,7 @@ use Rattle.lj_session.specs.declared.session.TheConstants.{MAX_STEPS, MAX_STEP_N
 use Rattle.lj_branch.specs.Named.{named, put, taken_out}
 use Rattle.lj_session.specs.Users.{Session, User, with_session, atoms_of, branches_used}
 use Rattle.lj_session.specs.Loads.{unless, admitted, body_held, session_read}
+use Rattle.lj_session.specs.Substances.{loaded}
 
 -- what stands under a name, else a refusal
 abbrev pub or_refusal : {A : Type 0} → Option A → Refusal → Result A Refusal
@@ -63,10 +64,10 @@ session_named Bye = None
 -- what a command does: its reply and the next user, or its first refusal
 unfoldable pub performed : User → Command → Bool → Result (Reply × User) Refusal
 performed user (Load load) mark = do
-  units ← admitted user load
+  mix ← admitted user load
   bytes ← body_held load.body mark
-  session ← session_read user units load.mode bytes
-  Ok (reply.Loaded load.name (atoms_of session), with_session load.name session user)
+  session ← session_read user mix load bytes
+  Ok (loaded load.substance load.name (atoms_of session), with_session load.name session user)
 performed user (Advance name n) mark = do
   session ← session_of user name
   near ← unless (can_advance session n) StepRange
@@ -121,7 +122,7 @@ abbrev pub settled : User → Result (Reply × User) Refusal → Reply × User
 settled user (Ok answer) = answer
 settled user (Err refusal) = (reply.Refused refusal, user)
 
--- What a command answers. The mark says that memory was refused to it; it matters to LOAD and BRANCH alone.
+-- What a command answers. The mark says that memory was refused to it; it matters to LOAD, LOADMIX and BRANCH alone.
 abbrev pub answer : User → Command → Bool → Reply × User
 answer user command mark = settled user (performed user command mark)
 

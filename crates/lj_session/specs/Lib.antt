@@ -1,5 +1,6 @@
 pub mod Refusals
 pub mod Users
+pub mod Substances
 pub mod Loads
 pub mod Answers
 pub mod Turns

@@ -1,10 +1,12 @@
--- The frames that a LOAD opens a session with, and the session as it is held then.
+-- The frames that a load opens a session with, and the session as it is held then.
 use Rattle.std.specs.Prelude.{List, [], ◌∷◌, map, Option, Some, None}
 use Rattle.lj_xyz.specs.declared.row.Row.{Row}
-use Rattle.lj_ring.specs.Scales.{Units}
+use Rattle.lj_ring.specs.Mixes.{Mixture, edge_of}
+use Rattle.lj_xyz.specs.Symbols.{SymbolPair}
 use Rattle.lj_step.specs.Motion.{opening}
-use Rattle.lj_session.specs.Loads.{alike, places_in}
+use Rattle.lj_session.specs.Loads.{places_in}
 use Rattle.lj_session.specs.States.{Held}
+use Rattle.lj_session.specs.Substances.{composed}
 
 -- the frames that were read: one, or two
 abbrev pub frames_of : List Row → Option (List Row) → List (List Row)
@@ -17,12 +19,12 @@ last_of first None = first
 last_of first (Some second) = second
 
 -- the session that opens with two frames, under the symbols of the first
-abbrev pub held_from : Units → List Row → List Row → Held
-held_from units first last = record {
+abbrev pub held_from : Mixture → Option SymbolPair → List Row → List Row → Held
+held_from mix symbols first last = record {
   symbols = map (λ row. row.symbol) first;
   live = record {
-    composition = alike units;
-    sim = opening (places_in units.edge first) (places_in units.edge last);
+    composition = composed mix symbols first;
+    sim = opening (places_in (edge_of mix) first) (places_in (edge_of mix) last);
     part = None;
   };
   passed = 0;

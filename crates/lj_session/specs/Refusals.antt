@@ -7,7 +7,7 @@ use Rattle.lj_session.specs.declared.refusal.Refusal.{Refusal}
 use Rattle.lj_session.specs.declared.refusal.Refusal.TheVariants.{Denied, Line, Syntax, Body, Long, Command, Enough}
 use Rattle.lj_session.specs.declared.refusal.Refusal.TheVariants.{NoSession, Exists, NoBranch, BranchExists, NoAtom}
 use Rattle.lj_session.specs.declared.refusal.Refusal.TheVariants.{QuotaSessions, QuotaAtoms, QuotaBranches, StepRange}
-use Rattle.lj_session.specs.declared.refusal.Refusal.TheVariants.{Xyz, Edge, Sigma, StepFactor, Memory}
+use Rattle.lj_session.specs.declared.refusal.Refusal.TheVariants.{Xyz, Edge, Sigma, StepFactor, Weight, Memory}
 
 -- the number of a fault of a body
 abbrev pub xyz_number : XyzKind → ℕ
@@ -51,6 +51,7 @@ refusal_number (Xyz fault) = xyz_number fault.kind
 refusal_number Edge = 36
 refusal_number Sigma = 37
 refusal_number StepFactor = 38
+refusal_number Weight = 40
 refusal_number Memory = 90
 
 -- its name
@@ -75,6 +76,7 @@ refusal_name (Xyz fault) = xyz_name fault.kind
 refusal_name Edge = codes "EDGE"
 refusal_name Sigma = codes "SIGMA"
 refusal_name StepFactor = codes "STEP_FACTOR"
+refusal_name Weight = codes "WEIGHT"
 refusal_name Memory = codes "MEMORY"
 
 -- the fault of a body stands at a line of it

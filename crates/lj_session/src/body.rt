@@ -1,9 +1,9 @@
-//! Bodies of LOAD.
+//! Bodies of LOAD and LOADMIX.
 ghost use Rattle.std.specs.Prelude.{◌≡◌};
 
 use std::marker::Model;
 
-/// The body of a LOAD, as far as it is there.
+/// The body of a load, as far as it is there.
 #[derive(Debug, Drop)]
 pub enum LoadBody {
     /// It is not read yet.
@@ -13,7 +13,7 @@ pub enum LoadBody {
     Read(Body),
 }
 
-/// The bytes that follow a LOAD line.
+/// The bytes that follow the line of a load.
 #[derive(Debug, Drop)]
 pub struct Body {
     bytes: Vec<u8>,

@@ -1,10 +1,11 @@
 //! Commands of a user.
 
 use crate::body::LoadBody;
+use crate::substance::Substance;
 use lj_fixed::Nano;
 use lj_tile::Name;
 
-/// How many frames of its body a LOAD reads.
+/// How many frames of its body a load reads.
 #[derive(Clone, Copy, Debug, PartialEq, Eq)]
 pub enum Mode {
     /// One: the atoms begin at rest.
@@ -13,17 +14,14 @@ pub enum Mode {
     Pair,
 }
 
-/// A LOAD. Each of its three numbers is `None` where its word is no such number.
+/// A LOAD, or a LOADMIX. A number is `None` where its word is no such number.
 #[derive(Debug, Drop)]
 pub struct Load {
     /// The name of the new session.
     pub name: Name,
     /// The edge of the box, in nano.
     pub edge: Option<Nano>,
-    /// In nano.
-    pub sigma: Option<Nano>,
-    /// In units of 2^-32.
-    pub step_factor: Option<u64>,
+    pub substance: Substance,
     pub mode: Mode,
     pub body: LoadBody,
 }

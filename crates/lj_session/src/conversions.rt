@@ -1,13 +1,13 @@
 //! The faults of the crates below as refusals.
 ghost use Rattle.std.specs.Prelude.{◌≡◌};
 ghost use Rattle.lj_session.specs.declared.refusal.Refusal.TheVariants.{Memory, NoBranch as no_branch};
-ghost use Rattle.lj_session.specs.Loads.{scale_refusal};
+ghost use Rattle.lj_session.specs.Substances.{scale_refusal, class_refusal, mix_refusal};
 ghost use Rattle.lj_session.specs.Faults.{xyz_refusal, save_refusal, quota_refusal};
 
 use crate::refusal::Refusal;
 use lj_branch::{NoBranch, SaveFault};
 use lj_quota::Over;
-use lj_ring::ScaleFault;
+use lj_ring::{ClassFault, MixFault, ScaleFault};
 use lj_xyz::XyzError;
 use std::alloc::{AllocError, AllocFailed};
 
@@ -20,6 +20,25 @@ impl From<ScaleFault> for Refusal {
             ScaleFault::Sigma => Refusal::Sigma,
             ScaleFault::StepFactor => Refusal::StepFactor,
         }
+    }
+}
+
+impl From<ClassFault> for Refusal {
+    ghost from_gives = { λ fault refusal. refusal ≡ class_refusal fault };
+
+    fn from(fault: ClassFault) -> Refusal {
+        match fault {
+            ClassFault::Scale(fault) => Refusal::from(fault),
+            ClassFault::Weight => Refusal::Weight,
+        }
+    }
+}
+
+impl From<MixFault> for Refusal {
+    ghost from_gives = { λ fault refusal. refusal ≡ mix_refusal fault };
+
+    fn from(fault: MixFault) -> Refusal {
+        Refusal::from(fault.fault)
     }
 }
 

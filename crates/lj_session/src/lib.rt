@@ -10,9 +10,11 @@ mod owner;
 mod refusal;
 mod reply;
 mod running;
+mod seconds;
 mod session;
 mod sessions;
 mod state;
+mod substance;
 
 pub use body::{Body, LoadBody};
 pub use command::{Command, Load, Mode};
@@ -25,3 +27,4 @@ pub use owner::{Begin, Owner};
 pub use refusal::Refusal;
 pub use reply::Reply;
 pub use state::UserState;
+pub use substance::{ClassNumbers, Substance};

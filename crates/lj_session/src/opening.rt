@@ -1,5 +1,6 @@
-//! The frames that a LOAD opens a session with.
+//! The frames that a load opens a session with.
 ghost use Rattle.std.specs.Prelude.{◌≡◌, ◌≤◌, length, map, Some, None, IfOk, IsTrue};
+ghost use Rattle.std.specs.Option.{option_copied};
 ghost use Rattle.lj_xyz.specs.Atoms.{is_count};
 ghost use Rattle.lj_xyz.specs.declared.reader.TheConstants.{MAX_ATOMS};
 ghost use Rattle.lj_xyz.specs.Lines.{lines_of};
@@ -9,11 +10,12 @@ ghost use Rattle.lj_session.specs.Openings.{frames_of, last_of, held_from};
 
 use crate::body::Body;
 use crate::command::Mode;
+use crate::seconds::seconds_of;
 use crate::session::Session;
 use lj_branch::Branches;
-use lj_ring::{Edge, Mix, Place, Scale, place_of};
+use lj_ring::{Edge, Mix, Place, place_of};
 use lj_step::{Frame, Frames, Sim};
-use lj_xyz::{Row, Rows, Symbol, XyzError, read_pair, read_rest};
+use lj_xyz::{Row, Rows, Symbol, SymbolPair, XyzError, read_pair, read_rest};
 use std::alloc::{AllocError, Global};
 
 /// The atoms of one frame, or of two one step apart.
@@ -26,18 +28,23 @@ pub(crate) struct Opening {
 }
 
 impl Opening {
-    /// Reads what a mode asks for.
-    pub fn read(alloc: Global, mode: Mode, body: &Body) -> Result<Opening, XyzError>
-        ensures { let frames = reading None (reading_mode mode) (lines_of body.now) in
+    /// Reads what a mode asks for. Each atom of the first frame is to have one of the symbols, where two are given.
+    pub fn read(
+        alloc: Global,
+        mode: Mode,
+        symbols: Option<&SymbolPair>,
+        body: &Body,
+    ) -> Result<Opening, XyzError>
+        ensures { let frames = reading (option_copied symbols.entry) (reading_mode mode) (lines_of body.now) in
             Gives (λ opening. frames_of opening.first opening.second) result frames }
     {
         match mode {
             Mode::Rest => Ok(Opening {
-                first: read_rest(alloc, body.as_slice(), None)?,
+                first: read_rest(alloc, body.as_slice(), symbols)?,
                 second: None,
             }),
             Mode::Pair => {
-                let pair = read_pair(alloc, body.as_slice(), None)?;
+                let pair = read_pair(alloc, body.as_slice(), symbols)?;
                 Ok(Opening {
                     first: pair.first,
                     second: Some(pair.second),
@@ -54,18 +61,26 @@ impl Opening {
         self.first.len()
     }
 
-    /// The session that opens with these frames. Of one frame both are made, so that the atoms are at rest.
-    pub fn session(self, alloc: Global, scale: Scale) -> Result<Session, AllocError>
-        ensures { IfOk result (λ session. session ≡ held_from scale self.first (last_of self.first self.second)) }
+    /// The session that opens with these frames. Of one frame both are made, so that the atoms are at rest. Where
+    /// symbols of two species are given, those of the first frame tell the species.
+    pub fn session(
+        self,
+        alloc: Global,
+        mix: Mix,
+        symbols: Option<&SymbolPair>,
+    ) -> Result<Session, AllocError>
+        ensures { let last = last_of self.first self.second in
+            IfOk result (λ session. session ≡ held_from mix (option_copied symbols.entry) self.first last) }
     {
-        let edge = scale.edge();
+        let edge = mix.edge();
         let prev = places_of(alloc, self.first.as_slice(), &edge)?;
         let cur = self.last_places(alloc, &edge, prev.as_slice())?;
         let frames = Frames {
             prev: Frame::new(prev),
             cur: Frame::new(cur),
         };
-        let sim = Sim::new(alloc, frames, Vec::new(alloc), Mix::one(scale))?;
+        let seconds = seconds_of(alloc, symbols, self.first.as_slice())?;
+        let sim = Sim::new(alloc, frames, seconds, mix)?;
         let symbols = symbols_of(alloc, self.first)?;
         Ok(Session::new(symbols, sim, Branches::new(alloc)))
     }

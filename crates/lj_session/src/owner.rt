@@ -57,8 +57,8 @@ impl Owner {
         }
     }
 
-    /// Begins a command. One that takes no turn is answered at once; of another the first step is opened. Only LOAD
-    /// and BRANCH take memory.
+    /// Begins a command. One that takes no turn is answered at once; of another the first step is opened. Only LOAD,
+    /// LOADMIX and BRANCH take memory.
     #[inline(never)]
     pub fn begin(&mut self, command: Command) -> Begin
         requires idle { self.old.rest ≡ None }

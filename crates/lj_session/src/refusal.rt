@@ -14,7 +14,7 @@ pub enum Refusal {
     Line,
     /// A line without a word, a wrong number of words, or a word not of its shape.
     Syntax,
-    /// A LOAD line without a count.
+    /// A line of LOAD or LOADMIX without a count.
     Body,
     /// 65,536 bytes without a line feed.
     Long,
@@ -48,6 +48,8 @@ pub enum Refusal {
     Sigma,
     /// The step factor is not 1 to 2^24.
     StepFactor,
+    /// The weight of energies is not 1 to 65,536.
+    Weight,
     /// A growth was refused.
     Memory,
 }
@@ -78,6 +80,7 @@ impl Refusal {
             Refusal::Edge => 36,
             Refusal::Sigma => 37,
             Refusal::StepFactor => 38,
+            Refusal::Weight => 40,
             Refusal::Memory => 90,
         }
     }
@@ -107,6 +110,7 @@ impl Refusal {
             Refusal::Edge => "EDGE",
             Refusal::Sigma => "SIGMA",
             Refusal::StepFactor => "STEP_FACTOR",
+            Refusal::Weight => "WEIGHT",
             Refusal::Memory => "MEMORY",
         }
     }

@@ -11,6 +11,11 @@ pub enum Reply {
         name: Name,
         atoms: usize,
     },
+    /// Of two species.
+    LoadedMix {
+        name: Name,
+        atoms: usize,
+    },
     Advanced {
         name: Name,
         step: i64,

@@ -135,7 +135,7 @@ impl UserState {
     /// Performs a command that takes no turn.
     ///
     /// # Errors
-    /// The command's first refusal. The user is as before then. `Memory` comes only from LOAD and BRANCH.
+    /// The command's first refusal. The user is as before then. `Memory` comes only from LOAD, LOADMIX and BRANCH.
     pub(crate) fn perform(&mut self, command: Command) -> Result<Reply, Refusal>
         requires { turns (user_of self.old) command ≡ 0 }
         ensures performs { Performs self.old command result self.new }

@@ -6,8 +6,10 @@ use Rattle.std.specs.Option.{option_map}
 use Rattle.std.specs.Iterator.{Drains, YieldsFirstRef}
 use Rattle.std.proofs.lemmas.Bool.{leb-true}
 use Rattle.lj_fixed.specs.Numbers.{number_of}
-use Rattle.lj_wire.specs.Verbs.{is_load}
-use Rattle.lj_wire.specs.Commands.{◌>>=◌, Words, count_of, last_count, is_over, words_in, body_len, announced}
+use Rattle.lj_wire.specs.declared.verb.Verb.{Verb}
+use Rattle.lj_wire.specs.Verbs.{has_body, verb_of}
+use Rattle.lj_wire.specs.Commands.{◌>>=◌, Words, count_of, last_count, is_over, words_in, body_len, verb_body_len}
+use Rattle.lj_wire.specs.Commands.{announced}
 
 -- no count is above its limit
 limited : (short : Bool) (count : ℕ) → unwrap_or (cond (short && nat_le count 1048576) (Some count) None) 0 ≤ 1048576
@@ -38,11 +40,15 @@ last_count-most words = by_last (last_or None words)
 body_len-most : (words : Words) → body_len words ≤ 1048576
 unfolding body_len
 body_len-most [] = omega arith
-body_len-most (word ∷ words) = by_test (is_load word)
+body_len-most (word ∷ words) = by_verb (verb_of word)
   where
     by_test : (load : Bool) → cond load (unwrap_or (last_count words) 0) 0 ≤ 1048576
     by_test true = last_count-most words
     by_test false = omega arith
+
+    by_verb : (verb : Option Verb) → verb_body_len verb words ≤ 1048576
+    by_verb None = omega arith
+    by_verb (Some verb) = by_test (has_body verb)
 
 pub announced-most : (line : List ℕ) → announced line ≤ 1048576
 announced-most line = by_test (is_over line)

@@ -15,13 +15,13 @@ use Rattle.lj_wire.specs.declared.verb.Verb.{Verb}
 use Rattle.lj_wire.specs.declared.verb.Verb.TheVariants as verb
 use Rattle.lj_wire.specs.Items.{with_body}
 use Rattle.lj_wire.specs.Displacements.{displacement_of}
-use Rattle.lj_wire.specs.Verbs.{is_load, verb_of}
+use Rattle.lj_wire.specs.Verbs.{verb_of}
 use Rattle.lj_wire.specs.Commands.{◌>>=◌, Words, one_name, two_names, name_and_number, bare_command, session_command}
-use Rattle.lj_wire.specs.Commands.{branch_command, number_command, tug_command, list_command, verb_command, load_of}
+use Rattle.lj_wire.specs.Commands.{branch_command, number_command, tug_command, list_command, load_of, load_mix_of}
 use Rattle.lj_wire.specs.Commands.{load_command, or_syntax, last_count, counted_item, verb_item, item_of_words, is_over}
 use Rattle.lj_wire.specs.Commands.{over_item, words_in, item_with}
 
--- what is no LOAD stays as it is
+-- what is no load stays as it is
 abbrev Stays : Option Command → Type 0
 Stays command = (body : LoadBody) → with_body (or_syntax command) body ≡ or_syntax command
 
@@ -54,7 +54,7 @@ bye_stays : (words : Words) → Stays (bare_command command.Bye words)
 bye_stays [] body = refl
 bye_stays (word ∷ words) body = refl
 
--- a command on a session is no LOAD
+-- a command on a session is no load
 session_stays : (command : List ℕ → Command) → ((name : List ℕ) → Stays (Some (command name))) → (words : Words)
     → Stays (session_command command words)
 session_stays command stays words = mapped command (one_name words) stays
@@ -68,49 +68,41 @@ number_stays : (command : List ℕ → ℕ → Command) → ((p : List ℕ × �
     → Stays (number_command command words)
 number_stays command stays words = mapped (λ p. command p.0 p.1) (name_and_number words) stays
 
--- no first word but LOAD begins a LOAD
-verb_stays : (verb : Verb) (words : Words) → Stays (verb_command verb words)
-verb_stays verb.Advance = number_stays command.Advance (λ p body. refl)
-verb_stays verb.Reverse = session_stays command.Reverse (λ name body. refl)
-verb_stays verb.Branch = branch_stays command.Branch (λ p body. refl)
-verb_stays verb.Restore = branch_stays command.Restore (λ p body. refl)
-verb_stays verb.Forget = branch_stays command.Forget (λ p body. refl)
-verb_stays verb.Tug = tug_stays
-verb_stays verb.Measure = session_stays command.Measure (λ name body. refl)
-verb_stays verb.Show = number_stays command.Show (λ p body. refl)
-verb_stays verb.Dump = session_stays command.Dump (λ name body. refl)
-verb_stays verb.List = list_stays
-verb_stays verb.Unload = session_stays command.Unload (λ name body. refl)
-verb_stays verb.Bye = bye_stays
-
-other_stays : (verb : Option Verb) (words : Words) (body : LoadBody)
-    → with_body (verb_item verb words) body ≡ verb_item verb words
-other_stays None words body = refl
-other_stays (Some verb) words body = verb_stays verb words body
-
 load_filled : (load : Option Load) (body : LoadBody)
     → with_body (or_syntax (option_map (λ load. command.Load (record load { body = Unread })) load)) body
     ≡ or_syntax (option_map (λ load. command.Load (record load { body = body })) load)
 load_filled None body = refl
 load_filled (Some load) body = refl
 
-counted_filled : (count : Option ℕ) (words : Words) (body : LoadBody)
-    → with_body (counted_item count (load_command Unread words)) body ≡ counted_item count (load_command body words)
-counted_filled None words body = refl
-counted_filled (Some count) words body = load_filled (load_of words) body
+counted_filled : (count : Option ℕ) (load : Option Load) (body : LoadBody)
+    → with_body (counted_item count (load_command Unread load)) body ≡ counted_item count (load_command body load)
+counted_filled None load body = refl
+counted_filled (Some count) load body = load_filled load body
+
+-- the body goes into what LOAD and LOADMIX begin; no other first word begins a load
+verb_filled : (verb : Option Verb) (words : Words) (body : LoadBody)
+    → with_body (verb_item verb words Unread) body ≡ verb_item verb words body
+verb_filled None words body = refl
+verb_filled (Some verb.Load) words body = counted_filled (last_count words) (load_of words) body
+verb_filled (Some verb.LoadMix) words body = counted_filled (last_count words) (load_mix_of words) body
+verb_filled (Some verb.Advance) words body = number_stays command.Advance (λ p body. refl) words body
+verb_filled (Some verb.Reverse) words body = session_stays command.Reverse (λ name body. refl) words body
+verb_filled (Some verb.Branch) words body = branch_stays command.Branch (λ p body. refl) words body
+verb_filled (Some verb.Restore) words body = branch_stays command.Restore (λ p body. refl) words body
+verb_filled (Some verb.Forget) words body = branch_stays command.Forget (λ p body. refl) words body
+verb_filled (Some verb.Tug) words body = tug_stays words body
+verb_filled (Some verb.Measure) words body = session_stays command.Measure (λ name body. refl) words body
+verb_filled (Some verb.Show) words body = number_stays command.Show (λ p body. refl) words body
+verb_filled (Some verb.Dump) words body = session_stays command.Dump (λ name body. refl) words body
+verb_filled (Some verb.List) words body = list_stays words body
+verb_filled (Some verb.Unload) words body = session_stays command.Unload (λ name body. refl) words body
+verb_filled (Some verb.Bye) words body = bye_stays words body
 
 words_filled : (words : Words) (body : LoadBody) → with_body (item_of_words words Unread) body
     ≡ item_of_words words body
 unfolding item_of_words
 words_filled [] body = refl
-words_filled (word ∷ words) body = by_test (is_load word)
-  where
-    by_test : (load : Bool)
-        → with_body (cond load (counted_item (last_count words) (load_command Unread words))
-        (verb_item (verb_of word) words)) body
-        ≡ cond load (counted_item (last_count words) (load_command body words)) (verb_item (verb_of word) words)
-    by_test true = counted_filled (last_count words) words body
-    by_test false = other_stays (verb_of word) words body
+words_filled (word ∷ words) body = verb_filled (verb_of word) words body
 
 over_stays : (short : Bool) (body : LoadBody) → with_body (cond short (Bad Line) (Last Long)) body
     ≡ cond short (Bad Line) (Last Long)

@@ -1,9 +1,9 @@
 -- The mark of an answer, read off its text.
 use Rattle.std.proofs.Common.{◌≡◌, ℕ, ◌+◌, Bool, true, false, not, List, Result, Ok, Err, ◌⊎◌, inl, inr, refl, sym, ◌∙◌}
-use Rattle.std.proofs.Common.{ap, None}
+use Rattle.std.proofs.Common.{ap}
 use Rattle.std.specs.Fmt.{digits}
 use Rattle.std.specs.Prelude.{is_some, nat_lt, nat_le}
-use Rattle.lj_ring.specs.Scales.{Units}
+use Rattle.lj_ring.specs.Mixes.{Mixture}
 use Rattle.lj_xyz.specs.declared.fault.XyzFault.{XyzFault}
 use Rattle.lj_xyz.specs.declared.fault.XyzKind.{XyzKind}
 use Rattle.lj_xyz.specs.declared.fault.XyzKind.TheVariants as kind
@@ -13,15 +13,19 @@ use Rattle.lj_xyz.specs.Lines.{lines_of}
 use Rattle.lj_xyz.specs.Reading.{reading}
 use Rattle.lj_session.specs.declared.body.LoadBody.{LoadBody}
 use Rattle.lj_session.specs.declared.body.LoadBody.TheVariants.{Unread, Lost, Read}
-use Rattle.lj_session.specs.declared.command.Mode.{Mode}
+use Rattle.lj_session.specs.declared.command.Load.{Load}
 use Rattle.lj_session.specs.declared.command.Command.{Command}
-use Rattle.lj_session.specs.declared.command.Command.TheVariants.{Load, Advance, Reverse, Branch, Restore, Forget, Tug}
+use Rattle.lj_session.specs.declared.command.Command.TheVariants.{Load as LoadCommand, Advance, Reverse, Branch, Restore}
+use Rattle.lj_session.specs.declared.command.Command.TheVariants.{Forget, Tug}
 use Rattle.lj_session.specs.declared.command.Command.TheVariants.{Measure, Show, Dump, List as ListSessions}
 use Rattle.lj_session.specs.declared.command.Command.TheVariants.{ListBranches, Unload, Bye}
 use Rattle.lj_session.specs.declared.refusal.Refusal.{Refusal}
 use Rattle.lj_session.specs.declared.refusal.Refusal.TheVariants.{BranchExists, QuotaAtoms, QuotaBranches, Xyz, Memory}
 use Rattle.lj_session.specs.declared.reply.Reply.{Reply}
 use Rattle.lj_session.specs.declared.reply.Reply.TheVariants as reply
+use Rattle.lj_session.specs.declared.substance.Substance.{Substance}
+use Rattle.lj_session.specs.declared.substance.Substance.TheVariants.{Pure, Mixed}
+use Rattle.lj_session.specs.Substances.{loaded, symbols_of}
 use Rattle.lj_session.specs.Users.{Session, User, with_session, atoms_of, atoms_used, branches_used}
 use Rattle.lj_branch.specs.Named.{named, put}
 use Rattle.lj_session.specs.Loads.{unless, admitted, body_held, session_of_frames, frames_or_refusal, reading_mode}
@@ -70,32 +74,39 @@ kind_told user kind.Range line = refl
 kind_told user kind.Pair line = refl
 kind_told user kind.Species line = refl
 
--- what a LOAD does with its session
-abbrev loaded : User → List ℕ → Session → Outcome
-loaded user name session = Ok (reply.Loaded name (atoms_of session), with_session name session user)
+-- what a load does with its session
+abbrev loads : User → List ℕ → Substance → Session → Outcome
+loads user name substance session = Ok (loaded substance name (atoms_of session), with_session name session user)
 
-within_told : (user : User) (name : List ℕ) (session : Session) (fits : Bool)
-    → is_memory (outcome_told user ((unless fits QuotaAtoms >>= λ room. Ok session) >>= loaded user name)).0 ≡ false
+within_told : (user : User) (name : List ℕ) (substance : Substance) (session : Session) (fits : Bool)
+    → is_memory (outcome_told user ((unless fits QuotaAtoms >>= λ room. Ok session) >>= loads user name substance)).0
+    ≡ false
 unfolding text digits
-within_told user name session true = refl
-within_told user name session false = refl
+within_told user name (Pure sigma step_factor) session true = refl
+within_told user name (Mixed symbols first unlike second) session true = refl
+within_told user name substance session false = refl
 
-read_told : (user : User) (name : List ℕ) (units : Units) (read : Result (List (List Row)) XyzFault)
+read_told : (user : User) (name : List ℕ) (substance : Substance) (mix : Mixture)
+    (read : Result (List (List Row)) XyzFault)
     → is_memory (outcome_told user ((frames_or_refusal read
-    >>= λ frames. within_quota user (session_of_frames units frames)) >>= loaded user name)).0 ≡ false
-read_told user name units (Ok frames) =
-    let session = session_of_frames units frames in
-    within_told user name session (nat_le (atoms_used user + atoms_of session) user.quota.atoms)
-read_told user name units (Err fault) = kind_told user fault.kind fault.line
+    >>= λ frames. within_quota user (session_of_frames mix (symbols_of substance) frames))
+    >>= loads user name substance)).0 ≡ false
+read_told user name substance mix (Ok frames) =
+    let session = session_of_frames mix (symbols_of substance) frames in
+    within_told user name substance session (nat_le (atoms_used user + atoms_of session) user.quota.atoms)
+read_told user name substance mix (Err fault) = kind_told user fault.kind fault.line
 
-load_tells : (user : User) (name : List ℕ) (mode : Mode) (body : LoadBody) (scale : Result Units Refusal)
-    → Tells user (λ mark. scale >>= λ units. body_held body mark
-    >>= λ bytes. session_read user units mode bytes >>= loaded user name)
-load_tells user name mode body (Err refusal) = inl (λ mark. refl)
-load_tells user name mode Unread (Ok units) = inl (λ mark. refl)
-load_tells user name mode Lost (Ok units) = inl (λ mark. refl)
-load_tells user name mode (Read bytes) (Ok units) =
-    inr (refl, read_told user name units (reading None (reading_mode mode) (lines_of bytes)))
+load_tells : (user : User) (load : Load) (body : LoadBody) (mixture : Result Mixture Refusal)
+    → Tells user (λ mark. mixture >>= λ mix. body_held body mark
+    >>= λ bytes. session_read user mix load bytes >>= loads user load.name load.substance)
+load_tells user load body (Err refusal) = inl (λ mark. refl)
+load_tells user load Unread (Ok mix) = inl (λ mark. refl)
+load_tells user load Lost (Ok mix) = inl (λ mark. refl)
+load_tells user load (Read bytes) (Ok mix) = inr (
+  refl,
+  read_told user load.name load.substance mix
+      (reading (symbols_of load.substance) (reading_mode load.mode) (lines_of bytes)),
+)
 
 -- what a BRANCH does with its session
 abbrev branched : User → List ℕ → List ℕ → Session → Outcome
@@ -124,7 +135,7 @@ branch_tells user name branch (Ok session) =
 
 command_tells : (user : User) (command : Command) → Tells user (λ mark. performed user command mark)
 unfolding performed
-command_tells user (Load load) = load_tells user load.name load.mode load.body (admitted user load)
+command_tells user (LoadCommand load) = load_tells user load load.body (admitted user load)
 command_tells user (Advance name n) = inl (λ mark. refl)
 command_tells user (Reverse name) = inl (λ mark. refl)
 command_tells user (Branch name branch) = branch_tells user name branch (session_of user name)

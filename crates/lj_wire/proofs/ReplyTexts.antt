@@ -2,7 +2,8 @@
 use Rattle.std.proofs.Common.{◌≡◌, ℕ, List, [], ◌∷◌, refl, sym, append-nil}
 use Rattle.std.specs.List.{concat}
 use Rattle.lj_session.specs.declared.reply.Reply.{Reply}
-use Rattle.lj_session.specs.declared.reply.Reply.TheVariants.{Loaded, Advanced, Reversed, Branched, Restored, Forgotten}
+use Rattle.lj_session.specs.declared.reply.Reply.TheVariants.{Loaded, LoadedMix, Advanced, Reversed, Branched}
+use Rattle.lj_session.specs.declared.reply.Reply.TheVariants.{Restored, Forgotten}
 use Rattle.lj_session.specs.declared.reply.Reply.TheVariants.{Tugged, Measured, Shown, Dumped, Listed, ListedBranches}
 use Rattle.lj_session.specs.declared.reply.Reply.TheVariants.{Unloaded, Bye, Refused}
 use Rattle.lj_session.specs.Users.{User}
@@ -14,6 +15,7 @@ one line = sym (append-nil line)
 pub text-lines : (user : User) (reply : Reply) → text user reply ≡ concat (reply_lines user reply)
 unfolding text reply_lines
 text-lines user (Loaded name atoms) = one _
+text-lines user (LoadedMix name atoms) = one _
 text-lines user (Advanced name step) = one _
 text-lines user (Reversed name step) = one _
 text-lines user (Branched name branch step) = one _

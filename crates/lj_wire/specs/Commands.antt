@@ -1,5 +1,5 @@
--- The item that a line is: its words, the command that they say, and the body that follows a LOAD line. Where words are
--- listed, `s` and `b` are names, `N` is a number and `D` a displacement.
+-- The item that a line is: its words, the command that they say, and the body that follows the line of a load. Where words
+-- are listed, `s` and `b` are names, `P` and `Q` symbols of atoms, `N` is a number and `D` a displacement.
 use Rattle.std.specs.Prelude.{ℕ, Bool, nat_le, nat_lt, ◌&&◌, List, [], ◌∷◌, length}
 use Rattle.std.specs.Prelude.{Option, Some, None, if◌then◌else◌, codes}
 use Rattle.std.specs.List.{last_or}
@@ -10,6 +10,7 @@ use Rattle.std.specs.Str.Lines.{strip_carriage_return}
 use Rattle.lj_fixed.specs.Decimal.{nano_of}
 use Rattle.lj_fixed.specs.Numbers.{number_of}
 use Rattle.lj_xyz.specs.Lines.{words_of}
+use Rattle.lj_xyz.specs.Symbols.{SymbolPair, is_symbol, pair_of}
 use Rattle.lj_session.specs.declared.body.LoadBody.{LoadBody}
 use Rattle.lj_session.specs.declared.body.LoadBody.TheVariants.{Unread, Read}
 use Rattle.lj_session.specs.declared.command.Load.{Load}
@@ -17,6 +18,9 @@ use Rattle.lj_session.specs.declared.command.Mode.{Mode}
 use Rattle.lj_session.specs.declared.command.Mode.TheVariants.{Rest, Pair}
 use Rattle.lj_session.specs.declared.command.Command.{Command}
 use Rattle.lj_session.specs.declared.command.Command.TheVariants as command
+use Rattle.lj_session.specs.declared.substance.ClassNumbers.{ClassNumbers}
+use Rattle.lj_session.specs.declared.substance.Substance.{Substance}
+use Rattle.lj_session.specs.declared.substance.Substance.TheVariants.{Pure, Mixed}
 use Rattle.lj_tile.specs.Names.{name_of}
 use Rattle.lj_wire.specs.declared.command.TheConstants.{MAX_COUNT_DIGITS}
 use Rattle.lj_wire.specs.declared.item.Fault.TheVariants as fault
@@ -26,7 +30,7 @@ use Rattle.lj_wire.specs.declared.limits.TheConstants.{MAX_LINE_BYTES, LONG_LINE
 use Rattle.lj_wire.specs.declared.verb.Verb.{Verb}
 use Rattle.lj_wire.specs.declared.verb.Verb.TheVariants as verb
 use Rattle.lj_wire.specs.Displacements.{displacement_of}
-use Rattle.lj_wire.specs.Verbs.{is_load, verb_of}
+use Rattle.lj_wire.specs.Verbs.{has_body, verb_of}
 
 infixl 10 ◌>>=◌
 -- the next word, or none
@@ -92,45 +96,94 @@ abbrev pub list_command : Words → Option Command
 list_command [] = Some command.List
 list_command words = session_command command.ListBranches words
 
--- the command that a first word other than LOAD and the words after it say
-abbrev pub verb_command : Verb → Words → Option Command
-verb_command verb.Advance = number_command command.Advance
-verb_command verb.Reverse = session_command command.Reverse
-verb_command verb.Branch = branch_command command.Branch
-verb_command verb.Restore = branch_command command.Restore
-verb_command verb.Forget = branch_command command.Forget
-verb_command verb.Tug = tug_command
-verb_command verb.Measure = session_command command.Measure
-verb_command verb.Show = number_command command.Show
-verb_command verb.Dump = session_command command.Dump
-verb_command verb.List = list_command
-verb_command verb.Unload = session_command command.Unload
-verb_command verb.Bye = bare_command command.Bye
-
 -- `rest` or `pair`
 abbrev pub mode_of : List ℕ → Option Mode
 mode_of word =
     if bytes_eq word (codes "rest") then Some Rest
     else (if bytes_eq word (codes "pair") then Some Pair else None)
 
--- the LOAD that words say: `s edge sigma step_factor mode count`, of which edge, sigma and step factor may be any words
-abbrev pub load_of : Words → Option Load
-load_of (s ∷ edge ∷ sigma ∷ step_factor ∷ mode ∷ count ∷ []) = do
+-- a load without its body
+abbrev pub load_from : List ℕ → List ℕ → Substance → List ℕ → Option Load
+load_from s edge substance mode = do
   name ← name_of s
   mode ← mode_of mode
-  Some (record {
-    name = name;
-    edge = result_ok (nano_of edge);
-    sigma = result_ok (nano_of sigma);
-    step_factor = number_of step_factor;
-    mode = mode;
-    body = Unread;
-  })
+  Some (record { name = name; edge = result_ok (nano_of edge); substance = substance; mode = mode; body = Unread })
+
+-- `mode count`: the mode of a load
+abbrev pub mode_and_count : Words → Option (List ℕ)
+mode_and_count (mode ∷ count ∷ []) = Some mode
+mode_and_count words = None
+
+-- LOAD: `s edge sigma step_factor mode count`, of which edge, sigma and step factor may be any words
+abbrev pub load_of : Words → Option Load
+load_of (s ∷ edge ∷ sigma ∷ step_factor ∷ words) = do
+  mode ← mode_and_count words
+  load_from s edge (Pure (result_ok (nano_of sigma)) (number_of step_factor)) mode
 load_of words = None
 
--- the LOAD that words say, with this body
-abbrev pub load_command : LoadBody → Words → Option Command
-load_command body words = option_map (λ load. command.Load (record load { body = body })) (load_of words)
+-- the symbol of an atom that a word is
+abbrev pub symbol_of : List ℕ → Option (List ℕ)
+symbol_of word = if is_symbol word then Some word else None
+
+-- `P Q`: two symbols that differ
+abbrev pub symbols_of : List ℕ → List ℕ → Option SymbolPair
+symbols_of p q = do
+  first ← symbol_of p
+  second ← symbol_of q
+  pair_of first second
+
+-- the class that the first three words say, `sigma step_factor weight`, and the words after them; they may be any words
+abbrev pub class_in : Words → Option (ClassNumbers × Words)
+class_in (sigma ∷ step_factor ∷ weight ∷ words) = Some (
+  record { sigma = result_ok (nano_of sigma); step_factor = number_of step_factor; weight = number_of weight },
+  words,
+)
+class_in words = None
+
+-- the classes of two atoms of the first species, of one of each and of two of the second, and the words after them
+pub record Classes : Type 0 where
+  pub first : ClassNumbers
+  pub unlike : ClassNumbers
+  pub second : ClassNumbers
+  pub left : Words
+
+-- three classes
+abbrev pub classes_in : Words → Option Classes
+classes_in words = do
+  first ← class_in words
+  unlike ← class_in first.1
+  second ← class_in unlike.1
+  Some (record { first = first.0; unlike = unlike.0; second = second.0; left = second.1 })
+
+-- LOADMIX: `s edge P Q`, the classes of P with P, of P with Q and of Q with Q, and `mode count`
+abbrev pub load_mix_of : Words → Option Load
+load_mix_of (s ∷ edge ∷ p ∷ q ∷ words) = do
+  symbols ← symbols_of p q
+  classes ← classes_in words
+  mode ← mode_and_count classes.left
+  load_from s edge (Mixed symbols classes.first classes.unlike classes.second) mode
+load_mix_of words = None
+
+-- the command of a load, with this body
+abbrev pub load_command : LoadBody → Option Load → Option Command
+load_command body load = option_map (λ load. command.Load (record load { body = body })) load
+
+-- the command that a first word and the words after it say, with this body where it is a load
+abbrev pub verb_command : Verb → LoadBody → Words → Option Command
+verb_command verb.Load body words = load_command body (load_of words)
+verb_command verb.LoadMix body words = load_command body (load_mix_of words)
+verb_command verb.Advance body words = number_command command.Advance words
+verb_command verb.Reverse body words = session_command command.Reverse words
+verb_command verb.Branch body words = branch_command command.Branch words
+verb_command verb.Restore body words = branch_command command.Restore words
+verb_command verb.Forget body words = branch_command command.Forget words
+verb_command verb.Tug body words = tug_command words
+verb_command verb.Measure body words = session_command command.Measure words
+verb_command verb.Show body words = number_command command.Show words
+verb_command verb.Dump body words = session_command command.Dump words
+verb_command verb.List body words = list_command words
+verb_command verb.Unload body words = session_command command.Unload words
+verb_command verb.Bye body words = bare_command command.Bye words
 
 -- the number that a word of at most 7 digits says, where it is at most 1,048,576
 unfoldable pub count_of : List ℕ → Option ℕ
@@ -138,7 +191,7 @@ count_of word = do
   count ← number_of word
   if nat_le (length word) MAX_COUNT_DIGITS && nat_le count MAX_BODY_BYTES then Some count else None
 
--- the count of a LOAD line: its last word after LOAD
+-- the count of the line of a load: its last word after the first one
 abbrev pub last_count : Words → Option ℕ
 last_count words = last_or None words >>= count_of
 
@@ -147,27 +200,32 @@ abbrev pub or_syntax : Option Command → Item
 or_syntax (Some command) = item.Command command
 or_syntax None = item.Bad fault.Syntax
 
--- the item of a LOAD line with this count, whose words say this command if they say one
+-- the item of the line of a load with this count, whose words say this command if they say one
 abbrev pub counted_item : Option ℕ → Option Command → Item
 counted_item (Some count) command = or_syntax command
 counted_item None command = item.Last fault.Body
 
--- the item of a line whose first word is this one, if it begins a command other than LOAD
-abbrev pub verb_item : Option Verb → Words → Item
-verb_item (Some verb) words = or_syntax (verb_command verb words)
-verb_item None words = item.Bad fault.Command
+-- the item of a line with this first word, if it begins a command, and with this body where it is that of a load
+abbrev pub verb_item : Option Verb → Words → LoadBody → Item
+verb_item None words body = item.Bad fault.Command
+verb_item (Some verb) words body =
+    if has_body verb then counted_item (last_count words) (verb_command verb body words)
+    else or_syntax (verb_command verb body words)
 
--- the item of a line of these words, with this body where it is a LOAD line
+-- how many bytes of body follow a line with this first word
+abbrev pub verb_body_len : Option Verb → Words → ℕ
+verb_body_len None words = 0
+verb_body_len (Some verb) words = if has_body verb then unwrap_or (last_count words) 0 else 0
+
+-- the item of a line of these words, with this body where it is the line of a load
 unfoldable pub item_of_words : Words → LoadBody → Item
 item_of_words [] body = item.Bad fault.Syntax
-item_of_words (word ∷ words) body =
-    if is_load word then counted_item (last_count words) (load_command body words)
-    else verb_item (verb_of word) words
+item_of_words (word ∷ words) body = verb_item (verb_of word) words body
 
 -- how many bytes of body follow a line of these words
 unfoldable pub body_len : Words → ℕ
 body_len [] = 0
-body_len (word ∷ words) = if is_load word then unwrap_or (last_count words) 0 else 0
+body_len (word ∷ words) = verb_body_len (verb_of word) words
 
 -- a line of more than 256 bytes is no command
 abbrev pub is_over : List ℕ → Bool
@@ -185,7 +243,7 @@ words_in line = words_of (strip_carriage_return line)
 abbrev pub announced : List ℕ → ℕ
 announced line = if is_over line then 0 else body_len (words_in line)
 
--- the item of a line, with this body where it is a LOAD line
+-- the item of a line, with this body where it is that of a load
 abbrev pub item_with : List ℕ → LoadBody → Item
 item_with line body = if is_over line then over_item line else item_of_words (words_in line) body
 

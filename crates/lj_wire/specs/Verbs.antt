@@ -1,18 +1,16 @@
 -- The first words of commands.
-use Rattle.std.specs.Prelude.{ℕ, Bool, List, [], ◌∷◌, Option, codes}
+use Rattle.std.specs.Prelude.{ℕ, Bool, true, false, List, [], ◌∷◌, Option, Some, None, codes}
 use Rattle.std.specs.Map.{lookup}
 use Rattle.std.specs.Str.{bytes_eq}
 use Rattle.lj_wire.specs.declared.verb.Verb.{Verb}
 use Rattle.lj_wire.specs.declared.verb.Verb.TheVariants as verb
 
--- whether a word is the first one of a LOAD line
-abbrev pub is_load : List ℕ → Bool
-is_load word = bytes_eq word (codes "LOAD")
-
--- the first word of each command but LOAD
+-- the first word of each command
 abbrev pub verbs : List (List ℕ × Verb)
 verbs =
-    (codes "ADVANCE", verb.Advance)
+    (codes "LOAD", verb.Load)
+    ∷ (codes "LOADMIX", verb.LoadMix)
+    ∷ (codes "ADVANCE", verb.Advance)
     ∷ (codes "REVERSE", verb.Reverse)
     ∷ (codes "BRANCH", verb.Branch)
     ∷ (codes "RESTORE", verb.Restore)
@@ -29,3 +27,18 @@ verbs =
 -- the first word that a word is, if it is one
 abbrev pub verb_of : List ℕ → Option Verb
 verb_of word = lookup (bytes_eq word) verbs
+
+-- whether a body follows the line of a command: the loads have one
+abbrev pub has_body : Verb → Bool
+has_body verb.Load = true
+has_body verb.LoadMix = true
+has_body _ = false
+
+-- the same of the command that begins with a word, if one does
+abbrev pub is_load_verb : Option Verb → Bool
+is_load_verb None = false
+is_load_verb (Some verb) = has_body verb
+
+-- whether a word is the first one of the line of a load
+abbrev pub is_load : List ℕ → Bool
+is_load word = is_load_verb (verb_of word)

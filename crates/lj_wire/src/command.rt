@@ -1,18 +1,20 @@
 //! Commands as the words that say them.
-ghost use Rattle.std.specs.Prelude.{◌≡◌, List, ℕ, [], ◌∷◌};
+ghost use Rattle.std.specs.Prelude.{◌≡◌, [], ◌∷◌, option_map};
 ghost use Rattle.lj_session.specs.declared.body.LoadBody.TheVariants.{Unread};
 ghost use Rattle.lj_session.specs.declared.command.Command.TheVariants as command;
 ghost use Rattle.lj_wire.specs.Commands.{count_of, mode_of, name_and_number, one_name, two_names};
 ghost use Rattle.lj_wire.specs.Commands.{bare_command, list_command, load_command, tug_command, verb_command};
+ghost use Rattle.lj_wire.specs.Commands.{class_in, load_from, load_mix_of, load_of, mode_and_count, symbols_of};
 
 use crate::displacement::parse_displacement;
 use crate::limits::MAX_BODY_BYTES;
 use crate::verb::Verb;
 use crate::words::Words;
 use lj_fixed::{parse_nano, parse_number};
-use lj_session::{Command, Load, LoadBody, Mode, Name};
+use lj_session::{ClassNumbers, Command, Load, LoadBody, Mode, Name, Substance};
+use lj_xyz::{Symbol, SymbolPair};
 
-/// The most digits of the count of a LOAD line.
+/// The most digits of the count of a load.
 const MAX_COUNT_DIGITS: usize = 7;
 
 // The count that a word says: 1 to 7 digits, at most 1,048,576.
@@ -27,11 +29,13 @@ pub(crate) fn parse_count(word: &[u8]) -> Option<usize>
     Some(count as usize)
 }
 
-// The command that a first word and those after it say.
+// The command that a first word and those after it say. The body of a load is not read yet.
 pub(crate) fn parse_words(verb: Verb, words: Words) -> Option<Command>
-    ensures { result ≡ verb_command verb words.entry }
+    ensures { result ≡ verb_command verb Unread words.entry }
 {
     match verb {
+        Verb::Load => parse_load(words),
+        Verb::LoadMix => parse_load_mix(words),
         Verb::Advance => {
             let (name, steps) = name_and_number(words)?;
             Some(Command::Advance { name, steps })
@@ -96,25 +100,81 @@ fn name_and_number(mut words: Words) -> Option<(Name, u64)>
     Some((Name::parse(name)?, parse_number(number)?))
 }
 
-// The LOAD of these words, if they say one. Its body is not read yet.
-pub(crate) fn parse_load(
-    name: &[u8],
-    edge: &[u8],
-    sigma: &[u8],
-    step_factor: &[u8],
-    mode: &[u8],
-) -> Option<Command>
-    ensures { (count : List ℕ) → result ≡ load_command Unread
-        (name.now ∷ edge.now ∷ sigma.now ∷ step_factor.now ∷ mode.now ∷ count ∷ []) }
+// The words after LOAD: a name, three numbers of any shape, the mode and the count.
+fn parse_load(mut words: Words) -> Option<Command>
+    ensures { result ≡ load_command Unread (load_of words.entry) }
+{
+    let name = words.next()?;
+    let edge = words.next()?;
+    let sigma = words.next()?;
+    let step_factor = words.next()?;
+    let mode = parse_end(words)?;
+    let substance = Substance::Pure {
+        sigma: parse_nano(sigma).ok(),
+        step_factor: parse_number(step_factor),
+    };
+    parse_load_from(name, edge, substance, mode)
+}
+
+// The words after LOADMIX: a name, the edge, two symbols, three classes, the mode and the count.
+fn parse_load_mix(mut words: Words) -> Option<Command>
+    ensures { result ≡ load_command Unread (load_mix_of words.entry) }
+{
+    let name = words.next()?;
+    let edge = words.next()?;
+    let first = words.next()?;
+    let second = words.next()?;
+    let symbols = parse_symbols(first, second)?;
+    let substance = Substance::Mixed {
+        symbols,
+        first: next_class(&mut words)?,
+        unlike: next_class(&mut words)?,
+        second: next_class(&mut words)?,
+    };
+    let mode = parse_end(words)?;
+    parse_load_from(name, edge, substance, mode)
+}
+
+// The mode before the count, which are the last words of a load.
+fn parse_end<'a>(mut words: Words<'a>) -> Option<&'a [u8]>
+    ensures { option_map (λ mode. mode.now) result ≡ mode_and_count words.entry }
+{
+    let mode = words.next()?;
+    let _count = words.next()?;
+    words.end()?;
+    Some(mode)
+}
+
+fn parse_load_from(name: &[u8], edge: &[u8], substance: Substance, mode: &[u8]) -> Option<Command>
+    ensures { result ≡ load_command Unread (load_from name.now edge.now substance mode.now) }
 {
     Some(Command::Load(Load {
         name: Name::parse(name)?,
         edge: parse_nano(edge).ok(),
-        sigma: parse_nano(sigma).ok(),
-        step_factor: parse_number(step_factor),
+        substance,
         mode: parse_mode(mode)?,
         body: LoadBody::Unread,
     }))
+}
+
+fn parse_symbols(first: &[u8], second: &[u8]) -> Option<SymbolPair>
+    ensures { result ≡ symbols_of first.now second.now }
+{
+    SymbolPair::new(Symbol::new(first)?, Symbol::new(second)?)
+}
+
+// The class that the next three words say, which may be any words.
+fn next_class(words: &mut Words) -> Option<ClassNumbers>
+    ensures { option_map (λ class. (class, words.new)) result ≡ class_in words.old }
+{
+    let sigma = words.next()?;
+    let step_factor = words.next()?;
+    let weight = words.next()?;
+    Some(ClassNumbers {
+        sigma: parse_nano(sigma).ok(),
+        step_factor: parse_number(step_factor),
+        weight: parse_number(weight),
+    })
 }
 
 fn parse_mode(word: &[u8]) -> Option<Mode>

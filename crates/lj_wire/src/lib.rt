@@ -34,4 +34,5 @@ pub use replies::{
     Line, MAX_REPLY_LINE_BYTES, last_line, put_refusal_line, put_reply_line, put_welcome_line,
     reply_line,
 };
+pub use verb::is_load;
 pub use words::Words;

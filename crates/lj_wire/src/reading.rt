@@ -1,11 +1,10 @@
 //! What a line says: its item, and the body that follows it.
-ghost use Rattle.std.specs.Prelude.{◌≡◌, unwrap_or};
+ghost use Rattle.std.specs.Prelude.{◌≡◌, Some, unwrap_or};
 ghost use Rattle.lj_session.specs.declared.body.LoadBody.TheVariants.{Unread};
-ghost use Rattle.lj_wire.specs.Commands.{announced, item_with, last_count, load_command};
-ghost use Rattle.lj_wire.specs.Commands.{counted_item, or_syntax, over_item};
-ghost use Rattle.lj_wire.specs.Verbs.{is_load};
+ghost use Rattle.lj_wire.specs.Commands.{announced, item_with, last_count, verb_command};
+ghost use Rattle.lj_wire.specs.Commands.{counted_item, or_syntax, over_item, verb_body_len, verb_item};
 
-use crate::command::{parse_count, parse_load, parse_words};
+use crate::command::{parse_count, parse_words};
 use crate::item::{Fault, Item};
 use crate::limits::LONG_LINE_BYTES;
 use crate::line::{is_over, words_in};
@@ -16,10 +15,10 @@ use lj_session::Command;
 /// What a line says.
 #[derive(Debug, Drop)]
 pub struct LineReading {
-    /// The item of the line. The body of a LOAD is not read yet.
+    /// The item of the line. The body of a load is not read yet.
     pub item: Item,
-    /// How many bytes of body follow the line: those that a LOAD line counts, at most 1,048,576, and
-    /// none after another.
+    /// How many bytes of body follow the line: those that the line of a load counts, at most 1,048,576, and none after
+    /// another.
     pub body: usize,
 }
 
@@ -35,16 +34,13 @@ pub fn read_line(line: &[u8]) -> LineReading
     let Some(word) = words.next() else {
         return without_body(Item::Bad(Fault::Syntax));
     };
-    if is_load(word) {
-        return read_load(words);
-    }
     match Verb::parse(word) {
-        Some(verb) => without_body(or_syntax(parse_words(verb, words))),
+        Some(verb) => read_command(verb, words),
         None => without_body(Item::Bad(Fault::Command)),
     }
 }
 
-/// The item of a line, which is given without its line feed. The body of a LOAD is not read yet.
+/// The item of a line, which is given without its line feed. The body of a load is not read yet.
 pub fn parse_command(line: &[u8]) -> Item
     ensures { result ≡ item_with line.now Unread }
 {
@@ -68,12 +64,6 @@ fn over_item(line: &[u8]) -> Item
     }
 }
 
-fn is_load(word: &[u8]) -> bool
-    ensures { result ≡ is_load word.now }
-{
-    word == b"LOAD".as_slice()
-}
-
 fn or_syntax(command: Option<Command>) -> Item
     ensures { result ≡ or_syntax command }
 {
@@ -83,49 +73,34 @@ fn or_syntax(command: Option<Command>) -> Item
     }
 }
 
-// The words after LOAD: a name, three numbers of any shape, the mode, and the count. Of fewer words,
-// or more, the last one is the count too.
-fn read_load(mut words: Words) -> LineReading
-    ensures item { result.item ≡ counted_item (last_count words.entry) (load_command Unread words.entry) }
-    ensures body { result.body ≡ unwrap_or (last_count words.entry) 0 }
+// What the line of a command says, by its first word and those after it.
+fn read_command(verb: Verb, words: Words) -> LineReading
+    ensures item { result.item ≡ verb_item (Some verb) words.entry Unread }
+    ensures body { result.body ≡ verb_body_len (Some verb) words.entry }
 {
-    let Some(name) = words.next() else {
-        return counted(None, None);
-    };
-    let Some(edge) = words.next() else {
-        return counted(parse_count(name), None);
-    };
-    let Some(sigma) = words.next() else {
-        return counted(parse_count(edge), None);
-    };
-    let Some(step_factor) = words.next() else {
-        return counted(parse_count(sigma), None);
-    };
-    let Some(mode) = words.next() else {
-        return counted(parse_count(step_factor), None);
-    };
-    let Some(count) = words.next() else {
-        return counted(parse_count(mode), None);
-    };
-    match words.last() {
-        Some(last) => counted(parse_count(last), None),
-        None => counted(
-            parse_count(count),
-            parse_load(name, edge, sigma, step_factor, mode),
-        ),
+    if verb.has_body() {
+        return read_load(verb, words);
     }
+    without_body(or_syntax(parse_words(verb, words)))
 }
 
-// What a LOAD line with this count says, if its words say this command.
-fn counted(count: Option<usize>, command: Option<Command>) -> LineReading
-    ensures item { result.item ≡ counted_item count command }
-    ensures body { result.body ≡ unwrap_or count 0 }
+// What the line of a load says.
+fn read_load(verb: Verb, words: Words) -> LineReading
+    ensures item { result.item ≡ counted_item (last_count words.entry) (verb_command verb Unread words.entry) }
+    ensures body { result.body ≡ unwrap_or (last_count words.entry) 0 }
 {
-    match count {
+    match last_count(words.copy()) {
         Some(body) => LineReading {
-            item: or_syntax(command),
+            item: or_syntax(parse_words(verb, words)),
             body,
         },
         None => without_body(Item::Last(Fault::Body)),
     }
+}
+
+// The count of the line of a load: its last word, and not its first one.
+fn last_count(words: Words) -> Option<usize>
+    ensures { result ≡ last_count words.entry }
+{
+    parse_count(words.last()?)
 }

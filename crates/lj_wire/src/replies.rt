@@ -75,10 +75,11 @@ fn end(line: &mut Line)
 }
 
 /// `OK LOAD s 0 atoms`.
-fn loaded_line(line: &mut Line, name: &Name, atoms: usize)
-    ensures { line.new.items ≡ ok (codes "LOAD" ∷ name.now ∷ codes "0" ∷ decimal atoms ∷ []) }
+fn loaded_line(line: &mut Line, verb: &[u8], name: &Name, atoms: usize)
+    requires { length verb.now ≤ 16 }
+    ensures { line.new.items ≡ ok (verb.now ∷ name.now ∷ codes "0" ∷ decimal atoms ∷ []) }
 {
-    begin(line, b"LOAD");
+    begin(line, verb);
     push_word(line, name.as_bytes());
     push_word(line, b"0");
     push_number(line, atoms);
@@ -324,7 +325,8 @@ fn only_line(line: &mut Line, reply: &Reply)
     ensures { (user : User) → reply_lines user reply.now ≡ line.new.items ∷ [] }
 {
     match reply {
-        Reply::Loaded { name, atoms } => loaded_line(line, name, *atoms),
+        Reply::Loaded { name, atoms } => loaded_line(line, b"LOAD", name, *atoms),
+        Reply::LoadedMix { name, atoms } => loaded_line(line, b"LOADMIX", name, *atoms),
         Reply::Advanced { name, step } => number_line(line, b"ADVANCE", name, *step),
         Reply::Reversed { name, step } => number_line(line, b"REVERSE", name, *step),
         Reply::Branched { name, branch, step } => names_and_step_line(

@@ -1,10 +1,12 @@
-//! The first words of commands other than LOAD.
+//! The first words of commands.
 ghost use Rattle.std.specs.Prelude.{◌≡◌};
-ghost use Rattle.lj_wire.specs.Verbs.{verb_of};
+ghost use Rattle.lj_wire.specs.Verbs.{has_body, is_load, verb_of};
 
-/// The first word of a command other than LOAD.
+/// The first word of a command.
 #[derive(Clone, Copy)]
 pub(crate) enum Verb {
+    Load,
+    LoadMix,
     Advance,
     Reverse,
     Branch,
@@ -25,6 +27,8 @@ impl Verb {
         ensures { result ≡ verb_of word.now }
     {
         let verb = match word {
+            b"LOAD" => Verb::Load,
+            b"LOADMIX" => Verb::LoadMix,
             b"ADVANCE" => Verb::Advance,
             b"REVERSE" => Verb::Reverse,
             b"BRANCH" => Verb::Branch,
@@ -40,5 +44,22 @@ impl Verb {
             _ => return None,
         };
         Some(verb)
+    }
+
+    /// Whether a body follows the line of the command.
+    pub fn has_body(self) -> bool
+        ensures { result ≡ has_body self }
+    {
+        matches!(self, Verb::Load | Verb::LoadMix)
+    }
+}
+
+/// Whether a word is the first one of a load, LOAD or LOADMIX, whose last word counts the bytes of a body.
+pub fn is_load(word: &[u8]) -> bool
+    ensures { result ≡ is_load word.now }
+{
+    match Verb::parse(word) {
+        Some(verb) => verb.has_body(),
+        None => false,
     }
 }

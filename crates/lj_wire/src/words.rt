@@ -29,6 +29,13 @@ impl<'a> Words<'a> {
         Words { rest: line }
     }
 
+    /// The same words once more.
+    pub(crate) fn copy(&self) -> Words<'a>
+        ensures { result ≡ self.now }
+    {
+        Words { rest: self.rest }
+    }
+
     /// Whether no word is left: `None` where one is.
     pub fn end(mut self) -> Option<()>
         ensures { MatchOption result (self.entry ≢ []) (λ _. self.entry ≡ []) }

@@ -6,7 +6,7 @@ ghost use Rattle.lj_wire.specs.Commands.{item_with};
 use lj_access::{Name, Token};
 use lj_fixed::parse_number;
 use lj_session::LoadBody;
-use lj_wire::{Fault, Item, Words, parse_command};
+use lj_wire::{Fault, Item, Words, is_load, parse_command};
 use lj_world::{Event, MAX_CONNECTIONS, MAX_WORKERS};
 use lj_xyz::split_word;
 
@@ -67,20 +67,20 @@ pub fn parse_arrival(words: &[u8]) -> Option<(u8, &[u8])> {
     Some((parse_numbered(connection, MAX_CONNECTIONS)?, line))
 }
 
-/// The arrival of a LOAD whose body was lost for want of memory. None where another line follows the connection.
+/// The arrival of a load whose body was lost for want of memory. None where another line follows the connection.
 pub fn parse_loss(words: &[u8]) -> Option<Event> {
     let (connection, line) = parse_arrival(words)?;
     let item = lost_load(line)?;
     Some(Event::Arrive { connection, item })
 }
 
-/// The item of a LOAD line with a count, whose body was lost for want of memory. None of another line.
+/// The item of the line of a load with a count, whose body was lost for want of memory. None of another line.
 fn lost_load(line: &[u8]) -> Option<Item>
     ensures lost { IfSome result (λ item. item ≡ item_with line.now Lost) }
 {
     let (word, _) = split_word(line)?;
     let item = parse_command(line);
-    if word != b"LOAD".as_slice() || matches!(&item, Item::Bad(Fault::Line) | Item::Last(_)) {
+    if !is_load(word) || matches!(&item, Item::Bad(Fault::Line) | Item::Last(_)) {
         return None;
     }
     Some(item.with_body(LoadBody::Lost))

@@ -126,7 +126,7 @@ impl Draft {
     }
 }
 
-/// The item with a copy of these bytes as its body, where it is a LOAD.
+/// The item with a copy of these bytes as its body, where it is a load.
 fn with_bytes(alloc: Global, item: Item, bytes: &[u8]) -> Result<Item, AllocError> {
     if !matches!(&item, Item::Command(Command::Load(_))) {
         return Ok(item);

@@ -1,7 +1,6 @@
-//! LOAD, and DROP.
+//! LOAD and LOADMIX, and DROP.
 ghost use Rattle.std.specs.Prelude.{◌≡◌, OnErr};
 ghost use Rattle.lj_session.specs.declared.command.Command.TheVariants as commands;
-ghost use Rattle.lj_session.specs.Loads as definition;
 ghost use Rattle.lj_session.specs.Loads.{admitted};
 ghost use Rattle.lj_session.specs.States.{Performs, user_of};
 
@@ -12,9 +11,8 @@ use crate::refusal::Refusal;
 use crate::reply::Reply;
 use crate::session::Session;
 use crate::sessions::Sessions;
-use lj_fixed::Nano;
 use lj_quota::{may_load, may_session};
-use lj_ring::{Scale, ScaleFault};
+use lj_ring::Mix;
 use lj_tile::Name;
 
 impl Sessions {
@@ -24,9 +22,10 @@ impl Sessions {
         ensures quota { self.new.quota ≡ self.old.quota }
         ensures unchanged { OnErr result (self.new ≡ self.old) }
     {
-        let scale = self.admit(&load)?;
+        let mix = self.admit(&load)?;
         let Load {
             name,
+            substance,
             mode,
             body,
             ..
@@ -35,14 +34,15 @@ impl Sessions {
             return Err(Refusal::Memory);
         };
         let alloc = *self.sessions.allocator();
-        let opening = Opening::read(alloc, mode, &body)?;
+        let symbols = substance.symbols();
+        let opening = Opening::read(alloc, mode, symbols, &body)?;
         let atoms = opening.count();
         may_load(&self.quota, &self.used, atoms as u64)?;
-        let session = opening.session(alloc, scale)?;
+        let session = opening.session(alloc, mix, symbols)?;
         self.sessions.insert(name.copy(), session)?;
         self.used.sessions += 1;
         self.used.atoms += atoms as u64;
-        Ok(Reply::Loaded { name, atoms })
+        Ok(substance.loaded(name, atoms))
     }
 
     /// Gives up a session. The others keep their order.
@@ -60,26 +60,14 @@ impl Sessions {
         Ok(Reply::Unloaded { name })
     }
 
-    /// The scale of a LOAD, as far as its body is not looked at.
-    fn admit(&self, load: &Load) -> Result<Scale, Refusal>
+    /// How the atoms of a load interact. Its body is not looked at.
+    fn admit(&self, load: &Load) -> Result<Mix, Refusal>
         ensures { result ≡ admitted (user_of self.now) load.now }
     {
         if self.has(&load.name) {
             return Err(Refusal::Exists);
         }
         may_session(&self.quota, &self.used)?;
-        Ok(scale_of(load)?)
+        load.substance.mix(load.edge)
     }
-}
-
-/// The scale of a LOAD. A word that was no number stands for 0, which is out of range for each.
-fn scale_of(load: &Load) -> Result<Scale, ScaleFault>
-    ensures { result ≡ definition.scale_of_load load.now }
-{
-    let zero = Nano::new(0).unwrap();
-    Scale::new(
-        load.edge.unwrap_or(zero),
-        load.sigma.unwrap_or(zero),
-        load.step_factor.unwrap_or(0),
-    )
 }

@@ -1,7 +1,7 @@
 use Rattle.std.proofs.Common.{ap, sym, ◌∙◌}
 use Rattle.lj_session.specs.declared.body.LoadBody.TheVariants.{Unread}
-use Rattle.lj_wire.specs.Commands.{or_syntax, verb_item}
-use Rattle.lj_wire.proofs.Parsing.{says_empty, says_load, says_verb}
+use Rattle.lj_wire.specs.Commands.{verb_body_len, verb_item}
+use Rattle.lj_wire.proofs.Parsing.{says_empty, says_words}
 use Rattle.lj_wire.proofs.reading.read_line.Goals as goal
 
 pub returns-in_default-clause-item : goal.returns-in_default-clause-item
@@ -16,41 +16,30 @@ returns-in_default-clause-body c =
     (says_empty c.args.line.now Unread (sym c.is_over.ensures ∙ c.if-is_over.false)
     (sym c.words_in-words.ensures ∙ c.in_default.ensures.steps.0)).len_is
 
-pub returns-then-is_load-clause-item : goal.returns-then-is_load-clause-item
-returns-then-is_load-clause-item c =
-    c.read_load.ensures.item
-    ∙ (says_load c.args.line.now c.in-Some.word.now c.next.new.self Unread (sym c.is_over.ensures ∙ c.if-is_over.false)
-    (sym c.words_in-words.ensures ∙ c.in-Some.ensures.steps) (sym c.is_load.ensures ∙ c.if-is_load.true)).item_is
-
-pub returns-then-is_load-clause-body : goal.returns-then-is_load-clause-body
-returns-then-is_load-clause-body c =
-    c.read_load.ensures.body
-    ∙ (says_load c.args.line.now c.in-Some.word.now c.next.new.self Unread (sym c.is_over.ensures ∙ c.if-is_over.false)
-    (sym c.words_in-words.ensures ∙ c.in-Some.ensures.steps) (sym c.is_load.ensures ∙ c.if-is_load.true)).len_is
-
 pub returns-in-Some-parse-clause-item : goal.returns-in-Some-parse-clause-item
 returns-in-Some-parse-clause-item c =
-    rw c.without_body-in-Some-parse.ensures
-    (c.or_syntax.ensures ∙ ap or_syntax c.parse_words.ensures
-    ∙ ap (λ verb. verb_item verb c.next.new.self) c.in-Some-parse.ensures
-    ∙ (says_verb c.args.line.now c.in-Some.word.now c.next.new.self Unread (sym c.is_over.ensures ∙ c.if-is_over.false)
-    (sym c.words_in-words.ensures ∙ c.in-Some.ensures.steps) (sym c.is_load.ensures ∙ c.if-is_load.false)).item_is)
+    c.read_command.ensures.item
+    ∙ ap (λ verb. verb_item verb c.next.new.self Unread) c.in-Some-parse.ensures
+    ∙ (says_words c.args.line.now c.in-Some.word.now c.next.new.self Unread
+    (sym c.is_over.ensures ∙ c.if-is_over.false) (sym c.words_in-words.ensures ∙ c.in-Some.ensures.steps)).item_is
 
 pub returns-in-Some-parse-clause-body : goal.returns-in-Some-parse-clause-body
 returns-in-Some-parse-clause-body c =
-    rw c.without_body-in-Some-parse.ensures
-    (says_verb c.args.line.now c.in-Some.word.now c.next.new.self Unread (sym c.is_over.ensures ∙ c.if-is_over.false)
-    (sym c.words_in-words.ensures ∙ c.in-Some.ensures.steps) (sym c.is_load.ensures ∙ c.if-is_load.false)).len_is
+    c.read_command.ensures.body
+    ∙ ap (λ verb. verb_body_len verb c.next.new.self) c.in-Some-parse.ensures
+    ∙ (says_words c.args.line.now c.in-Some.word.now c.next.new.self Unread
+    (sym c.is_over.ensures ∙ c.if-is_over.false) (sym c.words_in-words.ensures ∙ c.in-Some.ensures.steps)).len_is
 
 pub returns-in-None-clause-item : goal.returns-in-None-clause-item
 returns-in-None-clause-item c =
     rw c.without_body-in-None.ensures
-    (ap (λ verb. verb_item verb c.next.new.self) c.in-None.ensures
-    ∙ (says_verb c.args.line.now c.in-Some.word.now c.next.new.self Unread (sym c.is_over.ensures ∙ c.if-is_over.false)
-    (sym c.words_in-words.ensures ∙ c.in-Some.ensures.steps) (sym c.is_load.ensures ∙ c.if-is_load.false)).item_is)
+    (ap (λ verb. verb_item verb c.next.new.self Unread) c.in-None.ensures
+    ∙ (says_words c.args.line.now c.in-Some.word.now c.next.new.self Unread
+    (sym c.is_over.ensures ∙ c.if-is_over.false) (sym c.words_in-words.ensures ∙ c.in-Some.ensures.steps)).item_is)
 
 pub returns-in-None-clause-body : goal.returns-in-None-clause-body
 returns-in-None-clause-body c =
     rw c.without_body-in-None.ensures
-    (says_verb c.args.line.now c.in-Some.word.now c.next.new.self Unread (sym c.is_over.ensures ∙ c.if-is_over.false)
-    (sym c.words_in-words.ensures ∙ c.in-Some.ensures.steps) (sym c.is_load.ensures ∙ c.if-is_load.false)).len_is
+    (ap (λ verb. verb_body_len verb c.next.new.self) c.in-None.ensures
+    ∙ (says_words c.args.line.now c.in-Some.word.now c.next.new.self Unread
+    (sym c.is_over.ensures ∙ c.if-is_over.false) (sym c.words_in-words.ensures ∙ c.in-Some.ensures.steps)).len_is)

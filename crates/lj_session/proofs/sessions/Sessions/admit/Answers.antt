@@ -1,7 +1,6 @@
 use Rattle.std.proofs.Common.{◌+◌, Err, refl, sym, ap, ◌∙◌}
 use Rattle.lj_quota.specs.declared.Over.{Over}
 use Rattle.lj_quota.specs.declared.Over.TheVariants.{Sessions}
-use Rattle.lj_session.specs.Loads.{scale_refusal}
 use Rattle.lj_session.specs.Faults.{quota_refusal}
 use Rattle.lj_session.proofs.Loading as loading
 use Rattle.lj_session.proofs.Results.{refused}
@@ -27,20 +26,10 @@ returns-in_err-may_session c =
     (sym c.has.ensures ∙ c.if-has.false)
     (sessions-over c.self.inside old c.self.view_is c.self.invariant over)))
 
-pub returns-in_err-scale_of : goal.returns-in_err-scale_of
-returns-in_err-scale_of c =
-    let old = c.args.self.now in
-    refused c.from_residual-in_err-scale_of.result (scale_refusal c.in_err-scale_of.field-0.0)
-    c.from_residual-in_err-scale_of.ensures.1
-    ∙ sym (loading.admitted-fault (user_of old) c.args.load.now
-    (sym c.has.ensures ∙ c.if-has.false)
-    (sessions-room c.self.inside old c.self.view_is c.self.invariant (c.in_ok-may_session.ensures.may.0 refl))
-    c.in_err-scale_of.field-0.0 (sym c.in_err-scale_of.ensures))
-
 pub returns : goal.returns
 returns c =
     let old = c.args.self.now in
-    sym (loading.admitted-scale (user_of old) c.args.load.now
+    c.mix.ensures
+    ∙ sym (loading.admitted-mix (user_of old) c.args.load.now
     (sym c.has.ensures ∙ c.if-has.false)
-    (sessions-room c.self.inside old c.self.view_is c.self.invariant (c.in_ok-may_session.ensures.may.0 refl))
-    c.in_ok-scale_of.field-0 (sym c.in_ok-scale_of.ensures))
+    (sessions-room c.self.inside old c.self.view_is c.self.invariant (c.in_ok-may_session.ensures.may.0 refl)))

@@ -10,6 +10,9 @@ of_bytes : (word bytes : List ℕ) (verb : Verb) → length word ≡ length byte
     → Some verb ≡ verb_of word
 of_bytes word bytes verb long has found = found ∙ ap verb_of (sym (text_from_reads word bytes long has))
 
+pub returns-in-LOADMIX : goal.returns-in-LOADMIX
+returns-in-LOADMIX c = of_bytes c.args.word.now (codes "LOADMIX") _ (search rules) (search rules) refl
+
 pub returns-in-ADVANCE : goal.returns-in-ADVANCE
 returns-in-ADVANCE c = of_bytes c.args.word.now (codes "ADVANCE") _ (search rules) (search rules) refl
 

@@ -1,0 +1,25 @@
+use Rattle.std.proofs.Common.{◌≡◌, ◌≤◌, ◌<◌, ◌+◌, ◌*◌, ◌^◌, ℕ, length, [], ◌∷◌, ◌++◌, sym, ap, ◌∙◌, arith}
+use Rattle.std.proofs.lemmas.List.{nil_from_length}
+use Rattle.lj_step.specs.Sets.{joined}
+use Rattle.lj_session.specs.Substances.{seconds_among}
+use Rattle.lj_xyz.specs.declared.row.Row.{Row}
+use Rattle.lj_xyz.specs.Symbols.{is_second}
+use Rattle.lj_session.proofs.PlacesWhere.{block-more}
+use Rattle.lj_session.proofs.seconds.blocks_of.Goals as goal
+
+pub loop-rest-preserved : goal.loop-rest-preserved
+loop-rest-preserved c =
+    let symbols = c.args.symbols.now in
+    let seconds = c.loop-rest.seconds.items in
+    let block = c.split_at.result.0.now in
+    let others = c.split_at.result.1.now in
+    let whole : c.loop-rest.rest.now ≡ block ++ others = c.split_at.ensures.by_index.0 in
+    let most : length block ≤ 64 = omega (arith, c.split_at.ensures.front_len, c.min.ensures) in
+    let last : length block < 64 → others ≡ [] =
+    λ fewer. nil_from_length others (omega (arith, c.split_at.ensures.front_len, c.split_at.ensures.back_len, c.min.ensures, fewer)) in
+    let pushed : c.push.new.self.items ≡ seconds ++ seconds_among symbols block ∷ [] =
+    c.in_ok-push.ensures.items ∙ ap (λ n. seconds ++ n ∷ []) c.bits_of.ensures in
+    c.loop-rest.invariant
+    ∙ ap (λ r. joined seconds + 2 ^ (64 * length seconds) * seconds_among symbols r) whole
+    ∙ block-more (λ (row : Row). is_second symbols row.symbol) seconds block others most last
+    ∙ ap (λ list. joined list + 2 ^ (64 * length list) * seconds_among symbols others) (sym pushed)

@@ -1,0 +1,89 @@
+-- What the atoms of a load are: how they interact, which of them are of the second species, and what is replied.
+use Rattle.std.specs.Prelude.{ℕ, ◌+◌, ◌*◌, Bool, ℤ, pos, List, [], ◌∷◌, Option, Some, None, Result, Ok, Err, if◌then◌else◌}
+use Rattle.std.specs.Option.{unwrap_or}
+use Rattle.lj_ring.specs.declared.mixes.ClassFault.{ClassFault}
+use Rattle.lj_ring.specs.declared.mixes.ClassFault.TheVariants as class
+use Rattle.lj_ring.specs.declared.mixes.MixFault.{MixFault}
+use Rattle.lj_ring.specs.declared.scales.ScaleFault.{ScaleFault}
+use Rattle.lj_ring.specs.declared.scales.ScaleFault.TheVariants as scale
+use Rattle.lj_ring.specs.Mixes.{Mixture, mixture_of, pure}
+use Rattle.lj_ring.specs.Scales.{Units, scale_of}
+use Rattle.lj_tile.specs.Species.{Composition}
+use Rattle.lj_xyz.specs.declared.row.Row.{Row}
+use Rattle.lj_xyz.specs.Symbols.{SymbolPair, is_second}
+use Rattle.lj_session.specs.declared.refusal.Refusal.{Refusal}
+use Rattle.lj_session.specs.declared.refusal.Refusal.TheVariants.{Edge, Sigma, StepFactor, Weight}
+use Rattle.lj_session.specs.declared.reply.Reply.{Reply}
+use Rattle.lj_session.specs.declared.reply.Reply.TheVariants.{Loaded, LoadedMix}
+use Rattle.lj_session.specs.declared.substance.ClassNumbers.{ClassNumbers}
+use Rattle.lj_session.specs.declared.substance.Substance.{Substance}
+use Rattle.lj_session.specs.declared.substance.Substance.TheVariants.{Pure, Mixed}
+
+-- a word that is no number stands for 0, which is neither an edge, nor a sigma, a step factor or a weight
+abbrev pub nano_or_zero : Option ℤ → ℤ
+nano_or_zero nano = unwrap_or nano (pos 0)
+
+-- sigma, step factor and weight of a class
+abbrev pub numbers_of : ClassNumbers → ℤ × ℕ × ℕ
+numbers_of class = (nano_or_zero class.sigma, unwrap_or class.step_factor 0, unwrap_or class.weight 0)
+
+-- the refusal of a scale
+abbrev pub scale_refusal : ScaleFault → Refusal
+scale_refusal scale.Edge = Edge
+scale_refusal scale.Sigma = Sigma
+scale_refusal scale.StepFactor = StepFactor
+
+-- the refusal of a class
+abbrev pub class_refusal : ClassFault → Refusal
+class_refusal (class.Scale fault) = scale_refusal fault
+class_refusal class.Weight = Weight
+
+-- the refusal of a mixture: that of its first class that is refused
+abbrev pub mix_refusal : MixFault → Refusal
+mix_refusal fault = class_refusal fault.fault
+
+-- the mixture of atoms that are all alike, or the fault of their scale as a refusal
+abbrev pub pure_or_refusal : Result Units ScaleFault → Result Mixture Refusal
+pure_or_refusal (Ok units) = Ok (pure units)
+pure_or_refusal (Err fault) = Err (scale_refusal fault)
+
+-- a mixture, or its fault as a refusal
+abbrev pub mixture_or_refusal : Result Mixture MixFault → Result Mixture Refusal
+mixture_or_refusal (Ok mix) = Ok mix
+mixture_or_refusal (Err fault) = Err (mix_refusal fault)
+
+-- how the atoms interact in a box of this edge, or the first of edge, and of sigma, step factor and weight of each class
+-- in turn, that is out of range
+abbrev pub mixture_said : ℤ → Substance → Result Mixture Refusal
+mixture_said edge (Pure sigma step_factor) =
+    pure_or_refusal (scale_of edge (nano_or_zero sigma) (unwrap_or step_factor 0))
+mixture_said edge (Mixed symbols first unlike second) =
+    mixture_or_refusal (mixture_of edge (numbers_of first) (numbers_of unlike) (numbers_of second))
+
+-- the symbols that the atoms of the first frame are to have, where not any will do
+abbrev pub symbols_of : Substance → Option SymbolPair
+symbols_of (Pure sigma step_factor) = None
+symbols_of (Mixed symbols first unlike second) = Some symbols
+
+-- the places of a list where a test holds, as a set: the bit of a place is 1 where it does
+abbrev pub places_where : {A : Type 0} → (A → Bool) → List A → ℕ
+places_where test [] = 0
+places_where test (x ∷ xs) = (if test x then 1 else 0) + 2 * places_where test xs
+
+-- the atoms of a frame whose symbol is the second of two
+abbrev pub seconds_among : SymbolPair → List Row → ℕ
+seconds_among symbols rows = places_where (λ row. is_second symbols row.symbol) rows
+
+-- the atoms of a frame that are of the second species; where no symbols are asked for, none is
+abbrev pub seconds_of : Option SymbolPair → List Row → ℕ
+seconds_of None rows = 0
+seconds_of (Some symbols) rows = seconds_among symbols rows
+
+-- what the atoms of a frame are
+abbrev pub composed : Mixture → Option SymbolPair → List Row → Composition
+composed mix symbols rows = record { mix = mix; seconds = seconds_of symbols rows }
+
+-- the reply where so many atoms are loaded
+abbrev pub loaded : Substance → List ℕ → ℕ → Reply
+loaded (Pure sigma step_factor) name atoms = Loaded name atoms
+loaded (Mixed symbols first unlike second) name atoms = LoadedMix name atoms

@@ -1,0 +1,49 @@
+//! Which atoms of a frame are of the second species.
+ghost use Rattle.std.specs.Prelude.{◌≡◌, ◌≤◌, length, IfOk};
+ghost use Rattle.std.specs.Option.{option_copied};
+ghost use Rattle.lj_step.specs.Sets.{joined};
+ghost use Rattle.lj_session.specs.Substances.{seconds_among, seconds_of};
+
+use lj_tile::BLOCK;
+use lj_xyz::{Row, SymbolPair};
+use std::alloc::{AllocError, Global};
+
+/// The bits of each block of 64 atoms that tell which are of the second species. Where no symbols are asked for, none is.
+pub(crate) fn seconds_of(
+    alloc: Global,
+    symbols: Option<&SymbolPair>,
+    rows: &[Row],
+) -> Result<Vec<u64>, AllocError>
+    ensures { IfOk result (λ seconds. joined seconds.items ≡ seconds_of (option_copied symbols.entry) rows.now) }
+{
+    match symbols {
+        None => Ok(Vec::new(alloc)),
+        Some(symbols) => blocks_of(alloc, symbols, rows),
+    }
+}
+
+fn blocks_of(alloc: Global, symbols: &SymbolPair, rows: &[Row]) -> Result<Vec<u64>, AllocError>
+    ensures { IfOk result (λ seconds. joined seconds.items ≡ seconds_among symbols.now rows.now) }
+{
+    let mut seconds = Vec::new(alloc);
+    let mut rest = rows;
+    while !rest.is_empty() {
+        let (block, others) = rest.split_at(rest.len().min(BLOCK));
+        seconds.push(bits_of(symbols, block))?;
+        rest = others;
+    }
+    Ok(seconds)
+}
+
+fn bits_of(symbols: &SymbolPair, block: &[Row]) -> u64
+    requires { length block.now ≤ BLOCK }
+    ensures { result ≡ seconds_among symbols.now block.now }
+{
+    let mut bits = 0;
+    for (t, row) in block.iter().enumerate() {
+        if symbols.is_second(&row.symbol) {
+            bits += 1 << t;
+        }
+    }
+    bits
+}

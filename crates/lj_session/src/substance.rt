@@ -1,0 +1,109 @@
+//! What the atoms of a load are, as its words say.
+ghost use Rattle.std.specs.Prelude.{◌≡◌};
+ghost use Rattle.std.specs.Option.{option_copied};
+ghost use Rattle.lj_session.specs.Substances.{loaded, mixture_said, nano_or_zero, numbers_of, symbols_of};
+
+use crate::refusal::Refusal;
+use crate::reply::Reply;
+use lj_fixed::Nano;
+use lj_ring::{Mix, Scale};
+use lj_tile::Name;
+use lj_xyz::SymbolPair;
+
+/// The numbers of a class of pairs. Each is `None` where its word is no such number.
+#[derive(Clone, Copy, Debug)]
+pub struct ClassNumbers {
+    /// In nano.
+    pub sigma: Option<Nano>,
+    /// In units of 2^-32.
+    pub step_factor: Option<u64>,
+    /// In 256ths.
+    pub weight: Option<u64>,
+}
+
+/// What the atoms of a load are. Each of its numbers is `None` where its word is no such number.
+#[derive(Debug, Drop)]
+pub enum Substance {
+    /// All alike, under any symbols: LOAD.
+    Pure {
+        /// In nano.
+        sigma: Option<Nano>,
+        /// In units of 2^-32.
+        step_factor: Option<u64>,
+    },
+    /// Of two species, each under its symbol: LOADMIX. The classes are that of two atoms of the first species, of one of
+    /// each, and of two of the second.
+    Mixed {
+        symbols: SymbolPair,
+        first: ClassNumbers,
+        unlike: ClassNumbers,
+        second: ClassNumbers,
+    },
+}
+
+impl ClassNumbers {
+    /// Sigma, step factor and weight. A word that was no number stands for 0, which is out of range for each.
+    fn numbers(&self) -> (Nano, u64, u64)
+        ensures { result ≡ numbers_of self.now }
+    {
+        (
+            or_zero(self.sigma),
+            self.step_factor.unwrap_or(0),
+            self.weight.unwrap_or(0),
+        )
+    }
+}
+
+impl Substance {
+    /// How the atoms interact in a box of this edge.
+    ///
+    /// # Errors
+    /// The first of edge, and of sigma, step factor and weight of each class in turn, that is out of range.
+    pub(crate) fn mix(&self, edge: Option<Nano>) -> Result<Mix, Refusal>
+        ensures { result ≡ mixture_said (nano_or_zero edge) self.now }
+    {
+        let edge = or_zero(edge);
+        match self {
+            Substance::Pure { sigma, step_factor } => {
+                let scale = Scale::new(edge, or_zero(*sigma), step_factor.unwrap_or(0))?;
+                Ok(Mix::one(scale))
+            }
+            Substance::Mixed {
+                first,
+                unlike,
+                second,
+                ..
+            } => {
+                let classes = [first.numbers(), unlike.numbers(), second.numbers()];
+                Ok(Mix::new(classes, edge)?)
+            }
+        }
+    }
+
+    /// The symbols that the atoms of the first frame are to have, where not any will do.
+    pub(crate) fn symbols(&self) -> Option<&SymbolPair>
+        ensures { option_copied result ≡ symbols_of self.now }
+    {
+        match self {
+            Substance::Pure { .. } => None,
+            Substance::Mixed { symbols, .. } => Some(symbols),
+        }
+    }
+
+    /// The reply where so many atoms of it are loaded.
+    pub(crate) fn loaded(&self, name: Name, atoms: usize) -> Reply
+        ensures { result ≡ loaded self.now name atoms }
+    {
+        match self {
+            Substance::Pure { .. } => Reply::Loaded { name, atoms },
+            Substance::Mixed { .. } => Reply::LoadedMix { name, atoms },
+        }
+    }
+}
+
+/// A word that was no number stands for 0, which is neither an edge nor a sigma.
+fn or_zero(nano: Option<Nano>) -> Nano
+    ensures { result ≡ nano_or_zero nano }
+{
+    nano.unwrap_or(Nano::new(0).unwrap())
+}
