@@ -45,12 +45,12 @@ abbrev pub IsNone : User → Option (List ℕ) → Type 0
 IsNone user (Some name) = named name user.sessions ≡ None
 IsNone user None = ⊥
 
--- the session of a command is not there; LOAD makes one
+-- the session of a command is not there; a load makes one
 abbrev pub IsAbsent : User → Command → Type 0
 IsAbsent user (Load load) = ⊥
 IsAbsent user command = IsNone user (session_named command)
 
--- every command of a session but LOAD is refused where there is none
+-- every command of a session but a load is refused where there is none
 pub none : (user : User) (command : Command) (mark : Bool) → IsAbsent user command
     → performed user command mark ≡ Err NoSession
 unfolding performed

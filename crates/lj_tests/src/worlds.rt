@@ -101,7 +101,7 @@ const OF_NOBODY: [Step; 27] = [
     Step::Leave(0),
 ];
 
-/// The item of a line, with the body of two atoms where it is a LOAD.
+/// The item of a line, with the body of two atoms where it is a load.
 fn item(rt: &impl AllocGlobal, line: &str) -> Result<Item, AllocError> {
     let reading = read_line(line.as_bytes());
     if reading.body == 0 {

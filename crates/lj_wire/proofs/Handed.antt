@@ -13,7 +13,7 @@ use Rattle.lj_wire.specs.Streams.{IsPart, Splits}
 use Rattle.lj_wire.specs.Told.{answered}
 use Rattle.lj_wire.proofs.Splitting.{same_item, no_part}
 
--- a LOAD whose body is lost
+-- a load whose body is lost
 pub lost_answered : (user : User) (found item : Item) (mark : Bool) → IsLost found item
     → answered user item mark ≡ answered user found true
 unfolding performed

@@ -26,7 +26,7 @@ use Rattle.lj_wire.specs.Streams.{IsLine}
 use Rattle.lj_wire.proofs.Filling.{line_filled}
 use Rattle.lj_wire.proofs.Taking.{Takes-trans, Takes-held, Kept-takes}
 
--- a LOAD whose body is lost
+-- a load whose body is lost
 lost : (item : Item) (body : List ℕ) (handed : Item) → takes_body item ≡ true → handed ≡ with_body item Lost
     → IsLost (with_body item (Read body)) handed
 lost (Command (Load load)) body handed can is = record { load = load; body = body; found_is = refl; item_is = is }
@@ -46,7 +46,7 @@ lost (Command Bye) body handed can is = cc
 lost (Bad fault) body handed can is = cc
 lost (Last fault) body handed can is = cc
 
--- the body of a LOAD was read, or passed over for want of memory
+-- the body of a load was read, or passed over for want of memory
 pub rest_taken : (old new : Ahead) (item : Item) (count : ℕ) (body : LoadBody) (handed : Item) → takes_body item ≡ true
     → ReadsBody old (Some body) count new → handed ≡ with_body item body → TakesRest old new item count handed
 rest_taken old new item count (Read body) handed can read is =

@@ -1,4 +1,4 @@
--- Items of a stream: those that end the connection, the body put into a LOAD, and the refusal that a fault is answered.
+-- Items of a stream: those that end the connection, the body put into a load, and the refusal that a fault is answered.
 use Rattle.std.specs.Prelude.{Bool, true, false}
 use Rattle.lj_session.specs.declared.body.LoadBody.{LoadBody}
 use Rattle.lj_session.specs.declared.command.Command.TheVariants.{Bye, Load}
@@ -25,7 +25,7 @@ ends (Command _) = false
 ends (Bad fault) = false
 ends (Last fault) = true
 
--- the item with this body, where it is a LOAD
+-- the item with this body, where it is a load
 abbrev pub with_body : Item → LoadBody → Item
 with_body (Command (Load load)) body = Command (Load (record load { body = body }))
 with_body (Command command) body = Command command

@@ -25,14 +25,14 @@ pub record Standing : Type 0 where
   pub items : ℕ
   pub phase : Phase
 
--- a LOAD, and the same with the mark of lost memory in place of its body
+-- a load, and the same with the mark of lost memory in place of its body
 pub record IsLost (found item : Item) : Type 0 where
   pub load : LoadParts
   pub body : List ℕ
   pub found_is : found ≡ Command (Load (record load { body = Read body }))
   pub item_is : item ≡ Command (Load (record load { body = Lost }))
 
--- what is handed out for an item of the stream: that item, or where no memory was found for its body its LOAD with the
+-- what is handed out for an item of the stream: that item, or where no memory was found for its body its load with the
 -- mark
 abbrev pub IsHandedOut : Item → Item → Type 0
 IsHandedOut found item = (item ≡ found) ⊎ IsLost found item
@@ -93,7 +93,7 @@ AreHandedOut (found ∷ founds) (item ∷ items) = IsHandedOut found item × Are
 AreHandedOut [] (item ∷ items) = ⊥
 AreHandedOut (found ∷ founds) [] = ⊥
 
--- The items that are handed out one after the other are the first items of the bytes that are left, but that LOADs for
+-- The items that are handed out one after the other are the first items of the bytes that are left, but that loads for
 -- whose bodies no memory was found are marked.
 abbrev pub HandedComeFirst : Type 0
 HandedComeFirst = (old new : Standing) (bytes rest : List ℕ) (handed items : List Item)
@@ -106,7 +106,7 @@ HandedAreAll = (old last new : Standing) (bytes rest : List ℕ) (handed items :
     → old.left ≡ Some bytes → HandsAll old handed last → Ceases last new → Splits old.items bytes items rest
     → AreHandedOut items handed
 
--- What is answered to a LOAD whose body is lost is what is answered where memory is refused to the LOAD.
+-- What is answered to a load whose body is lost is what is answered where memory is refused to the load.
 abbrev pub LostIsMarked : Type 0
 LostIsMarked = (user : User) (found item : Item) (mark : Bool) → IsLost found item
     → answered user item mark ≡ answered user found true

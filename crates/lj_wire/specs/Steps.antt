@@ -78,7 +78,7 @@ ReadsBody old (Some Lost) count new = TakesCount old new count
 ReadsBody old (Some Unread) count new = ⊥
 ReadsBody old None count new = TakesFewer old new count × IsAtEnd (untaken new)
 
--- the body after a line was taken, and is in the item if that is a LOAD
+-- the body after a line was taken, and is in the item if that is a load
 pub record TakesRest (old new : Ahead) (item : Item) (count : ℕ) (handed : Item) : Type 0 where
   pub body : List ℕ
   pub taken : Takes old new body

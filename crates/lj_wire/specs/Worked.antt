@@ -53,6 +53,30 @@ pub wrong_load : IsWritten USUAL
 unfolding computed
 wrong_load = played USUAL 6 nothing _ _ refl refl refl
 
+-- two species: the unlike pair has a step factor and a weight of its own
+pub two_species : IsWritten USUAL
+    (codes "LOADMIX m 256 Na Cl 1 131072 256 1 262144 512 1 131072 256 rest 26\n2\nmix\nNa 0 0 0\nCl 1.5 0 0\n"
+    ++ codes "MEASURE m\nADVANCE m 1\nSHOW m 1\n")
+    (codes "OK LOADMIX m 0 2\nOK MEASURE m 0 2 0 0 0 0 -10698264\nOK ADVANCE m 1\nOK SHOW m 1 1 25164646 0 0\n")
+unfolding computed
+two_species = played USUAL 4 nothing _ _ refl refl refl
+
+-- a weight of 1 leaves a 256th of the energy, toward zero, and the whole push
+pub light_pair : IsWritten USUAL
+    (codes "LOADMIX m 256 Na Cl 1 131072 256 1 131072 1 1 131072 256 rest 26\n2\nmix\nNa 0 0 0\nCl 1.5 0 0\n"
+    ++ codes "MEASURE m\nADVANCE m 1\nSHOW m 0\n")
+    (codes "OK LOADMIX m 0 2\nOK MEASURE m 0 2 0 0 0 0 -20895\nOK ADVANCE m 1\nOK SHOW m 1 0 589 0 0\n")
+unfolding computed
+light_pair = played USUAL 4 nothing _ _ refl refl refl
+
+-- a symbol twice, a weight of nothing, and an atom of another species
+pub wrong_mixture : IsWritten USUAL
+    (codes "LOADMIX m 256 Na Na 1 131072 256 1 131072 256 1 131072 256 rest 2\n1\nLOADMIX m 256 Na Cl 1 131072 256 1 131072 0 1 131072 256 rest 2\n1\n"
+    ++ codes "LOADMIX m 256 Na Cl 1 131072 256 1 131072 256 1 131072 256 rest 26\n2\nmix\nNa 0 0 0\nAr 1.5 0 0\n")
+    (codes "ERR 03 SYNTAX\nERR 40 WEIGHT\nERR 39 XYZ_SPECIES line 4\n")
+unfolding computed
+wrong_mixture = played USUAL 3 nothing _ _ refl refl refl
+
 -- a body that is cut short is no item
 pub cut_body : IsWritten USUAL
     (codes "LIST\nLOAD a 256 1 1 rest 28\n2\ndimer\n")

@@ -13,7 +13,7 @@ pub enum Fault {
     Line,
     /// A line without a word, a wrong number of words, or a word not of its shape.
     Syntax,
-    /// A LOAD line without a count.
+    /// The line of a load without a count.
     Body,
     /// 65,536 bytes without a line feed.
     Long,
@@ -59,7 +59,7 @@ impl Item {
         }
     }
 
-    /// The item with this body, where it is a LOAD.
+    /// The item with this body, where it is a load.
     pub fn with_body(self, body: LoadBody) -> Item
         ensures value { result ≡ with_body self body }
         ensures whole { (line : List ℕ) → self ≡ item_with line Unread → result ≡ item_with line body }

@@ -23,7 +23,7 @@ pub use phase::Phase;
 use std::alloc::Global;
 use std::marker::Model;
 
-/// Reads the items of a stream, whatever pieces its bytes come in. Only the body of a LOAD takes
+/// Reads the items of a stream, whatever pieces its bytes come in. Only the body of a load takes
 /// memory: the bytes that are read ahead stand in a buffer of fixed size, and of a line that is too
 /// long for a command they are only counted.
 #[derive(Drop)]

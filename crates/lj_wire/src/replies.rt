@@ -74,7 +74,7 @@ fn end(line: &mut Line)
     line.push(b'\n');
 }
 
-/// `OK LOAD s 0 atoms`.
+/// `OK`, the word of a load, a session, its step 0 and how many atoms it has.
 fn loaded_line(line: &mut Line, verb: &[u8], name: &Name, atoms: usize)
     requires { length verb.now ≤ 16 }
     ensures { line.new.items ≡ ok (verb.now ∷ name.now ∷ codes "0" ∷ decimal atoms ∷ []) }

@@ -39,8 +39,7 @@ pub(crate) fn read_item<S: Source>(
     }
 }
 
-// Reads the body of `count` bytes after a line, and puts it into the item of the line if that is a
-// LOAD.
+// Reads the body of `count` bytes after a line, and puts it into the item of the line if that is a load.
 fn finish<S: Source>(
     alloc: Global,
     input: &mut Input<S>,

@@ -1,7 +1,7 @@
 //! Laws of what a reader hands out: functions that do nothing, whose contracts are the laws.
 ghost use Rattle.lj_wire.specs.Standings.{HandedComeFirst, HandedAreAll, LostIsMarked};
 
-/// The items that a reader hands out are the first items of the stream, but that LOADs for whose
+/// The items that a reader hands out are the first items of the stream, but that loads for whose
 /// bodies no memory was found are marked.
 pub fn handed_come_first()
     ensures { HandedComeFirst }
@@ -12,7 +12,7 @@ pub fn handed_are_all()
     ensures { HandedAreAll }
 {}
 
-/// A LOAD whose body is lost is answered as a LOAD to which memory is refused.
+/// A load whose body is lost is answered as a load to which memory is refused.
 pub fn lost_is_marked()
     ensures { LostIsMarked }
 {}
