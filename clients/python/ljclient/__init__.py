@@ -16,6 +16,7 @@
 from . import refusals, units
 from .arrays import distance, least_images
 from .errors import BadReply, CannotStart, ClientError, Closed, ConnectionLost, Refused, TimedOut
+from .mixture import Mixture
 from .session import Measurement, Row, Saved, Session
 from .units import Scale
 from .user import User, connect, run
@@ -29,6 +30,7 @@ __all__ = [
     "Closed",
     "ConnectionLost",
     "Measurement",
+    "Mixture",
     "Refused",
     "Row",
     "Saved",

@@ -20,7 +20,7 @@ class Syntax(Refused):
 
 
 class Body(Refused):
-    number, name, meaning = 4, "BODY", "LOAD does not end with a count of bytes; the connection has ended"
+    number, name, meaning = 4, "BODY", "LOAD or LOADMIX does not end with a count of bytes; the connection has ended"
 
 
 class Long(Refused):
@@ -105,6 +105,14 @@ class Sigma(Refused):
 
 class StepFactor(Refused):
     number, name, meaning = 38, "STEP_FACTOR", "h is no whole number from 1 to 16777216"
+
+
+class XyzSpecies(Refused):
+    number, name, meaning = 39, "XYZ_SPECIES", "the symbol is neither of the two species of the mixture"
+
+
+class Weight(Refused):
+    number, name, meaning = 40, "WEIGHT", "the weight of a class is no whole number from 1 to 65536"
 
 
 class Memory(Refused):

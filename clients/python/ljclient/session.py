@@ -10,6 +10,7 @@ from typing import TYPE_CHECKING, Any, List, NamedTuple, Optional, Sequence, Tup
 
 from . import arrays, ase_bridge, progress as bars
 from .errors import BadReply
+from .mixture import Mixture
 from .units import POTENTIAL_UNIT, Scale, kelvin
 
 if TYPE_CHECKING:
@@ -37,8 +38,8 @@ class Measurement:
     kinetic      the kinetic number: the sum of the squares of these displacements
     potential    the potential in units of 2^-24 epsilon
 
-    Displacements are those of the step before, so the kinetic energy is that of half a step ago, and the potential energy
-    that of now.
+    Of a mixture, epsilon is that of its first class. Displacements are those of the step before, so the kinetic energy is
+    that of half a step ago, and the potential energy that of now.
     """
 
     step: int
@@ -51,7 +52,7 @@ class Measurement:
     @property
     def potential_energy(self) -> float:
         """In epsilon."""
-        return self.potential / POTENTIAL_UNIT
+        return self.potential / POTENTIAL_UNIT if self.scale is None else self.scale.potential_energy(self.potential)
 
     @property
     def kinetic_energy(self) -> float:
@@ -100,14 +101,23 @@ def count_of(number: Any, what: str) -> int:
 
 
 class Session:
-    """A simulation at the server, by its name. `User.load` and `User.session` give one.
+    """A simulation at the server, by its name. `User.load`, `User.load_mix` and `User.session` give one.
 
-    name   its name
-    scale  what its whole numbers mean (`units.Scale`), or None where it was never said
+    name     its name
+    scale    what its whole numbers mean (`units.Scale`), where that was said
+    mixture  how its two species interact (`Mixture`), where `User.load_mix` has loaded it, else None
     """
 
-    def __init__(self, user: "User", name: str, scale: Optional[Scale] = None, seconds_per_step: float = 0.0):
+    def __init__(
+        self,
+        user: "User",
+        name: str,
+        scale: Optional[Scale] = None,
+        seconds_per_step: float = 0.0,
+        mixture: Optional[Mixture] = None,
+    ):
         self.name = checked_name(name)
+        self.mixture = mixture
         self._user = user
         self._given = scale
         self._seconds_per_step = seconds_per_step
@@ -118,7 +128,7 @@ class Session:
 
     @property
     def scale(self) -> Scale:
-        """What its whole numbers mean. Raises ValueError where nobody has said it."""
+        """What its whole numbers mean; of a mixture, the scale of its first class. ValueError where nobody has said it."""
         return _known(self._given)
 
     @property

@@ -19,6 +19,7 @@ Number = Union[int, float, str, Decimal]
 RING = 1 << 32
 MAX_STEP_FACTOR = 1 << 24
 POTENTIAL_UNIT = 1 << 24
+FULL_WEIGHT = 256
 
 electronvolt = 1.0
 kelvin = 8.617333262e-5
@@ -51,14 +52,20 @@ def time_unit(sigma: float, epsilon: float, mass: float) -> float:
 def step_factor(dt: float, sigma: float, epsilon: float, mass: float) -> int:
     """The step factor h nearest to a time step in femtoseconds; the other words are those of `time_unit`."""
     for name, value in (("dt", dt), ("sigma", sigma), ("epsilon", epsilon), ("mass", mass)):
-        if not (value > 0 and math.isfinite(value)):
-            raise ValueError(f"{name} is a number above 0, not {value!r}")
+        checked_positive(name, value)
     unit = time_unit(sigma, epsilon, mass)
     h = round(min((dt / unit) ** 2 * RING, 2.0 * MAX_STEP_FACTOR))
     if not 1 <= h <= MAX_STEP_FACTOR:
         shortest, longest = unit * reduced_time_step(1), unit * reduced_time_step(MAX_STEP_FACTOR)
         raise ValueError(f"dt is from {shortest:.3g} to {longest:.3g} fs for these atoms, not {dt:g} fs")
     return h
+
+
+def checked_positive(name: str, value: float) -> float:
+    """A number above 0. Raises ValueError for what is none."""
+    if not (value > 0 and math.isfinite(value)):
+        raise ValueError(f"{name} is a number above 0, not {value!r}")
+    return value
 
 
 def nano(number: Number) -> int:
@@ -81,12 +88,13 @@ def word(number: Number) -> str:
 
 @dataclass(frozen=True)
 class Scale:
-    """The scale of a session: what its whole numbers mean.
+    """The scale of a session: what its whole numbers mean. Of a mixture, each class has one.
 
     edge, sigma  the edge of the box and the distance sigma, in the unit of the file (angstrom where epsilon is said)
     h            the step factor: `dt^2 epsilon / (m sigma^2)` in units of 2^-32
     epsilon      the depth of the potential in electronvolt, if it was said
     mass         the mass of an atom in dalton, if it was said
+    weight       what energies are multiplied by, in 256ths: 256 where all atoms are alike
     """
 
     edge: float
@@ -95,6 +103,7 @@ class Scale:
     epsilon: Optional[float] = None
     mass: Optional[float] = None
     sigma_on_ring: int = 0
+    weight: int = FULL_WEIGHT
 
     @staticmethod
     def of(
@@ -105,6 +114,7 @@ class Scale:
         epsilon: Optional[float] = None,
         mass: Optional[float] = None,
         dt: Optional[float] = None,
+        weight: int = FULL_WEIGHT,
     ) -> "Scale":
         """The scale of these: h, or epsilon, mass and dt, of which h is the nearest whole number."""
         if (h is None) == (dt is None):
@@ -112,12 +122,13 @@ class Scale:
         if h is None:
             if epsilon is None or mass is None or dt is None:
                 raise ValueError("a time step dt in femtoseconds needs epsilon (electronvolt) and mass (dalton)")
-            h = step_factor(float(dt), _float(sigma), float(epsilon), float(mass))
+            h = step_factor(float(dt), plain_float(sigma), float(epsilon), float(mass))
         try:
             on_ring = nano(sigma) * RING // nano(edge)
         except (InvalidOperation, ValueError, ZeroDivisionError, OverflowError):
             on_ring = 0
-        return Scale(_float(edge), _float(sigma), operator.index(h), epsilon, mass, on_ring)
+        floats = plain_float(edge), plain_float(sigma)
+        return Scale(*floats, operator.index(h), epsilon, mass, on_ring, operator.index(weight))
 
     @property
     def reduced_dt(self) -> float:
@@ -131,12 +142,16 @@ class Scale:
             return None
         return self.reduced_dt * time_unit(self.sigma, self.epsilon, self.mass)
 
+    def potential_energy(self, potential: int) -> float:
+        """The potential energy in epsilon, of the number that `measure` tells."""
+        return potential * FULL_WEIGHT / (POTENTIAL_UNIT * self.weight)
+
     def kinetic_energy(self, kinetic_number: int) -> float:
         """The kinetic energy in epsilon, of the sum of the squares of all displacements in ring units per step."""
         return kinetic_number * RING / (2 * self.sigma_on_ring**2 * self.h)
 
 
-def _float(number: Number) -> float:
+def plain_float(number: Number) -> float:
     """A number that is read back; nan where the server will refuse it."""
     try:
         return float(str(number).lower().replace("d", "e"))

@@ -6,11 +6,12 @@ import pathlib
 import shutil
 import subprocess
 from types import TracebackType
-from typing import Any, Callable, Dict, Iterable, List, Optional, Type, Union
+from typing import Any, Callable, Dict, Iterable, List, Optional, Sequence, Type, Union
 
 from . import units, xyz
 from .ends import ChildEnds, SocketEnds
 from .errors import BadReply, CannotStart, ClientError, ConnectionLost, TimedOut
+from .mixture import Mixture, Pair, RawClass
 from .session import Row, Session, checked_name, fields, whole_number
 from .wire import Reply, Wire, checked_timeout
 
@@ -32,6 +33,7 @@ class User:
         self._wire = wire
         self._reopen = reopen
         self._scales: Dict[str, units.Scale] = {}
+        self._mixtures: Dict[str, Mixture] = {}
 
     def __enter__(self) -> "User":
         return self
@@ -78,18 +80,69 @@ class User:
         With `replace=True` a session of that name is dropped first.
         """
         checked_name(name)
-        if edge is None and (edge := xyz.edge_of(source)) is None:
-            raise ValueError("say the edge of the box: edge=..")
+        edge = _edge_of(edge, source)
         scale = units.Scale.of(edge, sigma, h, epsilon=epsilon, mass=mass, dt=dt)
-        mode, body = "rest", xyz.body_of(source, symbols)
-        if before is not None:
-            mode, body = "pair", xyz.pair_of(xyz.body_of(before, symbols), body)
-        if replace and any(row.name == name for row in self.sessions()):
-            self.ask(f"DROP {name}")
-        line = f"LOAD {name} {units.word(edge)} {units.word(sigma)} {units.word(scale.h)} {mode} {len(body)}"
-        self.ask(line, body)
+        words = f"{units.word(edge)} {units.word(sigma)} {units.word(scale.h)}"
+        self._send("LOAD", name, words, xyz.frames_of(source, before, symbols), replace)
         self._scales[name] = scale
         return Session(self, name, scale)
+
+    def load_mix(
+        self,
+        name: str,
+        source: Any,
+        *,
+        species: Sequence[str],
+        edge: Optional[units.Number] = None,
+        first: Optional[Pair] = None,
+        second: Optional[Pair] = None,
+        mixed: Optional[Pair] = None,
+        mass: Optional[float] = None,
+        dt: Optional[float] = None,
+        classes: Optional[Sequence[RawClass]] = None,
+        epsilon: Optional[float] = None,
+        before: Any = None,
+        symbols: xyz.Symbols = None,
+        replace: bool = False,
+    ) -> Session:
+        """Loads atoms of two species, all of one mass, into a new session at step 0.
+
+        name, source, edge, before, symbols, replace are as in `load`.
+
+        species  the two symbols, such as `("Ar", "Kr")`; each atom has one of them
+        first    sigma (angstrom) and epsilon (electronvolt) of two atoms of the first species
+        second   those of two atoms of the second species
+        mixed    those of one atom of each; where they are not said, the mean of the sigmas and the geometric mean of the
+                 epsilons (Lorentz and Berthelot)
+        mass     the mass of each atom in dalton
+        dt       the time step in femtoseconds
+
+        The step factor h and the weight of each of the three are the nearest whole numbers; `print(session.mixture)` tells
+        them. A weight is an epsilon in 256ths of the first one, which is the unit of energies.
+
+        In place of first, second, mixed and dt there may be the numbers of the protocol:
+
+        classes  three of `(sigma, h, weight)`: of two atoms of the first species, of one of each, of two of the second
+        epsilon  that of the first in electronvolt, and mass, where `Session.dt` and temperatures in kelvin are to be known
+        """
+        checked_name(name)
+        edge = _edge_of(edge, source)
+        mixture = Mixture.of(
+            edge, species, first=first, second=second, mixed=mixed, mass=mass, dt=dt, classes=classes, epsilon=epsilon
+        )
+        words = f"{units.word(edge)} {mixture.words}"
+        self._send("LOADMIX", name, words, xyz.frames_of(source, before, symbols), replace)
+        self._scales[name] = mixture.scale
+        self._mixtures[name] = mixture
+        return Session(self, name, mixture.scale, mixture=mixture)
+
+    def _send(self, command: str, name: str, words: str, frames: xyz.Frames, replace: bool) -> None:
+        """Asks for a new session, in place of one of that name where it is to be replaced."""
+        mode, body = frames
+        if replace and any(row.name == name for row in self.sessions()):
+            self.ask(f"DROP {name}")
+        self.ask(f"{command} {name} {words} {mode} {len(body)}", body)
+        self.has_dropped(name)
 
     def session(
         self,
@@ -101,18 +154,21 @@ class User:
         epsilon: Optional[float] = None,
         mass: Optional[float] = None,
         dt: Optional[float] = None,
+        weight: int = units.FULL_WEIGHT,
     ) -> Session:
         """A session that is at the server. Raises `refusals.NoSession` where there is none of that name.
 
         The server does not tell a session's scale. Where another connection has loaded it, say it again, in the words of
-        `load`, for `positions`, energies and temperatures; places need none.
+        `load`, for `positions`, energies and temperatures; places need none. Of a mixture say that of its first class,
+        with its weight where that is not 256.
         """
         self.ask(f"LIST {checked_name(name)}")
         if edge is not None and sigma is not None:
-            self._scales[name] = units.Scale.of(edge, sigma, h, epsilon=epsilon, mass=mass, dt=dt)
+            self._scales[name] = units.Scale.of(edge, sigma, h, epsilon=epsilon, mass=mass, dt=dt, weight=weight)
+            self._mixtures.pop(name, None)
         elif (edge, sigma, h, epsilon, mass, dt) != (None,) * 6:
             raise ValueError("a scale is edge and sigma, with h or with epsilon, mass and dt")
-        return Session(self, name, self._scales.get(name))
+        return Session(self, name, self._scales.get(name), mixture=self._mixtures.get(name))
 
     def sessions(self) -> List[Row]:
         """The sessions in order of loading: of each its name, its step, its atoms and how much is saved in it."""
@@ -132,11 +188,12 @@ class User:
         raise BadReply(f"session {name} is there, but not in the list of sessions")
 
     def has_dropped(self, name: str) -> None:
-        """Forgets the scale of a session that is gone."""
+        """Forgets what was said of a session that is gone."""
         self._scales.pop(name, None)
+        self._mixtures.pop(name, None)
 
     def ask(self, line: str, body: bytes = b"") -> Reply:
-        """The reply to a command line of the protocol, with the body that a LOAD announces. A refusal is raised."""
+        """The reply to a command line of the protocol, with the body that it announces. A refusal is raised."""
         self._make_room(1)
         return self._wire.ask(line, body)
 
@@ -174,6 +231,13 @@ class User:
             pass
         finally:
             self._wire.close()
+
+
+def _edge_of(edge: Optional[units.Number], source: Any) -> units.Number:
+    """The edge of the box that was said, or that the source says itself."""
+    if edge is None and (edge := xyz.edge_of(source)) is None:
+        raise ValueError("say the edge of the box: edge=..")
+    return edge
 
 
 def connect(host: str, port: int, name: str, token: str, *, timeout: float = 60.0) -> User:

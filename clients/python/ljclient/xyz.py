@@ -9,6 +9,7 @@ from . import ase_bridge
 MAX_BYTES = 1_048_576
 Row = Tuple[str, float, float, float]
 Symbols = Union[str, Sequence[str], None]
+Frames = Tuple[str, bytes]
 
 
 def body_of(source: Any, symbols: Symbols = None) -> bytes:
@@ -59,6 +60,12 @@ def text_of(atoms: Iterable[Tuple[str, Sequence[float]]], comment: str = "ljclie
             raise ValueError(f"{symbol!r} is no symbol")
         lines.append(f"{symbol} {float(x)!r} {float(y)!r} {float(z)!r}\n")
     return f"{len(lines)}\n{comment}\n{''.join(lines)}".encode()
+
+
+def frames_of(source: Any, before: Any, symbols: Symbols) -> Frames:
+    """The mode and the body of a command that loads a source: at rest, or in motion from the atoms one step before."""
+    body = body_of(source, symbols)
+    return ("rest", body) if before is None else ("pair", pair_of(body_of(before, symbols), body))
 
 
 def pair_of(before: bytes, present: bytes) -> bytes:

@@ -38,13 +38,19 @@ class Examples(unittest.TestCase):
             text = examples()[1].replace("4000", str(server.port)).replace("aliceExampleToken000000000000001", TOKEN)
             self.assertEqual(self.printed(text), ["[Row(name='argon', step=100, atoms=256, branches=1)]", "100"])
 
+    def test_two_species(self):
+        with mock.patch.dict(os.environ, {"LJSERVE": PROGRAM}):
+            *told, energy = self.printed(examples()[2])
+        self.assertIn("\n".join(["```", *told, "```"]), README.read_text())
+        self.assertLess(float(energy), -1)
+
     def test_the_example_of_the_repository(self):
         (text,) = examples(TOP / "README.md")
         with mock.patch.dict(os.environ, {"LJSERVE": PROGRAM}):
             self.assertEqual(self.printed(text), ["0.0"])
 
     def test_each_example_is_run(self):
-        self.assertEqual(len(examples()), 2)
+        self.assertEqual(len(examples()), 3)
 
 
 if __name__ == "__main__":

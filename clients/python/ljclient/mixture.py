@@ -1,0 +1,138 @@
+"""Mixtures of two species: how two atoms interact by what they are, and the numbers that this is rounded to."""
+from __future__ import annotations
+
+import math
+import re
+from dataclasses import dataclass, field
+from typing import List, Optional, Sequence, Tuple
+
+from .units import FULL_WEIGHT, Number, Scale, checked_positive, plain_float, word
+
+MAX_WEIGHT = 65_536
+SYMBOL = re.compile(r"[!-~]{1,16}\Z")
+Pair = Tuple[Number, float]
+RawClass = Tuple[Number, int, int]
+
+
+@dataclass(frozen=True)
+class Mixture:
+    """Two species of atoms, and how two atoms interact by what they are. All atoms have one mass.
+
+    species  the symbols of the two species
+    classes  the scales of two atoms of the first species, of one of each, and of two of the second, with what their
+             numbers were rounded to: `h`, `weight`, `sigma_on_ring`, and the time step `dt` that h stands for
+    words    the words of the command that say species and classes
+
+    `str` has a line for each class.
+    """
+
+    species: Tuple[str, str]
+    classes: Tuple[Scale, ...]
+    words: str = field(repr=False, compare=False, default="")
+
+    @staticmethod
+    def of(
+        edge: Number,
+        species: Sequence[str],
+        *,
+        first: Optional[Pair] = None,
+        second: Optional[Pair] = None,
+        mixed: Optional[Pair] = None,
+        mass: Optional[float] = None,
+        dt: Optional[float] = None,
+        classes: Optional[Sequence[RawClass]] = None,
+        epsilon: Optional[float] = None,
+    ) -> "Mixture":
+        """The mixture of pairs of sigma and epsilon, with mass and dt; or of three classes of sigma, h and weight.
+
+        Of pairs, each h and each weight is the nearest whole number, and where `mixed` is not said it is that of Lorentz
+        and Berthelot. Beside classes, `epsilon` (of the first one) and `mass` may be said.
+        """
+        symbols = checked_species(species)
+        if classes is None:
+            if first is None or second is None or mass is None or dt is None or epsilon is not None:
+                raise ValueError("say first= and second= (sigma, epsilon) with mass= and dt=, or classes= (sigma, h, weight)")
+            pairs = [first, lorentz_berthelot(first, second) if mixed is None else mixed, second]
+            scales = _rounded(edge, symbols, pairs, mass, dt)
+            return _made(symbols, [sigma for sigma, _ in pairs], scales)
+        if (first, second, mixed, dt) != (None,) * 4:
+            raise ValueError("classes= takes the place of first=, second=, mixed= and dt=")
+        if len(classes) != 3:
+            raise ValueError(f"a mixture has three classes of (sigma, h, weight), not {len(classes)}")
+        scales = [Scale.of(edge, sigma, h, weight=weight) for sigma, h, weight in classes]
+        sigma, h, weight = classes[0]
+        scales[0] = Scale.of(edge, sigma, h, epsilon=epsilon, mass=mass, weight=weight)
+        return _made(symbols, [sigma for sigma, _, _ in classes], scales)
+
+    @property
+    def scale(self) -> Scale:
+        """The scale of the first class, whose epsilon is the unit of energies."""
+        return self.classes[0]
+
+    @property
+    def epsilons(self) -> Optional[Tuple[float, ...]]:
+        """The epsilons that the weights stand for, in electronvolt; None where that of the first class was not said."""
+        unit = self.scale.epsilon
+        return None if unit is None else tuple(unit * each.weight / self.scale.weight for each in self.classes)
+
+    def __str__(self) -> str:
+        epsilons: Sequence[Optional[float]] = self.epsilons or [None] * len(self.classes)
+        return "\n".join(map(_line, _names(self.species), self.classes, epsilons))
+
+
+def checked_species(species: Sequence[str]) -> Tuple[str, str]:
+    """The symbols of two species. Raises ValueError for what is none, and for one symbol said twice."""
+    if isinstance(species, str) or len(species) != 2:
+        raise ValueError(f"a mixture has two species, such as ('Ar', 'Kr'), not {species!r}")
+    first, second = species
+    for symbol in (first, second):
+        if not (isinstance(symbol, str) and SYMBOL.match(symbol)):
+            raise ValueError(f"a symbol is 1 to 16 printing characters, not {symbol!r}")
+    if first == second:
+        raise ValueError(f"the two species have one symbol, {first!r}; `load` takes atoms that are all alike")
+    return first, second
+
+
+def lorentz_berthelot(first: Pair, second: Pair) -> Pair:
+    """Sigma and epsilon of two unlike atoms: the arithmetic mean of the sigmas, the geometric mean of the epsilons."""
+    epsilons = [checked_positive("epsilon", epsilon) for _, epsilon in (first, second)]
+    return (plain_float(first[0]) + plain_float(second[0])) / 2, math.sqrt(epsilons[0]) * math.sqrt(epsilons[1])
+
+
+def weight_of(epsilon: float, unit: float) -> int:
+    """The weight nearest to an epsilon, where that of the first class is the unit."""
+    weight = round(min(FULL_WEIGHT * (checked_positive("epsilon", epsilon) / unit), 2.0 * MAX_WEIGHT))
+    if not 1 <= weight <= MAX_WEIGHT:
+        least, most = unit / FULL_WEIGHT, unit * MAX_WEIGHT / FULL_WEIGHT
+        raise ValueError(f"epsilon is from {least:.3g} to {most:.3g} beside {unit:.3g} of the first class, not {epsilon:.3g}")
+    return weight
+
+
+def _rounded(edge: Number, species: Tuple[str, str], pairs: Sequence[Pair], mass: float, dt: float) -> List[Scale]:
+    """The scales of three classes. A number that does not fit is a ValueError which names the class."""
+    scales: List[Scale] = []
+    for name, (sigma, epsilon) in zip(_names(species), pairs):
+        try:
+            weight = weight_of(epsilon, pairs[0][1])
+            scales.append(Scale.of(edge, sigma, epsilon=epsilon, mass=mass, dt=dt, weight=weight))
+        except ValueError as error:
+            raise ValueError(f"{name}: {error}") from None
+    return scales
+
+
+def _made(species: Tuple[str, str], sigmas: Sequence[Number], scales: Sequence[Scale]) -> Mixture:
+    numbers = (f"{word(sigma)} {scale.h} {scale.weight}" for sigma, scale in zip(sigmas, scales))
+    return Mixture(species, tuple(scales), " ".join([*species, *numbers]))
+
+
+def _names(species: Tuple[str, str]) -> List[str]:
+    """The names of the classes, in order."""
+    first, second = species
+    return [f"{first} with {first}", f"{first} with {second}", f"{second} with {second}"]
+
+
+def _line(name: str, scale: Scale, epsilon: Optional[float]) -> str:
+    """What a class is rounded to."""
+    step = "" if scale.dt is None else f" (dt {scale.dt:.6f} fs)"
+    depth = "" if epsilon is None else f" (epsilon {epsilon:.6g} eV)"
+    return f"{name}: sigma {scale.sigma:g} ({scale.sigma_on_ring} ring units), h {scale.h}{step}, weight {scale.weight}{depth}"
