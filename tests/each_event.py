@@ -5,13 +5,13 @@ TOKEN = "a" * 32
 USERS = f"user A {TOKEN} 4 100 4\nuser B {TOKEN} 4 100 4\n"
 LOAD = "LOAD d 256 1 131072 rest 28\n2\ndimer\nAr 0 0 0\nAr 1.5 0 0\n"
 
-# A line of each event, most of which are not possible, and a LOAD with its body: nothing is told, and no line is bad.
+# A line of each event, most of which are not possible, and two bodies: nothing is told, and no line is bad.
 EACH_EVENT = (
     f"user A {TOKEN} 4 100 4\nhello 2 A {TOKEN}\narrive 3 ADVANCE d 7\narrive 4 LOAD d 1 2 3 pair 3\nx\n"
-    "ylost 11 LOAD d 1 2 3 rest 3\nend 5\nenter 6\nnext 7\npost 8\ntake 16 3\ncompute 2\ngive 3\nhandback 4\n"
-    "fetch 9 19\nturn 10\nleave 64\n"
+    "ylost 11 LOAD d 1 2 3 rest 3\narrive 4 LOADMIX d 3\nx\nylost 11 LOADMIX d 3\nend 5\nenter 6\nnext 7\npost 8\n"
+    "take 16 3\ncompute 2\ngive 3\nhandback 4\nfetch 9 19\nturn 10\nleave 64\n"
 )
-EACH_EVENT_LINES = 17
+EACH_EVENT_LINES = 20
 
 # Two users step at once: worker 16 picks the task of B, which stands at key 1, and worker 2 hands that of A back.
 EVENTS = (
@@ -50,6 +50,10 @@ EVENTS = (
     "turn 9\n",
     "arrive 9 LOAD e 256 1 1 pair 3\nx\ny",
     "lost 9 LOAD e 256 1 1 rest 3\n",
+    "arrive 9 LOADMIX e 256 X Y 1 1 1 1 1 1 1 1 1 rest 3\n2\n3",
+    "lost 9 LOADMIX e 256 X Y 1 1 1 1 1 1 1 1 0 rest 3\n",
+    "next 9\n",
+    "next 9\n",
     "next 9\n",
     "next 9\n",
     "end 9\n",
@@ -62,7 +66,7 @@ EVENTS = (
 SCHEDULE = USERS + "".join(EVENTS)
 TOLD = (
     "A 9 OK LOAD d 0 2\nB 64 OK LOAD d 0 2\nB 64 OK ADVANCE d 2\nA 9 OK ADVANCE d 1\nA 9 ERR 30 XYZ_COUNT line 1\n"
-    "A 9 ERR 90 MEMORY\nA 10 OK LIST 1\nA 10 d 1 2 0\n"
+    "A 9 ERR 90 MEMORY\nA 9 ERR 31 XYZ_SHORT line 3\nA 9 ERR 40 WEIGHT\nA 10 OK LIST 1\nA 10 d 1 2 0\n"
 )
 
 # Events of the same form, of another connection, worker or pick.
@@ -79,7 +83,9 @@ OTHERS = (
     ("fetch 64 19", "fetch 19 64"),
     ("turn 9", "turn 10"),
     ("handback 2", "handback 3"),
-    ("lost 9", "lost 8"),
+    ("lost 9 LOAD e", "lost 8 LOAD e"),
+    ("lost 9 LOADMIX", "lost 8 LOADMIX"),
+    ("arrive 9 LOADMIX", "arrive 8 LOADMIX"),
     ("end 9", "end 8"),
     ("leave 9", "leave 8"),
     ("next 10", "next 1"),

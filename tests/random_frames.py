@@ -60,11 +60,10 @@ def atoms(count: int, layout: Layout, dice: random.Random) -> Frame:
 
 def pairs_of_blocks_in_reach(talk: Talk) -> int:
     """How many pairs of blocks hold two atoms within reach of each other."""
-    return len({(i // BLOCK, j // BLOCK) for i, j, _, _ in talk.simulation.pairs()})
+    return len({(i // BLOCK, j // BLOCK) for i, j, *_ in talk.simulation.pairs()})
 
 
-def moved(name: str, before: Frame, present: Frame, tiles: Tuple[int, int], sigma: int = SIGMA) -> Moved:
-    talk = Talk(before, present, sigma)
+def moved(name: str, talk: Talk, tiles: Tuple[int, int]) -> Moved:
     least = max(tiles[0], pairs_of_blocks_in_reach(talk))
     talk.measure()
     talk.advance(1)
@@ -76,10 +75,10 @@ def both(layout: Layout, dice: random.Random) -> Iterator[Moved]:
     """A frame of each count at rest, and one in motion."""
     for count, tiles in zip(COUNTS, layout.tiles):
         still = atoms(count, layout, dice)
-        yield telling(moved(f"{count} {layout.name}, at rest", still, still, tiles))
+        yield telling(moved(f"{count} {layout.name}, at rest", Talk.of_one(still, still, SIGMA), tiles))
         present = atoms(count, layout, dice)
         before = [near(place, 2048, dice) for place in present]
-        yield telling(moved(f"{count} {layout.name}, in motion", before, present, tiles))
+        yield telling(moved(f"{count} {layout.name}, in motion", Talk.of_one(before, present, SIGMA), tiles))
 
 
 def telling(frame: Moved) -> Moved:
@@ -126,7 +125,7 @@ def about_the_origin(width: int, dice: random.Random) -> Moved:
     """Two blocks in a cube of this width about 0, in a box of 256 sigma."""
     corner = (-(width // 2), -(width // 2), -(width // 2))
     frame = [near(corner, width, dice) for _ in range(2 * BLOCK)]
-    return moved(f"two blocks in a cube of {width}", frame, frame, (0, 3), SIGMA // 16)
+    return moved(f"two blocks in a cube of {width}", Talk.of_one(frame, frame, SIGMA // 16), (0, 3))
 
 
 def frames() -> Iterator[Moved]:
@@ -138,11 +137,15 @@ def frames() -> Iterator[Moved]:
             yield about_the_origin(width, dice)
 
 
-def there_and_back(count: int, dice: random.Random) -> Talk:
-    """So many atoms in a cube of six sigma: three steps on, and back exactly; then a tug, and two steps on."""
+def in_six_sigma(count: int, dice: random.Random) -> Tuple[Frame, Frame]:
+    """Two frames of so many atoms in a cube of six sigma, across the edge of the box."""
     present = [near((RING - SIGMA, 0, RING // 2), 6 * SIGMA, dice) for _ in range(count)]
-    before = [near(place, 1 << 20, dice) for place in present]
-    talk = Talk(before, present, SIGMA, dice.randrange(1, 1 << 24))
+    return [near(place, 1 << 20, dice) for place in present], present
+
+
+def there_and_back(talk: Talk, dice: random.Random) -> Talk:
+    """Three steps on, and back exactly; then a tug, and two steps on."""
+    before, present = talk.simulation.before, talk.simulation.present
     talk.measure()
     for _ in range(2):
         talk.advance(3)
@@ -151,7 +154,7 @@ def there_and_back(count: int, dice: random.Random) -> Talk:
     talk.show_all()
     assert (talk.simulation.before, talk.simulation.present, talk.simulation.step) == (before, present, 0)
     x, y, z = near(ORIGIN, RING, dice)
-    talk.tug(dice.randrange(count), (x - RING // 2, y - RING // 2, z - RING // 2))
+    talk.tug(dice.randrange(len(present)), (x - RING // 2, y - RING // 2, z - RING // 2))
     talk.measure()
     talk.advance(2)
     talk.show_all()
@@ -159,26 +162,35 @@ def there_and_back(count: int, dice: random.Random) -> Talk:
     return talk
 
 
+def told(name: str, talk: Talk, run: Play) -> Check:
+    """All is replied as plain steps tell."""
+    wanted = talk.replies()
+    seen = run(["run"], talk.stream())
+    return name, seen == (0, wanted, b""), first_difference(seen, wanted)
+
+
+def told_by_chance(each: Moved, replay_of: Play, dice: random.Random) -> Iterator[Check]:
+    """The same where the results come in an order by chance, and how many tiles there are."""
+    tasks = (by_chance(ROUNDS, dice) for _ in each.talk.exchanges)
+    status, printed, err = replay_of(schedule_of(each.talk.exchanges, tasks))
+    tiles, text = tiles_of(printed.decode(), lines_that_run(each.talk.exchanges), ROUNDS)
+    wanted = told_to_a(each.talk.replies().decode()).encode()
+    replayed = status, text.encode(), err
+    yield f"{each.name}, by chance", replayed == (0, wanted, b""), first_difference(replayed, wanted)
+    fit = len(tiles) == 2 and len(set(tiles)) == 1 and each.least <= tiles[0] <= each.most
+    yield f"{each.name}: tiles", fit, (tiles, each.least, each.most)
+
+
 def tests(run: Play, replay_of: Play) -> Iterator[Check]:
     dice = random.Random(2)
     for each in frames():
-        wanted = each.talk.replies()
-        seen = run(["run"], each.talk.stream())
-        yield each.name, seen == (0, wanted, b""), first_difference(seen, wanted)
-        tasks = (by_chance(ROUNDS, dice) for _ in each.talk.exchanges)
-        status, printed, err = replay_of(schedule_of(each.talk.exchanges, tasks))
-        tiles, told = tiles_of(printed.decode(), lines_that_run(each.talk.exchanges), ROUNDS)
-        wanted = told_to_a(wanted.decode()).encode()
-        replayed = status, told.encode(), err
-        yield f"{each.name}, by chance", replayed == (0, wanted, b""), first_difference(replayed, wanted)
-        fit = len(tiles) == 2 and len(set(tiles)) == 1 and each.least <= tiles[0] <= each.most
-        yield f"{each.name}: tiles", fit, (tiles, each.least, each.most)
+        yield told(each.name, each.talk, run)
+        yield from told_by_chance(each, replay_of, dice)
     for count in (1, 2, 63, 64, 65, 129, 256):
         for _ in range(3 if count < 129 else 1):
-            talk = there_and_back(count, dice)
-            wanted = talk.replies()
-            seen = run(["run"], talk.stream())
-            yield f"{count} atoms there and back", seen == (0, wanted, b""), first_difference(seen, wanted)
+            before, present = in_six_sigma(count, dice)
+            talk = Talk.of_one(before, present, SIGMA, dice.randrange(1, 1 << 24))
+            yield told(f"{count} atoms there and back", there_and_back(talk, dice), run)
 
 
 def first_difference(seen: Ended, wanted: bytes) -> object:

@@ -59,7 +59,12 @@ BAD_LINES = (
     "lost 1 BYE",
     "lost 1 BRANCH a 28",
     "lost 1 load a 256 1 1 rest 28",
-    "lost 1 LOADMIX a 256 1 1 rest 28",
+    "lost 1 LOADMIX",
+    "lost 1 LOADMIX a 256 1 1 rest",
+    "lost 1 LOADMIX a 256 1 1 rest 1048577",
+    "lost 1 LOADMIX a 256 1 1 rest 00000028",
+    "lost 1 loadmix a 256 1 1 rest 28",
+    "lost 1 LOADMIXED a 256 1 1 rest 28",
     "lost 1 LOAD",
     "lost 1 LOAD a 256 1 1 rest",
     "lost 1 LOAD a 256 1 1 rest 1048577",
@@ -98,11 +103,17 @@ BAD_SCHEDULES = (
     (USER + "arrive 1 LOAD a 256 1 1 rest 6\na\nb\nc\nenter\n", 6),
     (USER + "arrive 1 LOAD a 256 1 1 rest 0\nenter", 3),
     (USER + "arrive 1 LOAD a b c\nenter\n", 3),
+    (USER + "arrive 1 LOADMIX a 5\na\nb\n", 2),
+    (USER + "arrive 1 LOADMIX a 5\na\nb\ncenter\n", 5),
+    (USER + "arrive 1 LOADMIX\nenter\n", 3),
+    (USER + "arrive 1 LOADMIX a 256\nb 5\n", 2),
     # No body follows a lost one.
     (USER + "lost 1 LOAD a 256 1 1 rest 6\nenter\n", 3),
+    (USER + "lost 1 LOADMIX a 256 1 1 rest 6\nenter\n", 3),
     ("lost 1 LOAD a 256 1 1 rest 6\n" + USER, 1),
     # A lost line of 257 bytes.
     (USER + "lost 1 LOAD a" + " " * 237 + "256 1 1 rest 5\n", 2),
+    (USER + "lost 1 LOADMIX a" + " " * 234 + "256 1 1 rest 5\n", 2),
     *((f"{USER}\nenter 1\n{line}\nenter\n", 4) for line in BAD_LINES),
     *((f"\n{USER}{line}", 3) for line in BAD_USERS),
 )
@@ -127,6 +138,11 @@ GOOD_LINES = (
     "lost 1 LOAD ! a b c d e f 5",
     "hello 64 B aaaaaaaaaaaaaaaaaaaaaaaaaaaaaaaa",
     "lost 1 LOAD a" + " " * 236 + "256 1 1 rest 5",
+    "arrive 1 LOADMIX a 256 1 1 rest 0",
+    "arrive 1 LOADMIX a b c",
+    "lost 1 LOADMIX 5",
+    "lost 64\t LOADMIX a 256 1 1 rest 1048576\r",
+    "lost 1 LOADMIX a" + " " * 233 + "256 1 1 rest 5",
 )
 
 # LOADs whose bodies are lost, beside one that is loaded, and what they are told.
@@ -139,6 +155,20 @@ LOST_LOADS = (
     ("LOAD b 256 1 x rest 0", "ERR 38 STEP_FACTOR"),
     ("LOAD b 256 1 1 rest 0", "ERR 90 MEMORY"),
     ("LOAD b 256 1 1 pair 1048576\r", "ERR 90 MEMORY"),
+    ("LOADMIX 5", "ERR 03 SYNTAX"),
+    ("LOADMIX b 256 1 1 rest 28", "ERR 03 SYNTAX"),
+    (f"LOADMIX b x X X {'x ' * 9}rest 28", "ERR 03 SYNTAX"),
+    (f"LOADMIX d x X Y {'x ' * 9}rest 28", "ERR 11 EXISTS"),
+    (f"LOADMIX b x X Y {'x ' * 9}rest 28", "ERR 36 EDGE"),
+    ("LOADMIX b 256 X Y x x x 1 1 1 1 1 1 pair 28", "ERR 37 SIGMA"),
+    ("LOADMIX b 256 X Y 1 x x x 1 1 1 1 1 rest 28", "ERR 38 STEP_FACTOR"),
+    ("LOADMIX b 256 X Y 1 1 x x 1 1 1 1 1 rest 28", "ERR 40 WEIGHT"),
+    ("LOADMIX b 256 X Y 1 1 1 x 1 x x x x rest 28", "ERR 37 SIGMA"),
+    ("LOADMIX b 256 X Y 1 1 1 1 1 x x x x rest 28", "ERR 40 WEIGHT"),
+    ("LOADMIX b 256 X Y 1 1 1 1 1 1 1 x x rest 28", "ERR 38 STEP_FACTOR"),
+    ("LOADMIX b 256 X Y 1 1 1 1 1 1 1 1 65537 rest 28", "ERR 40 WEIGHT"),
+    ("LOADMIX b 256 X Y 1 1 1 1 1 1 1 1 65536 rest 0", "ERR 90 MEMORY"),
+    ("LOADMIX b 256 X Y 1 1 1 1 1 1 1 1 1 pair 1048576\r", "ERR 90 MEMORY"),
 )
 
 
@@ -177,10 +207,18 @@ PRINTED = (
         "A 1 OK LOAD d 0 2\nA 1 OK LIST 1\nA 1 d 0 2 0\nA 1 OK DUMP d 0 4\nA 1 2\nA 1 step 0\n"
         "A 1 Ar 0.000000 0.000000 0.000000\nA 1 Ar 1.500000 0.000000 0.000000\n",
     ),
-    # A lost body beside a full quota.
+    # Lost bodies beside a full quota.
     (
-        USER.replace("4 100 4", "1 2 0") + GREETING + f"arrive 1 {LOAD}lost 1 LOAD b 256 1 1 rest 28\nnext 1\nnext 1\n",
-        "A 1 OK LOAD d 0 2\nA 1 ERR 20 QUOTA_SESSIONS\n",
+        USER.replace("4 100 4", "1 2 0")
+        + GREETING
+        + f"arrive 1 {LOAD}lost 1 LOAD b 256 1 1 rest 28\nlost 1 LOADMIX b x X Y {'x ' * 9}rest 28\n"
+        + "next 1\n" * 3,
+        "A 1 OK LOAD d 0 2\nA 1 ERR 20 QUOTA_SESSIONS\nA 1 ERR 20 QUOTA_SESSIONS\n",
+    ),
+    # A LOADMIX that arrives has its body after it, whatever is wrong with it.
+    (
+        of_user("arrive 1 LOADMIX a 256 X Y 5\nend 1arrive 1 LOADMIX\narrive 1 LIST\nnext 1\nnext 1\nnext 1\n"),
+        "A 1 ERR 03 SYNTAX\nA 1 ERR 04 BODY\n",
     ),
     (of_user("arrive 1 LIST\nnext 1\n" * 5_000), "A 1 OK LIST 0\n" * 5_000),
     ("".join(f"user u{number} {'a' * TOKEN_BYTES} 64 65536 256\n" for number in range(64)), ""),

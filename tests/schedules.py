@@ -16,13 +16,17 @@ DIMER = "2\ndimer\nAr 0 0 0\nAr 1.5 0 0\n"
 # Two atoms that are out of reach of each other.
 APART = "2\napart\nAr 0 0 0\nAr 9.5 0 0\n"
 
+# An atom of each of two species, and both of one of them.
+MIX = "2\nmix\nNa 0 0 0\nCl 1.5 0 0\n"
+SODIUM = "2\nmix\nNa 0 0 0\nNa 1.5 0 0\n"
+
 # 65 atoms in a row, 1.5 sigma apart.
 CHAIN = "65\nchain\n" + "".join(f"X {place // 10}{'.5' if place % 10 else ''} 0 0\n" for place in range(0, 65 * 15, 15))
 
 # 513 atoms at one place.
 CROWD = "513\ncrowd\n" + "X 1 1 1\n" * 513
 
-BODIES = {"(DIMER)": DIMER, "(APART)": APART, "(CHAIN)": CHAIN, "(CROWD)": CROWD}
+BODIES = {"(DIMER)": DIMER, "(MIX)": MIX, "(SODIUM)": SODIUM, "(APART)": APART, "(CHAIN)": CHAIN, "(CROWD)": CROWD}
 
 
 @dataclass(frozen=True)

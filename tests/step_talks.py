@@ -4,8 +4,9 @@ A schedule has two users. A talks, and after each result that A has taken in, B 
 before A's reply tell how many tiles A's step has.
 """
 import random
+from copy import copy
 from dataclasses import dataclass
-from typing import Callable, Iterable, Iterator, List, Sequence, Tuple
+from typing import Callable, Dict, Iterable, Iterator, List, Sequence, Tuple
 
 from plain_steps import NANO, RING, Frame, Place, Scale, Simulation
 from schedules import user_line
@@ -20,6 +21,9 @@ Play = Callable[..., Ended]
 # An edge of which a billionth is a unit of the ring, so that each place is a decimal number.
 EDGE = f"{RING // NANO}.{RING % NANO:09}"
 
+# The symbol of each species.
+SYMBOLS = ("X", "Yy")
+
 USERS = (("A", (8, 65536, 16)), ("B", (1, 1, 1)))
 TICK = "arrive 2 LIST\nnext 2\n"
 TOLD_BY_TICK = "B 2 OK LIST 0\n"
@@ -30,14 +34,15 @@ def billionths(units: int) -> str:
     return f"{units // NANO}.{units % NANO:09}"
 
 
-def text_of(frame: Frame) -> str:
+def text_of(frame: Frame, species: Sequence[int]) -> str:
     """A frame of XYZ text, in a box of the edge above."""
-    lines = (f"X {billionths(x)} {billionths(y)} {billionths(z)}\n" for x, y, z in frame)
+    atoms = zip(species, frame)
+    lines = (f"{SYMBOLS[kind]} {billionths(x)} {billionths(y)} {billionths(z)}\n" for kind, (x, y, z) in atoms)
     return f"{len(frame)}\nframe\n{''.join(lines)}"
 
 
-def load_line(name: str, scale_words: str, mode: str, body: str) -> str:
-    return f"LOAD {name} {scale_words} {mode} {len(body)}\n{body}"
+def load_line(name: str, scale_words: str, mode: str, body: str, verb: str = "LOAD") -> str:
+    return f"{verb} {name} {scale_words} {mode} {len(body)}\n{body}"
 
 
 @dataclass(frozen=True)
@@ -52,13 +57,27 @@ class Exchange:
 class Talk:
     """A session `a` in the box of the edge above: what it is asked, and what it replies."""
 
-    def __init__(self, before: Frame, present: Frame, sigma: int, strength: int = 131_072) -> None:
-        self.simulation = Simulation(before, present, Scale(RING, sigma, strength))
+    def __init__(self, simulation: Simulation, verb: str, scale_words: str) -> None:
+        self.simulation = simulation
+        self.saved: Dict[str, Simulation] = {}
         self.exchanges: List[Exchange] = []
-        mode = "rest" if list(before) == list(present) else "pair"
-        body = text_of(present) if mode == "rest" else text_of(before) + text_of(present)
-        load = load_line("a", f"{EDGE} {billionths(sigma)} {strength}", mode, body)
-        self.say(load, f"OK LOAD a 0 {len(present)}")
+        before, present = simulation.before, simulation.present
+        mode, frames = ("rest", [present]) if before == present else ("pair", [before, present])
+        body = "".join(text_of(frame, simulation.species) for frame in frames)
+        load = load_line("a", f"{EDGE} {scale_words}", mode, body, verb)
+        self.say(load, f"OK {verb} a 0 {len(present)}")
+
+    @staticmethod
+    def of_one(before: Frame, present: Frame, sigma: int, strength: int = 131_072) -> "Talk":
+        """A talk of atoms of one species."""
+        scale_words = f"{billionths(sigma)} {strength}"
+        return Talk(Simulation(before, present, [Scale(RING, sigma, strength)]), "LOAD", scale_words)
+
+    @staticmethod
+    def of_two(before: Frame, present: Frame, classes: Sequence[Scale], species: Sequence[int]) -> "Talk":
+        """A talk of atoms of two species, with the scale of each class."""
+        words = [*SYMBOLS, *(f"{billionths(each.sigma)} {each.strength} {each.weight}" for each in classes)]
+        return Talk(Simulation(before, present, classes, species), "LOADMIX", " ".join(words))
 
     def say(self, item: str, reply: str, runs: bool = False) -> None:
         self.exchanges.append(Exchange(item if item.endswith("\n") else item + "\n", reply + "\n", runs))
@@ -75,6 +94,14 @@ class Talk:
         self.simulation.tug(atom, displacement)
         x, y, z = displacement
         self.say(f"TUG a {atom} {x} {y} {z}", f"OK TUG a {atom} {self.simulation.step}")
+
+    def branch(self, name: str) -> None:
+        self.saved[name] = copy(self.simulation)
+        self.say(f"BRANCH a {name}", f"OK BRANCH a {name} {self.simulation.step}")
+
+    def restore(self, name: str) -> None:
+        self.simulation = copy(self.saved[name])
+        self.say(f"RESTORE a {name}", f"OK RESTORE a {name} {self.simulation.step}")
 
     def show(self, atom: int) -> None:
         x, y, z = self.simulation.present[atom]

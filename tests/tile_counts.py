@@ -25,10 +25,13 @@ def block(x: int) -> List[Place]:
 
 def talk_of(frame: Frame) -> Talk:
     """A session of these atoms at rest, with a step of each kind."""
-    talk = Talk(frame, frame, SIGMA)
+    return stepped(Talk.of_one(frame, frame, SIGMA))
+
+
+def stepped(talk: Talk) -> Talk:
     talk.measure()
     talk.advance(1)
-    talk.show(len(frame) - 1)
+    talk.show(len(talk.simulation.present) - 1)
     return talk
 
 
@@ -154,7 +157,7 @@ def in_order(order: Sequence[int], keys: Keys) -> str:
 def each_order(replay_of: Play) -> Iterator[Check]:
     """The places and the sum of energies come out the same in all 120 orders."""
     frame = lattice(130)
-    talk = Talk(frame, frame, SIGMA)
+    talk = Talk.of_one(frame, frame, SIGMA)
     start, talk.exchanges = talk.exchanges, []
     talk.measure()
     talk.advance(1)

@@ -5,7 +5,7 @@ An exchange is an item, its reply, and how many tiles its step has, where it has
 from itertools import repeat
 from typing import Iterator, Sequence, Tuple
 
-from plain_steps import ENTRIES, Scale, Simulation
+from plain_steps import ENTRIES, Frame, Place, Scale, Simulation
 from step_talks import EDGE, Check, Exchange, Play, lines_that_run, load_line, one_by_one, schedule_of, tiles_of
 from step_talks import told_to_a
 
@@ -208,17 +208,27 @@ def plain_steps_are_worked_ones() -> Iterator[Check]:
         yield f"the plain entry of bin {number}", ENTRIES[number] == wanted, ENTRIES[number]
     scale = Scale.of("256", "1", 131_072)
     dimer = [scale.place(words) for words in (["0", "0", "0"], ["1.5", "0", "0"])]
-    plain = Simulation(dimer, dimer, scale)
-    seen = [(plain.present, plain.momentum(), plain.kinetic(), plain.potential())]
+    plain = Simulation(dimer, dimer, [scale])
+    seen = [numbers_of(plain)]
     for _ in range(2):
         plain.advance(1)
-        seen.append((plain.present, plain.momentum(), plain.kinetic(), plain.potential()))
+        seen.append(numbers_of(plain))
     wanted = [
         ([(0, 0, 0), (25165824, 0, 0)], (0, 0, 0), 0, -5349132),
         ([(589, 0, 0), (25165235, 0, 0)], (0, 0, 0), 693842, -5399727),
         ([(1774, 0, 0), (25164050, 0, 0)], (0, 0, 0), 2808450, -5399727),
     ]
     yield "the plain steps of two atoms", seen == wanted, seen
+    for strength, weight, energy, moved in ((131_072, 1, -20895, 589), (262_144, 512, -10698264, 1178)):
+        plain = Simulation(dimer, dimer, [scale, Scale.of("256", "1", strength, weight), scale], [0, 1])
+        at_rest = numbers_of(plain)
+        plain.advance(1)
+        fits = at_rest == (dimer, (0, 0, 0), 0, energy) and plain.present == [(moved, 0, 0), (25165824 - moved, 0, 0)]
+        yield f"the plain steps of two species, of the weight {weight}", fits, (at_rest, plain.present)
+
+
+def numbers_of(plain: Simulation) -> Tuple[Frame, Place, int, int]:
+    return plain.present, plain.momentum(), plain.kinetic(), plain.potential()
 
 
 def tests(run: Play, replay_of: Play) -> Iterator[Check]:

@@ -1,5 +1,6 @@
 """Tables of dialogues, for tests/program."""
-from dialogue_tables import branches, frames, limits, lines, loads, refusals, words_of_numbers, worked
+from dialogue_tables import branches, frames, limits, lines, loads, mixed_faults, mixed_lines, mixtures, refusals
+from dialogue_tables import words_of_numbers, worked
 
 TABLES = {
     "worked dialogues": worked.DIALOGUES,
@@ -10,6 +11,9 @@ TABLES = {
     "branches and quotas": branches.DIALOGUES,
     "frames of text": frames.DIALOGUES,
     "words of numbers": words_of_numbers.DIALOGUES,
+    "mixtures": mixtures.DIALOGUES,
+    "faults of mixtures": mixed_faults.DIALOGUES,
+    "lines of mixtures": mixed_lines.DIALOGUES,
 }
 
 # Streams that are not read to their end, which no server is played.

@@ -4,10 +4,11 @@ A growth is sent twice, each time with a LIST after it. The second one tells tha
 memory was refused to the first.
 """
 from dataclasses import dataclass
-from typing import Iterator, List, Optional, Sequence, Union
+from typing import Callable, Iterator, List, Optional, Sequence, Union
 
 from dialogue_tables.frames import FAULTS, SIZES, faults, numbered
-from dialogue_tables.in_boxes import DROP, ROW, load_in, loaded, show
+from dialogue_tables.in_boxes import DROP, ROW, Item, load_in, loaded, show
+from dialogue_tables.mixtures import load_mix, mixed
 from dialogues import LOAD, Quota
 
 NO_MEMORY = "ERR 90 MEMORY\n"
@@ -77,11 +78,25 @@ def saved(name: str, step: int, atoms: int, count: int) -> Growth:
     return Growth(f"BRANCH a {name}\n", f"OK BRANCH a {name} {step}\n", "ERR 13 BRANCH_EXISTS\n", *lists)
 
 
-def of_size(size: int) -> Iterator[Union[Growth, Plain]]:
-    """LOADs of so many atoms, at rest and in a pair, and branches of them."""
+# What loads a body of so many atoms in a mode, and its reply.
+Loading = Callable[[str, int, str], Item]
+
+
+def of_one_species(body: str, size: int, mode: str) -> Item:
+    return load_in(ROW, body, mode), loaded(size)
+
+
+def of_two_species(body: str, size: int, mode: str) -> Item:
+    """The atom of the number 1, if there is one, is of another species."""
+    text = body.replace("X 1 ", "Y 1 ")
+    return load_mix(text, ("1 1 1", "1 1 2", "1 1 3"), mode, "a", ROW[0], "X Y"), mixed(size, "a")
+
+
+def of_size(size: int, loading: Loading) -> Iterator[Union[Growth, Plain]]:
+    """Loads of so many atoms, at rest and in a pair, and branches of them."""
     text, atoms = numbered(size)
     for mode, body in (("rest", text), ("pair", text * 2)):
-        yield Growth(load_in(ROW, body, mode), loaded(size), "ERR 11 EXISTS\n", "OK LIST 0\n", listed(0, size, 0))
+        yield Growth(*loading(body, size, mode), "ERR 11 EXISTS\n", "OK LIST 0\n", listed(0, size, 0))
         yield Plain(*show(ROW, atoms, size - 1))
         yield saved("k", 0, size, 0)
         yield Plain("REVERSE a\n", "OK REVERSE a -1\n")
@@ -104,20 +119,35 @@ def most_branches() -> Iterator[Union[Growth, Plain]]:
     yield Plain("LIST a\nLIST\n", f"OK LIST a 256\n{lines}{listed(-129, 2, 256)}")
 
 
+# Texts of mixtures with an atom of a third species.
+STRANGE = (
+    (load_mix("1\nc\nAr 0 0 0\n"), "ERR 39 XYZ_SPECIES line 3\n"),
+    (load_mix("2\nc\nNa 0 0 0\nAr 0 0 0\n" * 2, mode="pair"), "ERR 39 XYZ_SPECIES line 4\n"),
+)
+
 # Texts with faults. Where there is no memory for the bytes of one, that is told; where there is none for its atoms,
 # its fault is.
 BAD_TEXTS = Growing(
     "faults of texts",
     (1, 1, 0),
-    [Plain(*item) for item in faults()],
-    [number for number, (_, text, _) in enumerate(FAULTS) if text],
+    [Plain(*item) for item in (*faults(), *STRANGE)],
+    [*(number for number, (_, text, _) in enumerate(FAULTS) if text), len(FAULTS), len(FAULTS) + 1],
 )
 
 # The numbers of the texts that end, or have their fault, before memory for atoms is asked for: before a comment line.
 NOT_BEGUN = (0, 1, 2, 3, 4, 15, 16)
 
 GROWING = (
-    growing("loads and branches of each size", (1, 4096, 2), [part for size in SIZES for part in of_size(size)]),
+    growing(
+        "loads and branches of each size",
+        (1, 4096, 2),
+        [part for size in SIZES for part in of_size(size, of_one_species)],
+    ),
+    growing(
+        "mixtures and branches of them",
+        (1, 4096, 2),
+        [part for size in (1, 65, 256) for part in of_size(size, of_two_species)],
+    ),
     growing("as many branches as the largest quota", (8, 16384, 256), list(most_branches())),
     BAD_TEXTS,
 )

@@ -28,6 +28,7 @@ SEEN = (
 # Items, and their refusals where the quota is full.
 WHERE_FULL = (
     ("LOAD c x x x rest 0\n", "ERR 20 QUOTA_SESSIONS\n"),
+    ("LOADMIX c x X Y x x x x x x x x x rest 0\n", "ERR 20 QUOTA_SESSIONS\n"),
     ("BRANCH a m\n", "ERR 22 QUOTA_BRANCHES\n"),
     ("BRANCH a k\n", "ERR 13 BRANCH_EXISTS\n"),
 )
@@ -41,7 +42,6 @@ WHERE_ROOM = (
     ("LOAD c! 256 1 1 rest 3\nBYE", "ERR 03 SYNTAX\n"),
     ("drop a\n", "ERR 06 COMMAND\n"),
     ("HELLO a b\n", "ERR 06 COMMAND\n"),
-    ("LOADMIX\n", "ERR 06 COMMAND\n"),
     ("START a\n", "ERR 06 COMMAND\n"),
     ("ADVANCE z 1\n", "ERR 10 NO_SESSION\n"),
     ("REVERSE z\n", "ERR 10 NO_SESSION\n"),
@@ -64,6 +64,14 @@ WHERE_ROOM = (
     ("LOAD c 256 1 1 rest 0\n", "ERR 30 XYZ_COUNT line 1\n"),
     ("LOAD c 256 1 1 rest 4\n1\nc\n", "ERR 31 XYZ_SHORT line 3\n"),
     ("LOAD c 256 1 1 pair 12\n1\nc\nX 0 0 0\n", "ERR 35 XYZ_PAIR line 4\n"),
+    ("LOADMIX c 3\nBYE", "ERR 03 SYNTAX\n"),
+    ("LOADMIX c 256 X X 1 1 1 1 1 1 1 1 1 rest 0\n", "ERR 03 SYNTAX\n"),
+    ("LOADMIX a x X Y x x x x x x x x x rest 0\n", "ERR 11 EXISTS\n"),
+    ("LOADMIX c x X Y x x x x x x x x x rest 0\n", "ERR 36 EDGE\n"),
+    ("LOADMIX c 256 X Y 1 1 1 1 1 1 1 x x rest 0\n", "ERR 38 STEP_FACTOR\n"),
+    ("LOADMIX c 256 X Y 1 1 1 1 1 1 1 1 0 rest 0\n", "ERR 40 WEIGHT\n"),
+    ("LOADMIX c 256 X Y 1 1 1 1 1 1 1 1 1 rest 20\n2\nc\nX 0 0 0\nZ 1 0 0\n", "ERR 39 XYZ_SPECIES line 4\n"),
+    ("LOADMIX c 256 X Y 1 1 1 1 1 1 1 1 1 rest 20\n2\nc\nX 0 0 0\nY 1 0 0\n", "ERR 21 QUOTA_ATOMS\n"),
 )
 
 
