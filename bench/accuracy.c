@@ -1,6 +1,7 @@
-/* Lennard-Jones atoms in double precision, beside which `bench/accuracy` measures the program. Lengths are in sigma,
-   energies in epsilon, masses are 1. A configuration is text: the number of atoms and the edge of the periodic box, then
-   six numbers for each atom, its position and its velocity.
+/* Lennard-Jones atoms of two species in double precision, beside which `bench/accuracy` measures the program. Lengths
+   are in sigma and energies in epsilon of the first species, masses are 1. A configuration is text: the number of atoms,
+   the edge of the periodic box, sigma and epsilon between unlike atoms, and those of the second species; then seven
+   numbers for each atom, its position, its velocity and its species, 0 or 1. Where all are 0, it is one species.
 
      accuracy forces KIND                        prints the force on each atom, then the potential energy
      accuracy run KIND DT STEPS EVERY T FRAMES   goes on by velocity Verlet; prints `E kinetic potential` after each EVERY
@@ -10,8 +11,8 @@
      accuracy pairs WIDTH COUNT                  reads configurations up to the end of the input, and prints for each how
                                                  many pairs there are at a distance in each of COUNT bins of that width
 
-   KIND is cut: pairs within 2.5 sigma; bins: the same, taken at the centres of the program's bins of squared distance,
-   but not rounded; or far: all pairs and images within 10 sigma.
+   KIND is cut: pairs within 2.5 sigma of their own; bins: the same, taken at the centres of the program's bins of squared
+   distance, but not rounded; or far: all pairs and images within 10 sigma of the first species.
    Build: cc -O3 -march=native -ffp-contract=off -o accuracy accuracy.c -lm. Without contracted or reordered operations
    each number is the same on every machine. */
 #include <math.h>
@@ -22,24 +23,30 @@
 enum { MOST = 4096 };
 static const double CUT = 6.25, FAR = 100;
 
-static int n;
+/* How two atoms interact, by how many of them are of the second species. */
+static struct { double sigma, epsilon, square; } classes[3];
+static int n, species[MOST];
 static double edge, x[3][MOST], v[3][MOST], f[3][MOST];
 
 static int read_configuration(void) {
-    if (scanf("%d %lf", &n, &edge) != 2 || n < 1 || n > MOST) return 0;
+    classes[0].sigma = classes[0].epsilon = 1;
+    if (scanf("%d %lf %lf %lf %lf %lf", &n, &edge, &classes[1].sigma, &classes[1].epsilon, &classes[2].sigma,
+              &classes[2].epsilon) != 6 || n < 1 || n > MOST) return 0;
+    for (int c = 0; c < 3; c++) classes[c].square = classes[c].sigma * classes[c].sigma;
     for (int i = 0; i < n; i++)
-        if (scanf("%lf %lf %lf %lf %lf %lf", &x[0][i], &x[1][i], &x[2][i], &v[0][i], &v[1][i], &v[2][i]) != 6) return 0;
+        if (scanf("%lf %lf %lf %lf %lf %lf %d", &x[0][i], &x[1][i], &x[2][i], &v[0][i], &v[1][i], &v[2][i], &species[i]) != 7
+            || species[i] < 0 || species[i] > 1) return 0;
     return 1;
 }
 
 /* The nearest whole number, for sizes below 2^51: the sum has no room for a fraction. */
 static double nearest(double a) { return (a + 0x1.8p52) - 0x1.8p52; }
 
-/* Adds the force of a pair at squared distance s over its distance to *push; answers its energy. */
-static double pair_at(double s, double *push) {
-    double u = 1 / s, c = u * u * u;
-    *push = 24 * (2 * c - 1) * c * u;
-    return 4 * (c - 1) * c;
+/* The force of a pair over its distance, at a squared distance of s squares of its sigma, into *push; answers its energy. */
+static double pair_at(double s, int class, double *push) {
+    double u = 1 / s, c = u * u * u, epsilon = classes[class].epsilon;
+    *push = 24 * (2 * c - 1) * c * u * (epsilon / classes[class].square);
+    return 4 * (c - 1) * c * epsilon;
 }
 
 static double centre(double s) {
@@ -51,7 +58,7 @@ static double centre(double s) {
 static double near_forces(int bins) {
     static double d[3][MOST], square[MOST];
     static int near[MOST];
-    double energy = 0, inverse = 1 / edge;
+    double energy = 0, inverse = 1 / edge, most = fmax(fmax(classes[0].square, classes[1].square), classes[2].square);
     memset(f, 0, sizeof f);
     for (int i = 0; i < n; i++) {
         for (int j = i + 1; j < n; j++) {
@@ -64,12 +71,13 @@ static double near_forces(int bins) {
         int count = 0;
         for (int j = i + 1; j < n; j++) {
             near[count] = j;
-            count += square[j] < CUT;
+            count += square[j] < CUT * most;
         }
         for (int at = 0; at < count; at++) {
-            int j = near[at];
-            double push;
-            energy += pair_at(bins ? centre(square[j]) : square[j], &push);
+            int j = near[at], class = species[i] + species[j];
+            double s = square[j] / classes[class].square, push;
+            if (s >= CUT) continue;
+            energy += pair_at(bins ? centre(s) : s, class, &push);
             for (int axis = 0; axis < 3; axis++) {
                 f[axis][i] += push * d[axis][j];
                 f[axis][j] -= push * d[axis][j];
@@ -83,10 +91,12 @@ static double near_forces(int bins) {
    evenly beyond. */
 static double far_forces(void) {
     int images = (int)(sqrt(FAR) / edge) + 2;
-    double energy = 0, volume = edge * edge * edge;
+    double energy = 0, beyond = 0, volume = edge * edge * edge;
     memset(f, 0, sizeof f);
     for (int i = 0; i < n; i++)
-        for (int j = 0; j < n; j++)
+        for (int j = 0; j < n; j++) {
+            int class = species[i] + species[j];
+            beyond += classes[class].epsilon * pow(classes[class].square, 3);
             for (int cell = 0, side = 2 * images + 1; cell < side * side * side; cell++) {
                 int place[3] = {cell % side - images, cell / side % side - images, cell / side / side - images};
                 double d[3], s = 0, push;
@@ -96,10 +106,11 @@ static double far_forces(void) {
                     s += d[axis] * d[axis];
                 }
                 if (s >= FAR || s == 0) continue;
-                energy += pair_at(s, &push) / 2;
+                energy += pair_at(s / classes[class].square, class, &push) / 2;
                 for (int axis = 0; axis < 3; axis++) f[axis][i] += push * d[axis];
             }
-    return energy - 8 * M_PI / 3 * n * n / volume / pow(FAR, 1.5);
+        }
+    return energy - 8 * M_PI / 3 * beyond / volume / pow(FAR, 1.5);
 }
 
 static double forces(const char *kind) {
@@ -125,9 +136,10 @@ static void scale_to(double temperature) {
 }
 
 static void print_configuration(void) {
-    printf("%d %.17g\n", n, edge);
+    printf("%d %.17g %.17g %.17g %.17g %.17g\n", n, edge, classes[1].sigma, classes[1].epsilon, classes[2].sigma,
+           classes[2].epsilon);
     for (int i = 0; i < n; i++)
-        printf("%.17g %.17g %.17g %.17g %.17g %.17g\n", x[0][i], x[1][i], x[2][i], v[0][i], v[1][i], v[2][i]);
+        printf("%.17g %.17g %.17g %.17g %.17g %.17g %d\n", x[0][i], x[1][i], x[2][i], v[0][i], v[1][i], v[2][i], species[i]);
 }
 
 static void run(const char *kind, double dt, long steps, long every, double temperature, int frames) {
