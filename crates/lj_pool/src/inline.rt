@@ -66,6 +66,14 @@ impl Pool for InlinePool {
         self.held.take()
     }
 
+    fn poll(&mut self, user: u8) -> Option<Done>
+        ensures held { result ≡ self.old.held }
+        ensures taken_off { IfSome result (λ _. self.new ≡ record { held = None; good = one_more self.old.good }) }
+        ensures unchanged { IfNone result (self.new ≡ self.old) }
+    {
+        self.fetch(user)
+    }
+
     fn owed(&self) -> usize {
         usize::from(self.held.is_some())
     }

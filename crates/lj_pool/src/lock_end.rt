@@ -74,6 +74,20 @@ impl<'p, L: Ledger, R: Wait> Pool for LockEnd<'p, L, R> {
         fetched
     }
 
+    fn poll(&mut self, user: u8) -> Option<Done>
+        ensures whose { IfSome result (λ done. done.name.label.user ≡ user) }
+        ensures open { self.new.closed ≡ self.old.closed }
+        ensures handed_out { IfSome result (λ done. IsHandedOut done self.old self.new) }
+        ensures unchanged { IfNone result (SameOwed self.old self.new) }
+        ensures stays_closed { StaysClosed self.old self.new }
+    {
+        let polled = self.pool.poll(self.rt, user);
+        if let Some(done) = &polled {
+            self.account.count(done.task());
+        }
+        polled
+    }
+
     fn owed(&self) -> usize {
         self.account.owed()
     }

@@ -13,9 +13,9 @@ use lj_tile::{Done, Task};
 use std::alloc::{AllocError, Global};
 use std::array;
 use std::sync::ledger::{self, Blank, Ledger};
-use std::sync::{Condvar, Mutex, Wait};
+use std::sync::{Condvar, Mutex, MutexGuard, Wait};
 
-/// So many tasks are posted before workers that wait are told of them, unless an end waits for a result.
+/// So many tasks are posted before workers that wait are told of them, unless an end finds no result.
 const TASKS_AT_ONCE: usize = 16;
 
 /// An end that waits is told once so many results of its user were given, or all that it is owed.
@@ -131,20 +131,47 @@ impl<L: Ledger> LockPool<L> {
     {
         let mut desk = self.desk.lock(rt);
         for _ in rt.forever() {
-            let was_full = desk.is_full();
-            let fetched = desk.fetch(user);
-            if fetched.is_some() || desk.is_closed() {
-                drop(desk);
-                if was_full {
-                    self.room.notify_all();
-                }
-                return fetched;
+            match self.fetch_from(desk, user) {
+                Ok(fetched) => return fetched,
+                Err(kept) => desk = kept,
             }
-            self.tell(desk.tells(1));
             desk.awaits(user, owed.min(RESULTS_AT_ONCE));
             desk = self.given[bell_of(user)].wait(rt, desk);
         }
         unreachable!()
+    }
+
+    /// Fetches a result of the user that is there now. None where there is none, or the pool is closed.
+    pub(crate) fn poll<R: Wait>(&self, rt: &R, user: u8) -> Option<Done>
+        ensures { IfSome result (λ done. done.name.label.user ≡ user) }
+    {
+        let desk = self.desk.lock(rt);
+        self.fetch_from(desk, user).unwrap_or(None)
+    }
+
+    /// Fetches a result of the user, or None where the pool is closed, and lets go of the desk.
+    ///
+    /// # Errors
+    /// The desk, where there is none yet. Workers that wait are told then of the tasks that they were not told of.
+    fn fetch_from<'d>(
+        &self,
+        desk: MutexGuard<'d, Desk<L>>,
+        user: u8,
+    ) -> Result<Option<Done>, MutexGuard<'d, Desk<L>>>
+        ensures { IfOk result (λ fetched. IfSome fetched (λ done. done.name.label.user ≡ user)) }
+    {
+        let mut desk = desk;
+        let was_full = desk.is_full();
+        let fetched = desk.fetch(user);
+        if fetched.is_none() && !desk.is_closed() {
+            self.tell(desk.tells(1));
+            return Err(desk);
+        }
+        drop(desk);
+        if was_full {
+            self.room.notify_all();
+        }
+        Ok(fetched)
     }
 
     /// Gives a result, which is credited to the share if it is accepted. Then takes an open task, and waits for one.

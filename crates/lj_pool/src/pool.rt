@@ -25,8 +25,8 @@ pub enum Refused {
 pub trait Pool {
     ghost seen: { Self → Seen };
 
-    // How often it was asked for others than the user of this number, by a task of another or a fetch for another,
-    // where that is counted.
+    // How often it was asked for others than the user of this number, by a task of another, or a fetch or poll for
+    // another, where that is counted.
     ghost for_others: { Self → ℕ → ℕ };
 
     /// Posts a task. With `wait` it is never refused as `Full`.
@@ -47,6 +47,13 @@ pub trait Pool {
         ensures handed_out { IfSome result (λ done. IsHandedOut done (seen self.old) (seen self.new)) }
         ensures unchanged { IfNone result (SameOwed (seen self.old) (seen self.new)) }
         ensures closed { IfNone result ((seen self.new).closed ≡ true) }
+        ensures stays_closed { StaysClosed (seen self.old) (seen self.new) }
+        ensures own { for_others self.new user ≡ for_others self.old user };
+
+    /// A result for a user that is there now. It never waits for a worker. None may come at any time.
+    fn poll(&mut self, user: u8) -> Option<Done>
+        ensures handed_out { IfSome result (λ done. IsHandedOut done (seen self.old) (seen self.new)) }
+        ensures unchanged { IfNone result (SameOwed (seen self.old) (seen self.new)) }
         ensures stays_closed { StaysClosed (seen self.old) (seen self.new) }
         ensures own { for_others self.new user ≡ for_others self.old user };
 

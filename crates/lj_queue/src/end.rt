@@ -12,7 +12,7 @@ use lj_tile::{Done, Task};
 use std::marker::Model;
 use std::sync::Wait;
 
-/// So many tasks are posted before workers that wait are told of them, unless a result is fetched.
+/// So many tasks are posted before workers that wait are told of them, unless a result is asked for.
 const TASKS_AT_ONCE: usize = 16;
 
 /// An end of a pool for one user, with a pass. It keeps a copy of each task that it is owed, and takes no memory.
@@ -115,8 +115,7 @@ impl<'p, L: Room, R: Wait> Pool for QueueEnd<'p, L, R> {
         ensures closed { IfNone result (self.new.seen.closed ≡ true) }
         ensures stays_closed { StaysClosed self.old.seen self.new.seen }
     {
-        self.pool.tell(self.rt, self.untold);
-        self.untold = 0;
+        self.tell();
         let owed = self.account.owed();
         let fetched = self.pool.fetch(self.rt, self.user, owed);
         match &fetched {
@@ -124,6 +123,23 @@ impl<'p, L: Room, R: Wait> Pool for QueueEnd<'p, L, R> {
             None => self.account.close(),
         }
         fetched
+    }
+
+    fn poll(&mut self, _user: u8) -> Option<Done>
+        ensures pass { self.new.pass ≡ self.old.pass }
+        ensures number { self.new.number ≡ self.old.number }
+        ensures user { self.new.user ≡ self.old.user }
+        ensures open { self.new.seen.closed ≡ self.old.seen.closed }
+        ensures handed_out { IfSome result (λ done. IsHandedOut done self.old.seen self.new.seen) }
+        ensures unchanged { IfNone result (SameOwed self.old.seen self.new.seen) }
+        ensures stays_closed { StaysClosed self.old.seen self.new.seen }
+    {
+        self.tell();
+        let polled = self.pool.poll(self.rt, self.user);
+        if let Some(done) = &polled {
+            self.account.count(done.task());
+        }
+        polled
     }
 
     fn owed(&self) -> usize {
@@ -146,8 +162,15 @@ impl<'p, L: Room, R: Wait> QueueEnd<'p, L, R> {
     {
         self.untold = self.untold.saturating_add(1);
         if self.untold >= TASKS_AT_ONCE {
-            self.pool.tell(self.rt, self.untold);
-            self.untold = 0;
+            self.tell();
         }
+    }
+
+    /// Tells workers that wait of the tasks that they were not told of.
+    fn tell(&mut self)
+        ensures { self.new ≡ self.old }
+    {
+        self.pool.tell(self.rt, self.untold);
+        self.untold = 0;
     }
 }

@@ -320,6 +320,11 @@ impl<L: Room> QueuePool<L> {
         unreachable!()
     }
 
+    /// Fetches a result of the user that is there now. None where there is none, or the pool is closed.
+    pub(crate) fn poll<R: Wait>(&self, rt: &R, user: u8) -> Option<Done> {
+        self.hall.lock(rt).fetch(user)
+    }
+
     /// How many results were given, which is what all parts of the ledger have together.
     pub(crate) fn audited<R: Wait>(&self, rt: &R, all: &mut ledger::Share<L>) -> u64
         requires { all.old.parts ≡ L.parts }

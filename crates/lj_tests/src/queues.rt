@@ -1,8 +1,9 @@
-//! Tests of the pools: a full queue, a closed pool, ends that are gone, and tasks that a gate sends back.
+//! Tests of the pools: a full queue, a closed pool, ends that are gone, ends that poll, and tasks that a gate sends back.
 
 mod closing;
 mod ends;
 mod handed_back;
+mod polling;
 mod room;
 
 use crate::tasks::task;
@@ -24,7 +25,7 @@ fn put_back<T: Drop>(rt: &impl Abort, items: &mut Vec<T>, item: T) {
 }
 
 /// Posts a task, where the end has room for it.
-fn post_one<L: Room, R: Wait + Abort>(rt: &R, end: &mut QueueEnd<L, R>, task: Task) {
+fn post_one<P: Pool, R: Abort>(rt: &R, end: &mut P, task: Task) {
     if end.full() {
         return;
     }

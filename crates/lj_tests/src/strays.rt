@@ -11,7 +11,7 @@ use lj_wire::{LineReader, Reading, Writing};
 use std::alloc::Global;
 
 /// A pool that computes a task as it is posted. It may hand out copies of an earlier result before each result, and may
-/// be closed at a post or a fetch.
+/// be closed at a post, or at a fetch or poll.
 #[derive(Drop)]
 struct OddPool {
     table: Table,
@@ -97,6 +97,13 @@ impl Pool for OddPool {
         self.earlier = Some(done.copy());
         self.good = self.good.saturating_add(1);
         Some(done)
+    }
+
+    fn poll(&mut self, user: u8) -> Option<Done> {
+        if self.held.is_none() {
+            return None;
+        }
+        self.fetch(user)
     }
 
     fn owed(&self) -> usize {
