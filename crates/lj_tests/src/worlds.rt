@@ -5,7 +5,7 @@ use crate::users::{USERS, name, token, users};
 use arrayvec::ArrayString;
 use lj_session::{Body, LoadBody};
 use lj_wire::{Item, read_line};
-use lj_world::{Entry, Event, OutOfMemory, World};
+use lj_world::{Act, Deed, Entry, Event, OutOfMemory, World};
 use std::alloc::{AllocError, AllocGlobal};
 use std::fmt::Write;
 use std::process::Abort;
@@ -21,7 +21,7 @@ const LOAD_B: &str = "LOAD b 256 1 131072 rest 28";
 /// The body of both.
 const DIMER: &str = "2\ndimer\nAr 0 0 0\nAr 1.5 0 0\n";
 
-/// An event, with the number of its connection or worker, and its pick.
+/// An event, with the number of its connection or worker, and what is shown, arrives or is picked there.
 #[derive(Clone, Copy)]
 enum Step {
     Hello(u8, &'static str),
@@ -30,13 +30,10 @@ enum Step {
     Enter(u8),
     Next(u8),
     Post(u8),
-    Take(u8, usize),
-    Compute(u8),
-    Give(u8),
-    HandBack(u8),
     Fetch(u8, usize),
     Turn(u8),
     Leave(u8),
+    By(u8, Deed),
 }
 
 /// Two users load two atoms each; the first saves them, the second goes on by a step.
@@ -57,9 +54,9 @@ const STEPS: [Step; 24] = [
     Step::Next(1),
     Step::Next(2),
     Step::Post(2),
-    Step::Take(1, 0),
-    Step::Compute(1),
-    Step::Give(1),
+    Step::By(1, Deed::Take { pick: 0 }),
+    Step::By(1, Deed::Compute),
+    Step::By(1, Deed::Give),
     Step::Fetch(2, 0),
     Step::Turn(2),
     Step::Next(2),
@@ -85,15 +82,15 @@ const OF_NOBODY: [Step; 27] = [
     Step::Next(65),
     Step::Post(0),
     Step::Post(65),
-    Step::Take(0, 0),
-    Step::Take(17, 0),
-    Step::Take(255, 0),
-    Step::Compute(0),
-    Step::Compute(17),
-    Step::Give(0),
-    Step::Give(17),
-    Step::HandBack(0),
-    Step::HandBack(17),
+    Step::By(0, Deed::Take { pick: 0 }),
+    Step::By(17, Deed::Take { pick: 0 }),
+    Step::By(255, Deed::Take { pick: 0 }),
+    Step::By(0, Deed::Compute),
+    Step::By(17, Deed::Compute),
+    Step::By(0, Deed::Give),
+    Step::By(17, Deed::Give),
+    Step::By(0, Deed::HandBack),
+    Step::By(17, Deed::HandBack),
     Step::Fetch(0, 0),
     Step::Fetch(65, 0),
     Step::Turn(0),
@@ -118,22 +115,20 @@ fn event(rt: &(impl Abort + AllocGlobal), step: Step) -> Result<Event, AllocErro
             name: name(rt, word),
             token: token(rt),
         },
-        Step::Arrive(connection, line) => Event::Arrive {
-            connection,
-            item: item(rt, line)?,
-        },
-        Step::End(connection) => Event::End { connection },
-        Step::Enter(connection) => Event::Enter { connection },
-        Step::Next(connection) => Event::Next { connection },
-        Step::Post(connection) => Event::Post { connection },
-        Step::Take(worker, pick) => Event::Take { worker, pick },
-        Step::Compute(worker) => Event::Compute { worker },
-        Step::Give(worker) => Event::Give { worker },
-        Step::HandBack(worker) => Event::HandBack { worker },
-        Step::Fetch(connection, pick) => Event::Fetch { connection, pick },
-        Step::Turn(connection) => Event::Turn { connection },
-        Step::Leave(connection) => Event::Leave { connection },
+        Step::Arrive(connection, line) => at(connection, Act::Arrive(item(rt, line)?)),
+        Step::End(connection) => at(connection, Act::End),
+        Step::Enter(connection) => at(connection, Act::Enter),
+        Step::Next(connection) => at(connection, Act::Next),
+        Step::Post(connection) => at(connection, Act::Post),
+        Step::Fetch(connection, pick) => at(connection, Act::Fetch { pick }),
+        Step::Turn(connection) => at(connection, Act::Turn),
+        Step::Leave(connection) => at(connection, Act::Leave),
+        Step::By(worker, deed) => Event::By { worker, deed },
     })
+}
+
+fn at(connection: u8, act: Act) -> Event {
+    Event::At { connection, act }
 }
 
 /// Adds the events of connections and workers that are none.

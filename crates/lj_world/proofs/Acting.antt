@@ -9,10 +9,11 @@ use Rattle.lj_session.specs.Owners.{Owning, IsAwaitedIn, with_task_in, is_ready,
 use Rattle.lj_access.specs.Rows.{Row, HasEntered, changed, with_home}
 use Rattle.lj_book.specs.declared.marks.Mark.TheVariants.{ToFetch}
 use Rattle.lj_book.specs.Held.{Held, at, mark_of, Fetches, Withdraws}
-use Rattle.lj_world.specs.declared.act.Act.TheVariants.{Fetch, Turn, Leave}
+use Rattle.lj_world.specs.declared.event.Act.TheVariants.{Fetch, Turn, Leave}
 use Rattle.lj_world.specs.States.{Talk, inside, gone, with_stage}
-use Rattle.lj_world.specs.Happenings.{IsGiven, IsDone}
-use Rattle.lj_world.specs.Connections.{Acts, CanTurn, HasRow, here}
+use Rattle.lj_world.specs.Connections.{here, IsGiven, CanTurn, IsDone}
+use Rattle.lj_world.specs.Attempts.{Acts}
+use Rattle.lj_world.specs.Kept.{HasRow}
 use Rattle.lj_world.specs.Begun.{TurnsTo}
 
 -- nothing is there

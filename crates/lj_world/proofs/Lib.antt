@@ -1,9 +1,10 @@
 pub mod Beginning
 pub mod Acting
-pub mod Working
+pub mod Places
 pub mod RowsKept
 pub mod Greeting
 pub mod Lifting
+pub mod Moves
 pub mod PlacesKept
 pub mod Tellings
 pub mod Cuts

@@ -9,7 +9,7 @@ use Rattle.lj_wire.specs.declared.item.Item.{Item}
 use Rattle.lj_wire.specs.declared.item.Item.TheVariants.{Command}
 use Rattle.lj_wire.specs.Laws.{TurnKeepsTold, RunningGoesOn}
 use Rattle.lj_world.specs.States.{waiting, inside}
-use Rattle.lj_world.specs.Happenings.{IsDone}
+use Rattle.lj_world.specs.Connections.{IsDone}
 use Rattle.lj_world.specs.Scripts.{is_closed, cut, joined}
 use Rattle.lj_world.specs.Laws.{after_turns}
 use Rattle.lj_world.proofs.Tellings.{Texts, Told, told-append}

@@ -1,14 +1,15 @@
 -- An event that is not a user's changes nothing of it.
 use Rattle.std.proofs.Common.{◌≡◌, ◌≢◌, ℕ, zero, suc, true, false, cond, nat_eq, List, [], ◌∷◌, slice_get, slice_set, slice_index_or, Option, Some, None, option_map, option_and_then, ◌⊎◌, inl, inr, refl, sym, ◌∙◌, ap, ne_eqb, get_or-set_other}
 use Rattle.std.proofs.lemmas.Bool.Decides.{eqb_tells}
-use Rattle.lj_access.specs.Rows.{with_ticket, lent, with_home}
+use Rattle.lj_access.specs.Rows.{Row, with_ticket, lent, with_home}
 use Rattle.lj_world.specs.declared.event.Event.{Event}
-use Rattle.lj_world.specs.declared.event.Event.TheVariants.{Hello, Arrive, End, Enter, Next, Post, Take, Compute, Give, HandBack, Fetch, Turn, Leave}
+use Rattle.lj_world.specs.declared.event.Event.TheVariants.{Hello, At, By}
 use Rattle.lj_world.specs.declared.transcript.Entry.{Entry}
 use Rattle.lj_world.specs.States.{State, Talk, talk_at, greeted}
 use Rattle.lj_world.specs.Happenings.{Happens, entry}
 use Rattle.lj_world.specs.Laws.{OthersChangeNothing, Untouched, actor, talk_of}
 use Rattle.lj_world.proofs.RowLemmas.{row_other}
+use Rattle.lj_world.proofs.Moves.{Moves, stays, goes_in, goes_home, does_moves}
 
 none_some : {A : Type 0} (x : A) → None ≡ Some x → ⊥
 none_some x e = cc
@@ -51,23 +52,18 @@ place_changes user old new c talk talks differs none d = by (eqb_tells d c)
 untold : (user : ℕ) (reply : Option Entry) → reply ≡ None → option_map (λ e. e.user) reply ≢ Some user
 untold user reply r e = none_some user (ap (option_map (λ x. x.user)) (sym r) ∙ e)
 
--- another user is told
-other_told : (user : ℕ) (reply : Option Entry) (c : ℕ) (talk : Talk) (text : List ℕ) → talk.user ≢ user → reply ≡ Some (entry c talk text)
-    → option_map (λ e. e.user) reply ≢ Some user
-other_told user reply c talk text differs r e = differs (same_some talk.user user (ap (option_map (λ x. x.user)) (sym r) ∙ e))
+-- another user is told, or nobody
+other_told : (user : ℕ) (reply : Option Entry) (c : ℕ) (talk : Talk) (text : Option (List ℕ)) → talk.user ≢ user
+    → reply ≡ option_map (entry c talk) text → option_map (λ e. e.user) reply ≢ Some user
+other_told user reply c talk None differs r e = untold user reply r e
+other_told user reply c talk (Some text) differs r e = differs (same_some talk.user user (ap (option_map (λ x. x.user)) (sym r) ∙ e))
 
--- a known connection of another user goes on
-other_goes : (user : ℕ) (old new : State) (reply : Option Entry) (c : ℕ) (talk next : Talk) → talk_at old c ≡ Some talk → next.user ≡ talk.user
-    → option_map (λ t. t.user) (talk_at old c) ≢ Some user → new.talks ≡ slice_set old.talks c (Some next)
-    → (talk.user ≢ user → slice_get new.rows user ≡ slice_get old.rows user)
-    → (talk.user ≢ user → option_map (λ e. e.user) reply ≢ Some user) → Untouched user old reply new
-other_goes user old new reply c talk next known same not_mine talks rows told =
-    let differs : talk.user ≢ user = λ e. not_mine (ap (option_map (λ t. t.user)) known ∙ ap (λ (n : ℕ). Some n) e) in
-    record {
-      row = rows differs;
-      talks = place_changes user old new c next talks (λ e. differs (sym same ∙ e)) (hidden user (talk_at old c) talk differs (inl known));
-      untold = told differs;
-    }
+-- a connection stays its user's, and leaves the rows of all others
+own : (user : ℕ) (talk : Talk) (rows : List Row) (new : Talk) (after : List Row) → Moves talk rows new after
+    → (new.user ≡ talk.user) × (talk.user ≢ user → slice_get after user ≡ slice_get rows user)
+own user talk rows new after (stays _ kept) = (kept.user, λ differs. refl)
+own user talk rows new after (goes_in owner row there may) = (refl, row_other rows talk.user lent user)
+own user talk rows new after (goes_home owner owns) = (refl, row_other rows talk.user (with_home owner.state) user)
 
 -- no row and no connection changes
 front_stays : (user : ℕ) (old new : State) (reply : Option Entry) → reply ≡ None → new.rows ≡ old.rows → new.talks ≡ old.talks → Untouched user old reply new
@@ -87,40 +83,17 @@ happens_untouched old (Hello c name token) reply new user (r, p) not_mine =
       talks = place_changes user old new c (greeted p.user p.row.granted) (ap (λ z. z.talks) p.next) differs (ap (only user) p.is_new);
       untold = untold user reply r;
     }
-happens_untouched old (Arrive c item) reply new user (r, p) not_mine =
-    other_goes user old new reply c p.talk _ p.known refl not_mine (ap (λ z. z.talks) p.next) (λ d. ap (λ z. slice_get z.rows user) p.next) (λ d. untold user reply r)
-happens_untouched old (End c) reply new user (r, p) not_mine =
-    other_goes user old new reply c p.talk _ p.known refl not_mine (ap (λ z. z.talks) p.next) (λ d. ap (λ z. slice_get z.rows user) p.next) (λ d. untold user reply r)
-happens_untouched old (Enter c) reply new user (r, p) not_mine =
-    other_goes user old new reply c p.talk _ p.known refl not_mine (ap (λ z. z.talks) p.next)
-    (λ d. ap (λ z. slice_get z.rows user) p.next ∙ row_other old.rows p.talk.user lent user d) (λ d. untold user reply r)
-happens_untouched old (Next c) reply new user (inl p) not_mine =
-    other_goes user old new reply c p.talk _ p.begins.known refl not_mine (ap (λ z. z.talks) p.next) (λ d. ap (λ z. slice_get z.rows user) p.next)
-    (λ d. other_told user reply c p.talk p.text d p.replies)
-happens_untouched old (Next c) reply new user (inr p) not_mine =
-    other_goes user old new reply c p.talk _ p.begins.known refl not_mine (ap (λ z. z.talks) p.next) (λ d. ap (λ z. slice_get z.rows user) p.next)
-    (λ d. untold user reply p.quiet)
-happens_untouched old (Post c) reply new user (r, p) not_mine =
-    other_goes user old new reply c p.talk _ p.known refl not_mine (ap (λ z. z.talks) p.next) (λ d. ap (λ z. slice_get z.rows user) p.next) (λ d. untold user reply r)
-happens_untouched old (Take w pick) reply new user (r, p) not_mine =
+happens_untouched old (At c act) reply new user p not_mine =
+    let differs : p.talk.user ≢ user = λ e. not_mine (ap (option_map (λ t. t.user)) p.known ∙ ap (λ (n : ℕ). Some n) e) in
+    let mine = own user p.talk old.rows p.after.talk p.after.rows (does_moves p.talk old.rows act old.book p.text p.after p.does) in
+    record {
+      row = ap (λ z. slice_get z.rows user) p.next ∙ mine.1 differs;
+      talks = place_changes user old new c p.after.talk (ap (λ z. z.talks) p.next) (λ e. differs (sym mine.0 ∙ e))
+          (hidden user (talk_at old c) p.talk differs (inl p.known));
+      untold = other_told user reply c p.talk p.text differs p.replies;
+    }
+happens_untouched old (By worker deed) reply new user (r, p) not_mine =
     front_stays user old new reply r (ap (λ z. z.rows) p.next) (ap (λ z. z.talks) p.next)
-happens_untouched old (Compute w) reply new user (r, p) not_mine =
-    front_stays user old new reply r (ap (λ z. z.rows) p.next) (ap (λ z. z.talks) p.next)
-happens_untouched old (Give w) reply new user (r, p) not_mine =
-    front_stays user old new reply r (ap (λ z. z.rows) p.next) (ap (λ z. z.talks) p.next)
-happens_untouched old (HandBack w) reply new user (r, p) not_mine =
-    front_stays user old new reply r (ap (λ z. z.rows) p.next) (ap (λ z. z.talks) p.next)
-happens_untouched old (Fetch c pick) reply new user (r, p) not_mine =
-    other_goes user old new reply c p.talk _ p.known refl not_mine (ap (λ z. z.talks) p.next) (λ d. ap (λ z. slice_get z.rows user) p.next) (λ d. untold user reply r)
-happens_untouched old (Turn c) reply new user (inl p) not_mine =
-    other_goes user old new reply c p.talk _ p.whole.known refl not_mine (ap (λ z. z.talks) p.next) (λ d. ap (λ z. slice_get z.rows user) p.next)
-    (λ d. untold user reply p.quiet)
-happens_untouched old (Turn c) reply new user (inr p) not_mine =
-    other_goes user old new reply c p.talk _ p.whole.known refl not_mine (ap (λ z. z.talks) p.next) (λ d. ap (λ z. slice_get z.rows user) p.next)
-    (λ d. other_told user reply c p.talk p.text d p.replies)
-happens_untouched old (Leave c) reply new user (r, p) not_mine =
-    other_goes user old new reply c p.talk _ p.known refl not_mine (ap (λ z. z.talks) p.next)
-    (λ d. ap (λ z. slice_get z.rows user) p.next ∙ row_other old.rows p.talk.user (with_home p.owner.state) user d) (λ d. untold user reply r)
 
 pub others_leave : OthersChangeNothing
 others_leave old event reply new user (inl h) not_mine = happens_untouched old event reply new user h not_mine

@@ -4,11 +4,13 @@ use Rattle.lj_session.specs.States.{Owned}
 use Rattle.lj_session.specs.Owners.{Owning}
 use Rattle.lj_access.specs.Rows.{Row, CanEnter, changed, lent, with_home}
 use Rattle.lj_book.specs.Held.{Held}
-use Rattle.lj_world.specs.declared.act.Act.{Act}
-use Rattle.lj_world.specs.declared.act.Act.TheVariants.{Arrive, End, Enter, Next, Post, Fetch, Turn, Leave}
+use Rattle.lj_world.specs.declared.event.Act.{Act}
 use Rattle.lj_world.specs.States.{inside, gone, Talk, Hand, with_stage}
-use Rattle.lj_world.specs.Connections.{Here, here, Does, Acts, HasRow, Stays}
+use Rattle.lj_world.specs.Connections.{Here, here}
+use Rattle.lj_world.specs.Attempts.{Acts}
+use Rattle.lj_world.specs.Kept.{HasRow, Stays}
 use Rattle.lj_world.specs.Machines.{IsMachine}
+use Rattle.lj_world.proofs.Moves.{Moves, stays, goes_in, goes_home, does_moves}
 use Rattle.lj_world.proofs.RowsKept.{changed_here, has_changed, stays_has, put_talk}
 
 module _ (rows : List Row) (talks : List (Option Talk)) (hands : List (Option Hand)) (c : ℕ) (talk : Talk)
@@ -21,9 +23,9 @@ module _ (rows : List Row) (talks : List (Option Talk)) (hands : List (Option Ha
 
   -- the rows stay, and the connection owns the state only if it did
   pub stays_keeps : (new : Talk) → Stays talk new → IsMachine rows (set talks c (Some new)) hands
-  stays_keeps new stays =
-      put_talk rows rows talks hands c new m within (stays_has rows talk new stays (m.known c talk known))
-      (λ d other apart e. m.known d other e) (unlike new stays.user stays.number)
+  stays_keeps new kept =
+      put_talk rows rows talks hands c new m within (stays_has rows talk new kept (m.known c talk known))
+      (λ d other apart e. m.known d other e) (unlike new kept.user kept.number)
 
   -- the connection is given the state of its user
   pub enters_keeps : (owner : Owning) (row : Row) → slice_get rows talk.user ≡ Some row → CanEnter talk.number row
@@ -72,32 +74,15 @@ module _ (rows : List Row) (talks : List (Option Talk)) (hands : List (Option Ha
       has : HasRow rows talk
       has = m.known c talk known
 
-  -- what is there afterwards, as it is said
-  carried : (h x : Here) → h ≡ x → IsMachine x.rows (set talks c (Some x.talk)) hands → IsMachine h.rows (set talks c (Some h.talk)) hands
-  carried h x e k = subst (λ (y : Here). IsMachine y.rows (set talks c (Some y.talk)) hands) (sym e) k
-
-  -- the connection owned the state, and may own it still
-  owned : (new : Talk) (owner : Owning) → talk.stage ≡ inside owner → new.user ≡ talk.user → new.number ≡ talk.number → Stays talk new
-  owned new owner owns user number = record { user = user; number = number; owned = λ i. (owner, owns) }
-
-  does_keeps : (act : Act) (book : Held) (text : Option (List ℕ)) (h : Here) → Does act (here talk rows book) text h
-      → IsMachine h.rows (set talks c (Some h.talk)) hands
-  does_keeps (Arrive item) book text h d =
-      carried h _ d.next (stays_keeps _ (record { user = refl; number = refl; owned = λ i. i }))
-  does_keeps End book text h d =
-      carried h _ d.next (stays_keeps _ (record { user = refl; number = refl; owned = λ i. i }))
-  does_keeps Enter book text h d = carried h _ d.next (enters_keeps _ d.row d.there d.may_enter)
-  does_keeps Next book text h (inl d) = carried h _ d.next (stays_keeps _ (owned _ d.owner d.begins.owns refl refl))
-  does_keeps Next book text h (inr d) = carried h _ d.next (stays_keeps _ (owned _ d.owner d.begins.owns refl refl))
-  does_keeps Post book text h d = carried h _ d.next (stays_keeps _ (owned _ d.owner d.owns refl refl))
-  does_keeps (Fetch pick) book text h d = carried h _ d.next (stays_keeps _ (owned _ d.owner d.owns refl refl))
-  does_keeps Turn book text h (inl d) = carried h _ d.next (stays_keeps _ (owned _ d.owner d.whole.owns refl refl))
-  does_keeps Turn book text h (inr d) = carried h _ d.next (stays_keeps _ (owned _ d.owner d.whole.owns refl refl))
-  does_keeps Leave book text h d = carried h _ d.next (leaves_keeps d.owner d.owner.state d.owns)
+  moves_keeps : (new : Talk) (after : List Row) → Moves talk rows new after → IsMachine after (set talks c (Some new)) hands
+  moves_keeps new after (stays _ kept) = stays_keeps new kept
+  moves_keeps new after (goes_in owner row there may) = enters_keeps owner row there may
+  moves_keeps new after (goes_home owner owns) = leaves_keeps owner owner.state owns
 
   -- whatever the connection does, or cannot do
   pub acts_keeps : (act : Act) (book : Held) (text : Option (List ℕ)) (h : Here) → Acts act (here talk rows book) text h
       → IsMachine h.rows (set talks c (Some h.talk)) hands
-  acts_keeps act book text h (inl d) = does_keeps act book text h d
+  acts_keeps act book text h (inl d) = moves_keeps h.talk h.rows (does_moves talk rows act book text h d)
   acts_keeps act book text h (inr n) =
-      carried h (here talk rows book) n.2 (stays_keeps talk (record { user = refl; number = refl; owned = λ i. i }))
+      subst (λ (x : Here). IsMachine x.rows (set talks c (Some x.talk)) hands) (sym n.2)
+      (stays_keeps talk (record { user = refl; number = refl; owned = λ i. i }))

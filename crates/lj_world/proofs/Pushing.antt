@@ -1,5 +1,5 @@
 -- A run with one step more.
-use Rattle.std.proofs.Common.{◌≡◌, List, [], ◌∷◌, ◌++◌, Option, option_to_list, refl, sym, ◌∙◌, ap, subst, append_assoc, append-nil}
+use Rattle.std.proofs.Common.{List, [], ◌∷◌, ◌++◌, Option, option_to_list, refl, sym, ◌∙◌, ap, subst, append_assoc, append-nil}
 use Rattle.lj_world.specs.declared.event.Event.{Event}
 use Rattle.lj_world.specs.declared.transcript.Entry.{Entry}
 use Rattle.lj_world.specs.States.{State}

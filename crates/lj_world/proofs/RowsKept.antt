@@ -3,7 +3,7 @@ use Rattle.std.proofs.Common.{◌≡◌, ◌≢◌, ℕ, zero, suc, ◌<◌, Lis
 use Rattle.std.proofs.lemmas.Bool.{cases_eq}
 use Rattle.lj_access.specs.Rows.{Row, HasEntered, changed, changed_to}
 use Rattle.lj_world.specs.States.{Talk, Hand}
-use Rattle.lj_world.specs.Connections.{IsRowOf, HasRow, Stays}
+use Rattle.lj_world.specs.Kept.{IsRowOf, HasRow, Stays}
 use Rattle.lj_world.specs.Machines.{IsMachine}
 
 get_set_same : {A : Type 0} (xs : List A) (i : ℕ) (x y : A) → slice_get xs i ≡ Some x → slice_get (set xs i y) i ≡ Some y

@@ -12,7 +12,7 @@ use Rattle.lj_wire.specs.Told.{told}
 use Rattle.lj_wire.specs.Laws.{TurnKeepsTold, RunningGoesOn}
 use Rattle.lj_wire.specs.Runs.{user_turned, item_left}
 use Rattle.lj_world.specs.States.{Stage, waiting, inside, gone, Talk, with_stage}
-use Rattle.lj_world.specs.Happenings.{IsDone}
+use Rattle.lj_world.specs.Connections.{IsDone}
 use Rattle.lj_world.specs.Scripts.{Heard, is_closed, cut}
 use Rattle.lj_world.specs.Laws.{after_turns}
 use Rattle.lj_world.proofs.Tellings.{Texts, Told, told-push}

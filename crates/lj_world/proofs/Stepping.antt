@@ -1,25 +1,29 @@
 -- What is kept in a run is kept by each step.
-use Rattle.std.proofs.Common.{◌≡◌, ℕ, ◌+◌, ◌-◌, ◌<◌, Bool, true, false, not, ◌&&◌, cond, nat_eq, nat_lt, nat_le, List, [], ◌∷◌, ◌++◌, length, slice_get, slice_set, slice_index_or, Option, Some, None, option_map, is_some, ◌⊎◌, inl, inr, ⊎_elim, refl, sym, ◌∙◌, ap, ap₂, subst, arith, add-one, le-leb, lt-ltb, leb-true, ltb-true, true≢false}
+use Rattle.std.proofs.Common.{◌≡◌, ℕ, ◌+◌, ◌-◌, ◌<◌, Bool, true, false, not, ◌&&◌, cond, nat_eq, nat_lt, nat_le, List, [], ◌∷◌, ◌++◌, length, slice_get, slice_set, slice_index_or, Option, Some, None, option_map, is_some, inl, inr, refl, sym, ◌∙◌, ap, ap₂, subst, subst₂, arith, add-one, le-leb, lt-ltb, leb-true, ltb-true, true≢false}
 use Rattle.std.proofs.lemmas.List.{length-map}
 use Rattle.std.proofs.lemmas.List.Quantifiers.{position-Some}
 use Rattle.std.proofs.lemmas.Option.{slice_get-get_or}
 use Rattle.std.specs.Option.{option_map_or}
 use Rattle.std.specs.List.{list_any}
+use Rattle.lj_tile.specs.Tasks.{Work}
 use Rattle.lj_session.specs.Users.{User}
 use Rattle.lj_session.specs.Turns.{turns}
 use Rattle.lj_session.specs.Owners.{Owning, user_in, begun, with_task_posted, turned_from}
 use Rattle.lj_session.specs.Laws.{BeginKeepsUser, PostedKeepsUser, AcceptKeepsUser, TurnGivesTurned}
 use Rattle.lj_wire.specs.declared.item.Item.{Item}
-use Rattle.lj_wire.specs.Items.{ends}
 use Rattle.lj_wire.specs.Laws.{TurnKeepsTold, RunningGoesOn}
 use Rattle.lj_access.specs.Rows.{Row, is_of, user_with, lent, with_home}
 use Rattle.lj_world.specs.declared.event.Event.{Event}
-use Rattle.lj_world.specs.declared.event.Event.TheVariants.{Hello, Arrive, End, Enter, Next, Post, Take, Compute, Give, HandBack, Fetch, Turn, Leave}
+use Rattle.lj_world.specs.declared.event.Event.TheVariants.{Hello, At, By}
+use Rattle.lj_world.specs.declared.event.Act.{Act}
+use Rattle.lj_world.specs.declared.event.Act.TheVariants.{Arrive, End, Enter, Next, Post, Fetch, Turn, Leave}
 use Rattle.lj_world.specs.declared.transcript.Entry.{Entry}
-use Rattle.lj_world.specs.States.{State, Talk, inside, gone, talk_at, with_stage}
-use Rattle.lj_world.specs.Happenings.{Happens, SaysHello, Arrives, Ends, Enters, AnswersNext, RunsNext, PostsTask, FetchesResult, TurnsOn, TurnsLast, Leaves}
+use Rattle.lj_world.specs.States.{State, Talk, gone, talk_at, with_stage}
+use Rattle.lj_world.specs.Connections.{Here, here, Receives, Closes, GoesIn, IsGiven, GoesHome, Does}
+use Rattle.lj_world.specs.Happenings.{Happens, SaysHello, entry, with_here}
 use Rattle.lj_world.specs.Runs.{Step, IsPossible}
 use Rattle.lj_world.specs.Scripts.{Heard, hear, with_heard, with_item, with_end, greeting, is_granted, line_of}
+use Rattle.lj_world.proofs.Lifting.{does_happens}
 use Rattle.lj_world.proofs.Tellings.{Texts}
 use Rattle.lj_world.proofs.Seats.{Seat, heard_of, seat_with, seat_inside, Goes, arrives, ends_now, works, begins, answers, turns_on, turns_last, grown}
 use Rattle.lj_world.proofs.Lines.{Stands, stands_enters, stands_leaves, account_owned}
@@ -71,129 +75,125 @@ front_stays rows user from s t hs texts k rows_stay talks_stay = record {
   numbered = k.numbered;
 }
 
-module _ (known : Known) (rows : List Row) (user : ℕ) (from : User) where
-  -- a connection goes on, and what it brought stays
-  one_goes : (s t : State) (hs : List Heard) (texts : Texts) (k : Keeps rows user from s hs texts) (c : ℕ) (talk new : Talk) (reply : Option (List ℕ)) → talk_at s c ≡ Some talk
-      → ((seat : Seat) → Goes (seat_with talk seat) reply (seat_with new seat)) → ((seat : Seat) → heard_of (seat_with new seat) ≡ heard_of (seat_with talk seat))
-      → t.rows ≡ s.rows → t.talks ≡ slice_set s.talks c (Some new)
-      → Keeps rows user from t hs (grown texts (told_if (nat_eq talk.user user) reply))
-  one_goes s t hs texts k c talk new reply is_known g unheard rows_stay talks =
-      let seat = seat_at c k.seats talk (sym (k.seated c) ∙ is_known) in
-      goes known.keeps known.goes_on rows user from s t hs hs texts k c (seat_with talk seat.0) (seat_with new seat.0) reply seat.1 (g seat.0) rows_stay talks
-      (λ line ch. k.heard_is ∙ sym (heard_stays c (seat_with talk seat.0) (seat_with new seat.0) k.seats line ch (unheard seat.0)))
+-- what a connection is told is told to its user
+told_own : (user c : ℕ) (talk : Talk) (text : Option (List ℕ)) → told_to user (option_map (entry c talk) text) ≡ told_if (nat_eq talk.user user) text
+unfolding told_to
+told_own user c talk None = sym (told_none (nat_eq talk.user user))
+told_own user c talk (Some text) = refl
 
-  -- without a reply
-  one_goes_quietly : (s t : State) (hs : List Heard) (texts : Texts) (k : Keeps rows user from s hs texts) (c : ℕ) (talk new : Talk) → talk_at s c ≡ Some talk
-      → ((seat : Seat) → Goes (seat_with talk seat) None (seat_with new seat)) → ((seat : Seat) → heard_of (seat_with new seat) ≡ heard_of (seat_with talk seat))
-      → t.rows ≡ s.rows → t.talks ≡ slice_set s.talks c (Some new) → Keeps rows user from t hs texts
-  one_goes_quietly s t hs texts k c talk new is_known g unheard rows_stay talks =
-      subst (λ o. Keeps rows user from t hs (grown texts o)) (told_none (nat_eq talk.user user)) (one_goes s t hs texts k c talk new None is_known g unheard rows_stay talks)
+same_row : (o : Option Row) (a b : Row) → o ≡ Some a → o ≡ Some b → a ≡ b
+same_row o a b e h = cc
 
-  arrive_keeps : (s t : State) (hs : List Heard) (texts : Texts) (k : Keeps rows user from s hs texts) (c : ℕ) (item : Item) → Arrives s c item t
-      → Keeps rows user from t (with_heard c (with_item item) hs) texts
-  arrive_keeps s t hs texts k c item p =
-      let seat0 = seat_at c k.seats p.talk (sym (k.seated c) ∙ p.known) in
-      let seat = seat_with p.talk seat0.0 in
-      let x : Seat = record { connection = seat.connection; items = seat.items ++ item ∷ []; talk = record p.talk { inbox = p.talk.inbox ++ item ∷ [] } } in
-      let heard_is : heard_of x ≡ with_item item (heard_of seat) = sym (ap (λ b. cond b (heard_of seat) (heard_of x)) p.not_ended) in
-      subst (λ o. Keeps rows user from t (with_heard c (with_item item) hs) (grown texts o)) (told_none (nat_eq p.talk.user user))
-      (goes known.keeps known.goes_on rows user from s t hs (with_heard c (with_item item) hs) texts k c seat x None seat0.1 (arrives item p.not_ended)
-      (ap (λ z. z.rows) p.next) (ap (λ z. z.talks) p.next)
-      (λ line ch. ap (with_heard c (with_item item)) k.heard_is ∙ heard_changes c (with_item item) seat x k.seats line ch heard_is))
+-- an owner that is given a result keeps what runs, and the user
+given_keeps : AcceptKeepsUser → (owner after : Owning) (work : Work) → IsGiven owner work after
+    → (after.rest ≡ owner.rest) × (user_in after ≡ user_in owner)
+given_keeps accept owner after work (inl h) = (ap (λ (o : Owning). o.rest) h.1, ap user_in h.1 ∙ accept work owner)
+given_keeps accept owner after work (inr h) = (ap (λ (o : Owning). o.rest) h.1, ap user_in h.1)
 
-  end_keeps : (s t : State) (hs : List Heard) (texts : Texts) (k : Keeps rows user from s hs texts) (c : ℕ) → Ends s c t
-      → Keeps rows user from t (with_heard c with_end hs) texts
-  end_keeps s t hs texts k c p =
-      let seat0 = seat_at c k.seats p.talk (sym (k.seated c) ∙ p.known) in
-      let seat = seat_with p.talk seat0.0 in
-      let x : Seat = seat_with (record p.talk { ended = true }) seat0.0 in
-      subst (λ o. Keeps rows user from t (with_heard c with_end hs) (grown texts o)) (told_none (nat_eq p.talk.user user))
-      (goes known.keeps known.goes_on rows user from s t hs (with_heard c with_end hs) texts k c seat x None seat0.1 ends_now
-      (ap (λ z. z.rows) p.next) (ap (λ z. z.talks) p.next)
-      (λ line ch. ap (with_heard c with_end) k.heard_is ∙ heard_changes c with_end seat x k.seats line ch refl))
+-- a known connection does something
+module _ (known : Known) (rows : List Row) (user : ℕ) (from : User) (s : State) (hs : List Heard) (texts : Texts)
+    (k : Keeps rows user from s hs texts) (c : ℕ) (talk : Talk) (is_known : talk_at s c ≡ Some talk) where
+  abbrev old : Here
+  old = here talk s.rows s.book
 
-  same_row : (o : Option Row) (a b : Row) → o ≡ Some a → o ≡ Some b → a ≡ b
-  same_row o a b e h = cc
+  -- what is kept where this is there afterwards, this was heard, and the connection is told this
+  abbrev After : Here → List Heard → Option (List ℕ) → Type 0
+  After h heard text = Keeps rows user from (with_here c h s) heard (grown texts (told_if (nat_eq talk.user user) text))
 
-  enter_keeps : (s t : State) (hs : List Heard) (texts : Texts) (k : Keeps rows user from s hs texts) (c : ℕ) → Enters s c t → Keeps rows user from t hs texts
-  enter_keeps s t hs texts k c p =
-      let seat0 = seat_at c k.seats p.talk (sym (k.seated c) ∙ p.known) in
-      let owner : Owning = record { state = p.state; number = p.talk.user; rest = None } in
-      let seat = seat_with p.talk seat0.0 in
-      let x = seat_inside owner seat in
-      rows_go rows user from s t hs texts k c seat x lent seat0.1 (record { connection = refl; user = refl; number = refl }) refl lent_leaves
-      (ap (λ z. z.rows) p.next) (ap (λ z. z.talks) p.next)
+  its_seat : (seat : Seat) × (found c k.seats ≡ Some (seat_with talk seat))
+  its_seat = seat_at c k.seats talk (sym (k.seated c) ∙ is_known)
+
+  -- nothing is told
+  quietly : (h : Here) (heard : List Heard) (text : Option (List ℕ)) → text ≡ None → Keeps rows user from (with_here c h s) heard texts → After h heard text
+  quietly h heard text e kept =
+      subst (λ o. Keeps rows user from (with_here c h s) heard (grown texts o)) (sym (ap (told_if (nat_eq talk.user user)) e ∙ told_none (nat_eq talk.user user))) kept
+
+  -- the connection goes on, and what it brought stays
+  one_goes : (h x : Here) (text : Option (List ℕ)) → h ≡ x → x.rows ≡ s.rows → ((seat : Seat) → Goes (seat_with talk seat) text (seat_with x.talk seat))
+      → ((seat : Seat) → heard_of (seat_with x.talk seat) ≡ heard_of (seat_with talk seat)) → After h hs text
+  one_goes h x text next rows_stay g unheard =
+      let seat = seat_with talk its_seat.0 in
+      goes known.keeps known.goes_on rows user from s (with_here c h s) hs hs texts k c seat (seat_with x.talk its_seat.0) text its_seat.1 (g its_seat.0)
+      (ap (λ (z : Here). z.rows) next ∙ rows_stay) (ap (λ (z : Here). slice_set s.talks c (Some z.talk)) next)
+      (λ line ch. k.heard_is ∙ sym (heard_stays c seat (seat_with x.talk its_seat.0) k.seats line ch (unheard its_seat.0)))
+
+  arrive_keeps : (item : Item) (text : Option (List ℕ)) (h : Here) → Receives item old text h → After h (with_heard c (with_item item) hs) None
+  arrive_keeps item text h d =
+      let seat = seat_with talk its_seat.0 in
+      let x : Seat = record { connection = seat.connection; items = seat.items ++ item ∷ []; talk = record talk { inbox = talk.inbox ++ item ∷ [] } } in
+      let heard_is : heard_of x ≡ with_item item (heard_of seat) = sym (ap (λ b. cond b (heard_of seat) (heard_of x)) d.not_ended) in
+      goes known.keeps known.goes_on rows user from s (with_here c h s) hs (with_heard c (with_item item) hs) texts k c seat x None its_seat.1 (arrives item d.not_ended)
+      (ap (λ (z : Here). z.rows) d.next) (ap (λ (z : Here). slice_set s.talks c (Some z.talk)) d.next)
+      (λ line ch. ap (with_heard c (with_item item)) k.heard_is ∙ heard_changes c (with_item item) seat x k.seats line ch heard_is)
+
+  end_keeps : (text : Option (List ℕ)) (h : Here) → Closes old text h → After h (with_heard c with_end hs) None
+  end_keeps text h d =
+      let seat = seat_with talk its_seat.0 in
+      let x : Seat = seat_with (record talk { ended = true }) its_seat.0 in
+      goes known.keeps known.goes_on rows user from s (with_here c h s) hs (with_heard c with_end hs) texts k c seat x None its_seat.1 ends_now
+      (ap (λ (z : Here). z.rows) d.next) (ap (λ (z : Here). slice_set s.talks c (Some z.talk)) d.next)
+      (λ line ch. ap (with_heard c with_end) k.heard_is ∙ heard_changes c with_end seat x k.seats line ch refl)
+
+  enter_keeps : (text : Option (List ℕ)) (h : Here) → GoesIn old text h → Keeps rows user from (with_here c h s) hs texts
+  enter_keeps text h d =
+      let owner : Owning = record { state = d.state; number = talk.user; rest = None } in
+      let seat = seat_with talk its_seat.0 in
+      rows_go rows user from s (with_here c h s) hs texts k c seat (seat_inside owner seat) lent its_seat.1
+      (record { connection = refl; user = refl; number = refl }) refl lent_leaves
+      (ap (λ (z : Here). z.rows) d.next) (ap (λ (z : Here). slice_set s.talks c (Some z.talk)) d.next)
       (λ mine line ch.
-      let row : p.row ≡ k.row = same_row (slice_get s.rows user) p.row k.row (ap (slice_get s.rows) (sym mine) ∙ p.there) k.there_is in
-      let home : k.row.home ≡ Some p.state = ap (λ r. r.home) (sym row) ∙ p.home in
-      let number : p.talk.number ≡ k.row.past = sym p.may_enter.first.past ∙ ap (λ r. r.past) row in
-      stands_enters from k.row.past 0 p.state c seat owner (line_in user k.seats) line texts ch p.waits k.numbered (omega (arith, number)) refl refl
+      let row : d.row ≡ k.row = same_row (slice_get s.rows user) d.row k.row (ap (slice_get s.rows) (sym mine) ∙ d.there) k.there_is in
+      let home : k.row.home ≡ Some d.state = ap (λ (r : Row). r.home) (sym row) ∙ d.home in
+      let number : talk.number ≡ k.row.past = sym d.may_enter.first.past ∙ ap (λ (r : Row). r.past) row in
+      stands_enters from k.row.past 0 d.state c seat owner (line_in user k.seats) line texts ch d.waits k.numbered (omega (arith, number)) refl refl
       (subst (λ o. Stands from k.row.past o (line_in user k.seats) texts) home k.stands))
 
-  leave_keeps : (s t : State) (hs : List Heard) (texts : Texts) (k : Keeps rows user from s hs texts) (c : ℕ) → Leaves s c t → Keeps rows user from t hs texts
-  leave_keeps s t hs texts k c p =
-      let seat0 = seat_at c k.seats p.talk (sym (k.seated c) ∙ p.known) in
-      let seat = seat_with p.talk seat0.0 in
-      let x = seat_with (with_stage gone p.talk) seat0.0 in
-      rows_go rows user from s t hs texts k c seat x (with_home p.owner.state) seat0.1 (record { connection = refl; user = refl; number = refl }) refl
-      (home_leaves p.owner.state) (ap (λ z. z.rows) p.next) (ap (λ z. z.talks) p.next)
+  leave_keeps : (text : Option (List ℕ)) (h : Here) → GoesHome old text h → Keeps rows user from (with_here c h s) hs texts
+  leave_keeps text h d =
+      let seat = seat_with talk its_seat.0 in
+      let x = seat_with (with_stage gone talk) its_seat.0 in
+      rows_go rows user from s (with_here c h s) hs texts k c seat x (with_home d.owner.state) its_seat.1
+      (record { connection = refl; user = refl; number = refl }) refl (home_leaves d.owner.state)
+      (ap (λ (z : Here). z.rows) d.next) (ap (λ (z : Here). slice_set s.talks c (Some z.talk)) d.next)
       (λ mine line ch.
-      let away = (account_owned from k.row.past k.row.home c seat x (line_in user k.seats) line p.owner texts ch p.owns k.stands).0 in
-      subst (λ n. Stands from n (Some p.owner.state) line texts) (sym (add-one k.row.past))
-      (stands_leaves from k.row.past c seat p.owner (line_in user k.seats) line texts ch p.owns p.idle p.done
+      let away = (account_owned from k.row.past k.row.home c seat x (line_in user k.seats) line d.owner texts ch d.owns k.stands).0 in
+      subst (λ n. Stands from n (Some d.owner.state) line texts) (sym (add-one k.row.past))
+      (stands_leaves from k.row.past c seat d.owner (line_in user k.seats) line texts ch d.owns d.idle d.done
       (subst (λ o. Stands from k.row.past o (line_in user k.seats) texts) away k.stands)))
 
-  next_keeps : (s t : State) (hs : List Heard) (texts : Texts) (reply : Option Entry) (k : Keeps rows user from s hs texts) (c : ℕ)
-      → AnswersNext s c reply t ⊎ RunsNext s c reply t → KeepsAfter rows user from t hs texts reply
-  unfolding told_to
-  next_keeps s t hs texts reply k c (inl p) =
-      let after : Talk = record p.talk { stage = inside p.after; inbox = p.items; over = ends p.item } in
-      subst (KeepsAfter rows user from t hs texts) (sym p.replies)
-      (one_goes s t hs texts k c p.talk after (Some p.text) p.begins.known
-      (λ seat. answers p.owner p.after p.item p.items p.answers.mark p.text p.begins.owns p.begins.idle p.begins.not_over p.begins.inbox p.answers.is_told p.answers.idle)
-      (λ seat. refl) (ap (λ z. z.rows) p.next) (ap (λ z. z.talks) p.next))
-  next_keeps s t hs texts reply k c (inr p) =
-      let after : Talk = record p.talk { stage = inside (begun p.command p.owner); inbox = p.items } in
-      quiet rows user from t hs texts reply p.quiet
-      (one_goes_quietly s t hs texts k c p.talk after p.begins.known
-      (λ seat. begins p.owner (begun p.command p.owner) p.command p.items p.begins.owns p.begins.idle p.begins.not_over p.begins.inbox p.takes_turns refl
-      (known.begin p.command p.owner))
-      (λ seat. refl) (ap (λ z. z.rows) p.next) (ap (λ z. z.talks) p.next))
-
-  post_keeps : (s t : State) (hs : List Heard) (texts : Texts) (k : Keeps rows user from s hs texts) (c : ℕ) → PostsTask s c t → Keeps rows user from t hs texts
-  post_keeps s t hs texts k c p =
-      let after : Talk = record p.talk { stage = inside (with_task_posted p.owner); posted = p.talk.posted + 1 } in
-      one_goes_quietly s t hs texts k c p.talk after p.known
-      (λ seat. works p.owner (with_task_posted p.owner) (p.talk.posted + 1) p.owns refl (known.posted p.owner))
-      (λ seat. refl) (ap (λ z. z.rows) p.next) (ap (λ z. z.talks) p.next)
-
-  fetch_keeps : (s t : State) (hs : List Heard) (texts : Texts) (k : Keeps rows user from s hs texts) (c : ℕ) → FetchesResult s c t → Keeps rows user from t hs texts
-  fetch_keeps s t hs texts k c p =
-      let after : Talk = record p.talk { stage = inside p.after; posted = p.talk.posted - 1 } in
-      one_goes_quietly s t hs texts k c p.talk after p.known
-      (λ seat. works p.owner p.after (p.talk.posted - 1) p.owns given.0 given.1)
-      (λ seat. refl) (ap (λ z. z.rows) p.next) (ap (λ z. z.talks) p.next)
-    where
-      given : (p.after.rest ≡ p.owner.rest) × (user_in p.after ≡ user_in p.owner)
-      given = ⊎_elim (λ h. (ap (λ o. o.rest) h.1, ap user_in h.1 ∙ known.accept p.work p.owner)) (λ h. (ap (λ o. o.rest) h.1, ap user_in h.1)) p.given
-
-  turn_keeps : (s t : State) (hs : List Heard) (texts : Texts) (reply : Option Entry) (k : Keeps rows user from s hs texts) (c : ℕ)
-      → TurnsOn s c reply t ⊎ TurnsLast s c reply t → KeepsAfter rows user from t hs texts reply
-  unfolding told_to
-  turn_keeps s t hs texts reply k c (inl p) =
-      let after : Talk = with_stage (inside (turned_from p.command p.owner)) p.talk in
-      let more : 1 < turns (user_in p.owner) p.command =
-      subst (λ o. 1 < option_map_or (turns (user_in p.owner)) o 0) p.whole.runs p.more in
-      quiet rows user from t hs texts reply p.quiet
-      (one_goes_quietly s t hs texts k c p.talk after p.whole.known
-      (λ seat. turns_on p.owner (turned_from p.command p.owner) p.command p.whole.owns p.whole.runs more refl (known.turn p.command p.owner more))
-      (λ seat. refl) (ap (λ z. z.rows) p.next) (ap (λ z. z.talks) p.next))
-  turn_keeps s t hs texts reply k c (inr p) =
-      let after : Talk = with_stage (inside p.after) p.talk in
-      subst (KeepsAfter rows user from t hs texts) (sym p.replies)
-      (one_goes s t hs texts k c p.talk after (Some p.text) p.whole.known
-      (λ seat. turns_last p.owner p.after p.command p.answers.mark p.text p.whole.owns p.whole.runs p.answers.is_told p.answers.idle)
-      (λ seat. refl) (ap (λ z. z.rows) p.next) (ap (λ z. z.talks) p.next))
+  -- what is kept is kept by what the connection does
+  does_keeps : (act : Act) (text : Option (List ℕ)) (h : Here) → Does act old text h → After h (hear rows hs (At c act)) text
+  does_keeps (Arrive item) text h d = subst (After h (with_heard c (with_item item) hs)) (sym d.quiet) (arrive_keeps item text h d)
+  does_keeps End text h d = subst (After h (with_heard c with_end hs)) (sym d.quiet) (end_keeps text h d)
+  does_keeps Enter text h d = quietly h hs text d.quiet (enter_keeps text h d)
+  does_keeps Next text h (inl d) =
+      subst (After h hs) (sym d.replies) (one_goes h _ (Some d.told) d.next refl
+      (λ seat. answers d.owner d.after d.item d.items d.answers.mark d.told d.begins.owns d.begins.idle d.begins.not_over d.begins.inbox d.answers.is_told d.answers.idle)
+      (λ seat. refl))
+  does_keeps Next text h (inr d) =
+      subst (After h hs) (sym d.quiet) (one_goes h _ None d.next refl
+      (λ seat. begins d.owner (begun d.command d.owner) d.command d.items d.begins.owns d.begins.idle d.begins.not_over d.begins.inbox d.takes_turns refl
+      (known.begin d.command d.owner))
+      (λ seat. refl))
+  does_keeps Post text h d =
+      subst (After h hs) (sym d.quiet) (one_goes h _ None d.next refl
+      (λ seat. works d.owner (with_task_posted d.owner) (talk.posted + 1) d.owns refl (known.posted d.owner))
+      (λ seat. refl))
+  does_keeps (Fetch pick) text h d =
+      let same = given_keeps known.accept d.owner d.after d.work d.given in
+      subst (After h hs) (sym d.quiet) (one_goes h _ None d.next refl
+      (λ seat. works d.owner d.after (talk.posted - 1) d.owns same.0 same.1)
+      (λ seat. refl))
+  does_keeps Turn text h (inl d) =
+      let more : 1 < turns (user_in d.owner) d.command = subst (λ o. 1 < option_map_or (turns (user_in d.owner)) o 0) d.whole.runs d.more in
+      subst (After h hs) (sym d.quiet) (one_goes h _ None d.next refl
+      (λ seat. turns_on d.owner (turned_from d.command d.owner) d.command d.whole.owns d.whole.runs more refl (known.turn d.command d.owner more))
+      (λ seat. refl))
+  does_keeps Turn text h (inr d) =
+      subst (After h hs) (sym d.replies) (one_goes h _ (Some d.told) d.next refl
+      (λ seat. turns_last d.owner d.after d.command d.answers.mark d.told d.whole.owns d.whole.runs d.answers.is_told d.answers.idle)
+      (λ seat. refl))
+  does_keeps Leave text h d = quietly h hs text d.quiet (leave_keeps text h d)
 
 -- a known connection is heard
 is_heard : (rows : List Row) (user : ℕ) (from : User) (s : State) (hs : List Heard) (texts : Texts) (k : Keeps rows user from s hs texts) (c : ℕ)
@@ -277,22 +277,12 @@ module _ (known : Known) (rows : List Row) (user : ℕ) (from : User) where
   unfolding Happens told_to
   happens_keeps s t hs texts (Hello c name token) reply k (r, p) =
       quiet rows user from t _ texts reply r (hello_keeps s t hs texts k c name token p)
-  happens_keeps s t hs texts (Arrive c item) reply k (r, p) = quiet rows user from t _ texts reply r (arrive_keeps known rows user from s t hs texts k c item p)
-  happens_keeps s t hs texts (End c) reply k (r, p) = quiet rows user from t _ texts reply r (end_keeps known rows user from s t hs texts k c p)
-  happens_keeps s t hs texts (Enter c) reply k (r, p) = quiet rows user from t hs texts reply r (enter_keeps known rows user from s t hs texts k c p)
-  happens_keeps s t hs texts (Next c) reply k p = next_keeps known rows user from s t hs texts reply k c p
-  happens_keeps s t hs texts (Post c) reply k (r, p) = quiet rows user from t hs texts reply r (post_keeps known rows user from s t hs texts k c p)
-  happens_keeps s t hs texts (Take w pick) reply k (r, p) =
+  happens_keeps s t hs texts (At c act) reply k p =
+      let told : told_if (nat_eq p.talk.user user) p.text ≡ told_to user reply = sym (ap (told_to user) p.replies ∙ told_own user c p.talk p.text) in
+      subst₂ (λ z o. Keeps rows user from z (hear rows hs (At c act)) (grown texts o)) (sym p.next) told
+      (does_keeps known rows user from s hs texts k c p.talk p.known act p.text p.after p.does)
+  happens_keeps s t hs texts (By worker deed) reply k (r, p) =
       quiet rows user from t hs texts reply r (front_stays rows user from s t hs texts k (ap (λ z. z.rows) p.next) (ap (λ z. z.talks) p.next))
-  happens_keeps s t hs texts (Compute w) reply k (r, p) =
-      quiet rows user from t hs texts reply r (front_stays rows user from s t hs texts k (ap (λ z. z.rows) p.next) (ap (λ z. z.talks) p.next))
-  happens_keeps s t hs texts (Give w) reply k (r, p) =
-      quiet rows user from t hs texts reply r (front_stays rows user from s t hs texts k (ap (λ z. z.rows) p.next) (ap (λ z. z.talks) p.next))
-  happens_keeps s t hs texts (HandBack w) reply k (r, p) =
-      quiet rows user from t hs texts reply r (front_stays rows user from s t hs texts k (ap (λ z. z.rows) p.next) (ap (λ z. z.talks) p.next))
-  happens_keeps s t hs texts (Fetch c pick) reply k (r, p) = quiet rows user from t hs texts reply r (fetch_keeps known rows user from s t hs texts k c p)
-  happens_keeps s t hs texts (Turn c) reply k p = turn_keeps known rows user from s t hs texts reply k c p
-  happens_keeps s t hs texts (Leave c) reply k (r, p) = quiet rows user from t hs texts reply r (leave_keeps known rows user from s t hs texts k c p)
 
 -- nothing is heard at an event that is not possible
 module _ (rows : List Row) (user : ℕ) (from : User) (s : State) (hs : List Heard) (texts : Texts) (k : Keeps rows user from s hs texts) where
@@ -322,33 +312,23 @@ module _ (rows : List Row) (user : ℕ) (from : User) (s : State) (hs : List Hea
           ap (with_heard c change) k.heard_is ∙ heard_changes c change seat seat k.seats new.0 new.1 (sym (same seat is_known))
           ∙ heard_stays c seat seat k.seats new.0 new.1 refl ∙ sym k.heard_is
 
-  unheard_arrive : (c : ℕ) (item : Item) → ¬ IsPossible s (Arrive c item) → with_heard c (with_item item) hs ≡ hs
-  unfolding Happens
+  unheard_arrive : (c : ℕ) (item : Item) → ¬ IsPossible s (At c (Arrive item)) → with_heard c (with_item item) hs ≡ hs
   unheard_arrive c item impossible = unheard_change c (with_item item) (λ seat e. by seat e seat.talk.ended refl)
     where
       by : (seat : Seat) → talk_at s c ≡ Some seat.talk → (b : Bool) → seat.talk.ended ≡ b → with_item item (heard_of seat) ≡ heard_of seat
       by seat e true is_ended = ap (λ b. cond b (heard_of seat) (record (heard_of seat) { items = seat.items ++ item ∷ [] })) is_ended
-      by seat e false still = absurd (impossible (None, _, (refl, record { talk = seat.talk; known = e; not_ended = still; next = refl })))
+      by seat e false still =
+          absurd (impossible (_, _, does_happens (Arrive item) s c seat.talk None _ e (record { quiet = refl; not_ended = still; next = refl })))
 
-  unheard_end : (c : ℕ) → ¬ IsPossible s (End c) → with_heard c with_end hs ≡ hs
-  unfolding Happens
+  unheard_end : (c : ℕ) → ¬ IsPossible s (At c End) → with_heard c with_end hs ≡ hs
   unheard_end c impossible =
-      unheard_change c with_end (λ seat e. absurd (impossible (None, _, (refl, record { talk = seat.talk; known = e; next = refl }))))
+      unheard_change c with_end (λ seat e. absurd (impossible (_, _, does_happens End s c seat.talk None _ e (record { quiet = refl; next = refl }))))
 
   unheard : (event : Event) → ¬ IsPossible s event → hear rows hs event ≡ hs
   unheard (Hello c name token) impossible = unheard_hello c name token impossible
-  unheard (Arrive c item) impossible = unheard_arrive c item impossible
-  unheard (End c) impossible = unheard_end c impossible
-  unheard (Enter c) impossible = refl
-  unheard (Next c) impossible = refl
-  unheard (Post c) impossible = refl
-  unheard (Take w pick) impossible = refl
-  unheard (Compute w) impossible = refl
-  unheard (Give w) impossible = refl
-  unheard (HandBack w) impossible = refl
-  unheard (Fetch c pick) impossible = refl
-  unheard (Turn c) impossible = refl
-  unheard (Leave c) impossible = refl
+  unheard (At c (Arrive item)) impossible = unheard_arrive c item impossible
+  unheard (At c End) impossible = unheard_end c impossible
+  unheard _ impossible = refl
 
 module _ (known : Known) (rows : List Row) (user : ℕ) (from : User) where
   -- what is kept is kept by each step

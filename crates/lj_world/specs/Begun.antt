@@ -6,7 +6,7 @@ use Rattle.lj_session.specs.Owners.{Owning, user_in, turns_left, begun, turned_f
 use Rattle.lj_wire.specs.declared.item.Item.{Item}
 use Rattle.lj_wire.specs.declared.item.Item.TheVariants.{Command}
 use Rattle.lj_wire.specs.Runs.{item_turns}
-use Rattle.lj_world.specs.Happenings.{Answers}
+use Rattle.lj_world.specs.Connections.{Answers}
 
 -- the item takes no turn, and is answered
 pub record BeginsAtOnce (owner : Owning) (item : Item) (text : List ℕ) (after : Owning) : Type 0 where

@@ -1,24 +1,23 @@
--- What a connection can do, as far as it is seen from there: the connection itself, the rows of the users and the book.
-use Rattle.std.specs.Prelude.{◌≡◌, ℕ, ◌+◌, ◌-◌, ◌^◌, ◌<◌, true, false, List, [], ◌∷◌, ◌++◌, slice_get, Option, Some, None, IsSome, ◌⊎◌}
+-- What a connection does: of each act, when it is possible, what is told, and what is there afterwards. A connection
+-- sees itself, the rows of the users and the book. All that is not named stays.
+use Rattle.std.specs.Prelude.{◌≡◌, ℕ, ◌+◌, ◌-◌, ◌^◌, ◌<◌, Bool, true, false, List, [], ◌∷◌, ◌++◌, slice_get, Option, Some, None, IsSome, ◌⊎◌}
 use Rattle.lj_tile.specs.Tasks.{Work}
 use Rattle.lj_session.specs.declared.command.Command.{Command as Order}
 use Rattle.lj_session.specs.Turns.{turns}
 use Rattle.lj_session.specs.States.{Owned}
-use Rattle.lj_session.specs.Owners.{Owning, user_in, turns_left, begun, task_in, with_task_posted, is_ready, turned_from}
+use Rattle.lj_session.specs.Owners.{Owning, user_in, turns_left, begun, task_in, with_task_posted, IsAwaitedIn, with_task_in, is_ready, turned_from}
 use Rattle.lj_wire.specs.declared.item.Item.{Item}
 use Rattle.lj_wire.specs.declared.item.Item.TheVariants.{Command}
 use Rattle.lj_wire.specs.Items.{ends}
+use Rattle.lj_wire.specs.Told.{told}
 use Rattle.lj_wire.specs.Runs.{item_turns}
-use Rattle.lj_access.specs.Rows.{Row, CanEnter, HasEntered, changed, lent, with_home}
+use Rattle.lj_access.specs.Rows.{Row, CanEnter, changed, lent, with_home}
 use Rattle.lj_book.specs.declared.entries.TheConstants.{MAX_ENTRIES}
 use Rattle.lj_book.specs.Held.{Held, standing, Posts, Fetches, Withdraws}
-use Rattle.lj_world.specs.declared.event.Event.{Event}
-use Rattle.lj_world.specs.declared.event.Event.TheVariants as event
-use Rattle.lj_world.specs.declared.act.Act.{Act}
-use Rattle.lj_world.specs.declared.act.Act.TheVariants.{Arrive, End, Enter, Next, Post, Fetch, Turn, Leave}
+use Rattle.lj_world.specs.declared.event.Act.{Act}
+use Rattle.lj_world.specs.declared.event.Act.TheVariants.{Arrive, End, Enter, Next, Post, Fetch, Turn, Leave}
 use Rattle.lj_world.specs.declared.limits.TheConstants.{MAX_POSTED}
 use Rattle.lj_world.specs.States.{waiting, inside, gone, Talk, with_stage}
-use Rattle.lj_world.specs.Happenings.{Answers, IsGiven, IsDone}
 
 -- a connection, with the rows and the book
 pub record Here : Type 0 where
@@ -33,18 +32,19 @@ here talk rows book = record { talk = talk; rows = rows; book = book }
 abbrev pub to : Talk → Here → Here
 to talk h = record h { talk = talk }
 
--- an item arrives
+-- ARRIVE: the connection has not ended. The item goes to the end of its inbox.
 pub record Receives (item : Item) (old : Here) (text : Option (List ℕ)) (new : Here) : Type 0 where
   pub quiet : text ≡ None
   pub not_ended : old.talk.ended ≡ false
   pub next : new ≡ to (record old.talk { inbox = old.talk.inbox ++ item ∷ [] }) old
 
--- nothing more arrives
+-- END: always. Nothing more arrives at the connection.
 pub record Closes (old : Here) (text : Option (List ℕ)) (new : Here) : Type 0 where
   pub quiet : text ≡ None
   pub next : new ≡ to (record old.talk { ended = true }) old
 
--- the connection is given the state of its user
+-- ENTER: the connection has not entered, its ticket is the user's first one that has not left, and the state is at
+-- home. The connection owns the state.
 pub record GoesIn (old : Here) (text : Option (List ℕ)) (new : Here) : Type 0 where
   pub quiet : text ≡ None
   pub waits : old.talk.stage ≡ waiting
@@ -56,14 +56,22 @@ pub record GoesIn (old : Here) (text : Option (List ℕ)) (new : Here) : Type 0 
   pub next : let owner : Owning = record { state = state; number = old.talk.user; rest = None } in
       new ≡ record old { talk = with_stage (inside owner) old.talk; rows = changed old.talk.user lent old.rows }
 
--- the connection owns the state, nothing runs, no item that ends it was answered, and its inbox begins with this item
+-- The connection owns the state of its user, nothing runs, no item that ends the connection was answered, and its inbox
+-- begins with this item.
 pub record CanBegin (talk : Talk) (owner : Owning) (item : Item) (items : List Item) : Type 0 where
   pub owns : talk.stage ≡ inside owner
   pub idle : owner.rest ≡ None
   pub not_over : talk.over ≡ false
   pub inbox : talk.inbox ≡ item ∷ items
 
--- the next item is answered at once
+-- An item is answered: for some mark the text and the next user are what the item is told. Nothing runs then.
+pub record Answers (owner : Owning) (item : Item) (text : List ℕ) (next : Owning) : Type 0 where
+  pub mark : Bool
+  pub is_told : (text, user_in next) ≡ told (user_in owner) item mark
+  pub idle : next.rest ≡ None
+  pub number : next.number ≡ owner.number
+
+-- NEXT, where the item takes no turn: it is answered at once.
 pub record AnswersItem (old : Here) (text : Option (List ℕ)) (new : Here) : Type 0 where
   pub owner : Owning
   pub item : Item
@@ -76,7 +84,7 @@ pub record AnswersItem (old : Here) (text : Option (List ℕ)) (new : Here) : Ty
   pub replies : text ≡ Some told
   pub next : new ≡ to (record old.talk { stage = inside after; inbox = items; over = ends item }) old
 
--- the next item runs
+-- NEXT, where the item takes turns: it is a command, which runs.
 pub record RunsItem (old : Here) (text : Option (List ℕ)) (new : Here) : Type 0 where
   pub quiet : text ≡ None
   pub owner : Owning
@@ -86,7 +94,8 @@ pub record RunsItem (old : Here) (text : Option (List ℕ)) (new : Here) : Type 
   pub takes_turns : 0 < turns (user_in owner) command
   pub next : new ≡ to (record old.talk { stage = inside (begun command owner); inbox = items }) old
 
--- the next task of what runs is posted
+-- POST: a command runs, a task of its step is not posted yet, fewer than 64 are posted and not fetched, and the book is
+-- not full. The first such task is posted.
 pub record PostsNext (old : Here) (text : Option (List ℕ)) (new : Here) : Type 0 where
   pub quiet : text ≡ None
   pub owner : Owning
@@ -103,7 +112,12 @@ pub record PostsNext (old : Here) (text : Option (List ℕ)) (new : Here) : Type
     book = new.book;
   }
 
--- a result of the user is fetched
+-- the owner is given a result: one that its step awaits is taken in, and any other is dropped
+abbrev pub IsGiven : Owning → Work → Owning → Type 0
+IsGiven owner work next =
+    IsAwaitedIn owner work × (next ≡ with_task_in work owner) ⊎ (¬ IsAwaitedIn owner work) × (next ≡ owner)
+
+-- FETCH: a command runs, and the book has a result of this user. It leaves the book, and the owner is given it.
 pub record FetchesNext (old : Here) (text : Option (List ℕ)) (new : Here) : Type 0 where
   pub quiet : text ≡ None
   pub owner : Owning
@@ -120,13 +134,13 @@ pub record FetchesNext (old : Here) (text : Option (List ℕ)) (new : Here) : Ty
     book = new.book;
   }
 
--- a command runs, and all tiles of its step are in
+-- A command runs at the connection, and all tiles of its step are in.
 pub record CanTurn (talk : Talk) (owner : Owning) (command : Order) : Type 0 where
   pub owns : talk.stage ≡ inside owner
   pub runs : owner.rest ≡ Some command
   pub ready : is_ready owner ≡ true
 
--- the step is turned, and the next one is open
+-- TURN, where more than one turn is left: the step is turned, and the next one is open.
 pub record TurnsStep (old : Here) (text : Option (List ℕ)) (new : Here) : Type 0 where
   pub quiet : text ≡ None
   pub owner : Owning
@@ -135,7 +149,7 @@ pub record TurnsStep (old : Here) (text : Option (List ℕ)) (new : Here) : Type
   pub more : 1 < turns_left owner
   pub next : new ≡ to (with_stage (inside (turned_from command owner)) old.talk) old
 
--- the last step is turned, and what is left of the command is answered
+-- TURN, where one turn is left: what is left of the command is answered.
 pub record TurnsEnd (old : Here) (text : Option (List ℕ)) (new : Here) : Type 0 where
   pub owner : Owning
   pub command : Order
@@ -147,7 +161,12 @@ pub record TurnsEnd (old : Here) (text : Option (List ℕ)) (new : Here) : Type 
   pub replies : text ≡ Some told
   pub next : new ≡ to (with_stage (inside after) old.talk) old
 
--- the state goes home, and the entries of the user leave the book
+-- nothing is left to answer: the connection has ended and its inbox is empty, or an item that ends it was answered
+abbrev pub IsDone : Talk → Type 0
+IsDone talk = (talk.ended ≡ true) × (talk.inbox ≡ []) ⊎ (talk.over ≡ true)
+
+-- LEAVE: the connection owns the state, nothing runs, and nothing is left to answer. All entries of the user are
+-- withdrawn from the book, and the state goes home.
 pub record GoesHome (old : Here) (text : Option (List ℕ)) (new : Here) : Type 0 where
   pub quiet : text ≡ None
   pub owner : Owning
@@ -161,7 +180,7 @@ pub record GoesHome (old : Here) (text : Option (List ℕ)) (new : Here) : Type 
     book = new.book;
   }
 
--- the connection can do this, tells this or nothing, and this is what is there afterwards
+-- The connection can do this, is told this or nothing, and this is what is there afterwards.
 abbrev pub Does : Act → Here → Option (List ℕ) → Here → Type 0
 Does (Arrive item) old text new = Receives item old text new
 Does End old text new = Closes old text new
@@ -171,41 +190,3 @@ Does Post old text new = PostsNext old text new
 Does (Fetch pick) old text new = FetchesNext old text new
 Does Turn old text new = TurnsStep old text new ⊎ TurnsEnd old text new
 Does Leave old text new = GoesHome old text new
-
--- the connection can do it
-abbrev pub CanDo : Act → Here → Type 0
-CanDo act old = (text : Option (List ℕ)) × (new : Here) × Does act old text new
-
--- The connection does it, or cannot, and then nothing is told and nothing changes.
-abbrev pub Acts : Act → Here → Option (List ℕ) → Here → Type 0
-Acts act old text new = Does act old text new ⊎ (¬ CanDo act old) × (text ≡ None) × (new ≡ old)
-
--- the event in which a connection does this
-abbrev pub event_of : ℕ → Act → Event
-event_of connection (Arrive item) = event.Arrive connection item
-event_of connection End = event.End connection
-event_of connection Enter = event.Enter connection
-event_of connection Next = event.Next connection
-event_of connection Post = event.Post connection
-event_of connection (Fetch pick) = event.Fetch connection pick
-event_of connection Turn = event.Turn connection
-event_of connection Leave = event.Leave connection
-
--- the connection is given the state
-abbrev pub IsInside : Talk → Type 0
-IsInside talk = (owner : Owning) × (talk.stage ≡ inside owner)
-
--- the row is that of the user of a connection: its ticket was granted, and it has entered where it owns the state
-pub record IsRowOf (talk : Talk) (row : Row) : Type 0 where
-  pub granted : talk.number < row.granted
-  pub entered : IsInside talk → HasEntered talk.number row
-
--- the user of a connection has such a row
-abbrev pub HasRow : List Row → Talk → Type 0
-HasRow rows talk = (row : Row) × (slice_get rows talk.user ≡ Some row) × IsRowOf talk row
-
--- the ticket is the same, and the connection owns the state only if it did
-pub record Stays (old new : Talk) : Type 0 where
-  pub user : new.user ≡ old.user
-  pub number : new.number ≡ old.number
-  pub owned : IsInside new → IsInside old

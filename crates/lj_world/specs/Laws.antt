@@ -13,7 +13,7 @@ use Rattle.lj_wire.specs.Runs.{user_turned, item_left}
 use Rattle.lj_access.specs.declared.user.User.{User}
 use Rattle.lj_access.specs.Rows.{Row, user_with}
 use Rattle.lj_world.specs.declared.event.Event.{Event}
-use Rattle.lj_world.specs.declared.event.Event.TheVariants.{Hello, Arrive, End, Enter, Next, Post, Take, Compute, Give, HandBack, Fetch, Turn, Leave}
+use Rattle.lj_world.specs.declared.event.Event.TheVariants.{Hello, At, By}
 use Rattle.lj_world.specs.declared.transcript.Entry.{Entry}
 use Rattle.lj_world.specs.States.{State, Talk, inside, start, talk_at}
 use Rattle.lj_world.specs.Runs.{Step, Run, IsTranscript}
@@ -157,18 +157,8 @@ connected s connection = option_map (λ talk. talk.user) (talk_at s connection)
 -- the user whose event it is, if it is a user's: workers act for none
 abbrev pub actor : State → Event → Option ℕ
 actor s (Hello connection name token) = user_with s.rows name token
-actor s (Arrive connection item) = connected s connection
-actor s (End connection) = connected s connection
-actor s (Enter connection) = connected s connection
-actor s (Next connection) = connected s connection
-actor s (Post connection) = connected s connection
-actor s (Take worker pick) = None
-actor s (Compute worker) = None
-actor s (Give worker) = None
-actor s (HandBack worker) = None
-actor s (Fetch connection pick) = connected s connection
-actor s (Turn connection) = connected s connection
-actor s (Leave connection) = connected s connection
+actor s (At connection act) = connected s connection
+actor s (By worker deed) = None
 
 -- the connection of a number, if it is this user's
 abbrev pub talk_of : ℕ → State → ℕ → Option Talk

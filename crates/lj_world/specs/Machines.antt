@@ -2,7 +2,7 @@
 use Rattle.std.specs.Prelude.{◌≡◌, ℕ, List, length, slice_index_or, Option, Some, None}
 use Rattle.lj_access.specs.Rows.{Row}
 use Rattle.lj_world.specs.States.{Talk, Hand}
-use Rattle.lj_world.specs.Connections.{HasRow}
+use Rattle.lj_world.specs.Kept.{HasRow}
 
 -- There are 65 places of connections and 17 of workers. Each connection has a row, and no two have the same ticket.
 pub record IsMachine (rows : List Row) (talks : List (Option Talk)) (hands : List (Option Hand)) : Type 0 where

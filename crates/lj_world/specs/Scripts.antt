@@ -8,7 +8,8 @@ use Rattle.lj_access.specs.declared.user.User.{User}
 use Rattle.lj_access.specs.declared.row.TheConstants.{MAX_TICKETS}
 use Rattle.lj_access.specs.Rows.{Row, opening, user_with}
 use Rattle.lj_world.specs.declared.event.Event.{Event}
-use Rattle.lj_world.specs.declared.event.Event.TheVariants.{Hello, Arrive, End}
+use Rattle.lj_world.specs.declared.event.Event.TheVariants.{Hello, At}
+use Rattle.lj_world.specs.declared.event.Act.TheVariants.{Arrive, End}
 use Rattle.lj_world.specs.declared.transcript.Entry.{Entry}
 use Rattle.lj_world.specs.declared.limits.TheConstants.{MAX_CONNECTIONS}
 
@@ -55,8 +56,8 @@ with_end h = record h { ended = true }
 -- what was heard, after one event more; the rows have the names and tokens of the users
 abbrev pub hear : List Row → List Heard → Event → List Heard
 hear rows heard (Hello connection name token) = greeting connection (user_with rows name token) heard
-hear rows heard (Arrive connection item) = with_heard connection (with_item item) heard
-hear rows heard (End connection) = with_heard connection with_end heard
+hear rows heard (At connection (Arrive item)) = with_heard connection (with_item item) heard
+hear rows heard (At connection End) = with_heard connection with_end heard
 hear rows heard _ = heard
 
 -- the granted connections, in the order of their HELLO

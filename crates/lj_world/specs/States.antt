@@ -78,9 +78,9 @@ with_stage stage talk = record talk { stage = stage }
 abbrev pub with_talk : ℕ → Talk → State → State
 with_talk connection talk s = record s { talks = slice_set s.talks connection (Some talk) }
 
--- with this in the hand of a worker
-abbrev pub with_hand : ℕ → Hand → State → State
-with_hand worker hand s = record s { hands = slice_set s.hands worker (Some hand) }
+-- with this, or nothing, in the hand of a worker
+abbrev pub with_hand : ℕ → Option Hand → State → State
+with_hand worker hand s = record s { hands = slice_set s.hands worker hand }
 
 abbrev pub with_rows : List Row → State → State
 with_rows rows s = record s { rows = rows }

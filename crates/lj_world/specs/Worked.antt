@@ -6,7 +6,8 @@ use Rattle.lj_wire.specs.declared.item.Item.{Item}
 use Rattle.lj_wire.specs.declared.item.Item.TheVariants.{Command}
 use Rattle.lj_access.specs.declared.user.User.{User}
 use Rattle.lj_world.specs.declared.event.Event.{Event}
-use Rattle.lj_world.specs.declared.event.Event.TheVariants.{Hello, Arrive, End}
+use Rattle.lj_world.specs.declared.event.Event.TheVariants.{Hello, At}
+use Rattle.lj_world.specs.declared.event.Act.TheVariants.{Arrive, End}
 use Rattle.lj_world.specs.Scripts.{heard, line_of, joined}
 
 -- two users, A and B, and their tokens
@@ -33,29 +34,37 @@ bye = Command Bye
 abbrev pub hello : ℕ → Event
 hello connection = Hello connection (codes "A") token_a
 
+-- an item arrives at a connection
+abbrev pub arrive : ℕ → Item → Event
+arrive connection item = At connection (Arrive item)
+
+-- nothing more arrives at it
+abbrev pub end : ℕ → Event
+end connection = At connection End
+
 -- the items that the connections of A bring
 abbrev pub brought : List Event → List Item
 brought events = joined (line_of 0 (heard (user_a ∷ user_b ∷ []) events))
 
 -- the second connection's item counts once the first has ended
-pub ended_first : brought (hello 1 ∷ hello 2 ∷ Arrive 2 bye ∷ Arrive 1 list ∷ End 1 ∷ []) ≡ list ∷ bye ∷ []
+pub ended_first : brought (hello 1 ∷ hello 2 ∷ arrive 2 bye ∷ arrive 1 list ∷ end 1 ∷ []) ≡ list ∷ bye ∷ []
 ended_first = refl
 
 -- and not before
-pub not_ended : brought (hello 1 ∷ hello 2 ∷ Arrive 2 bye ∷ Arrive 1 list ∷ []) ≡ list ∷ []
+pub not_ended : brought (hello 1 ∷ hello 2 ∷ arrive 2 bye ∷ arrive 1 list ∷ []) ≡ list ∷ []
 not_ended = refl
 
 -- an item that ends its connection is the last of it, and what arrives after an end does not count
-pub over : brought (hello 1 ∷ hello 2 ∷ Arrive 1 bye ∷ Arrive 1 list ∷ End 2 ∷ Arrive 2 list ∷ []) ≡ bye ∷ []
+pub over : brought (hello 1 ∷ hello 2 ∷ arrive 1 bye ∷ arrive 1 list ∷ end 2 ∷ arrive 2 list ∷ []) ≡ bye ∷ []
 over = refl
 
 -- the connections of a user follow in the order of their hello, whatever their numbers
-pub in_order : brought (hello 9 ∷ hello 4 ∷ Arrive 4 bye ∷ Arrive 9 list ∷ End 9 ∷ []) ≡ list ∷ bye ∷ []
+pub in_order : brought (hello 9 ∷ hello 4 ∷ arrive 4 bye ∷ arrive 9 list ∷ end 9 ∷ []) ≡ list ∷ bye ∷ []
 in_order = refl
 
 -- a number out of range or taken, a wrong token, and another user's connection bring nothing
 pub not_granted : brought
-    (Arrive 1 list ∷ hello 0 ∷ hello 65 ∷ Hello 3 (codes "A") token_b ∷ Hello 1 (codes "B") token_b ∷ hello 1
-    ∷ Arrive 1 list ∷ Arrive 0 list ∷ Arrive 65 list ∷ Arrive 3 list ∷ [])
+    (arrive 1 list ∷ hello 0 ∷ hello 65 ∷ Hello 3 (codes "A") token_b ∷ Hello 1 (codes "B") token_b ∷ hello 1
+    ∷ arrive 1 list ∷ arrive 0 list ∷ arrive 65 list ∷ arrive 3 list ∷ [])
     ≡ []
 not_granted = refl

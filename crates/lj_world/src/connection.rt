@@ -2,13 +2,14 @@
 ghost use Rattle.std.specs.Prelude.{◌≡◌, ◌↔◌, None, IfOk, IsTrue, OnErr, List};
 ghost use Rattle.lj_access.specs.Rows.{Row};
 ghost use Rattle.lj_book.specs.Held.{Held};
-ghost use Rattle.lj_world.specs.declared.act.Act.{Act as Deed};
+ghost use Rattle.lj_world.specs.declared.event.Act.TheVariants.{Arrive, End, Enter, Next, Post, Fetch, Turn, Leave};
 ghost use Rattle.lj_world.specs.States.{greeted};
-ghost use Rattle.lj_world.specs.Happenings.{IsDone};
-ghost use Rattle.lj_world.specs.Connections.{Acts, HasRow, Stays, here};
+ghost use Rattle.lj_world.specs.Connections.{IsDone, here};
+ghost use Rattle.lj_world.specs.Attempts.{Acts};
+ghost use Rattle.lj_world.specs.Kept.{HasRow, Stays};
 
-use crate::act::Act;
 use crate::answers;
+use crate::event::Act;
 use crate::limits::MAX_POSTED;
 use crate::position::Position;
 use crate::transcript::ReplyText;
@@ -98,39 +99,22 @@ impl Connection {
         ensures rows { OnErr result (directory.new ≡ directory.old) }
     {
         match act {
-            Act::Arrive(item) => {
-                self.arrive(item)?;
-                return Ok(None);
-            }
-            Act::End => {
-                self.end();
-                return Ok(None);
-            }
-            Act::Enter => {
-                self.enter(directory);
-                return Ok(None);
-            }
+            Act::Arrive(item) => self.arrive(item)?,
+            Act::End => self.end(),
+            Act::Enter => self.enter(directory),
             Act::Next => return self.next(),
-            Act::Post => {
-                self.post(book);
-                return Ok(None);
-            }
-            Act::Fetch(pick) => {
-                self.fetch(book, pick);
-                return Ok(None);
-            }
+            Act::Post => self.post(book),
+            Act::Fetch { pick } => self.fetch(book, pick),
             Act::Turn => return self.turn(),
-            Act::Leave => {
-                self.leave(directory, book);
-                return Ok(None);
-            }
+            Act::Leave => self.leave(directory, book),
         }
+        Ok(None)
     }
 
     /// Notes an item that has arrived, unless the connection has ended.
     fn arrive(&mut self, item: Item) -> Result<(), AllocError>
         ensures acts { IfOk result (λ _. (rows : List Row) (book : Held)
-            → Acts (Deed.Arrive item) (here self.old rows book) None (here self.new rows book)) }
+            → Acts (Arrive item) (here self.old rows book) None (here self.new rows book)) }
         ensures stays { OnErr result (Stays self.old self.new) }
     {
         if !self.ended {
@@ -142,7 +126,7 @@ impl Connection {
     /// Notes that nothing more arrives.
     fn end(&mut self)
         ensures { (rows : List Row) (book : Held)
-            → Acts Deed.End (here self.old rows book) None (here self.new rows book) }
+            → Acts End (here self.old rows book) None (here self.new rows book) }
     {
         self.ended = true;
     }
@@ -150,7 +134,7 @@ impl Connection {
     /// Takes the state of its user, where it is its turn.
     fn enter(&mut self, directory: &mut Directory)
         ensures { (book : Held)
-            → Acts Deed.Enter (here self.old directory.old book) None (here self.new directory.new book) }
+            → Acts Enter (here self.old directory.old book) None (here self.new directory.new book) }
     {
         let Position::Waiting = &self.position else {
             return;
@@ -166,7 +150,7 @@ impl Connection {
     /// Begins the next item of its inbox.
     fn next(&mut self) -> Result<Option<ReplyText>, AllocError>
         ensures acts { IfOk result (λ text. (rows : List Row) (book : Held)
-            → Acts Deed.Next (here self.old rows book) text (here self.new rows book)) }
+            → Acts Next (here self.old rows book) text (here self.new rows book)) }
         ensures stays { OnErr result (Stays self.old self.new) }
     {
         let Position::Inside(owner) = &mut self.position else {
@@ -187,7 +171,7 @@ impl Connection {
     /// Posts the next task of what runs.
     fn post(&mut self, book: &mut Book)
         ensures { (rows : List Row)
-            → Acts Deed.Post (here self.old rows book.old) None (here self.new rows book.new) }
+            → Acts Post (here self.old rows book.old) None (here self.new rows book.new) }
     {
         if self.posted >= MAX_POSTED {
             return;
@@ -207,7 +191,7 @@ impl Connection {
     /// Fetches a result of its user. One that the step does not await is dropped.
     fn fetch(&mut self, book: &mut Book, pick: usize)
         ensures { (rows : List Row)
-            → Acts (Deed.Fetch pick) (here self.old rows book.old) None (here self.new rows book.new) }
+            → Acts (Fetch pick) (here self.old rows book.old) None (here self.new rows book.new) }
     {
         let Position::Inside(owner) = &mut self.position else {
             return;
@@ -225,7 +209,7 @@ impl Connection {
     /// Turns the step of what runs.
     fn turn(&mut self) -> Result<Option<ReplyText>, AllocError>
         ensures acts { IfOk result (λ text. (rows : List Row) (book : Held)
-            → Acts Deed.Turn (here self.old rows book) text (here self.new rows book)) }
+            → Acts Turn (here self.old rows book) text (here self.new rows book)) }
         ensures stays { OnErr result (Stays self.old self.new) }
     {
         let Position::Inside(owner) = &mut self.position else {
@@ -240,7 +224,7 @@ impl Connection {
     /// Hands the state of its user back, where nothing is left to answer.
     fn leave(&mut self, directory: &mut Directory, book: &mut Book)
         requires { HasRow directory.old self.old }
-        ensures { Acts Deed.Leave (here self.old directory.old book.old) None (here self.new directory.new book.new) }
+        ensures { Acts Leave (here self.old directory.old book.old) None (here self.new directory.new book.new) }
     {
         if !self.is_done() {
             return;

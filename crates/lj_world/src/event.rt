@@ -4,7 +4,7 @@ use lj_access::{Name, Token};
 use lj_wire::Item;
 
 /// An event. Connections are numbered from 1 to `MAX_CONNECTIONS`, and workers from 1 to `MAX_WORKERS`. An event that
-/// is not possible changes nothing. A pick says from which key on the book looks first.
+/// is not possible changes nothing.
 #[derive(Debug, Drop)]
 pub enum Event {
     /// A new connection shows a name and a token, and is granted a ticket.
@@ -13,55 +13,48 @@ pub enum Event {
         name: Name,
         token: Token,
     },
+    /// Something happens at a connection that is known.
+    At {
+        connection: u8,
+        act: Act,
+    },
+    /// A worker does something.
+    By {
+        worker: u8,
+        deed: Deed,
+    },
+}
+
+/// What a connection does. A pick says from which key on the book looks first.
+#[derive(Debug, Drop)]
+pub enum Act {
     /// An item arrives at a connection.
-    Arrive {
-        connection: u8,
-        item: Item,
-    },
+    Arrive(Item),
     /// Nothing more arrives at a connection.
-    End {
-        connection: u8,
-    },
+    End,
     /// A connection is given the state of its user.
-    Enter {
-        connection: u8,
-    },
+    Enter,
     /// A connection begins its next item.
-    Next {
-        connection: u8,
-    },
+    Next,
     /// A connection posts the next task of what runs.
-    Post {
-        connection: u8,
-    },
-    /// A worker takes a task.
-    Take {
-        worker: u8,
-        pick: usize,
-    },
-    /// A worker computes the task that it holds.
-    Compute {
-        worker: u8,
-    },
-    /// A worker gives the result that it holds.
-    Give {
-        worker: u8,
-    },
-    /// A worker hands back the task that it holds.
-    HandBack {
-        worker: u8,
-    },
+    Post,
     /// A connection fetches a result of its user.
-    Fetch {
-        connection: u8,
-        pick: usize,
-    },
+    Fetch { pick: usize },
     /// A connection turns the step of what runs.
-    Turn {
-        connection: u8,
-    },
+    Turn,
     /// A connection hands the state of its user back.
-    Leave {
-        connection: u8,
-    },
+    Leave,
+}
+
+/// What a worker does. A pick says from which key on the book looks first.
+#[derive(Clone, Copy, PartialEq, Eq, Debug)]
+pub enum Deed {
+    /// A worker takes a task.
+    Take { pick: usize },
+    /// A worker computes the task that it holds.
+    Compute,
+    /// A worker gives the result that it holds.
+    Give,
+    /// A worker hands back the task that it holds.
+    HandBack,
 }

@@ -1,7 +1,6 @@
 //! The world: users, connections, workers and the book of tasks as one machine of events, and the laws of its runs.
 #![tactic(auto)]
 
-mod act;
 mod answers;
 mod connection;
 mod event;
@@ -15,7 +14,7 @@ mod transcript;
 mod worker;
 mod world;
 
-pub use event::Event;
+pub use event::{Act, Deed, Event};
 pub use laws::{
     agreeing_scripts_agree_in_texts, headline, others_change_nothing, replies_are_first_texts,
     tickets_are_in_order, value_is_that_of_script,

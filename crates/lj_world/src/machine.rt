@@ -3,17 +3,15 @@ ghost use Rattle.std.specs.Prelude.{◌≡◌, ◌≤◌, ◌<◌, Some, None, I
 ghost use Rattle.std.specs.List.{IsDistinct};
 ghost use Rattle.std.specs.Str.{bytes_eq};
 ghost use Rattle.lj_access.specs.Users.{names};
-ghost use Rattle.lj_world.specs.declared.event.Event.{Event as Happening};
+ghost use Rattle.lj_world.specs.declared.event.Event.TheVariants.{Hello, At, By};
 ghost use Rattle.lj_world.specs.States.{start};
 ghost use Rattle.lj_world.specs.Runs.{Step};
-ghost use Rattle.lj_world.specs.Connections.{event_of};
 
-use crate::act::Act;
 use crate::connection::Connection;
-use crate::event::Event;
+use crate::event::{Act, Deed, Event};
 use crate::limits::{MAX_CONNECTIONS, MAX_WORKERS};
 use crate::transcript::Entry;
-use crate::worker::Worker;
+use crate::worker::{Worker, work};
 use lj_access::{Directory, MAX_USERS, Name, Token, User};
 use lj_book::Book;
 use lj_table::Table;
@@ -83,38 +81,19 @@ impl Machine {
                 token,
             } => {
                 self.hello(connection, &name, &token);
-                return Ok(None);
+                Ok(None)
             }
-            Event::Arrive { connection, item } => return self.act(connection, Act::Arrive(item)),
-            Event::End { connection } => return self.act(connection, Act::End),
-            Event::Enter { connection } => return self.act(connection, Act::Enter),
-            Event::Next { connection } => return self.act(connection, Act::Next),
-            Event::Post { connection } => return self.act(connection, Act::Post),
-            Event::Take { worker, pick } => {
-                self.take(worker, pick);
-                return Ok(None);
+            Event::At { connection, act } => self.act(connection, act),
+            Event::By { worker, deed } => {
+                self.work(worker, deed);
+                Ok(None)
             }
-            Event::Compute { worker } => {
-                self.compute(worker);
-                return Ok(None);
-            }
-            Event::Give { worker } => {
-                self.give(worker);
-                return Ok(None);
-            }
-            Event::HandBack { worker } => {
-                self.hand_back(worker);
-                return Ok(None);
-            }
-            Event::Fetch { connection, pick } => return self.act(connection, Act::Fetch(pick)),
-            Event::Turn { connection } => return self.act(connection, Act::Turn),
-            Event::Leave { connection } => return self.act(connection, Act::Leave),
         }
     }
 
     /// Grants a ticket to a new connection.
     fn hello(&mut self, connection: u8, name: &Name, token: &Token)
-        ensures { Step self.old (Happening.Hello connection name.now token.now) None self.new }
+        ensures { Step self.old (Hello connection name.now token.now) None self.new }
     {
         let place = usize::from(connection);
         if place == 0 || place >= self.connections.len() {
@@ -135,7 +114,7 @@ impl Machine {
 
     /// A connection that is known does something.
     fn act(&mut self, connection: u8, act: Act) -> Result<Option<Entry>, AllocError>
-        ensures { IfOk result (λ reply. Step self.old (event_of connection act) reply self.new) }
+        ensures { IfOk result (λ reply. Step self.old (At connection act) reply self.new) }
     {
         let place = usize::from(connection);
         if place >= self.connections.len() {
@@ -155,57 +134,15 @@ impl Machine {
         }))
     }
 
-    /// A worker takes a task.
-    fn take(&mut self, worker: u8, pick: usize)
-        ensures { Step self.old (Happening.Take worker pick) None self.new }
+    /// A worker does something.
+    fn work(&mut self, worker: u8, deed: Deed)
+        ensures { Step self.old (By worker deed) None self.new }
     {
         let place = usize::from(worker);
         if place == 0 || place >= self.workers.len() {
             return;
         }
-        if let Some((key, task)) = self.book.take(pick) {
-            self.workers[place] = Some(Worker::new(key, task));
-        }
-    }
-
-    /// A worker computes what it holds.
-    fn compute(&mut self, worker: u8)
-        ensures { Step self.old (Happening.Compute worker) None self.new }
-    {
-        let place = usize::from(worker);
-        if place >= self.workers.len() {
-            return;
-        }
-        let Some(worker) = &mut self.workers[place] else {
-            return;
-        };
-        worker.compute(&self.table);
-    }
-
-    /// A worker gives its result.
-    fn give(&mut self, worker: u8)
-        ensures { Step self.old (Happening.Give worker) None self.new }
-    {
-        let place = usize::from(worker);
-        if place >= self.workers.len() {
-            return;
-        }
-        if let Some(worker) = &self.workers[place] {
-            worker.give(&mut self.book);
-        }
-    }
-
-    /// A worker hands its task back.
-    fn hand_back(&mut self, worker: u8)
-        ensures { Step self.old (Happening.HandBack worker) None self.new }
-    {
-        let place = usize::from(worker);
-        if place >= self.workers.len() {
-            return;
-        }
-        if let Some(worker) = &self.workers[place] {
-            worker.hand_back(&mut self.book);
-        }
+        work(&mut self.workers[place], deed, &mut self.book, &self.table);
     }
 }
 

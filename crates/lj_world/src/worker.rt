@@ -1,7 +1,11 @@
-//! The hands of workers.
-ghost use Rattle.std.specs.Prelude.{◌≡◌, true, false};
-ghost use Rattle.lj_world.specs.Hands.{GivesFrom, HandsBackFrom};
+//! The hands of workers, and what each worker does.
+ghost use Rattle.std.specs.Prelude.{◌≡◌, Some, false};
+ghost use Rattle.lj_book.specs.Held.{Held};
+ghost use Rattle.lj_world.specs.declared.event.Deed.TheVariants.{Take, Compute, Give, HandBack};
+ghost use Rattle.lj_world.specs.Workers.{bench};
+ghost use Rattle.lj_world.specs.Attempts.{Tries};
 
+use crate::event::Deed;
 use crate::holding::Holding;
 use lj_book::{Book, Key};
 use lj_table::Table;
@@ -25,9 +29,42 @@ impl Model for Worker {
     ghost view = { λ w. record { key = w.key; work = work_of w.holding; computed = is_computed w.holding } };
 }
 
+/// Does what a worker is asked for, or nothing where it cannot.
+pub(crate) fn work(hand: &mut Option<Worker>, deed: Deed, book: &mut Book, table: &Table)
+    ensures { Tries deed (bench hand.old book.old) (bench hand.new book.new) }
+{
+    match deed {
+        Deed::Take { pick } => take(hand, book, pick),
+        Deed::Compute => {
+            if let Some(worker) = hand {
+                worker.compute(table);
+            }
+        }
+        Deed::Give => {
+            if let Some(worker) = hand {
+                worker.give(book);
+            }
+        }
+        Deed::HandBack => {
+            if let Some(worker) = hand {
+                worker.hand_back(book);
+            }
+        }
+    }
+}
+
+/// Takes a task, in place of what was held.
+fn take(hand: &mut Option<Worker>, book: &mut Book, pick: usize)
+    ensures { Tries (Take pick) (bench hand.old book.old) (bench hand.new book.new) }
+{
+    if let Some((key, task)) = book.take(pick) {
+        *hand = Some(Worker::new(key, task));
+    }
+}
+
 impl Worker {
     /// Holds a task, which is not computed.
-    pub(crate) fn new(key: Key, task: Task) -> Worker
+    fn new(key: Key, task: Task) -> Worker
         ensures { result ≡ record { key = key; work = task; computed = false } }
     {
         Worker {
@@ -37,8 +74,8 @@ impl Worker {
     }
 
     /// Computes the task that it holds, unless that is done.
-    pub(crate) fn compute(&mut self, table: &Table)
-        ensures { self.new ≡ record self.old { computed = true } }
+    fn compute(&mut self, table: &Table)
+        ensures { (book : Held) → Tries Compute (bench (Some self.old) book) (bench (Some self.new) book) }
     {
         if let Holding::Task(task) = &self.holding {
             self.holding = Holding::Done(compute(task.copy(), table));
@@ -46,8 +83,8 @@ impl Worker {
     }
 
     /// Gives a copy of the result that it holds, where the task is out under its key.
-    pub(crate) fn give(&self, book: &mut Book)
-        ensures { GivesFrom self.now book.old book.new }
+    fn give(&self, book: &mut Book)
+        ensures { Tries Give (bench (Some self.now) book.old) (bench (Some self.now) book.new) }
     {
         if let Holding::Done(done) = &self.holding {
             let _refused = book.give(self.key, done.copy());
@@ -55,8 +92,8 @@ impl Worker {
     }
 
     /// Hands the task back, where it is out under its key.
-    pub(crate) fn hand_back(&self, book: &mut Book)
-        ensures { HandsBackFrom self.now book.old book.new }
+    fn hand_back(&self, book: &mut Book)
+        ensures { Tries HandBack (bench (Some self.now) book.old) (bench (Some self.now) book.new) }
     {
         let task = match &self.holding {
             Holding::Task(task) => task,

@@ -7,57 +7,64 @@ use lj_access::{Name, Token};
 use lj_fixed::parse_number;
 use lj_session::LoadBody;
 use lj_wire::{Fault, Item, Words, is_load, parse_command};
-use lj_world::{Event, MAX_CONNECTIONS, MAX_WORKERS};
+use lj_world::{Act, Deed, Event, MAX_CONNECTIONS, MAX_WORKERS};
 use lj_xyz::split_word;
 
 /// The event that a first word and those after it say. An arriving item is none of these.
 pub fn parse_event(verb: &[u8], words: Words) -> Option<Event> {
     match verb {
-        b"take" | b"compute" | b"give" | b"handback" => parse_of_worker(verb, words),
-        _ => parse_of_connection(verb, words),
+        b"hello" => parse_hello(words),
+        b"take" | b"compute" | b"give" | b"handback" => parse_deed(verb, words),
+        _ => parse_act(verb, words),
     }
 }
 
-/// What happens to a connection.
-fn parse_of_connection(verb: &[u8], mut words: Words) -> Option<Event> {
+/// A new connection shows a name and a token.
+fn parse_hello(mut words: Words) -> Option<Event> {
     let connection = parse_numbered(words.next()?, MAX_CONNECTIONS)?;
-    let event = match verb {
-        b"hello" => Event::Hello {
-            connection,
-            name: Name::parse(words.next()?)?,
-            token: Token::parse(words.next()?)?,
-        },
-        b"fetch" => Event::Fetch {
-            connection,
+    let name = Name::parse(words.next()?)?;
+    let token = Token::parse(words.next()?)?;
+    words.end()?;
+    Some(Event::Hello {
+        connection,
+        name,
+        token,
+    })
+}
+
+/// What a connection does.
+fn parse_act(verb: &[u8], mut words: Words) -> Option<Event> {
+    let connection = parse_numbered(words.next()?, MAX_CONNECTIONS)?;
+    let act = match verb {
+        b"end" => Act::End,
+        b"enter" => Act::Enter,
+        b"next" => Act::Next,
+        b"post" => Act::Post,
+        b"fetch" => Act::Fetch {
             pick: parse_pick(words.next()?)?,
         },
-        b"end" => Event::End { connection },
-        b"enter" => Event::Enter { connection },
-        b"next" => Event::Next { connection },
-        b"post" => Event::Post { connection },
-        b"turn" => Event::Turn { connection },
-        b"leave" => Event::Leave { connection },
+        b"turn" => Act::Turn,
+        b"leave" => Act::Leave,
         _ => return None,
     };
     words.end()?;
-    Some(event)
+    Some(Event::At { connection, act })
 }
 
 /// What a worker does.
-fn parse_of_worker(verb: &[u8], mut words: Words) -> Option<Event> {
+fn parse_deed(verb: &[u8], mut words: Words) -> Option<Event> {
     let worker = parse_numbered(words.next()?, MAX_WORKERS)?;
-    let event = match verb {
-        b"take" => Event::Take {
-            worker,
+    let deed = match verb {
+        b"take" => Deed::Take {
             pick: parse_pick(words.next()?)?,
         },
-        b"compute" => Event::Compute { worker },
-        b"give" => Event::Give { worker },
-        b"handback" => Event::HandBack { worker },
+        b"compute" => Deed::Compute,
+        b"give" => Deed::Give,
+        b"handback" => Deed::HandBack,
         _ => return None,
     };
     words.end()?;
-    Some(event)
+    Some(Event::By { worker, deed })
 }
 
 /// The connection at which an item arrives, and the line of the item: what follows the one blank after the connection.
@@ -70,8 +77,8 @@ pub fn parse_arrival(words: &[u8]) -> Option<(u8, &[u8])> {
 /// The arrival of a load whose body was lost for want of memory. None where another line follows the connection.
 pub fn parse_loss(words: &[u8]) -> Option<Event> {
     let (connection, line) = parse_arrival(words)?;
-    let item = lost_load(line)?;
-    Some(Event::Arrive { connection, item })
+    let act = Act::Arrive(lost_load(line)?);
+    Some(Event::At { connection, act })
 }
 
 /// The item of the line of a load with a count, whose body was lost for want of memory. None of another line.

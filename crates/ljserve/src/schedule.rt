@@ -9,7 +9,7 @@ use crate::users::Users;
 use lj_access::User;
 use lj_session::{Body, Command, LoadBody};
 use lj_wire::{Item, LineReading, Words, read_line};
-use lj_world::Event;
+use lj_world::{Act, Event};
 use lj_xyz::split_word;
 use std::alloc::{AllocError, Global};
 
@@ -120,8 +120,8 @@ impl Draft {
             return Err(LineFault::Form);
         }
         let (bytes, _) = after.split_at(body);
-        let item = with_bytes(self.alloc, item, bytes)?;
-        self.events.push(Event::Arrive { connection, item })?;
+        let act = Act::Arrive(with_bytes(self.alloc, item, bytes)?);
+        self.events.push(Event::At { connection, act })?;
         Ok(body)
     }
 }

@@ -1,7 +1,14 @@
+use Rattle.lj_world.proofs.connection.Connection.act.Goals.{in-Arrive+in_ok-arrive-in-Arrive, in-End, in-Enter, in-Post, in-Fetch, in-Leave}
 use Rattle.lj_world.proofs.connection.Connection.act.Goals as goal
 
-pub returns-in-Arrive-clause-acts : goal.returns-in-Arrive-clause-acts
-returns-in-Arrive-clause-acts c = rw c.in-Arrive.is (c.in_ok-arrive-in-Arrive.ensures.acts c.args.directory.now c.args.book.now)
-
-pub returns-in-End-clause-acts : goal.returns-in-End-clause-acts
-returns-in-End-clause-acts c = rw c.in-End.is (c.end.ensures c.args.directory.now c.args.book.now)
+pub returns-clause-acts : goal.returns-clause-acts
+returns-clause-acts c = elim c.match-act.branch [
+  | in-Arrive+in_ok-arrive-in-Arrive w ↦
+      rw (w.in-Arrive.is, w.self-is, w.directory-is, w.book-is)
+      (w.in_ok-arrive-in-Arrive.ensures.acts c.args.directory.now c.args.book.now)
+  | in-End w ↦ rw (w.in-End.is, w.self-is, w.directory-is, w.book-is) (w.end.ensures c.args.directory.now c.args.book.now)
+  | in-Enter w ↦ rw (w.in-Enter.is, w.self-is, w.directory-is, w.book-is) (w.enter.ensures c.args.book.now)
+  | in-Post w ↦ rw (w.in-Post.is, w.self-is, w.directory-is, w.book-is) (w.post.ensures c.args.directory.now)
+  | in-Fetch w ↦ rw (w.in-Fetch.is, w.self-is, w.directory-is, w.book-is) (w.fetch.ensures c.args.directory.now)
+  | in-Leave w ↦ rw (w.in-Leave.is, w.self-is, w.directory-is, w.book-is) w.leave.ensures
+]

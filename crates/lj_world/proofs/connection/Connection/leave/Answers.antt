@@ -3,8 +3,8 @@ use Rattle.lj_session.specs.States.{Owned}
 use Rattle.lj_access.specs.Rows.{Pass, HasEntered, changed, with_home}
 use Rattle.lj_world.specs.States.{inside}
 use Rattle.lj_world.specs.contracts.connection.Connection.{the_view}
-use Rattle.lj_world.specs.Happenings.{IsDone}
-use Rattle.lj_world.specs.Connections.{HasRow}
+use Rattle.lj_world.specs.Connections.{IsDone}
+use Rattle.lj_world.specs.Kept.{HasRow}
 use Rattle.lj_world.specs.Positions.{stage_of}
 use Rattle.lj_world.proofs.Acting.{none_there, leaves, has_entered, at_ok}
 use Rattle.lj_world.proofs.connection.Connection.leave.Goals as goal

@@ -2,11 +2,12 @@ use Rattle.std.proofs.Common.{ℕ, List, Option, Some, None, arith, refl, subst,
 use Rattle.std.specs.Option.{option_map}
 use Rattle.lj_world.specs.contracts.machine.Machine.{the_view}
 use Rattle.lj_world.specs.States.{Talk}
-use Rattle.lj_world.specs.Happenings.{entry}
+use Rattle.lj_world.specs.declared.event.Event.TheVariants.{At}
+use Rattle.lj_world.specs.Connections.{here}
+use Rattle.lj_world.specs.Happenings.{entry, with_here}
 use Rattle.lj_world.specs.Runs.{Step}
-use Rattle.lj_world.specs.Connections.{event_of, here}
-use Rattle.lj_world.proofs.Working.{read_at, none_past, written_back}
-use Rattle.lj_world.proofs.Lifting.{put_here, acts_step, absent}
+use Rattle.lj_world.proofs.Places.{read_at, written_back, none_past}
+use Rattle.lj_world.proofs.Lifting.{acts_step, absent}
 use Rattle.lj_world.proofs.PlacesKept.{acts_keeps}
 use Rattle.lj_world.proofs.machine.Machine.act.Goals as goal
 
@@ -23,7 +24,7 @@ returns-in_default c =
     c.index_mut.ensures.value c.in_default.is in
     let same = written_back items c.from-place.result c.index_mut.result.now c.index_mut.ensures.value in
     rw (← c.self.view_is)
-    (subst (λ (talks : List (Option Talk)). Step s (event_of c.args.connection c.args.act) None (record s { talks = talks })) (sym same)
+    (subst (λ (talks : List (Option Talk)). Step s (At c.args.connection c.args.act) None (record s { talks = talks })) (sym same)
     (absent c.args.act s c.args.connection none))
 
 pub act-requires : goal.act-requires
@@ -49,8 +50,8 @@ returns-in_default-2 c =
     c.from-place.ensures (omega arith) c.index_mut.ensures.value c.in-Some.is in
     let step = acts_step c.args.act s c.args.connection c.in-Some.known c.in_ok-text.field-0 h known c.in_ok-text.ensures.acts in
     rw (← c.self.view_is, c.from-place.ensures)
-    (subst (λ (t : Option (List ℕ)). Step s (event_of c.args.connection c.args.act) (option_map (entry c.args.connection c.in-Some.known) t)
-    (put_here c.args.connection h s)) c.in_default-2.is step)
+    (subst (λ (t : Option (List ℕ)). Step s (At c.args.connection c.args.act) (option_map (entry c.args.connection c.in-Some.known) t)
+    (with_here c.args.connection h s)) c.in_default-2.is step)
 
 pub invariant_of-self-2 : goal.invariant_of-self-2
 invariant_of-self-2 c =
@@ -69,5 +70,5 @@ returns c =
     c.from-place.ensures (omega arith) c.index_mut.ensures.value c.in-Some.is in
     let step = acts_step c.args.act s c.args.connection c.in-Some.known c.in_ok-text.field-0 h known c.in_ok-text.ensures.acts in
     rw (← c.self.view_is, c.from-place.ensures, c.user-user.ensures)
-    (subst (λ (t : Option (List ℕ)). Step s (event_of c.args.connection c.args.act) (option_map (entry c.args.connection c.in-Some.known) t)
-    (put_here c.args.connection h s)) c.in-Some-2.is step)
+    (subst (λ (t : Option (List ℕ)). Step s (At c.args.connection c.args.act) (option_map (entry c.args.connection c.in-Some.known) t)
+    (with_here c.args.connection h s)) c.in-Some-2.is step)

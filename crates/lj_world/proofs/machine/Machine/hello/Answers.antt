@@ -5,7 +5,7 @@ use Rattle.lj_world.specs.declared.event.Event.TheVariants.{Hello}
 use Rattle.lj_world.specs.States.{IsConnection}
 use Rattle.lj_world.specs.Runs.{Step}
 use Rattle.lj_world.proofs.Acting.{none_there}
-use Rattle.lj_world.proofs.Working.{read_at}
+use Rattle.lj_world.proofs.Places.{read_at}
 use Rattle.lj_world.proofs.Greeting.{IsGranted, greets_nowhere, greets_known, denied, greets, greets_keeps}
 use Rattle.lj_world.proofs.machine.Machine.hello.Goals.{then-place-eq0-via-then-place-eq0, then-place-eq0-via-else-place-eq0+then-place-len}
 use Rattle.lj_world.proofs.machine.Machine.hello.Goals as goal
