@@ -2,12 +2,17 @@
 
 The kit checks a whole crate for each edit. Where each edit of a crate names functions, it is tried by a check of these alone and of what
 they call: where one of them is not proved, the crate is not. What the kit proves of the crate before its edits, which they share, and
-after them, is then of all these functions. What is not refused so is tried again from nothing, as with the kit.
+after them, is then of all these functions; a few edits share nothing, since that would cost them two checks more. What is not refused
+so is tried again from nothing, as with the kit.
 """
 
 import re
 from pathlib import Path
 from typing import Any, List
+
+
+# Up to so many edits of a crate are each tried from nothing.
+FEW = 4
 
 
 def named(edit: str) -> List[str]:
@@ -31,9 +36,9 @@ def judged(ran: Any) -> Any:
 
 def use(rt: Any) -> None:
     """Has the kit's module try edits so. A kit without these functions tries each edit by its whole crate."""
-    if not all(hasattr(rt, name) for name in ("checked", "must_fail", "edits_of")):
+    if not all(hasattr(rt, name) for name in ("checked", "must_fail", "edits_of", "seeded")):
         return
-    checked, must_fail = rt.checked, rt.must_fail
+    checked, must_fail, seeded = rt.checked, rt.must_fail, rt.seeded
 
     def checked_by_names(crate: Any, texts: Any, flags: List[str], kept: Any) -> Any:
         edits, _ = rt.edits_of(crate)
@@ -43,4 +48,9 @@ def use(rt: Any) -> None:
         edits, _ = rt.edits_of(crate)
         return must_fail(crate, edit, [*flags, *(only([edit]) if only(edits) else [])], kept)
 
-    rt.checked, rt.must_fail = checked_by_names, must_fail_by_names
+    def seeded_for_many(crate: Any, flags: List[str], start: Any = None) -> Any:
+        edits, _ = rt.edits_of(crate)
+        # (to the kit an empty name says that there is nothing to share)
+        return "" if len(edits) <= FEW and not start else seeded(crate, flags, start)
+
+    rt.checked, rt.must_fail, rt.seeded = checked_by_names, must_fail_by_names, seeded_for_many

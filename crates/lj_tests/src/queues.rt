@@ -8,7 +8,7 @@ mod room;
 
 use crate::tasks::task;
 use lj_pool::Pool;
-use lj_queue::{QueueEnd, Room};
+use lj_queue::{PoolPass, QueueEnd, QueuePool, Room};
 use lj_tile::Task;
 use std::process::Abort;
 use std::sync::Wait;
@@ -38,4 +38,17 @@ fn post_some<L: Room, R: Wait + Abort>(rt: &R, end: &mut QueueEnd<L, R>, user: u
     for step in 0..tasks {
         post_one(rt, end, task(rt, user, step));
     }
+}
+
+/// The next end, which has posted so many tasks of this user.
+fn posting_end<'p, L: Room, R: Wait + Abort>(
+    rt: &'p R,
+    pool: &'p QueuePool<L>,
+    passes: &mut Vec<PoolPass<L>>,
+    user: u8,
+    tasks: i64,
+) -> QueueEnd<'p, L, R> {
+    let mut end = pool.end(rt, next(rt, passes), user);
+    post_some(rt, &mut end, user, tasks);
+    end
 }

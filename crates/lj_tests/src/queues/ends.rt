@@ -1,9 +1,9 @@
 //! Ends that are gone: results of their tasks are dropped, and their passes go on.
 ghost use Rattle.std.specs.Prelude.{◌≡◌};
 
-use super::{next, post_some, put_back};
-use lj_pool::{Gate, Pool};
-use lj_queue::{QueueBlank, QueueEnd, QueuePool, Room, Settled, gather, work_queue};
+use super::{next, posting_end, put_back};
+use lj_pool::{Gate, Share};
+use lj_queue::{PoolPass, QueueBlank, QueuePool, Room, Settled, gather, work_queue};
 use lj_table::Table;
 use lj_tile::TaskName;
 use std::alloc::{AllocError, AllocGlobal, Global};
@@ -39,7 +39,50 @@ struct Kept {
     settled: Settled,
 }
 
+/// A worker computes nine tasks.
+fn work_nine<L: Room, R: Wait>(
+    rt: &R,
+    pool: &QueuePool<L>,
+    share: Share<L>,
+    pass: PoolPass<L>,
+) -> (Share<L>, PoolPass<L>) {
+    let gate = Last {
+        rt,
+        pool,
+        left: AtomicUsize::new(9),
+    };
+    work_queue(rt, pool, share, pass, &gate, &Table::new())
+}
+
 /// One end posts three tasks, and another comes in its place and posts two. A third one posts four, and is withdrawn.
+/// Shares and passes are put back. How many results the worker's share has, and the numbers of the passes.
+fn keep_over<L: Room, R: Wait + Abort>(
+    rt: &R,
+    pool: &QueuePool<L>,
+    passes: &mut Vec<PoolPass<L>>,
+    shares: &mut Vec<Share<L>>,
+) -> (u64, [usize; 4]) {
+    let (share, pass) = (next(rt, shares), next(rt, passes));
+    let gone = posting_end(rt, pool, passes, 5, 3);
+    let present = posting_end(rt, pool, passes, 5, 2);
+    let withdrawn = posting_end(rt, pool, passes, 6, 4);
+    pool.withdraw(rt, 6);
+    let (share, pass) = work_nine(rt, pool, share, pass);
+    let count = share.count();
+    put_back(rt, shares, share);
+    let (gone, present, withdrawn) = (gone.finish(), present.finish(), withdrawn.finish());
+    let numbers = [
+        gone.number(),
+        present.number(),
+        withdrawn.number(),
+        pass.number(),
+    ];
+    for pass in [gone, present, withdrawn, pass] {
+        put_back(rt, passes, pass);
+    }
+    (count, numbers)
+}
+
 fn keep<L: Room, R: Wait + Abort>(
     rt: &R,
     alloc: Global,
@@ -52,36 +95,10 @@ fn keep<L: Room, R: Wait + Abort>(
     requires passes { L.passes ≡ 65 }
 {
     let (pool, mut passes, mut shares) = QueuePool::<L>::new(alloc, blank, 1)?;
-    let (share, pass) = (next(rt, &mut shares), next(rt, &mut passes));
-    let mut gone = pool.end(rt, next(rt, &mut passes), 5);
-    post_some(rt, &mut gone, 5, 3);
-    let mut present = pool.end(rt, next(rt, &mut passes), 5);
-    post_some(rt, &mut present, 5, 2);
-    let mut withdrawn = pool.end(rt, next(rt, &mut passes), 6);
-    post_some(rt, &mut withdrawn, 6, 4);
-    pool.withdraw(rt, 6);
-    let gate = Last {
-        rt,
-        pool: &pool,
-        left: AtomicUsize::new(9),
-    };
-    let (share, pass) = work_queue(rt, &pool, share, pass, &gate, &Table::new());
-    drop(gate);
-    let count = share.count();
-    put_back(rt, &mut shares, share);
-    let (gone, present, withdrawn) = (gone.finish(), present.finish(), withdrawn.finish());
-    let numbers = [
-        gone.number(),
-        present.number(),
-        withdrawn.number(),
-        pass.number(),
-    ];
-    for pass in [gone, present, withdrawn, pass] {
-        put_back(rt, &mut passes, pass);
-    }
+    let (share, numbers) = keep_over(rt, &pool, &mut passes, &mut shares);
     assert!(rt; passes.len() == 65 && shares.len() == 1);
     Ok(Kept {
-        share: count,
+        share,
         given: gather(rt, &pool, shares),
         numbers,
         settled: pool.settle(rt, passes),

@@ -273,6 +273,54 @@ fn serve_both<L: Room + Send + Sync, R: Threads + Wait + Clock + Sync>(
     told
 }
 
+/// Both users are served while both workers compute.
+fn run_both<L: Room + Send + Sync, R: Threads + Wait + Clock + Sync>(
+    rt: &R,
+    alloc: Global,
+    pool: &QueuePool<L>,
+    gate: &SendBack<R>,
+    ends: (PoolPass<L>, PoolPass<L>),
+    hands: (Hand<L>, Hand<L>),
+) -> (
+    ((Output, PoolPass<L>), (Output, PoolPass<L>)),
+    (Hand<L>, Hand<L>),
+) {
+    thread::join(
+        rt,
+        move || serve_both(rt, alloc, pool, gate, ends),
+        move || work_both(rt, pool, gate, hands),
+    )
+}
+
+/// Serves both users over a pool with a queue. The passes are put back.
+fn tell_over<L: Room + Send + Sync, R: Threads + Wait + Clock + Abort + Sync>(
+    rt: &R,
+    alloc: Global,
+    pool: &QueuePool<L>,
+    passes: &mut Vec<PoolPass<L>>,
+    shares: &mut Vec<Share<L>>,
+) -> Told {
+    let gate = SendBack::new(rt, alloc);
+    let hands = (
+        (next(rt, shares), next(rt, passes)),
+        (next(rt, shares), next(rt, passes)),
+    );
+    let ends = (next(rt, passes), next(rt, passes));
+    let (((held, held_pass), (other, other_pass)), (one, another)) = run_both(
+        rt, alloc, pool, &gate, ends, hands,
+    );
+    let given = one.0.count().saturating_add(another.0.count());
+    for pass in [held_pass, other_pass, one.1, another.1] {
+        put_back(rt, passes, pass);
+    }
+    Told {
+        held,
+        other,
+        given,
+        gate: gate.counts(),
+    }
+}
+
 fn run_queued<L: Room + Send + Sync, R: Threads + Wait + Clock + Abort + Sync>(
     rt: &R,
     alloc: Global,
@@ -285,29 +333,8 @@ fn run_queued<L: Room + Send + Sync, R: Threads + Wait + Clock + Abort + Sync>(
     requires passes { 2 + CONNECTIONS ≡ L.passes }
 {
     let (pool, mut passes, mut shares) = QueuePool::<L>::new(alloc, blank, 2)?;
-    let gate = SendBack::new(rt, alloc);
-    let hands = (
-        (next(rt, &mut shares), next(rt, &mut passes)),
-        (next(rt, &mut shares), next(rt, &mut passes)),
-    );
-    let ends = (next(rt, &mut passes), next(rt, &mut passes));
-    let (queue, keeper) = (&pool, &gate);
-    let (((held, held_pass), (other, other_pass)), (one, another)) = thread::join(
-        rt,
-        move || serve_both(rt, alloc, queue, keeper, ends),
-        move || work_both(rt, queue, keeper, hands),
-    );
-    let given = one.0.count().saturating_add(another.0.count());
-    for pass in [held_pass, other_pass, one.1, another.1] {
-        put_back(rt, &mut passes, pass);
-    }
+    let told = tell_over(rt, alloc, &pool, &mut passes, &mut shares);
     assert!(rt; passes.len() == 2 + CONNECTIONS);
-    let told = Told {
-        held,
-        other,
-        given,
-        gate: gate.counts(),
-    };
     Ok((told, pool.settle(rt, passes)))
 }
 

@@ -2,7 +2,7 @@
 //! is closed.
 ghost use Rattle.std.specs.Prelude.{◌≡◌};
 
-use super::{next, post_some, put_back};
+use super::{next, posting_end, put_back};
 use crate::tasks::task;
 use lj_pool::{Pool, Refused, Share};
 use lj_queue::{PoolPass, QueueBlank, QueueEnd, QueuePool, Room, Settled, gather, work_queue};
@@ -58,9 +58,7 @@ fn fill<'p, L: Room, R: Wait + Abort>(
 ) -> Result<Vec<QueueEnd<'p, L, R>>, AllocError> {
     let mut ends = Vec::with_capacity(alloc, usize::from(ENDS))?;
     for user in 0..ENDS {
-        let mut end = pool.end(rt, next(rt, passes), user);
-        post_some(rt, &mut end, user, 64);
-        put_back(rt, &mut ends, end);
+        put_back(rt, &mut ends, posting_end(rt, pool, passes, user, 64));
     }
     Ok(ends)
 }
@@ -110,8 +108,37 @@ fn work_or_close<L: Room, R: Wait + Clock>(
     work_queue(rt, pool, share, pass, &(), &Table::new())
 }
 
+/// What the end that comes last is told at once, what once it waited, and whether its result came.
+type Told = (Answer, Answer, bool);
+
 /// Fills the queue of a pool. The end that comes last is refused, and then waits for room until a worker makes it, or
-/// until the pool is closed.
+/// until the pool is closed. Shares and passes are put back.
+fn wait_over<L: Room + Send + Sync, R: Threads + Wait + Clock + Abort + Sync>(
+    rt: &R,
+    alloc: Global,
+    pool: &QueuePool<L>,
+    passes: &mut Vec<PoolPass<L>>,
+    shares: &mut Vec<Share<L>>,
+    works: bool,
+) -> Result<Told, AllocError> {
+    let hand = (next(rt, shares), next(rt, passes));
+    let ends = fill(rt, alloc, pool, passes)?;
+    let mut last = pool.end(rt, next(rt, passes), LAST);
+    let at_once = post_last(rt, &mut last, false);
+    let ((share, pass), (waited, fetched)) = thread::join(
+        rt,
+        move || work_or_close(rt, pool, hand, works),
+        || post_and_fetch(rt, pool, &mut last),
+    );
+    put_back(rt, passes, pass);
+    put_back(rt, passes, last.finish());
+    for end in ends {
+        put_back(rt, passes, end.finish());
+    }
+    put_back(rt, shares, share);
+    Ok((at_once, waited, fetched))
+}
+
 fn wait_in_a_crowd<L: Room + Send + Sync, R: Threads + Wait + Clock + Abort + Sync>(
     rt: &R,
     alloc: Global,
@@ -125,22 +152,7 @@ fn wait_in_a_crowd<L: Room + Send + Sync, R: Threads + Wait + Clock + Abort + Sy
     requires passes { L.passes ≡ 65 }
 {
     let (pool, mut passes, mut shares) = QueuePool::<L>::new(alloc, blank, 1)?;
-    let hand = (next(rt, &mut shares), next(rt, &mut passes));
-    let ends = fill(rt, alloc, &pool, &mut passes)?;
-    let mut last = pool.end(rt, next(rt, &mut passes), LAST);
-    let at_once = post_last(rt, &mut last, false);
-    let queue = &pool;
-    let ((share, pass), (waited, fetched)) = thread::join(
-        rt,
-        move || work_or_close(rt, queue, hand, works),
-        || post_and_fetch(rt, queue, &mut last),
-    );
-    put_back(rt, &mut passes, pass);
-    put_back(rt, &mut passes, last.finish());
-    for end in ends {
-        put_back(rt, &mut passes, end.finish());
-    }
-    put_back(rt, &mut shares, share);
+    let (at_once, waited, fetched) = wait_over(rt, alloc, &pool, &mut passes, &mut shares, works)?;
     assert!(rt; passes.len() == 65 && shares.len() == 1);
     Ok(Crowd {
         at_once,
