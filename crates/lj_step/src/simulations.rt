@@ -214,6 +214,13 @@ impl Sim {
         self.partial.open(kind, &self.atoms, self.cur.as_slice());
     }
 
+    /// Closes the step that is open, and drops what it has summed. The motion stays.
+    pub fn close_step(&mut self)
+        ensures { self.new ≡ steps.closed self.old self.old.sim }
+    {
+        self.partial.kind = None;
+    }
+
     /// How many tiles the open step has; 0 where no step is open.
     pub fn tiles(&self) -> usize
         ensures value { result ≡ steps.tiles_of self.now }
