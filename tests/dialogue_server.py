@@ -28,13 +28,13 @@ def users_of(dialogues: Sequence[Dialogue]) -> bytes:
 
 
 class DialogueServer:
-    """A server which ends after so many connections."""
+    """A server with these options, which ends after so many connections."""
 
-    def __init__(self, program: str, users: bytes, connections: int) -> None:
+    def __init__(self, program: str, users: bytes, connections: int, options: Sequence[str]) -> None:
         with tempfile.NamedTemporaryFile() as file:
             file.write(users)
             file.flush()
-            words = [program, "serve", "--users", file.name, "--workers", "2", "--connections", str(connections)]
+            words = [program, "serve", "--users", file.name, "--workers", "2", "--connections", str(connections), *options]
             # Another one may be quicker with a port. The file is read before the server listens.
             while not self.begins(words):
                 pass
@@ -89,9 +89,11 @@ def play(server: DialogueServer, number: int, dialogue: Dialogue, size: Optional
     return first, server.visit(greeted(number, iter([b"LIST\nBYE\n"])), 0, True)
 
 
-def play_batch(program: str, dialogues: Sequence[Dialogue], size: Optional[int], expect: Callable[..., None]) -> None:
+def play_batch(
+    program: str, dialogues: Sequence[Dialogue], size: Optional[int], expect: Callable[..., None], options: Sequence[str]
+) -> None:
     """Plays these dialogues on one server, each as a user of its own."""
-    server = DialogueServer(program, users_of(dialogues), 2 * len(dialogues))
+    server = DialogueServer(program, users_of(dialogues), 2 * len(dialogues), options)
     with ThreadPoolExecutor(AT_ONCE) as threads:
         visits = [threads.submit(play, server, number, each, size) for number, each in enumerate(dialogues)]
     for number, (each, visit) in enumerate(zip(dialogues, visits)):
@@ -108,8 +110,10 @@ def play_batch(program: str, dialogues: Sequence[Dialogue], size: Optional[int],
     expect("the end of a server of dialogues", ended == (0, 2 * len(dialogues), b""), (status, out, err))
 
 
-def play_all(program: str, dialogues: Sequence[Dialogue], expect: Callable[..., None]) -> None:
+def play_all(
+    program: str, dialogues: Sequence[Dialogue], expect: Callable[..., None], options: Sequence[str] = ()
+) -> None:
     """Each of these dialogues is to be answered so by a server, and to leave the state that it says."""
     for size in SIZES:
         for first in range(0, len(dialogues), MOST_USERS):
-            play_batch(program, dialogues[first:first + MOST_USERS], size, expect)
+            play_batch(program, dialogues[first:first + MOST_USERS], size, expect, options)

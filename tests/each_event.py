@@ -9,9 +9,9 @@ LOAD = "LOAD d 256 1 131072 rest 28\n2\ndimer\nAr 0 0 0\nAr 1.5 0 0\n"
 EACH_EVENT = (
     f"user A {TOKEN} 4 100 4\nhello 2 A {TOKEN}\narrive 3 ADVANCE d 7\narrive 4 LOAD d 1 2 3 pair 3\nx\n"
     "ylost 11 LOAD d 1 2 3 rest 3\narrive 4 LOADMIX d 3\nx\nylost 11 LOADMIX d 3\nend 5\nenter 6\nnext 7\npost 8\n"
-    "take 16 3\ncompute 2\ngive 3\nhandback 4\nfetch 9 19\nturn 10\nleave 64\n"
+    "take 16 3\ncompute 2\ngive 3\nhandback 4\nfetch 9 19\nturn 10\nturn 11 d\nleave 64\n"
 )
-EACH_EVENT_LINES = 20
+EACH_EVENT_LINES = 21
 
 # Two users step at once: worker 16 picks the task of B, which stands at key 1, and worker 2 hands that of A back.
 EVENTS = (
@@ -48,6 +48,17 @@ EVENTS = (
     "give 4\n",
     "fetch 9 1023\n",
     "turn 9\n",
+    # A session is started, and what waits for it is answered at the turn that names it.
+    "arrive 9 START d 1\n",
+    "arrive 9 SHOW d 0\n",
+    "next 9\n",
+    "post 9\n",
+    "take 5 0\n",
+    "compute 5\n",
+    "give 5\n",
+    "fetch 9 0\n",
+    "next 9\n",
+    "turn 9 d\n",
     "arrive 9 LOAD e 256 1 1 pair 3\nx\ny",
     "lost 9 LOAD e 256 1 1 rest 3\n",
     "arrive 9 LOADMIX e 256 X Y 1 1 1 1 1 1 1 1 1 rest 3\n2\n3",
@@ -65,8 +76,9 @@ EVENTS = (
 )
 SCHEDULE = USERS + "".join(EVENTS)
 TOLD = (
-    "A 9 OK LOAD d 0 2\nB 64 OK LOAD d 0 2\nB 64 OK ADVANCE d 2\nA 9 OK ADVANCE d 1\nA 9 ERR 30 XYZ_COUNT line 1\n"
-    "A 9 ERR 90 MEMORY\nA 9 ERR 31 XYZ_SHORT line 3\nA 9 ERR 40 WEIGHT\nA 10 OK LIST 1\nA 10 d 1 2 0\n"
+    "A 9 OK LOAD d 0 2\nB 64 OK LOAD d 0 2\nB 64 OK ADVANCE d 2\nA 9 OK ADVANCE d 1\n"
+    "A 9 OK START d 2\nA 9 OK SHOW d 2 0 1774 0 0\nA 9 ERR 30 XYZ_COUNT line 1\n"
+    "A 9 ERR 90 MEMORY\nA 9 ERR 31 XYZ_SHORT line 3\nA 9 ERR 40 WEIGHT\nA 10 OK LIST 1\nA 10 d 2 2 0\n"
 )
 
 # Events of the same form, of another connection, worker or pick.
@@ -82,6 +94,8 @@ OTHERS = (
     ("give 16", "give 15"),
     ("fetch 64 19", "fetch 19 64"),
     ("turn 9", "turn 10"),
+    ("turn 9 d", "turn 9 e"),
+    ("turn 9 d", "turn 64 d"),
     ("handback 2", "handback 3"),
     ("lost 9 LOAD e", "lost 8 LOAD e"),
     ("lost 9 LOADMIX", "lost 8 LOADMIX"),

@@ -5,7 +5,7 @@ Each is followed by one of the same user that does not fail, and looks at what w
 from typing import Any, Callable, Dict, Iterator, List, Optional, Tuple
 
 import shims
-from one_dialogue import DIALOGUE, ITEMS, LOOK, QUOTA, REPLIES, cut, replies_in, tiles_after, whole_in
+from one_dialogue import DIALOGUE, ITEMS, LOOK, QUOTA, REPLIES, begun_anew_after, cut, replies_in, tiles_after, whole_in
 
 HELLO = b"HELLO A " + b"a" * 32 + b"\n"
 WELCOME = b"OK HELLO A\n"
@@ -72,7 +72,7 @@ class Breaking:
         """Breaks a connection after the other on one server, and looks after each."""
         words = " - ".join(word for word, _, _ in breaks)
         environment: Dict[str, str] = shims.variables(self.library, FAILING_CONNECTIONS=words, **most)
-        server, tiles = self.begin(USERS, 2 * len(breaks), env=environment), 0
+        server = self.begin(USERS, 2 * len(breaks), env=environment)
         for word, wanted, count in breaks:
             name = f"{word} of {most or 'any number of'} bytes"
             broken = server.connect()
@@ -80,8 +80,8 @@ class Breaking:
             broken.close()
             self.expect(f"{name} fails", told == wanted, (told, wanted))
             self.look(server.connect(), name, self.left_behind[count])
-            tiles += tiles_after(count)
-        server.finish(tiles)
+        counts = [count for _, _, count in breaks]
+        server.finish(sum(map(tiles_after, counts)), more=sum(map(begun_anew_after, counts)))
 
     def look(self, client: Any, name: str, wanted: bytes) -> None:
         """Looks at what is left behind, and takes the session away."""

@@ -23,9 +23,15 @@ DIALOGUE = (
     (b"LIST a\n", b"OK LIST a 1\nk 1\n", 0),
     (b"FORGET a k\n", b"OK FORGET a k\n", 0),
     (b"BRANCH a m\n", b"OK BRANCH a m 1\n", 0),
+    (b"START a 1\n", b"OK START a 2\n", 1),
+    (b"LIST\n", b"OK LIST 1\na 2 2 1\n", 0),
+    (b"SHOW a 0\n", b"OK SHOW a 2 0 1774 0 0\n", 0),
 )
 ITEMS = [item for item, _, _ in DIALOGUE]
 REPLIES = [reply for _, reply, _ in DIALOGUE]
+
+# The item after which a step is owed, until the last item shows the session.
+STARTED = b"START a 1\n"
 
 # Items that are told apart what others have left behind, of which four have a tile where there is a session.
 LOOK = b"LIST\nLIST a\nDUMP a\nMEASURE a\nADVANCE a 1\nMEASURE a\nBRANCH a z\nRESTORE a k\nMEASURE a\n"
@@ -53,3 +59,8 @@ def replies_in(given: bytes) -> bytes:
 def tiles_after(count: int) -> int:
     """How many tiles are computed for the first items, and for a look at what they have left."""
     return sum(tiles for _, _, tiles in DIALOGUE[:count]) + (LOOK_TILES if count else 0)
+
+
+def begun_anew_after(count: int) -> int:
+    """How many tiles may be computed once more after the first items: one where a step is owed then."""
+    return int(ITEMS.index(STARTED) < count < len(ITEMS))

@@ -1,6 +1,6 @@
 """Tables of dialogues, for tests/program."""
 from dialogue_tables import branches, frames, limits, lines, loads, mixed_faults, mixed_lines, mixtures, refusals
-from dialogue_tables import words_of_numbers, worked
+from dialogue_tables import side_by_side, words_of_numbers, worked
 
 TABLES = {
     "worked dialogues": worked.DIALOGUES,
@@ -14,6 +14,7 @@ TABLES = {
     "mixtures": mixtures.DIALOGUES,
     "faults of mixtures": mixed_faults.DIALOGUES,
     "lines of mixtures": mixed_lines.DIALOGUES,
+    "sessions side by side": side_by_side.DIALOGUES,
 }
 
 # Streams that are not read to their end, which no server is played.

@@ -1,10 +1,11 @@
 -- What was read ahead of the items that are answered belongs to what was read.
-use Rattle.std.proofs.Common.{◌≡◌, ℕ, ◌+◌, true, false, List, [], ◌∷◌, ◌++◌, Option, Some, None, refl, sym, ap}
+use Rattle.std.proofs.Common.{◌≡◌, ℕ, ◌+◌, true, false, List, [], ◌∷◌, ◌++◌, Option, Some, None, inl, inr, refl, sym, ap}
 use Rattle.std.proofs.Common.{◌∙◌, subst}
 use Rattle.std.specs.Io.KnownBytes.{prepend_known, Consumes, IsAtEnd}
 use Rattle.std.proofs.KnownBytes.{Consumes-trans}
 use Rattle.std.proofs.lemmas.List.{append_assoc, append-nil}
 use Rattle.lj_session.specs.Users.{User}
+use Rattle.lj_session.specs.States.{Owned, user_of}
 use Rattle.lj_wire.specs.declared.item.Item.{Item}
 use Rattle.lj_wire.specs.Items.{ends}
 use Rattle.lj_wire.specs.Streams.{Splits}
@@ -12,7 +13,7 @@ use Rattle.lj_pool.specs.declared.served.Served.{Served}
 use Rattle.lj_pool.specs.declared.served.Served.TheVariants.{End, Bye, Ended, ReadFault, WriteFault, PoolClosed}
 use Rattle.lj_pool.specs.declared.served.Served.TheVariants.{TooManyStrays}
 use Rattle.lj_pool.specs.Seen.{Seen}
-use Rattle.lj_pool.specs.Served.{NoneEnds, EndsByBye, EndsByFault, AnswersAll, Reaches, StopsShort, IsServed}
+use Rattle.lj_pool.specs.Served.{NoneEnds, EndsByBye, EndsByFault, AnswersAll, Reaches, StopsAt, StopsBetween, StopsShort, IsServed}
 use Rattle.lj_pool.specs.Served.{Serves}
 use Rattle.lj_pool.proofs.Dialogues.{Takes-on}
 
@@ -36,7 +37,10 @@ Splits-on n bytes (item ∷ earlier) last rest more over s = (
   (λ e. Splits-on (n + 1) s.1 earlier last rest more over (s.5 e)),
 )
 
-module _ (user : User) (read written : List ℕ) (old new : Seen) (held : List ℕ) where
+module _ (state : Owned) (read written : List ℕ) (old new : Seen) (held : List ℕ) where
+  abbrev user : User
+  user = user_of state
+
   reaches-on : (so_far : List ℕ) (between : User) (item : Item) → Reaches user read so_far between item
       → Reaches user (read ++ held) so_far between item
   reaches-on so_far between item r = record {
@@ -57,10 +61,10 @@ module _ (user : User) (read written : List ℕ) (old new : Seen) (held : List �
     is_item = r.is_item;
   }
 
-  ended-on : (Ending : List Item → Type 0) (next : User) (a : AnswersAll Ending user read written old new next)
+  ended-on : (Ending : List Item → Type 0) (next : Owned) (a : AnswersAll Ending state read written old new next)
       (earlier : List Item) (last : Item)
       → a.dialogue.items ≡ earlier ++ last ∷ [] → ends last ≡ true
-      → AnswersAll Ending user (read ++ held) written old new next
+      → AnswersAll Ending state (read ++ held) written old new next
   ended-on Ending next a earlier last items_are over = record {
     dialogue = record {
       items = a.dialogue.items;
@@ -77,26 +81,40 @@ module _ (user : User) (read written : List ℕ) (old new : Seen) (held : List �
     counted = a.counted;
   }
 
-  stops-on : StopsShort user read written → StopsShort user (read ++ held) written
-  stops-on s =
-      record {
-        between = s.between;
-        item = s.item;
-        reaches = reaches-on written s.between s.item s.reaches;
-        runs = s.runs;
-      }
+  stops-on : StopsShort user read written new → StopsShort user (read ++ held) written new
+  stops-on (inl s) = inl (record {
+    between = s.between;
+    item = s.item;
+    reaches = reaches-on written s.between s.item s.reaches;
+    waits = s.waits;
+  })
+  stops-on (inr s) = inr (record {
+    count = s.count;
+    left = s.left ++ held;
+    between = s.between;
+    progress = record {
+      items = s.progress.items;
+      marks = s.progress.marks;
+      takes = Takes-on 0 read s.progress.items s.left held s.progress.takes;
+      counted = s.progress.counted;
+      are_marks = s.progress.are_marks;
+      written_is = s.progress.written_is;
+      next_is = s.progress.next_is;
+    };
+    many = s.many;
+  })
 
   same-read : held ≡ [] → read ≡ read ++ held
   same-read none = sym (ap (λ h. read ++ h) none ∙ append-nil read)
 
-  served-on : (served : Served) (next : Option User) → (served ≡ End → held ≡ []) → (served ≡ ReadFault → held ≡ [])
-      → IsServed served user read written old new next → IsServed served user (read ++ held) written old new next
+  served-on : (served : Served) (next : Option Owned) → (served ≡ End → held ≡ []) → (served ≡ ReadFault → held ≡ [])
+      → IsServed served state read written old new next → IsServed served state (read ++ held) written old new next
   served-on End (Some next) at_end at_fault s =
-      subst (λ r. AnswersAll NoneEnds user r written old new next) (same-read (at_end refl)) s
+      subst (λ r. AnswersAll NoneEnds state r written old new next) (same-read (at_end refl)) s
   served-on Bye (Some next) at_end at_fault s = ended-on EndsByBye next s s.ending.0 _ s.ending.1 refl
   served-on Ended (Some next) at_end at_fault s = ended-on EndsByFault next s s.ending.0 _ s.ending.2 refl
   served-on ReadFault (Some next) at_end at_fault s =
-      subst (λ r. AnswersAll NoneEnds user r written old new next) (same-read (at_fault refl)) s
+      subst (λ r. AnswersAll NoneEnds state r written old new next) (same-read (at_fault refl)) s
   served-on WriteFault (Some next) at_end at_fault s = record {
     before = s.before;
     between = s.between;
@@ -124,11 +142,11 @@ none_at_end : (held rest : List ℕ) → held ++ rest ≡ [] → held ≡ []
 none_at_end [] rest e = refl
 none_at_end (x ∷ held) rest e = cc
 
-module _ (served : Served) (user : User) (left was is : Option (List ℕ)) (old new : Seen) (next : Option User) where
+module _ (served : Served) (state : Owned) (left was is : Option (List ℕ)) (old new : Seen) (next : Option Owned) where
   -- what is told of the bytes that are left is told of those that the source has left
   pub serves-all : (rest unread : Option (List ℕ)) (held : List ℕ) → rest ≡ prepend_known held unread
       → (served ≡ End → IsAtEnd rest) → (served ≡ ReadFault → held ≡ [])
-      → Serves served user left rest was is old new next → Serves served user left unread was is old new next
+      → Serves served state left rest was is old new next → Serves served state left unread was is old new next
   serves-all rest None held ahead at_end at_fault s = record {
     read = s.read;
     written = s.written;
@@ -142,7 +160,7 @@ module _ (served : Served) (user : User) (left was is : Option (List ℕ)) (old 
     taken = Consumes-trans left (Some (held ++ bytes)) (Some bytes) s.read held
         (subst (λ r. Consumes left r s.read) ahead s.taken) refl;
     appends = s.appends;
-    is_served = served-on user s.read s.written old new held served next
+    is_served = served-on state s.read s.written old new held served next
         (λ e. none_at_end held bytes (subst IsAtEnd ahead (at_end e)))
         at_fault
         s.is_served;

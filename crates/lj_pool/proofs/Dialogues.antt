@@ -1,21 +1,31 @@
 -- From item to item of a stream that is served, and to each of its ends.
-use Rattle.std.proofs.Common.{◌≡◌, ℕ, ◌+◌, ◌<◌, ◌≤◌, Bool, true, false, List, [], ◌∷◌, ◌++◌, length, take, cond, Option}
+use Rattle.std.proofs.Common.{◌≡◌, ℕ, ◌+◌, ◌-◌, ◌<◌, ◌≤◌, Bool, true, false, List, [], ◌∷◌, ◌++◌, length, take, cond, Option}
 use Rattle.std.proofs.Common.{Some, None, inl, inr, refl, sym, ap, ◌∙◌, subst, arith}
+use Rattle.std.specs.Prelude.{IsSome, IsSomeAnd, is_some, nat_lt}
+use Rattle.std.specs.Option.{option_map_or}
 use Rattle.std.specs.List.{concat}
+use Rattle.std.proofs.lemmas.Bool.{ltb-true, ltb-false}
 use Rattle.std.specs.Io.KnownBytes.{Consumes, Appends}
 use Rattle.std.proofs.KnownBytes.{Consumes-nil, Consumes-trans, Appends-nil, Appends-trans}
 use Rattle.std.proofs.lemmas.List.{append_assoc, append-nil, length-append}
 use Rattle.lj_session.specs.declared.command.Command.TheVariants.{Bye as ByeCommand}
 use Rattle.lj_session.specs.declared.reply.Reply.{Reply}
-use Rattle.lj_session.specs.Turns.{turns}
-use Rattle.lj_session.specs.Users.{User}
+use Rattle.lj_session.specs.declared.command.Command.{Command as Order}
+use Rattle.lj_session.specs.declared.command.Command.TheVariants.{Advance, Measure}
+use Rattle.lj_branch.specs.Named.{named}
+use Rattle.lj_session.specs.Turns.{turns, waits_for, advance_turns, measure_turns}
+use Rattle.lj_session.specs.Users.{Session, User}
+use Rattle.lj_session.specs.States.{Held, Owned, user_of, rested, held_in, owed_in, steps_before, turns_before}
+use Rattle.lj_session.proofs.Entries.{by_test}
+use Rattle.lj_session.proofs.Holding.{named-held}
+use Rattle.lj_session.proofs.Waiting.{rested_user}
 use Rattle.lj_wire.specs.declared.item.Item.{Item}
 use Rattle.lj_wire.specs.declared.item.Item.TheVariants.{Command, Bad, Last}
 use Rattle.lj_wire.specs.declared.reader.phase.Phase.TheVariants.{Open, Over, Failed}
 use Rattle.lj_wire.specs.Items.{ends}
 use Rattle.lj_wire.specs.Texts.{text, is_memory}
 use Rattle.lj_wire.specs.Told.{answered, told, texts, last_user}
-use Rattle.lj_wire.specs.Runs.{item_turns}
+use Rattle.lj_wire.specs.Runs.{item_before}
 use Rattle.lj_wire.specs.Streams.{IsItem, IsPart}
 use Rattle.lj_wire.specs.Progress.{Takes}
 use Rattle.lj_wire.specs.Standings.{Standing, IsLost, IsHandedOut, HandsOut, Ceases, Fails, HandsNone, HasFailed}
@@ -27,11 +37,14 @@ use Rattle.lj_pool.specs.declared.served.Served.TheVariants as served
 use Rattle.lj_pool.specs.declared.running.Halt.{Halt}
 use Rattle.lj_pool.specs.declared.running.Halt.TheVariants as halts
 use Rattle.lj_pool.specs.Seen.{Seen}
-use Rattle.lj_pool.specs.Counting.{turns_tiles, item_tiles, tiles, CountsRise}
+use Rattle.lj_pool.specs.declared.pool.TheConstants.{MAX_AHEAD}
+use Rattle.lj_pool.specs.Counting.{command_tiles, item_tiles, tiles, tiles_owed, CountsRise}
+use Rattle.lj_pool.specs.Coming.{tiles_to_come}
 use Rattle.lj_pool.specs.Endings.{served_of, ending_of}
-use Rattle.lj_pool.specs.Served.{NoneEnds, EndsByBye, EndsByFault, AnswersAll, IsServed, Reaches, StopsShort, Serves}
+use Rattle.lj_pool.specs.Served.{NoneEnds, EndsByBye, EndsByFault, AnswersAll, IsServed, Reaches, MayWait, StopsAt, StopsShort, Serves}
 use Rattle.lj_pool.specs.Serving.{AnswersItem, Serving}
-use Rattle.lj_pool.proofs.Beginning.{rises-more, rises-none}
+use Rattle.lj_pool.proofs.Going.{rises_more, rises_none}
+use Rattle.lj_pool.proofs.Rested.{rested-tiles}
 
 -- bytes that begin with items do so too where more bytes come after
 pub Takes-on : (n : ℕ) (bytes : List ℕ) (items : List Item) (left more : List ℕ) → Takes n bytes items left
@@ -64,19 +77,60 @@ tiles-more user (first ∷ items) (next ∷ marks) item mark h =
     let rest = tiles-more (told user first next).1 items marks item mark (omega (arith, h)) in
     omega (arith, rest)
 
--- what is handed out for an item takes the same turns and tiles
-lost_turns : (user : User) (found item : Item) → IsLost found item → (item_turns user item ≡ 0)
-    × (item_turns user found ≡ 0)
-unfolding turns
-lost_turns user found item l = (ap (item_turns user) l.item_is, ap (item_turns user) l.found_is)
+-- one that takes steps of its own has its session
+advances : (n : ℕ) (o : Option Session) → 0 < advance_turns o n → IsSome o
+advances n None h = absurd (omega (arith, h))
+advances n (Some session) h = refl
 
-turns_alike : (user : User) (found item : Item) → IsHandedOut found item → item_turns user item ≡ item_turns user found
-turns_alike user found item (inl same) = ap (item_turns user) same
-turns_alike user found item (inr l) = let none = lost_turns user found item l in none.0 ∙ sym none.1
+measures : (o : Option Session) → 0 < measure_turns o → IsSome o
+measures None h = absurd (omega (arith, h))
+measures (Some session) h = refl
 
+own_there : (owned : Owned) (command : Order) → 0 < turns (user_of owned) command
+    → IsSomeAnd (waits_for command) (λ name. IsSome (named name (user_of owned).sessions))
+unfolding turns waits_for
+own_there owned (Advance name n) more = advances n (named name (user_of owned).sessions) more
+own_there owned (Measure name) more = measures (named name (user_of owned).sessions) more
+own_there owned command more = absurd (omega (arith, more))
+
+-- a command before which turns come waits for a session of the user
+waits_there : (owned : Owned) (command : Order) → 0 < turns_before owned command
+    → IsSomeAnd (waits_for command) (λ name. IsSome (named name (user_of owned).sessions))
+waits_there owned command some = by_test (nat_lt 0 (steps_before owned command))
+    (λ t. for_steps (waits_for command) refl (ltb-true 0 (steps_before owned command) t))
+    (λ t. let none = ltb-false 0 (steps_before owned command) t in own_there owned command (omega (arith, some, none)))
+  where
+    there : (name : List ℕ) → 0 < owed_in owned name → (o : Option Held) → held_in owned name ≡ o
+        → IsSome (named name (user_of owned).sessions)
+    there name more None e = absurd (let none = rw e at more in omega (arith, none))
+    there name more (Some held) e = ap is_some (named-held owned name held e)
+
+    for_steps : (o : Option (List ℕ)) → waits_for command ≡ o → 0 < steps_before owned command
+        → IsSomeAnd (waits_for command) (λ name. IsSome (named name (user_of owned).sessions))
+    for_steps None e more = absurd (let none = ap (λ o. option_map_or (owed_in owned) o 0) e in omega (arith, none, more))
+    for_steps (Some name) e more =
+        subst (λ o. IsSomeAnd o (λ name. IsSome (named name (user_of owned).sessions))) (sym e)
+        (there name (subst (λ o. 0 < option_map_or (owed_in owned) o 0) e more) (held_in owned name) refl)
+
+-- a load takes no turns, and none come before it
+lost_before : (owned : Owned) (found item : Item) → IsLost found item → item_before owned item ≡ 0
+unfolding turns waits_for
+lost_before owned found item l = ap (item_before owned) l.item_is
+
+may_wait : (owned : Owned) (found item : Item) → IsHandedOut found item → 0 < item_before owned item
+    → MayWait (user_of owned) found
+may_wait owned found item (inl same) some = of found (subst (λ i. 0 < item_before owned i) same some)
+  where
+    of : (item : Item) → 0 < item_before owned item → MayWait (user_of owned) item
+    of (Command command) more = waits_there owned command more
+    of (Bad fault) more = absurd (omega (arith, more))
+    of (Last fault) more = absurd (omega (arith, more))
+may_wait owned found item (inr l) some = let none = lost_before owned found item l in absurd (omega (arith, none, some))
+
+-- what is handed out for an item takes the same tiles
 lost_tiles : (user : User) (found item : Item) → IsLost found item → (item_tiles user item ≡ 0)
     × (item_tiles user found ≡ 0)
-unfolding turns turns_tiles
+unfolding command_tiles
 lost_tiles user found item l = (ap (item_tiles user) l.item_is, ap (item_tiles user) l.found_is)
 
 tiles_alike : (user : User) (found item : Item) → IsHandedOut found item → item_tiles user item ≡ item_tiles user found
@@ -120,10 +174,10 @@ told_of between next found item reply handed answers = by_found handed
     by_found (inr l) = with_mark true (sym (lost_answered between found item answers.0 l) ∙ answers.1)
 
 -- serving begins with nothing read
-pub serving-start : (user : User) (first : Standing) (was : Option (List ℕ)) (old : Seen)
+pub serving-start : (start : Owned) (first : Standing) (was : Option (List ℕ)) (old : Seen)
     → first.items ≡ 0 → first.phase ≡ Open
-    → Serving user first first was was old old user
-serving-start user first was old none is_open = record {
+    → Serving start first first was was old old (rested start)
+serving-start start first was old none is_open = record {
   read = [];
   written = [];
   items = [];
@@ -134,39 +188,49 @@ serving-start user first was old none is_open = record {
   items_are = sym none;
   are_marks = tt;
   written_is = refl;
-  next_is = refl;
-  counted = rises-none old old refl refl;
+  next_is = rested_user start;
+  counted = rises_none old old (0 + tiles_owed start - tiles_to_come (rested start)) refl refl
+      (let all = rested-tiles start in omega (arith, all));
   phase = is_open;
   errors = refl;
 }
 
-module _ (user : User) (first now : Standing) (was is : Option (List ℕ)) (old new : Seen) (next : User)
-    (s : Serving user first now was is old new next) where
+module _ (start : Owned) (first now : Standing) (was is : Option (List ℕ)) (old new : Seen) (owned : Owned)
+    (s : Serving start first now was is old new owned) where
+  abbrev user : User
+  user = user_of start
+
+  -- the work goes on
+  pub serving-goes : (next : Owned) (newer : Seen) → user_of next ≡ user_of owned
+      → CountsRise (tiles_to_come owned - tiles_to_come next) new newer
+      → Serving start first now was is old newer next
+  serving-goes next newer same risen = record {
+    read = s.read;
+    written = s.written;
+    items = s.items;
+    marks = s.marks;
+    taken = s.taken;
+    appends = s.appends;
+    takes = s.takes;
+    items_are = s.items_are;
+    are_marks = s.are_marks;
+    written_is = s.written_is;
+    next_is = same ∙ s.next_is;
+    counted = rises_more (tiles user s.items s.marks + tiles_owed start - tiles_to_come owned)
+        (tiles_to_come owned - tiles_to_come next)
+        (tiles user s.items s.marks + tiles_owed start - tiles_to_come next) s.counted risen (omega arith);
+    phase = s.phase;
+    errors = s.errors;
+  }
+
   number_is : now.items ≡ 0 + length s.items
   number_is = omega (arith, s.items_are)
 
-  serving-part : (part : List ℕ) → IsPart now.items part
-      → AnswersAll NoneEnds user (s.read ++ part) s.written old new next
-  serving-part part p = record {
-    dialogue = record {
-      items = s.items;
-      rest = part;
-      marks = s.marks;
-      splits = Splits-part 0 (s.read ++ part) s.items part (Takes-on 0 s.read s.items [] part s.takes)
-          (subst (λ n. IsPart n part) number_is p);
-      are_marks = s.are_marks;
-      written_is = s.written_is;
-      next_is = s.next_is;
-    };
-    ending = Takes-none_ends 0 s.read s.items [] s.takes;
-    counted = s.counted;
-  }
-
   -- bytes more are read, and what is written is as it was
-  serves-on : (ending : Served) (last : Standing) (part : List ℕ) (newer : Seen) (state : Option User)
+  serves-on : (ending : Served) (last : Standing) (part : List ℕ) (newer : Seen) (state : Option Owned)
       → Consumes now.left last.left part
-      → IsServed ending user (s.read ++ part) s.written old newer state
-      → Serves ending user first.left last.left was is old newer state
+      → IsServed ending start (s.read ++ part) s.written old newer state
+      → Serves ending start first.left last.left was is old newer state
   serves-on ending last part newer state taken served = record {
     read = s.read ++ part;
     written = s.written;
@@ -175,15 +239,64 @@ module _ (user : User) (first now : Standing) (was is : Option (List ℕ)) (old 
     is_served = served;
   }
 
-  -- the input has ended
-  pub serving-ceases : (last : Standing) → Ceases now last
-      → Serves served.End user first.left last.left was is old new (Some next)
-  serving-ceases last c = serves-on served.End last c.part new (Some next) c.taken (serving-part c.part c.is_part)
+  -- before the next item the pool is given up
+  pub serving-stops : (halt : Halt) (newer : Seen) → MAX_AHEAD < length newer.owed
+      → Serves (served_of halt) start first.left now.left was is old newer None
+  serving-stops halt newer many = by halt
+    where
+      short : StopsShort user s.read s.written newer
+      short = inr (record {
+        count = now.items;
+        left = [];
+        between = user_of owned;
+        progress = record {
+          items = s.items;
+          marks = s.marks;
+          takes = s.takes;
+          counted = s.items_are;
+          are_marks = s.are_marks;
+          written_is = s.written_is;
+          next_is = s.next_is;
+        };
+        many = many;
+      })
 
-  -- a read has failed
-  pub serving-fails : (last : Standing) → Fails now last
-      → Serves served.ReadFault user first.left last.left was is old new (Some next)
-  serving-fails last f = serves-on served.ReadFault last f.part new (Some next) f.taken (serving-part f.part f.is_part)
+      by : (halt : Halt) → Serves (served_of halt) start first.left now.left was is old newer None
+      by halts.PoolClosed =
+          record { read = s.read; written = s.written; taken = s.taken; appends = s.appends; is_served = short }
+      by halts.TooManyStrays =
+          record { read = s.read; written = s.written; taken = s.taken; appends = s.appends; is_served = short }
+
+  -- the state is handed back
+  module _ (back : Owned) (same : user_of back ≡ user_of owned) (few : tiles_to_come owned ≤ tiles_owed back) where
+    serving-part : (part : List ℕ) → IsPart now.items part
+        → AnswersAll NoneEnds start (s.read ++ part) s.written old new back
+    serving-part part p = record {
+      dialogue = record {
+        items = s.items;
+        rest = part;
+        marks = s.marks;
+        splits = Splits-part 0 (s.read ++ part) s.items part (Takes-on 0 s.read s.items [] part s.takes)
+            (subst (λ n. IsPart n part) number_is p);
+        are_marks = s.are_marks;
+        written_is = s.written_is;
+        next_is = same ∙ s.next_is;
+      };
+      ending = Takes-none_ends 0 s.read s.items [] s.takes;
+      counted = rises_more (tiles user s.items s.marks + tiles_owed start - tiles_to_come owned) 0
+          (tiles user s.items s.marks + tiles_owed start - tiles_owed back) s.counted (rises_none new new 0 refl refl (omega arith))
+          (omega (arith, few));
+    }
+
+    -- the input has ended
+    pub serving-ceases : (last : Standing) → Ceases now last
+        → Serves served.End start first.left last.left was is old new (Some back)
+    serving-ceases last c = serves-on served.End last c.part new (Some back) c.taken (serving-part c.part c.is_part)
+
+    -- a read has failed
+    pub serving-fails : (last : Standing) → Fails now last
+        → Serves served.ReadFault start first.left last.left was is old new (Some back)
+    serving-fails last f = serves-on served.ReadFault last f.part new (Some back) f.taken (serving-part f.part f.is_part)
 
   -- an item comes
   module _ (after : Standing) (item : Item) (h : HandsOut now after item) where
@@ -196,7 +309,7 @@ module _ (user : User) (first now : Standing) (was is : Option (List ℕ)) (old 
     is_next : IsItem (0 + length s.items) h.front h.found
     is_next = subst (λ n. IsItem n h.front h.found) number_is h.is_item
 
-    reaches : Reaches user (s.read ++ h.front) s.written next h.found
+    reaches : Reaches user (s.read ++ h.front) s.written (user_of owned) h.found
     reaches = record {
       count = now.items;
       left = h.front;
@@ -215,27 +328,27 @@ module _ (user : User) (first now : Standing) (was is : Option (List ℕ)) (old 
       is_item = h.is_item;
     }
 
-    -- it runs, and is given up
-    stops : 0 < item_turns next item → StopsShort user (s.read ++ h.front) s.written
-    stops runs = record {
-      between = next;
+    -- it waits, and the pool is given up
+    stops : (newer : Seen) → 0 < item_before owned item → StopsShort user (s.read ++ h.front) s.written newer
+    stops newer waits = inl (record {
+      between = user_of owned;
       item = h.found;
       reaches = reaches;
-      runs = subst (λ n. 0 < n) (turns_alike next h.found item h.is_found) runs;
-    }
+      waits = may_wait owned h.found item h.is_found waits;
+    })
 
-    pub serving-halts : (halt : Halt) (newer : Seen) → 0 < item_turns next item
-        → Serves (served_of halt) user first.left after.left was is old newer None
-    serving-halts halts.PoolClosed newer runs =
-        serves-on served.PoolClosed after h.front newer None h.taken (stops runs)
-    serving-halts halts.TooManyStrays newer runs =
-        serves-on served.TooManyStrays after h.front newer None h.taken (stops runs)
+    pub serving-halts : (halt : Halt) (newer : Seen) → 0 < item_before owned item
+        → Serves (served_of halt) start first.left after.left was is old newer None
+    serving-halts halts.PoolClosed newer waits =
+        serves-on served.PoolClosed after h.front newer None h.taken (stops newer waits)
+    serving-halts halts.TooManyStrays newer waits =
+        serves-on served.TooManyStrays after h.front newer None h.taken (stops newer waits)
 
     -- something is written for it
-    serves-more : (ending : Served) (more : List ℕ) (now_is : Option (List ℕ)) (newer : Seen) (state : Option User)
+    serves-more : (ending : Served) (more : List ℕ) (now_is : Option (List ℕ)) (newer : Seen) (state : Option Owned)
         → Appends is now_is more
-        → IsServed ending user (s.read ++ h.front) (s.written ++ more) old newer state
-        → Serves ending user first.left after.left was now_is old newer state
+        → IsServed ending start (s.read ++ h.front) (s.written ++ more) old newer state
+        → Serves ending start first.left after.left was now_is old newer state
     serves-more ending more now_is newer state appends served = record {
       read = s.read ++ h.front;
       written = s.written ++ more;
@@ -245,18 +358,21 @@ module _ (user : User) (first now : Standing) (was is : Option (List ℕ)) (old 
     }
 
     -- it is answered
-    module _ (reply : Reply) (last : User) (answers : AnswersItem next item reply last) where
-      abbrev t : Told next last h.found (text last reply)
-      t = told_of next last h.found item reply h.is_found answers
+    module _ (reply : Reply) (last : Owned) (answers : AnswersItem (user_of owned) item reply (user_of last)) where
+      abbrev words : List ℕ
+      words = text (user_of last) reply
+
+      abbrev t : Told (user_of owned) (user_of last) h.found words
+      t = told_of (user_of owned) (user_of last) h.found item reply h.is_found answers
 
       -- and the text is not written to its end
-      pub serving-breaks : (n : ℕ) (now_is : Option (List ℕ)) (newer : Seen) → n ≤ length (text last reply)
-          → Appends is now_is (take n (text last reply))
-          → Serves served.WriteFault user first.left after.left was now_is old newer (Some last)
-      serving-breaks n now_is newer within appends =
-          serves-more served.WriteFault (take n (text last reply)) now_is newer (Some last) appends (record {
+      pub serving-breaks : (n : ℕ) (now_is : Option (List ℕ)) (newer : Seen) (back : Owned) → user_of back ≡ user_of last
+          → n ≤ length words → Appends is now_is (take n words)
+          → Serves served.WriteFault start first.left after.left was now_is old newer (Some back)
+      serving-breaks n now_is newer back same within appends =
+          serves-more served.WriteFault (take n words) now_is newer (Some back) appends (record {
             before = s.written;
-            between = next;
+            between = user_of owned;
             item = h.found;
             reaches = reaches;
             mark = t.mark;
@@ -264,12 +380,12 @@ module _ (user : User) (first now : Standing) (was is : Option (List ℕ)) (old 
             bytes = n;
             within = subst (λ told. n ≤ length told.0) (sym t.tells) within;
             written_is = ap (λ told. s.written ++ take n told.0) (sym t.tells);
-            next_is = ap (λ told. told.1) (sym t.tells);
+            next_is = same ∙ ap (λ told. told.1) (sym t.tells);
           })
 
       -- and the text is written
-      module _ (now_is : Option (List ℕ)) (appends : Appends is now_is (text last reply)) (newer : Seen)
-          (risen : CountsRise (item_tiles next item) new newer) where
+      module _ (now_is : Option (List ℕ)) (appends : Appends is now_is words) (newer : Seen)
+          (risen : CountsRise (item_tiles (user_of owned) item + tiles_to_come owned - tiles_to_come last) new newer) where
         abbrev items_more : List Item
         items_more = s.items ++ h.found ∷ []
 
@@ -283,37 +399,39 @@ module _ (user : User) (first now : Standing) (was is : Option (List ℕ)) (old 
         more = added user s.items s.marks h.found t.mark s.are_marks
             (subst (λ u. t.mark ≡ true → is_memory (told u h.found t.mark).0 ≡ true) s.next_is t.only)
 
-        tells_last : told (last_user user s.items s.marks) h.found t.mark ≡ (text last reply, last)
+        tells_last : told (last_user user s.items s.marks) h.found t.mark ≡ (words, user_of last)
         tells_last = ap (λ u. told u h.found t.mark) (sym s.next_is) ∙ t.tells
 
-        written_more : s.written ++ text last reply ≡ concat (texts user items_more marks_more)
+        written_more : s.written ++ words ≡ concat (texts user items_more marks_more)
         written_more =
-            ap (λ w. w ++ text last reply) s.written_is
+            ap (λ w. w ++ words) s.written_is
             ∙ ap (λ told. concat (texts user s.items s.marks) ++ told.0) (sym tells_last)
             ∙ more.written_is
 
-        next_more : last ≡ last_user user items_more marks_more
+        next_more : user_of last ≡ last_user user items_more marks_more
         next_more = ap (λ told. told.1) (sym tells_last) ∙ more.next_is
 
-        counted_more : CountsRise (tiles user items_more marks_more) old newer
+        counted_more : CountsRise (tiles user items_more marks_more + tiles_owed start - tiles_to_come last) old newer
         counted_more =
             let sum = tiles-more user s.items s.marks h.found t.mark marks_many in
-            let same = tiles_alike next h.found item h.is_found in
-            let from : item_tiles next h.found ≡ item_tiles (last_user user s.items s.marks) h.found =
+            let same = tiles_alike (user_of owned) h.found item h.is_found in
+            let from : item_tiles (user_of owned) h.found ≡ item_tiles (last_user user s.items s.marks) h.found =
             ap (λ u. item_tiles u h.found) s.next_is in
-            rises-more (tiles user s.items s.marks) (item_tiles next item) (tiles user items_more marks_more)
+            rises_more (tiles user s.items s.marks + tiles_owed start - tiles_to_come owned)
+            (item_tiles (user_of owned) item + tiles_to_come owned - tiles_to_come last)
+            (tiles user items_more marks_more + tiles_owed start - tiles_to_come last)
             s.counted risen (omega (arith, sum, same, from))
 
-        pub serving-more : ending_of item ≡ None → Serving user first after was now_is old newer last
+        pub serving-more : ending_of item ≡ None → Serving start first after was now_is old newer last
         serving-more none =
             let goes : ends item ≡ false = goes_on item none in
             record {
               read = s.read ++ h.front;
-              written = s.written ++ text last reply;
+              written = s.written ++ words;
               items = items_more;
               marks = marks_more;
               taken = taken_more;
-              appends = Appends-trans was is now_is s.written (text last reply) s.appends appends;
+              appends = Appends-trans was is now_is s.written words s.appends appends;
               takes = Takes-more 0 (s.read ++ h.front) s.items h.front h.front [] h.found takes_more
                   (sym (append-nil h.front)) is_next (sym (ends_alike h.found item h.is_found) ∙ goes);
               items_are = length-append s.items (h.found ∷ []) ∙ ap (λ n. n + 1) s.items_are ∙ sym h.items_is;
@@ -325,47 +443,42 @@ module _ (user : User) (first now : Standing) (was is : Option (List ℕ)) (old 
               errors = h.errors_is ∙ s.errors;
             }
 
-        ended : (Ending : List Item → Type 0) → Ending items_more → ends item ≡ true
-            → AnswersAll Ending user (s.read ++ h.front) (s.written ++ text last reply) old newer last
-        ended Ending ending over = record {
-          dialogue = record {
-            items = items_more;
-            rest = [];
-            marks = marks_more;
-            splits = Splits-end 0 (s.read ++ h.front) s.items h.front h.front [] h.found takes_more
-                (sym (append-nil h.front)) is_next (sym (ends_alike h.found item h.is_found) ∙ over);
-            are_marks = more.are_marks;
-            written_is = written_more;
-            next_is = next_more;
-          };
-          ending = ending;
-          counted = counted_more;
-        }
-
         -- and the connection ends with it
-        serving-ends_by : (found : Item) (kind : Served) → h.found ≡ found → ending_of found ≡ Some kind
-            → Serves kind user first.left after.left was now_is old newer (Some last)
-        serving-ends_by (Command ByeCommand) served.Bye is e =
-            serves-more served.Bye (text last reply) now_is newer (Some last) appends
-            (ended EndsByBye (s.items, ap (λ i. s.items ++ i ∷ []) is)
-            (ends_alike h.found item h.is_found ∙ ap ends is))
-        serving-ends_by (Last fault) served.Ended is e =
-            serves-more served.Ended (text last reply) now_is newer (Some last) appends
-            (ended EndsByFault (s.items, fault, ap (λ i. s.items ++ i ∷ []) is)
-            (ends_alike h.found item h.is_found ∙ ap ends is))
-        serving-ends_by found kind is e = absurd (cc)
+        module _ (back : Owned) (same_back : user_of back ≡ user_of last) (few : tiles_to_come last ≤ tiles_owed back) where
+          ended : (Ending : List Item → Type 0) → Ending items_more → ends item ≡ true
+              → AnswersAll Ending start (s.read ++ h.front) (s.written ++ words) old newer back
+          ended Ending ending over = record {
+            dialogue = record {
+              items = items_more;
+              rest = [];
+              marks = marks_more;
+              splits = Splits-end 0 (s.read ++ h.front) s.items h.front h.front [] h.found takes_more
+                  (sym (append-nil h.front)) is_next (sym (ends_alike h.found item h.is_found) ∙ over);
+              are_marks = more.are_marks;
+              written_is = written_more;
+              next_is = same_back ∙ next_more;
+            };
+            ending = ending;
+            counted = rises_more (tiles user items_more marks_more + tiles_owed start - tiles_to_come last) 0
+                (tiles user items_more marks_more + tiles_owed start - tiles_owed back) counted_more
+                (rises_none newer newer 0 refl refl (omega arith)) (omega (arith, few));
+          }
 
-        pub serving-ends : (kind : Served) → ending_of item ≡ Some kind
-            → Serves kind user first.left after.left was now_is old newer (Some last)
-        serving-ends kind e = serving-ends_by h.found kind refl (sym (endings_alike h.found item h.is_found) ∙ e)
+          serving-ends_by : (found : Item) (kind : Served) → h.found ≡ found → ending_of found ≡ Some kind
+              → Serves kind start first.left after.left was now_is old newer (Some back)
+          serving-ends_by (Command ByeCommand) served.Bye is e =
+              serves-more served.Bye words now_is newer (Some back) appends
+              (ended EndsByBye (s.items, ap (λ i. s.items ++ i ∷ []) is)
+              (ends_alike h.found item h.is_found ∙ ap ends is))
+          serving-ends_by (Last fault) served.Ended is e =
+              serves-more served.Ended words now_is newer (Some back) appends
+              (ended EndsByFault (s.items, fault, ap (λ i. s.items ++ i ∷ []) is)
+              (ends_alike h.found item h.is_found ∙ ap ends is))
+          serving-ends_by found kind is e = absurd (cc)
 
--- what is served is told of equal users
-pub serves_same : (kind : Served) (user other : User) (left rest was is : Option (List ℕ)) (old new : Seen)
-    (next last : User) → user ≡ other → next ≡ last
-    → Serves kind user left rest was is old new (Some next) → Serves kind other left rest was is old new (Some last)
-serves_same kind user other left rest was is old new next last same same_last s =
-    subst (λ u. Serves kind u left rest was is old new (Some last)) same
-    (subst (λ u. Serves kind user left rest was is old new (Some u)) same_last s)
+          pub serving-ends : (kind : Served) → ending_of item ≡ Some kind
+              → Serves kind start first.left after.left was now_is old newer (Some back)
+          serving-ends kind e = serving-ends_by h.found kind refl (sym (endings_alike h.found item h.is_found) ∙ e)
 
 -- a reader that goes on hands out none only where the input has ended, and fails only where a read does
 pub ceases_open : (old new : Standing) → old.phase ≡ Open → HandsNone old new → Ceases old new

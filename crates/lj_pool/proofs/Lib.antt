@@ -1,7 +1,14 @@
-mod AllRead
 pub mod Numbers
-pub mod Gathering
-pub mod Beginning
-pub mod Dialogues
-pub mod Quotas
 pub mod Places
+pub mod Gathering
+pub mod Sessions
+pub mod Gathered
+pub mod Tiles
+pub mod Begun
+pub mod Answered
+pub mod Going
+pub mod Ending
+pub mod Rested
+pub mod Dialogues
+pub mod Handing
+mod AllRead

@@ -1,50 +1,70 @@
 -- How many tiles commands have, and how far the counts of a pool's results have risen.
 use Rattle.std.specs.Prelude.{ℕ, zero, suc, ◌+◌, ◌<◌, ◌≤◌, Bool, List, [], ◌∷◌, length, Option, Some, None}
-use Rattle.std.specs.Option.{option_map_or}
-use Rattle.lj_tile.specs.declared.names.Kind.{Kind}
+use Rattle.std.specs.Prelude.{if◌then◌else◌}
+use Rattle.std.specs.List.{sum_by}
+use Rattle.lj_tile.specs.Species.{Composition}
+use Rattle.lj_step.specs.Motion.{Simulation, stepped}
 use Rattle.lj_step.specs.OpenSteps.{cover}
 use Rattle.lj_session.specs.declared.command.Command.{Command}
+use Rattle.lj_session.specs.declared.command.Command.TheVariants.{Advance, Start, Measure}
 use Rattle.lj_branch.specs.Named.{named}
 use Rattle.lj_session.specs.Users.{Session, User}
-use Rattle.lj_session.specs.Turns.{turns, turned, rest_of}
-use Rattle.lj_session.specs.Owners.{step_of}
+use Rattle.lj_session.specs.Answers.{can_advance}
+use Rattle.lj_session.specs.States.{Held, Owned}
 use Rattle.lj_wire.specs.declared.item.Item.{Item}
 use Rattle.lj_wire.specs.declared.item.Item.TheVariants.{Command as Ordered, Bad, Last}
 use Rattle.lj_wire.specs.Told.{told, first_mark, other_marks}
 use Rattle.lj_pool.specs.Seen.{Seen, last_count}
 
--- how many tiles a step has over the frame of a session
-abbrev pub frame_tiles : Session → ℕ
-frame_tiles session = length (cover session.composition session.sim.cur)
+-- how many tiles a step has over the frame of a simulation
+abbrev pub frame_tiles : Composition → Simulation → ℕ
+frame_tiles u sim = length (cover u sim.cur)
 
-abbrev pub step_tiles : User → Option (List ℕ × Kind) → ℕ
-step_tiles user None = 0
-step_tiles user (Some step) = option_map_or frame_tiles (named step.0 user.sessions) 0
+-- how many tiles so many steps have together
+abbrev pub steps_tiles : Composition → ℕ → Simulation → ℕ
+steps_tiles u zero sim = 0
+steps_tiles u (suc n) sim = frame_tiles u sim + steps_tiles u n (stepped u sim)
 
--- how many tiles the next turn of a command has
-abbrev pub turn_tiles : User → Command → ℕ
-turn_tiles user command = step_tiles user (step_of command)
+-- so many steps of a session, where it may go on by them
+abbrev pub advance_tiles : Option Session → ℕ → ℕ
+advance_tiles None n = 0
+advance_tiles (Some session) n = if can_advance session n then steps_tiles session.composition n session.sim else 0
 
--- how many tiles so many turns of a command have together
-unfoldable pub turns_tiles : ℕ → User → Command → ℕ
-turns_tiles zero user command = 0
-turns_tiles (suc n) user command = turn_tiles user command + turns_tiles n (turned user command) (rest_of command)
+-- the energy step of a session
+abbrev pub measure_tiles : Option Session → ℕ
+measure_tiles None = 0
+measure_tiles (Some session) = frame_tiles session.composition session.sim
 
--- how many tiles all turns of a command have
-abbrev pub command_tiles : User → Command → ℕ
-command_tiles user command = turns_tiles (turns user command) user command
+-- how many tiles the steps of a command have: those of ADVANCE and START, and the energy step of MEASURE
+unfoldable pub command_tiles : User → Command → ℕ
+command_tiles user (Advance name n) = advance_tiles (named name user.sessions) n
+command_tiles user (Start name n) = advance_tiles (named name user.sessions) n
+command_tiles user (Measure name) = measure_tiles (named name user.sessions)
+command_tiles user _ = 0
 
--- how many tiles all turns of an item have
+-- how many tiles the steps of an item have
 abbrev pub item_tiles : User → Item → ℕ
 item_tiles user (Ordered command) = command_tiles user command
 item_tiles user (Bad fault) = 0
 item_tiles user (Last fault) = 0
 
--- how many tiles all turns of items have, each item answered from the user that those before it leave
+-- how many tiles the steps of items have, each item answered from the user that those before it leave
 abbrev pub tiles : User → List Item → List Bool → ℕ
 tiles user [] marks = 0
 tiles user (item ∷ items) marks =
     item_tiles user item + tiles (told user item (first_mark marks)).1 items (other_marks marks)
+
+-- how many tiles the steps have that are owed to a session
+abbrev pub owed_tiles : Held → ℕ
+owed_tiles held = steps_tiles held.live.composition held.owed held.live.sim
+
+-- the sum of a number over the sessions that are held
+abbrev pub sum_over : (Held → ℕ) → Owned → ℕ
+sum_over number owned = sum_by (λ entry. number entry.1) owned.sessions
+
+-- how many tiles the steps have that are owed to the sessions
+abbrev pub tiles_owed : Owned → ℕ
+tiles_owed owned = sum_over owed_tiles owned
 
 -- Neither count has fallen, and both together have risen by this number, or one of them stands at its last value.
 pub record CountsRise (number : ℕ) (old new : Seen) : Type 0 where

@@ -1,14 +1,16 @@
--- The step of a running command whose tasks a pool computes: which tasks are owed, and that each tile still awaited is
--- one of the cover.
-use Rattle.std.specs.Prelude.{◌≡◌, ℕ, ◌-◌, Bool, true, false, List, length, map, take, count_by, slice_index_or, nat_eq}
-use Rattle.std.specs.Prelude.{Option, Some, None}
-use Rattle.std.specs.List.{filter}
-use Rattle.lj_tile.specs.declared.names.Kind.{Kind}
+-- The open steps whose tasks a pool computes: which tasks are owed, and that each tile still awaited is one of its cover.
+use Rattle.std.specs.Prelude.{◌≡◌, ◌≤◌, ℕ, Bool, true, false, List, [], length, map, take, count_by, slice_index_or, nat_eq}
+use Rattle.std.specs.Prelude.{Option, Some, None, IfSome, IsSome, IsSomeAnd}
+use Rattle.std.specs.List.{filter, IsDistinct}
+use Rattle.std.specs.Str.{bytes_eq}
+use Rattle.lj_tile.specs.declared.names.Label.{Label}
 use Rattle.lj_tile.specs.Tasks.{Work}
-use Rattle.lj_step.specs.Live.{OpenStep}
-use Rattle.lj_step.specs.OpenSteps.{cover, task_of, tiles_of, left}
-use Rattle.lj_session.specs.States.{Held, held_in}
-use Rattle.lj_session.specs.Owners.{Owning, step_in, user_in}
+use Rattle.lj_step.specs.Live.{Live, OpenStep}
+use Rattle.lj_step.specs.OpenSteps.{cover, task_of}
+use Rattle.lj_session.specs.declared.command.Command.{Command}
+use Rattle.lj_session.specs.Turns.{waits_for}
+use Rattle.lj_session.specs.States.{Held, Owned, IsAtWork, held_in, owed_in, names}
+use Rattle.lj_session.specs.Owners.{Owning, label_of}
 
 -- how often a number stands in a list
 abbrev pub times : ℕ → List ℕ → ℕ
@@ -22,52 +24,46 @@ is_awaited flags k = slice_index_or flags k false
 abbrev pub posted_tiles : List Bool → ℕ → List ℕ → List ℕ
 posted_tiles flags passed tiles = filter (is_awaited flags) (take passed tiles)
 
--- A step is open, each tile that it awaits stands in its cover once, and what is owed are the tasks of the tiles that
--- are posted and not in, in order of the cover.
-pub record Gathers (owner : Owning) (owed : List Work) : Type 0 where
-  pub name : List ℕ
-  pub kind : Kind
-  pub step : step_in owner ≡ Some (name, kind)
-  pub held : Held
-  pub there : held_in owner.state name ≡ Some held
-  pub flags : List Bool
-  pub is_open : held.live.part ≡ Some (record { kind = kind; awaited = flags })
-  pub once : (k : ℕ) → is_awaited flags k ≡ true → times k (cover held.live.composition held.live.sim.cur) ≡ 1
-  pub owed_is :
-      owed ≡ map (task_of held.live (record { user = owner.number; session = name }) kind)
-      (posted_tiles flags held.passed (cover held.live.composition held.live.sim.cur))
+-- the tasks of an open step that are among the first so many of its cover and not in, in order of the cover
+abbrev pub posted_in : Label → Live → ℕ → Option OpenStep → List Work
+posted_in label live passed None = []
+posted_in label live passed (Some step) =
+    map (task_of live label step.kind) (posted_tiles step.awaited passed (cover live.composition live.sim.cur))
 
--- how many tiles a step awaits, if one is open
+-- the tasks of a session that are posted and not in
+abbrev pub posted_of : Label → Option Held → List Work
+posted_of label None = []
+posted_of label (Some held) = posted_in label held.live held.passed held.live.part
+
+-- how many tiles an open step awaits
 abbrev pub left_in : Option OpenStep → ℕ
 left_in None = 0
-left_in (Some step) = left step
+left_in (Some step) = count_by (λ awaited. awaited) step.awaited
 
-abbrev pub awaited_of : Option Held → ℕ
-awaited_of None = 0
-awaited_of (Some held) = left_in held.live.part
+-- Each tile that the open step of a session awaits stands in its cover once, so there are no more than that has.
+pub record IsGathered (held : Held) : Type 0 where
+  pub once : (step : OpenStep) (k : ℕ) → held.live.part ≡ Some step → is_awaited step.awaited k ≡ true
+      → times k (cover held.live.composition held.live.sim.cur) ≡ 1
+  pub few : left_in held.live.part ≤ length (cover held.live.composition held.live.sim.cur)
 
-abbrev pub awaited_by : Option (List ℕ × Kind) → Owning → ℕ
-awaited_by None owner = 0
-awaited_by (Some step) owner = awaited_of (held_in owner.state step.0)
+-- the task is one of this session
+abbrev pub is_of : List ℕ → Work → Bool
+is_of name work = bytes_eq name work.name.label.session
 
--- how many tiles the step of the running command awaits
-abbrev pub awaited_in : Owning → ℕ
-awaited_in owner = awaited_by (step_in owner) owner
+-- a step is open in the session that what waits, waits for
+abbrev pub IsOpenFor : Owned → Command → Type 0
+IsOpenFor owned command = IsSomeAnd (waits_for command)
+    (λ name. IsSomeAnd (held_in owned name) (λ held. IsSome held.live.part))
 
-abbrev pub unposted_of : Option Held → ℕ
-unposted_of None = 0
-unposted_of (Some held) = tiles_of held.live - held.passed
+-- What is owed are, of each session, the tasks of its open step that are posted and not in, and nothing else. A step is open in
+-- each session that owes one, and in that which a command waits for.
+pub record Gathers (owner : Owning) (owed : List Work) : Type 0 where
+  pub at_work : IsAtWork owner.waiting owner.state
+  pub waits : IfSome owner.waiting (IsOpenFor owner.state)
+  pub distinct : IsDistinct bytes_eq (names owner.state)
+  pub gathered : (name : List ℕ) (held : Held) → held_in owner.state name ≡ Some held → IsGathered held
+  pub each : (name : List ℕ) → filter (is_of name) owed ≡ posted_of (label_of owner name) (held_in owner.state name)
 
-abbrev pub unposted_by : Option (List ℕ × Kind) → Owning → ℕ
-unposted_by None owner = 0
-unposted_by (Some step) owner = unposted_of (held_in owner.state step.0)
-
--- how many tiles of it come after the last one that was posted
-abbrev pub unposted_in : Owning → ℕ
-unposted_in owner = unposted_by (step_in owner) owner
-
--- the same command of the same user runs, and the user is the same
-pub record SameRun (old new : Owning) : Type 0 where
-  pub rest : new.rest ≡ old.rest
-  pub number : new.number ≡ old.number
-  pub user : user_in new ≡ user_in old
+-- no step is owed to a session
+abbrev pub NoneOwed : Owned → Type 0
+NoneOwed owned = (name : List ℕ) → owed_in owned name ≡ 0

@@ -1,24 +1,27 @@
 -- How a stream of commands is served to its end: what is written, and which state is handed back.
 use Rattle.std.specs.Prelude.{◌≡◌, ℕ, ◌<◌, ◌≤◌, Bool, true, false, List, [], ◌∷◌, ◌++◌, length, take, Option, Some}
-use Rattle.std.specs.Prelude.{None}
+use Rattle.std.specs.Prelude.{None, IsSome, IsSomeAnd, ◌+◌, ◌-◌, ◌⊎◌}
 use Rattle.std.specs.List.{list_any}
 use Rattle.std.specs.Io.KnownBytes.{Consumes, Appends}
 use Rattle.lj_session.specs.declared.command.Command.TheVariants.{Bye as ByeCommand}
+use Rattle.lj_branch.specs.Named.{named}
 use Rattle.lj_session.specs.Users.{User}
+use Rattle.lj_session.specs.Turns.{waits_for}
+use Rattle.lj_session.specs.States.{Owned, user_of}
 use Rattle.lj_wire.specs.declared.item.Fault.{Fault}
 use Rattle.lj_wire.specs.declared.item.Item.{Item}
-use Rattle.lj_wire.specs.declared.item.Item.TheVariants.{Command, Last}
+use Rattle.lj_wire.specs.declared.item.Item.TheVariants.{Command, Bad, Last}
 use Rattle.lj_wire.specs.Items.{ends}
 use Rattle.lj_wire.specs.Texts.{is_memory}
 use Rattle.lj_wire.specs.Told.{told}
-use Rattle.lj_wire.specs.Runs.{item_turns}
 use Rattle.lj_wire.specs.Streams.{IsItem, Dialogue}
 use Rattle.lj_wire.specs.Progress.{Progress}
 use Rattle.lj_pool.specs.declared.served.Served.{Served}
 use Rattle.lj_pool.specs.declared.served.Served.TheVariants.{End, Bye, Ended, ReadFault, WriteFault, PoolClosed}
 use Rattle.lj_pool.specs.declared.served.Served.TheVariants.{TooManyStrays}
 use Rattle.lj_pool.specs.Seen.{Seen}
-use Rattle.lj_pool.specs.Counting.{tiles, CountsRise}
+use Rattle.lj_pool.specs.declared.pool.TheConstants.{MAX_AHEAD}
+use Rattle.lj_pool.specs.Counting.{tiles, tiles_owed, CountsRise}
 
 -- no item ends the connection
 abbrev pub NoneEnds : List Item → Type 0
@@ -32,13 +35,14 @@ EndsByBye items = (earlier : List Item) × (items ≡ earlier ++ Command ByeComm
 abbrev pub EndsByFault : List Item → Type 0
 EndsByFault items = (earlier : List Item) × (fault : Fault) × (items ≡ earlier ++ Last fault ∷ [])
 
--- The dialogue of what was read, whose items end so. The pool's counts have together risen by the tiles of all their
--- steps, or one of them stands at its last value.
-pub record AnswersAll (Ending : List Item → Type 0) (user : User) (read written : List ℕ) (old new : Seen)
-    (next : User) : Type 0 where
-  pub dialogue : Dialogue user read written next
+-- The dialogue of what was read, whose items end so. The pool's counts have together risen by the tiles of the steps that the
+-- items took and of those that were owed before, without those that are owed now, or one of them stands at its last value.
+pub record AnswersAll (Ending : List Item → Type 0) (state : Owned) (read written : List ℕ) (old new : Seen)
+    (next : Owned) : Type 0 where
+  pub dialogue : Dialogue (user_of state) read written (user_of next)
   pub ending : Ending dialogue.items
-  pub counted : CountsRise (tiles user dialogue.items dialogue.marks) old new
+  pub counted : CountsRise
+      (tiles (user_of state) dialogue.items dialogue.marks + tiles_owed state - tiles_owed next) old new
 
 -- The items before an item of what was read are answered, and then this one comes.
 pub record Reaches (user : User) (read written : List ℕ) (between : User) (item : Item) : Type 0 where
@@ -63,36 +67,54 @@ pub record BreaksOff (user : User) (read written : List ℕ) (next : User) : Typ
   pub written_is : written ≡ before ++ take bytes (told between item mark).0
   pub next_is : next ≡ (told between item mark).1
 
--- The items before one that runs are answered, and nothing is written for that.
-pub record StopsShort (user : User) (read written : List ℕ) : Type 0 where
+-- the item waits for a session of the user
+abbrev pub MayWait : User → Item → Type 0
+MayWait user (Command command) = IsSomeAnd (waits_for command) (λ name. IsSome (named name user.sessions))
+MayWait user (Bad fault) = ⊥
+MayWait user (Last fault) = ⊥
+
+-- The items before one that waits are answered, and nothing is written for that.
+pub record StopsAt (user : User) (read written : List ℕ) : Type 0 where
   pub between : User
   pub item : Item
   pub reaches : Reaches user read written between item
-  pub runs : 0 < item_turns between item
+  pub waits : MayWait between item
+
+-- So many items of what was read are answered, and the pool owes more than it may before the next one is.
+pub record StopsBetween (user : User) (read written : List ℕ) (new : Seen) : Type 0 where
+  pub count : ℕ
+  pub left : List ℕ
+  pub between : User
+  pub progress : Progress user read count written left between
+  pub many : MAX_AHEAD < length new.owed
+
+-- What is written where the pool was given up.
+abbrev pub StopsShort : User → List ℕ → List ℕ → Seen → Type 0
+StopsShort user read written new = StopsAt user read written ⊎ StopsBetween user read written new
 
 -- What is written for what was read, and the state that is handed back.
-abbrev pub IsServed : Served → User → List ℕ → List ℕ → Seen → Seen → Option User → Type 0
-IsServed End user read written old new (Some next) = AnswersAll NoneEnds user read written old new next
-IsServed Bye user read written old new (Some next) = AnswersAll EndsByBye user read written old new next
-IsServed Ended user read written old new (Some next) = AnswersAll EndsByFault user read written old new next
-IsServed ReadFault user read written old new (Some next) = AnswersAll NoneEnds user read written old new next
-IsServed WriteFault user read written old new (Some next) = BreaksOff user read written next
-IsServed PoolClosed user read written old new None = StopsShort user read written
-IsServed TooManyStrays user read written old new None = StopsShort user read written
--- a state is handed back exactly where no command was running
-IsServed End user read written old new None = ⊥
-IsServed Bye user read written old new None = ⊥
-IsServed Ended user read written old new None = ⊥
-IsServed ReadFault user read written old new None = ⊥
-IsServed WriteFault user read written old new None = ⊥
-IsServed PoolClosed user read written old new (Some next) = ⊥
-IsServed TooManyStrays user read written old new (Some next) = ⊥
+abbrev pub IsServed : Served → Owned → List ℕ → List ℕ → Seen → Seen → Option Owned → Type 0
+IsServed End state read written old new (Some next) = AnswersAll NoneEnds state read written old new next
+IsServed Bye state read written old new (Some next) = AnswersAll EndsByBye state read written old new next
+IsServed Ended state read written old new (Some next) = AnswersAll EndsByFault state read written old new next
+IsServed ReadFault state read written old new (Some next) = AnswersAll NoneEnds state read written old new next
+IsServed WriteFault state read written old new (Some next) = BreaksOff (user_of state) read written (user_of next)
+IsServed PoolClosed state read written old new None = StopsShort (user_of state) read written new
+IsServed TooManyStrays state read written old new None = StopsShort (user_of state) read written new
+-- a state is handed back exactly where the pool was not given up
+IsServed End state read written old new None = ⊥
+IsServed Bye state read written old new None = ⊥
+IsServed Ended state read written old new None = ⊥
+IsServed ReadFault state read written old new None = ⊥
+IsServed WriteFault state read written old new None = ⊥
+IsServed PoolClosed state read written old new (Some next) = ⊥
+IsServed TooManyStrays state read written old new (Some next) = ⊥
 
 -- What was read of the bytes that were left, and what was written for it after the contents.
-pub record Serves (served : Served) (user : User) (left rest was is : Option (List ℕ)) (old new : Seen)
-    (next : Option User) : Type 0 where
+pub record Serves (served : Served) (state : Owned) (left rest was is : Option (List ℕ)) (old new : Seen)
+    (next : Option Owned) : Type 0 where
   pub read : List ℕ
   pub written : List ℕ
   pub taken : Consumes left rest read
   pub appends : Appends was is written
-  pub is_served : IsServed served user read written old new next
+  pub is_served : IsServed served state read written old new next

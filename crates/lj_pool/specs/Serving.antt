@@ -1,9 +1,10 @@
 -- A stream that is being served, between two items.
-use Rattle.std.specs.Prelude.{◌≡◌, ℕ, Bool, List, [], length, Option}
+use Rattle.std.specs.Prelude.{◌≡◌, ◌+◌, ◌-◌, ℕ, Bool, List, [], length, Option}
 use Rattle.std.specs.List.{concat}
 use Rattle.std.specs.Io.KnownBytes.{Consumes, Appends}
 use Rattle.lj_session.specs.declared.reply.Reply.{Reply}
 use Rattle.lj_session.specs.Users.{User}
+use Rattle.lj_session.specs.States.{Owned, user_of}
 use Rattle.lj_wire.specs.declared.item.Item.{Item}
 use Rattle.lj_wire.specs.declared.reader.phase.Phase.TheVariants.{Open}
 use Rattle.lj_wire.specs.Standings.{Standing}
@@ -11,15 +12,16 @@ use Rattle.lj_wire.specs.Streams.{AreMarks}
 use Rattle.lj_wire.specs.Progress.{Takes}
 use Rattle.lj_wire.specs.Told.{answered, texts, last_user}
 use Rattle.lj_pool.specs.Seen.{Seen}
-use Rattle.lj_pool.specs.Counting.{tiles, CountsRise}
+use Rattle.lj_pool.specs.Counting.{tiles, tiles_owed, CountsRise}
+use Rattle.lj_pool.specs.Coming.{tiles_to_come}
 
 -- an item is answered by a reply, which leaves the next user, under some mark
 abbrev pub AnswersItem : User → Item → Reply → User → Type 0
 AnswersItem user item reply next = (mark : Bool) × (answered user item mark ≡ (reply, next))
 
--- The items that were handed out are answered, and what was read are their bytes.
-pub record Serving (user : User) (first now : Standing) (was is : Option (List ℕ)) (old new : Seen)
-    (next : User) : Type 0 where
+-- The items that were handed out are answered, and what were read are their bytes.
+pub record Serving (start : Owned) (first now : Standing) (was is : Option (List ℕ)) (old new : Seen)
+    (owned : Owned) : Type 0 where
   pub read : List ℕ
   pub written : List ℕ
   pub items : List Item
@@ -28,9 +30,9 @@ pub record Serving (user : User) (first now : Standing) (was is : Option (List �
   pub appends : Appends was is written
   pub takes : Takes 0 read items []
   pub items_are : length items ≡ now.items
-  pub are_marks : AreMarks marks (texts user items marks)
-  pub written_is : written ≡ concat (texts user items marks)
-  pub next_is : next ≡ last_user user items marks
-  pub counted : CountsRise (tiles user items marks) old new
+  pub are_marks : AreMarks marks (texts (user_of start) items marks)
+  pub written_is : written ≡ concat (texts (user_of start) items marks)
+  pub next_is : user_of owned ≡ last_user (user_of start) items marks
+  pub counted : CountsRise (tiles (user_of start) items marks + tiles_owed start - tiles_to_come owned) old new
   pub phase : now.phase ≡ Open
   pub errors : now.errors ≡ first.errors

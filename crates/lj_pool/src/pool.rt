@@ -8,8 +8,12 @@ use lj_tile::{Done, Task};
 /// How many tasks may be owed to an end at once.
 pub const MAX_OWED: usize = 64;
 
-/// So many results in a row that are of no tile that is awaited end the command that runs.
+/// So many results in a row that are of no tile that is awaited end the work for a user.
 pub const MAX_STRAYS: u64 = 4096;
+
+/// How many tasks may be owed while the next command is awaited. So 63 connections that wait leave the last one room among
+/// the 1,024 entries of a book.
+pub const MAX_AHEAD: usize = 15;
 
 /// Why a task was not posted. It is handed back.
 #[derive(Debug, Drop)]

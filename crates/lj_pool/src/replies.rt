@@ -2,6 +2,7 @@
 ghost use Rattle.std.specs.Prelude.{◌≡◌, ◌≤◌, ◌+◌, ℕ, OnErr, OnOk, length, take};
 ghost use Rattle.std.specs.Io.KnownBytes.{Appends};
 ghost use Rattle.lj_session.specs.States.{user_of};
+ghost use Rattle.lj_session.specs.Owners.{IsSettled};
 ghost use Rattle.lj_wire.specs.Ends.{Rises};
 ghost use Rattle.lj_wire.specs.Texts.{text};
 
@@ -16,6 +17,7 @@ pub(crate) fn put_reply<W: Sink>(
     state: &UserState,
     reply: &Reply,
 ) -> Result<(), WriteFault>
+    requires settled { IsSettled state.now reply.now }
     ensures written { OnOk result
         (Appends (W.contents writer.old) (W.contents writer.new) (text (user_of state.now) reply.now)) }
     ensures counted { OnOk result (W.faults writer.new ≡ W.faults writer.old) }

@@ -1,41 +1,45 @@
-//! Commands run to their end over a pool, which computes their tasks.
-ghost use Rattle.std.specs.Prelude.{◌≡◌, ◌+◌, ◌<◌, ◌≤◌, length, Bool, true, false, [], None, IfOk, IfErr, OnErr, OnOk};
-ghost use Rattle.lj_session.specs.Turns.{turns};
-ghost use Rattle.lj_session.specs.Owners.{IsAnswered, IsReplied, user_in, is_ready};
-ghost use Rattle.lj_pool.specs.Seen.{StaysClosed};
-ghost use Rattle.lj_pool.specs.Gathering.{Gathers, SameRun, awaited_in, unposted_in};
+//! The work that is owed to sessions, done over a pool: while a command waits for it, and before the next one is read.
+ghost use Rattle.std.specs.Prelude.{◌≡◌, ◌+◌, ◌-◌, ◌<◌, ◌≤◌, length, Bool, true, false, [], Some, None, Ok, IsSome, IfOk, IfErr, OnErr, OnOk};
+ghost use Rattle.lj_session.specs.States.{turns_before};
+ghost use Rattle.lj_session.specs.Owners.{IsAnswered, IsReplied, IsSettled, user_in, ready_session};
+ghost use Rattle.lj_pool.specs.declared.running.Halt.TheVariants.{TooManyStrays};
+ghost use Rattle.lj_pool.specs.Seen.{SameOwed};
+ghost use Rattle.lj_pool.specs.Gathering.{Gathers};
 ghost use Rattle.lj_pool.specs.Counting.{CountsRise, StraysRise, command_tiles};
-ghost use Rattle.lj_pool.specs.Running.{IsHalted, HasBegun, tiles_left};
+ghost use Rattle.lj_pool.specs.Coming.{GoesOn, posts_coming, tiles_coming, tiles_to_come};
+ghost use Rattle.lj_pool.specs.Running.{IsHalted};
 
-use crate::pool::{MAX_STRAYS, Pool, Refused};
+use crate::pool::{MAX_AHEAD, MAX_STRAYS, Pool, Refused};
 use lj_session::{Begin, Command, Owner, Reply};
 
-/// Why a command was given up.
+/// Why the work was given up.
 #[derive(Clone, Copy, PartialEq, Eq, Debug)]
 pub(crate) enum Halt {
     PoolClosed,
     TooManyStrays,
 }
 
-/// Answers a command, whose tasks go to the pool.
+/// Answers a command, once what it waits for is done.
 pub(crate) fn answer_over<P: Pool>(
     owner: &mut Owner,
     user: u8,
     pool: &mut P,
     command: Command,
 ) -> Result<Reply, Halt>
-    requires idle { owner.old.rest ≡ None }
+    requires idle { owner.old.waiting ≡ None }
     requires number { owner.old.number ≡ user }
-    requires none_owed { (P.seen pool.old).owed ≡ [] }
+    requires gathers { Gathers owner.old (P.seen pool.old).owed }
     ensures answered { IfOk result (λ reply. IsAnswered (user_in owner.old) command reply (user_in owner.new)) }
-    ensures idle { OnOk result (owner.new.rest ≡ None) }
-    ensures quota { OnOk result (owner.new.state.quota ≡ owner.old.state.quota) }
-    ensures none_owed { OnOk result ((P.seen pool.new).owed ≡ []) }
-    ensures counted { OnOk result
-        (CountsRise (command_tiles (user_in owner.old) command) (P.seen pool.old) (P.seen pool.new)) }
-    ensures runs { OnErr result (0 < turns (user_in owner.old) command) }
+    ensures settled { IfOk result (IsSettled owner.new.state) }
+    ensures idle { OnOk result (owner.new.waiting ≡ None) }
+    ensures gathers { OnOk result (Gathers owner.new (P.seen pool.new).owed) }
+    ensures counted { OnOk result (CountsRise
+        (command_tiles (user_in owner.old) command + tiles_to_come owner.old.state - tiles_to_come owner.new.state)
+        (P.seen pool.old) (P.seen pool.new)) }
+    ensures waits { OnErr result (0 < turns_before owner.old.state command) }
     ensures halted { IfErr result (λ halt. IsHalted halt (P.seen pool.old) (P.seen pool.new)) }
     ensures number { owner.new.number ≡ user }
+    ensures quota { owner.new.state.quota ≡ owner.old.state.quota }
     ensures own { P.for_others pool.new user ≡ P.for_others pool.old user }
 {
     match owner.begin(command) {
@@ -44,67 +48,131 @@ pub(crate) fn answer_over<P: Pool>(
     }
 }
 
-/// Takes step by step what has begun, until it is answered.
+/// Goes on with the steps of all sessions, until what waits is answered.
 fn run<P: Pool>(owner: &mut Owner, user: u8, pool: &mut P) -> Result<Reply, Halt>
-    requires begun { HasBegun owner.old }
+    requires waits { IsSome owner.old.waiting }
     requires number { owner.old.number ≡ user }
-    requires none_owed { (P.seen pool.old).owed ≡ [] }
+    requires gathers { Gathers owner.old (P.seen pool.old).owed }
     ensures replied { IfOk result (λ reply. IsReplied owner.old reply (user_in owner.new)) }
-    ensures idle { OnOk result (owner.new.rest ≡ None) }
-    ensures quota { OnOk result (owner.new.state.quota ≡ owner.old.state.quota) }
-    ensures none_owed { OnOk result ((P.seen pool.new).owed ≡ []) }
-    ensures counted { OnOk result (CountsRise (tiles_left owner.old) (P.seen pool.old) (P.seen pool.new)) }
+    ensures settled { IfOk result (IsSettled owner.new.state) }
+    ensures idle { OnOk result (owner.new.waiting ≡ None) }
+    ensures gathers { OnOk result (Gathers owner.new (P.seen pool.new).owed) }
+    ensures counted { OnOk result
+        (CountsRise (tiles_coming owner.old - tiles_coming owner.new) (P.seen pool.old) (P.seen pool.new)) }
     ensures halted { IfErr result (λ halt. IsHalted halt (P.seen pool.old) (P.seen pool.new)) }
     ensures number { owner.new.number ≡ user }
+    ensures quota { owner.new.state.quota ≡ owner.old.state.quota }
     ensures own { P.for_others pool.new user ≡ P.for_others pool.old user }
 {
+    let mut strays = 0;
     loop {
-        gather(owner, user, pool)?;
-        if let Some(reply) = owner.turn() {
-            return Ok(reply);
+        if let Some(name) = owner.ready_session() {
+            if let Some(reply) = owner.turn_session(&name) {
+                return Ok(reply);
+            }
+            poll_next(owner, user, pool);
+            post_next(owner, pool, false)?;
+            strays = 0;
+        } else if !post_or_wait(owner, pool)? {
+            strays = strays_after(strays, fetch_next(owner, user, pool)?)?;
         }
     }
 }
 
-/// Posts the tasks of the step that is open, and takes in their results, until all its tiles are in.
-fn gather<P: Pool>(owner: &mut Owner, user: u8, pool: &mut P) -> Result<(), Halt>
-    requires gathers { Gathers owner.old (P.seen pool.old).owed }
+/// Goes on with what is owed, before the next command is read: takes in what is there, turns what is whole, posts what there
+/// is room for, and fetches until few tasks are owed.
+pub(crate) fn work_ahead<P: Pool>(owner: &mut Owner, user: u8, pool: &mut P) -> Result<(), Halt>
+    requires idle { owner.old.waiting ≡ None }
     requires number { owner.old.number ≡ user }
-    ensures ready { OnOk result (is_ready owner.new ≡ true) }
-    ensures same { SameRun owner.old owner.new }
-    ensures none_owed { OnOk result ((P.seen pool.new).owed ≡ []) }
-    ensures counted { OnOk result (CountsRise (awaited_in owner.old) (P.seen pool.old) (P.seen pool.new)) }
+    requires gathers { Gathers owner.old (P.seen pool.old).owed }
+    ensures goes_on { GoesOn owner.old (P.seen pool.old) owner.new (P.seen pool.new) }
+    ensures many { OnErr result (MAX_AHEAD < length (P.seen pool.new).owed) }
+    ensures halted { IfErr result (λ halt. IsHalted halt (P.seen pool.old) (P.seen pool.new)) }
+    ensures own { P.for_others pool.new user ≡ P.for_others pool.old user }
+{
+    poll_all(owner, user, pool);
+    turn_whole(owner, user, pool);
+    post_all(owner, pool);
+    fetch_down(owner, user, pool)
+}
+
+/// Takes in what is there of the results that are owed.
+fn poll_all<P: Pool>(owner: &mut Owner, user: u8, pool: &mut P)
+    requires gathers { Gathers owner.old (P.seen pool.old).owed }
+    ensures goes_on { GoesOn owner.old (P.seen pool.old) owner.new (P.seen pool.new) }
+    ensures own { P.for_others pool.new user ≡ P.for_others pool.old user }
+{
+    for _ in 0..pool.owed() {
+        if !poll_next(owner, user, pool) {
+            break;
+        }
+    }
+}
+
+/// Turns sessions until none is whole. Between two turns a result is taken in and a task posted, so that a session whose
+/// steps have no tiles does not keep the others waiting.
+fn turn_whole<P: Pool>(owner: &mut Owner, user: u8, pool: &mut P)
+    requires idle { owner.old.waiting ≡ None }
+    requires number { owner.old.number ≡ user }
+    requires gathers { Gathers owner.old (P.seen pool.old).owed }
+    ensures goes_on { GoesOn owner.old (P.seen pool.old) owner.new (P.seen pool.new) }
+    ensures own { P.for_others pool.new user ≡ P.for_others pool.old user }
+{
+    while let Some(name) = owner.ready_session() {
+        let _none = owner.turn_session(&name);
+        poll_next(owner, user, pool);
+        let _posted = post_next(owner, pool, false);
+    }
+}
+
+/// Posts tasks while there is room for them.
+fn post_all<P: Pool>(owner: &mut Owner, pool: &mut P)
+    requires gathers { Gathers owner.old (P.seen pool.old).owed }
+    ensures goes_on { GoesOn owner.old (P.seen pool.old) owner.new (P.seen pool.new) }
+    ensures own { let user = owner.old.number in P.for_others pool.new user ≡ P.for_others pool.old user }
+{
+    while let Ok(true) = post_next(owner, pool, false) {}
+}
+
+/// Fetches results until few tasks are owed.
+fn fetch_down<P: Pool>(owner: &mut Owner, user: u8, pool: &mut P) -> Result<(), Halt>
+    requires gathers { Gathers owner.old (P.seen pool.old).owed }
+    ensures goes_on { GoesOn owner.old (P.seen pool.old) owner.new (P.seen pool.new) }
+    ensures many { OnErr result (MAX_AHEAD < length (P.seen pool.new).owed) }
     ensures halted { IfErr result (λ halt. IsHalted halt (P.seen pool.old) (P.seen pool.new)) }
     ensures own { P.for_others pool.new user ≡ P.for_others pool.old user }
 {
     let mut strays = 0;
-    while !owner.ready() {
-        if !post_next(owner, pool)? {
-            strays = if fetch_next(owner, user, pool)? {
-                0
-            } else {
-                strays + 1
-            };
-            if strays == MAX_STRAYS {
-                return Err(Halt::TooManyStrays);
-            }
-        }
+    while pool.owed() > MAX_AHEAD {
+        strays = strays_after(strays, fetch_next(owner, user, pool)?)?;
     }
     Ok(())
 }
 
-/// Posts the next task of the step. False where there is none, or no room for it; then something is owed.
-fn post_next<P: Pool>(owner: &mut Owner, pool: &mut P) -> Result<bool, Halt>
+/// Posts the next task, and waits for room for it only where nothing is owed. False where there is no task, or no room; then
+/// something is owed.
+fn post_or_wait<P: Pool>(owner: &mut Owner, pool: &mut P) -> Result<bool, Halt>
+    requires waits { IsSome owner.old.waiting }
+    requires none_ready { ready_session owner.old ≡ None }
     requires gathers { Gathers owner.old (P.seen pool.old).owed }
-    requires going { is_ready owner.old ≡ false }
-    ensures gathers { OnOk result (Gathers owner.new (P.seen pool.new).owed) }
-    ensures same { SameRun owner.old owner.new }
-    ensures awaited { OnOk result (awaited_in owner.new ≡ awaited_in owner.old) }
-    ensures fewer { IfOk result (λ posted. posted ≡ true → unposted_in owner.new < unposted_in owner.old) }
+    ensures goes_on { GoesOn owner.old (P.seen pool.old) owner.new (P.seen pool.new) }
+    ensures fewer { IfOk result (λ posted. posted ≡ true → posts_coming owner.new < posts_coming owner.old) }
     ensures owes { IfOk result (λ posted. posted ≡ false → 0 < length (P.seen pool.new).owed) }
-    ensures kept { IfOk result (λ posted. posted ≡ false → unposted_in owner.new ≡ unposted_in owner.old) }
-    ensures good { OnOk result ((P.seen pool.new).good ≡ (P.seen pool.old).good) }
-    ensures strays { OnOk result ((P.seen pool.new).strays ≡ (P.seen pool.old).strays) }
+    ensures halted { IfErr result (λ halt. IsHalted halt (P.seen pool.old) (P.seen pool.new)) }
+    ensures own { let user = owner.old.number in P.for_others pool.new user ≡ P.for_others pool.old user }
+{
+    let wait = pool.owed() == 0;
+    post_next(owner, pool, wait)
+}
+
+/// Posts the next task. False where there is none, or no room for it now.
+fn post_next<P: Pool>(owner: &mut Owner, pool: &mut P, wait: bool) -> Result<bool, Halt>
+    requires gathers { Gathers owner.old (P.seen pool.old).owed }
+    requires alone { wait ≡ true → (P.seen pool.old).owed ≡ [] }
+    ensures goes_on { GoesOn owner.old (P.seen pool.old) owner.new (P.seen pool.new) }
+    ensures fewer { IfOk result (λ posted. posted ≡ true → posts_coming owner.new < posts_coming owner.old) }
+    ensures owes { (wait ≡ false → 0 < length (P.seen pool.old).owed) → IsSome owner.old.waiting
+        → ready_session owner.old ≡ None → IfOk result (λ posted. posted ≡ false → 0 < length (P.seen pool.new).owed) }
     ensures halted { IfErr result (λ halt. IsHalted halt (P.seen pool.old) (P.seen pool.new)) }
     ensures own { let user = owner.old.number in P.for_others pool.new user ≡ P.for_others pool.old user }
 {
@@ -114,7 +182,7 @@ fn post_next<P: Pool>(owner: &mut Owner, pool: &mut P) -> Result<bool, Halt>
     let Some(task) = owner.next_task() else {
         return Ok(false);
     };
-    match pool.post(task, pool.owed() == 0) {
+    match pool.post(task, wait) {
         Ok(()) => {
             owner.posted();
             Ok(true)
@@ -128,13 +196,11 @@ fn post_next<P: Pool>(owner: &mut Owner, pool: &mut P) -> Result<bool, Halt>
 fn fetch_next<P: Pool>(owner: &mut Owner, user: u8, pool: &mut P) -> Result<bool, Halt>
     requires gathers { Gathers owner.old (P.seen pool.old).owed }
     requires owes { 0 < length (P.seen pool.old).owed }
-    ensures gathers { OnOk result (Gathers owner.new (P.seen pool.new).owed) }
-    ensures same { SameRun owner.old owner.new }
-    ensures unposted { OnOk result (unposted_in owner.new ≡ unposted_in owner.old) }
-    ensures fewer { IfOk result (λ taken. taken ≡ true → awaited_in owner.new + 1 ≡ awaited_in owner.old) }
-    ensures kept { IfOk result (λ taken. taken ≡ false → awaited_in owner.new ≡ awaited_in owner.old) }
-    ensures counted { OnOk result (CountsRise 1 (P.seen pool.old) (P.seen pool.new)) }
+    ensures goes_on { GoesOn owner.old (P.seen pool.old) owner.new (P.seen pool.new) }
+    ensures fewer { IfOk result (λ taken. taken ≡ true → tiles_coming owner.new < tiles_coming owner.old) }
     ensures stray { IfOk result (λ taken. taken ≡ false → StraysRise 1 (P.seen pool.old) (P.seen pool.new)) }
+    ensures kept { IfOk result (λ taken. taken ≡ false → (P.seen pool.new).owed ≡ (P.seen pool.old).owed) }
+    ensures unchanged { OnErr result (SameOwed (P.seen pool.old) (P.seen pool.new)) }
     ensures halted { IfErr result (λ halt. IsHalted halt (P.seen pool.old) (P.seen pool.new)) }
     ensures own { P.for_others pool.new user ≡ P.for_others pool.old user }
 {
@@ -143,4 +209,35 @@ fn fetch_next<P: Pool>(owner: &mut Owner, user: u8, pool: &mut P) -> Result<bool
         return Err(Halt::PoolClosed);
     };
     Ok(owner.take_in(done).is_ok())
+}
+
+/// Takes in a result that is there now, where it is of a tile that is awaited. False where there is no result.
+fn poll_next<P: Pool>(owner: &mut Owner, user: u8, pool: &mut P) -> bool
+    requires gathers { Gathers owner.old (P.seen pool.old).owed }
+    ensures goes_on { GoesOn owner.old (P.seen pool.old) owner.new (P.seen pool.new) }
+    ensures own { P.for_others pool.new user ≡ P.for_others pool.old user }
+{
+    let polled = pool.poll(user);
+    let Some(done) = &polled else {
+        return false;
+    };
+    let _taken = owner.take_in(done);
+    true
+}
+
+/// How many results in a row were of no tile that is awaited, after one more that was taken in or was not.
+fn strays_after(strays: u64, taken: bool) -> Result<u64, Halt>
+    requires { strays < MAX_STRAYS }
+    ensures taken { taken ≡ true → result ≡ Ok 0 }
+    ensures stray { taken ≡ false → IfOk result (λ row. (row ≡ strays + 1) × (row < MAX_STRAYS)) }
+    ensures many { OnErr result ((taken ≡ false) × (strays + 1 ≡ MAX_STRAYS)) }
+    ensures halt { IfErr result (λ halt. halt ≡ TooManyStrays) }
+{
+    if taken {
+        return Ok(0);
+    }
+    if strays + 1 == MAX_STRAYS {
+        return Err(Halt::TooManyStrays);
+    }
+    Ok(strays + 1)
 }

@@ -19,9 +19,9 @@ pub enum Served {
     ReadFault,
     /// A write has failed, or took nothing.
     WriteFault,
-    /// The pool is closed, and a command was running.
+    /// The pool is closed, and a command waited, or more tasks were owed than may be before the next one.
     PoolClosed,
-    /// 4,096 results in a row were of no tile that was awaited, and a command was running.
+    /// 4,096 results in a row were of no tile that was awaited, in the same cases.
     TooManyStrays,
 }
 

@@ -80,6 +80,13 @@ module _ {A : Type 0} (name : List ℕ) where
       (λ t. rw (t, t) refl)
       (λ t. rw (t, t) (ap (λ l. e ∷ l) (put-put es v first second (rw t at h))))
 
+  -- what is put under a name is found there, whether or not it stood there
+  pub named-put_any : (es : List (List ℕ × A)) (v : A) → named name (put name v es) ≡ Some v
+  named-put_any [] v = let same = (bytes_eq-Decides name name).1 refl in rw same refl
+  named-put_any (e ∷ es) v = by_test (bytes_eq name e.0)
+      (λ t. rw (t, t) refl)
+      (λ t. rw (t, t) (named-put_any es v))
+
   pub length-put : (es : List (List ℕ × A)) (v w : A) → named name es ≡ Some v → length (put name w es) ≡ length es
   length-put [] v w h = absurd (none-some v h)
   length-put (e ∷ es) v w h = by_test (bytes_eq name e.0)

@@ -1,41 +1,55 @@
 -- What is held, and the user that it is: a session looked up, put and taken out in both.
-use Rattle.std.proofs.Common.{◌≡◌, ℕ, List, Option, Some, None, refl, sym, ap, ◌∙◌}
+use Rattle.std.proofs.Common.{◌≡◌, ℕ, List, Option, Some, None, refl, sym, ap, ◌∙◌, arith}
 use Rattle.std.proofs.Common.{Bor}
 use Rattle.std.specs.Prelude.{is_some}
-use Rattle.std.specs.Option.{option_map, option_copied}
+use Rattle.std.specs.Option.{option_map, option_map_or, option_copied}
 use Rattle.lj_branch.specs.Named.{named, put, taken_out}
+use Rattle.lj_session.specs.declared.command.Command.{Command}
+use Rattle.lj_session.specs.Turns.{waits_for}
 use Rattle.lj_session.specs.Users.{Session, with_session}
-use Rattle.lj_session.specs.States.{Held, Owned, as_session, user_of, held_in, with_held, changed}
+use Rattle.lj_session.specs.States.{Held, Owned, as_session, session_meant, user_of, held_in, owed_in, turns_before, with_held, changed}
 use Rattle.lj_session.specs.declared.sessions.Sessions.TheInside.{Inside}
 use Rattle.lj_session.specs.Totals.{owned_of}
 use Rattle.lj_session.proofs.Entries.{named-seen, put-seen, taken-seen, put-same}
+use Rattle.lj_session.proofs.Owed.{meant-settled}
 
 -- a session that is held is one of the user
 pub named-held : (owned : Owned) (name : List ℕ) (held : Held) → held_in owned name ≡ Some held
+    → named name (user_of owned).sessions ≡ Some (session_meant held)
+named-held owned name held h = named-seen session_meant name owned.sessions ∙ ap (option_map session_meant) h
+
+-- and where nothing is owed to it, the one that is held
+pub named-settled : (owned : Owned) (name : List ℕ) (held : Held) → held_in owned name ≡ Some held → held.owed ≡ 0
     → named name (user_of owned).sessions ≡ Some (as_session held)
-named-held owned name held h = named-seen as_session name owned.sessions ∙ ap (option_map as_session) h
+named-settled owned name held h none =
+    named-held owned name held h ∙ ap (λ (s : Session). Some s) (meant-settled held none)
+
+-- what is owed to a session that is held
+pub owed-of : (owned : Owned) (name : List ℕ) (held : Held) → held_in owned name ≡ Some held → owed_in owned name ≡ 0
+    → held.owed ≡ 0
+owed-of owned name held h none = rw h at none
 
 pub named-absent : (owned : Owned) (name : List ℕ) → held_in owned name ≡ None
     → named name (user_of owned).sessions ≡ None
-named-absent owned name h = named-seen as_session name owned.sessions ∙ ap (option_map as_session) h
+named-absent owned name h = named-seen session_meant name owned.sessions ∙ ap (option_map session_meant) h
 
 -- a session put among those that are held is put among those of the user
 pub user_of-put : (owned : Owned) (name : List ℕ) (held : Held)
-    → user_of (with_held name held owned) ≡ with_session name (as_session held) (user_of owned)
+    → user_of (with_held name held owned) ≡ with_session name (session_meant held) (user_of owned)
 user_of-put owned name held =
     ap (λ (s : List (List ℕ × Session)). record { quota = owned.quota; sessions = s })
-    (sym (put-seen as_session name owned.sessions held))
+    (sym (put-seen session_meant name owned.sessions held))
 
 pub user_of-taken : (owned : Owned) (name : List ℕ)
     → user_of (record owned { sessions = taken_out name owned.sessions })
     ≡ record (user_of owned) { sessions = taken_out name (user_of owned).sessions }
 user_of-taken owned name =
     ap (λ (s : List (List ℕ × Session)). record { quota = owned.quota; sessions = s })
-    (sym (taken-seen as_session name owned.sessions))
+    (sym (taken-seen session_meant name owned.sessions))
 
 -- a change that leaves the session leaves the user
 pub user_of-changed : (owned : Owned) (name : List ℕ) (change : Held → Held)
-    → ((held : Held) → as_session (change held) ≡ as_session held)
+    → ((held : Held) → session_meant (change held) ≡ session_meant held)
     → user_of (changed name change owned) ≡ user_of owned
 user_of-changed owned name change same = by (held_in owned name) refl
   where
@@ -44,7 +58,7 @@ user_of-changed owned name change same = by (held_in owned name) refl
     by (Some held) e =
         rw e (user_of-put owned name (change held)
         ∙ (rw (same held) (ap (λ (s : List (List ℕ × Session)). record { quota = owned.quota; sessions = s })
-        (put-same name (user_of owned).sessions (as_session held) (named-held owned name held e)))))
+        (put-same name (user_of owned).sessions (session_meant held) (named-held owned name held e)))))
 
 -- a look-up by reference, and what is there
 pub present : (owned : Owned) (name : List ℕ) (o : Option (Bor Held)) → option_copied o ≡ held_in owned name
@@ -81,8 +95,22 @@ changed-some owned name change held found = rw found refl
 
 -- a session put that is the same session leaves the user
 pub user_of-kept : (owned : Owned) (name : List ℕ) (held new : Held) → held_in owned name ≡ Some held
-    → as_session new ≡ as_session held → user_of (with_held name new owned) ≡ user_of owned
+    → session_meant new ≡ session_meant held → user_of (with_held name new owned) ≡ user_of owned
 user_of-kept owned name held new found same =
     user_of-put owned name new ∙ ap (λ (s : Session). with_session name s (user_of owned)) same
     ∙ ap (λ (s : List (List ℕ × Session)). record { quota = owned.quota; sessions = s })
-    (put-same name (user_of owned).sessions (as_session held) (named-held owned name held found))
+    (put-same name (user_of owned).sessions (session_meant held) (named-held owned name held found))
+
+-- a change of a session leaves the quota
+pub changed-quota : (owned : Owned) (name : List ℕ) (change : Held → Held) → (changed name change owned).quota ≡ owned.quota
+changed-quota owned name change = by (held_in owned name) refl
+  where
+    by : (o : Option Held) → held_in owned name ≡ o → (changed name change owned).quota ≡ owned.quota
+    by None e = rw e refl
+    by (Some held) e = rw e refl
+
+-- to the session that a command waits for no step is owed, where no turn comes before it
+pub none-before : (owned : Owned) (command : Command) (name : List ℕ) → waits_for command ≡ Some name
+    → turns_before owned command ≡ 0 → owed_in owned name ≡ 0
+none-before owned command name waits none =
+    let is = ap (λ o. option_map_or (owed_in owned) o 0) waits in omega (arith, none, is)

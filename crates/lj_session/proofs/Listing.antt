@@ -4,7 +4,7 @@ use Rattle.std.specs.Prelude.{IsSome, IfSome, is_some, not}
 use Rattle.lj_branch.specs.Named.{named}
 use Rattle.lj_xyz.specs.Atoms.{◌>>=◌}
 use Rattle.lj_session.specs.declared.command.Command.{Command}
-use Rattle.lj_session.specs.declared.command.Command.TheVariants.{Load, Advance, Reverse, Branch, Restore, Forget, Tug, Measure, Show, Dump, List as ListSessions, ListBranches, Unload, Bye}
+use Rattle.lj_session.specs.declared.command.Command.TheVariants.{Load, Advance, Start, Reverse, Branch, Restore, Forget, Tug, Measure, Show, Dump, List as ListSessions, ListBranches, Unload, Bye}
 use Rattle.lj_session.specs.declared.refusal.Refusal.{Refusal}
 use Rattle.lj_session.specs.declared.refusal.Refusal.TheVariants.{NoSession, BranchExists, QuotaBranches, StepRange, Memory}
 use Rattle.lj_session.specs.declared.reply.Reply.{Reply}
@@ -47,6 +47,7 @@ unfolding performed
 listed user (Load load) mark = after user (admitted user load) _ (λ mix. after user (body_held load.body mark) _ (λ body.
     after user (session_read user mix load body) _ (λ session. rw (loaded-lists load.substance load.name (atoms_of session)) tt)))
 listed user (Advance name n) mark = after user (session_of user name) _ (λ session. after user (unless (can_advance session n) StepRange) _ (λ near. tt))
+listed user (Start name n) mark = after user (session_of user name) _ (λ session. after user (unless (can_advance session n) StepRange) _ (λ near. tt))
 listed user (Reverse name) mark = after user (session_of user name) _ (λ session. tt)
 listed user (Branch name branch) mark = after user (session_of user name) _ (λ session.
     after user (unless (not (is_some (named branch session.saved))) BranchExists) _ (λ new.

@@ -1,6 +1,6 @@
 -- LOAD and LOADMIX, case by case.
 use Rattle.std.proofs.Common.{◌≡◌, ℕ, ◌+◌, Bool, true, false, List, length, Option, Some, None, Result, Ok, Err, nat_le}
-use Rattle.std.proofs.Common.{nat_lt, refl, sym, ap, ◌∙◌}
+use Rattle.std.proofs.Common.{nat_lt, refl, sym, ap, ◌∙◌, subst, inl}
 use Rattle.std.specs.Prelude.{is_some}
 use Rattle.std.specs.Option.{option_map}
 use Rattle.std.proofs.lemmas.Bool.{true≢false}
@@ -27,8 +27,9 @@ use Rattle.lj_session.specs.Substances.{loaded, mixture_said, nano_or_zero, symb
 use Rattle.lj_session.specs.Answers.{performed}
 use Rattle.lj_session.specs.Openings.{frames_of, last_of, held_from}
 use Rattle.lj_session.specs.Faults.{xyz_refusal}
-use Rattle.lj_session.specs.States.{Held, Owned, Performs, as_session, user_of, held_in, with_held}
-use Rattle.lj_session.proofs.Entries.{by_test, named-seen}
+use Rattle.lj_session.specs.States.{Held, Owned, IsIdle, Performs, session_meant, user_of, held_in, with_held}
+use Rattle.lj_step.specs.OpenSteps.{kind_of}
+use Rattle.lj_session.proofs.Entries.{by_test, named-put_any, named-seen}
 use Rattle.lj_session.proofs.Holding.{user_of-put}
 use Rattle.lj_session.proofs.Others.{others-put}
 use Rattle.lj_session.proofs.Performing.{done, refused, starved}
@@ -109,14 +110,24 @@ pub atoms-opened : (mix : Mixture) (symbols : Option SymbolPair) (first last : L
     → atoms_of (session_from mix symbols first last) ≡ length first
 atoms-opened mix symbols first last same = length-map last (place_in (edge_of mix)) ∙ same
 
+-- a session that has just been loaded is idle
+idle_of : (made after : Held) → Some made ≡ Some after → made.owed ≡ 0 → kind_of made.live.part ≡ None → IsIdle after
+idle_of made after is owed closed = subst IsIdle (same made after is) (record { owed = owed; closed = closed })
+  where
+    same : (a b : Held) → Some a ≡ Some b → a ≡ b
+    same a b e = cc
+
+same_name : (name other : List ℕ) → Some other ≡ Some name → name ≡ other
+same_name name other e = cc
+
 module _ (old new : Owned) (load : Load) (mix : Mixture) (is_mix : admitted (user_of old) load ≡ Ok mix) where
   -- the name is new among those that are held
   pub absent-admitted : held_in old load.name ≡ None
   absent-admitted =
-      none-held (held_in old load.name) (sym (ap is_some (named-seen as_session load.name old.sessions))
+      none-held (held_in old load.name) (sym (ap is_some (named-seen session_meant load.name old.sessions))
       ∙ (new-admitted (user_of old) load mix is_mix).0)
     where
-      none-held : (o : Option Held) → is_some (option_map as_session o) ≡ false → o ≡ None
+      none-held : (o : Option Held) → is_some (option_map session_meant o) ≡ false → o ≡ None
       none-held None h = refl
       none-held (Some held) h = absurd (true≢false h)
 
@@ -155,6 +166,10 @@ module _ (old new : Owned) (load : Load) (mix : Mixture) (is_mix : admitted (use
           (sym (ap user_of is ∙ user_of-put old load.name (held_from mix (symbols_of load.substance) first (last_of first second))))))
           (λ other apart. ap (λ (o : Owned). held_in o other) is
           ∙ others-put old load.name (held_from mix (symbols_of load.substance) first (last_of first second)) other apart)
+          (λ name after named there. inl (idle_of (held_from mix (symbols_of load.substance) first (last_of first second)) after
+          (sym (named-put_any name old.sessions (held_from mix (symbols_of load.substance) first (last_of first second)))
+          ∙ ap (λ n. held_in (with_held n (held_from mix (symbols_of load.substance) first (last_of first second)) old) name) (same_name name load.name named)
+          ∙ ap (λ (o : Owned). held_in o name) (sym is) ∙ there) refl refl))
         where
           count : atoms_of (session_from mix (symbols_of load.substance) first (last_of first second)) ≡ length first
           count = atoms-opened mix (symbols_of load.substance) first (last_of first second) same

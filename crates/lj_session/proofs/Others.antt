@@ -1,13 +1,13 @@
 -- What a command leaves: the other sessions, and all of it where it is refused.
-use Rattle.std.proofs.Common.{◌≡◌, ◌≢◌, Bool, List, ℕ, Option, Some, None, Result, Ok, Err, refl, ap, subst}
+use Rattle.std.proofs.Common.{◌≡◌, ◌≢◌, inl, inr, Bool, false, List, ℕ, Option, Some, None, Result, Ok, Err, refl, sym, ◌∙◌, ap, subst}
+use Rattle.std.specs.Option.{option_map_or}
 use Rattle.std.specs.Prelude.{IfOk, OnErr, not, nat_lt, is_some}
 use Rattle.lj_branch.specs.Named.{named, taken_out}
 use Rattle.lj_xyz.specs.Atoms.{◌>>=◌}
 use Rattle.lj_session.specs.declared.command.Command.{Command}
-use Rattle.lj_session.specs.declared.command.Command.TheVariants.{Load, Advance, Reverse, Branch, Restore, Forget, Tug}
+use Rattle.lj_session.specs.declared.command.Command.TheVariants.{Load, Advance, Start, Reverse, Branch, Restore, Forget, Tug}
 use Rattle.lj_session.specs.declared.command.Command.TheVariants.{Measure, Show, Dump, List as ListSessions}
 use Rattle.lj_session.specs.declared.command.Command.TheVariants.{ListBranches, Unload, Bye}
-use Rattle.lj_session.specs.declared.owner.Begin.TheVariants.{Answered}
 use Rattle.lj_session.specs.declared.refusal.Refusal.{Refusal}
 use Rattle.lj_session.specs.declared.refusal.Refusal.TheVariants.{BranchExists, QuotaBranches, StepRange, Memory}
 use Rattle.lj_session.specs.declared.reply.Reply.{Reply}
@@ -16,10 +16,12 @@ use Rattle.lj_session.specs.declared.substance.Substance.{Substance}
 use Rattle.lj_session.specs.declared.substance.Substance.TheVariants.{Pure, Mixed}
 use Rattle.lj_session.specs.Substances.{loaded}
 use Rattle.lj_session.specs.Users.{User, atoms_of, branches_used}
-use Rattle.lj_session.specs.Answers.{session_of, saved_in, has_atom, can_advance, performed}
+use Rattle.lj_session.specs.Answers.{session_of, saved_in, has_atom, can_advance, performed, session_named}
 use Rattle.lj_session.specs.Loads.{admitted, body_held, session_read, unless}
-use Rattle.lj_session.specs.Begins.{OnRefused, reply_of}
-use Rattle.lj_session.specs.States.{Held, Owned, OthersKept, Performs, held_in, with_held, changed}
+use Rattle.lj_session.specs.Begins.{OnRefusal, reply_of}
+use Rattle.lj_session.specs.States.{Held, Owned, OthersKept, Reads, StepsAfter, Performs, held_in, with_held, changed, owed_in, steps_before}
+use Rattle.lj_session.specs.Owners.{IsSettled}
+use Rattle.lj_session.specs.Turns.{waits_for}
 use Rattle.lj_session.proofs.Entries.{named-put_other, named-taken_other}
 
 module _ (owned : Owned) (name : List ℕ) where
@@ -57,53 +59,106 @@ abbrev IsDone : Reply → Type 0
 IsDone (reply.Refused refusal) = ⊥
 IsDone _ = Unit {0}
 
-loaded-is_done : (substance : Substance) (name : List ℕ) (atoms : ℕ) → IsDone (loaded substance name atoms)
-loaded-is_done (Pure sigma step_factor) name atoms = tt
-loaded-is_done (Mixed symbols first unlike second) name atoms = tt
+-- a frame is told by DUMP alone
+abbrev DumpsOwn : Command → Reply → Type 0
+DumpsOwn command (reply.Dumped name) = command ≡ Dump name
+DumpsOwn command _ = Unit {0}
 
-after : {A : Type 0} (m : Result A Refusal) (f : A → Result (Reply × User) Refusal)
-    → ((x : A) → IfOk (f x) (λ made. IsDone made.0))
-    → IfOk (m >>= f) (λ made. IsDone made.0)
-after (Ok x) f h = h x
-after (Err refusal) f h = tt
+-- what is true of the reply of a command that is done
+abbrev Replies : Command → Reply → Type 0
+Replies command made = IsDone made × DumpsOwn command made
+
+loaded-replies : (command : Command) (substance : Substance) (name : List ℕ) (atoms : ℕ)
+    → Replies command (loaded substance name atoms)
+loaded-replies command (Pure sigma step_factor) name atoms = (tt, tt)
+loaded-replies command (Mixed symbols first unlike second) name atoms = (tt, tt)
+
+module _ (command : Command) where
+  after : {A : Type 0} (m : Result A Refusal) (f : A → Result (Reply × User) Refusal)
+      → ((x : A) → IfOk (f x) (λ made. Replies command made.0))
+      → IfOk (m >>= f) (λ made. Replies command made.0)
+  after (Ok x) f h = h x
+  after (Err refusal) f h = tt
 
 -- what a command does is no refusal
-is_done : (user : User) (command : Command) (mark : Bool) → IfOk (performed user command mark) (λ made. IsDone made.0)
+is_done : (user : User) (command : Command) (mark : Bool) → IfOk (performed user command mark) (λ made. Replies command made.0)
 unfolding performed
 is_done user (Load load) mark =
-    after (admitted user load) _ (λ mix. after (body_held load.body mark) _
-    (λ body. after (session_read user mix load body) _
-    (λ session. loaded-is_done load.substance load.name (atoms_of session))))
-is_done user (Advance name n) mark =
-    after (session_of user name) _ (λ session. after (unless (can_advance session n) StepRange) _ (λ near. tt))
-is_done user (Reverse name) mark = after (session_of user name) _ (λ session. tt)
-is_done user (Branch name branch) mark = after (session_of user name) _ (λ session.
-    after (unless (not (is_some (named branch session.saved))) BranchExists) _ (λ new.
-    after (unless (nat_lt (branches_used user) user.quota.branches) QuotaBranches) _ (λ room.
-    after (unless (not mark) Memory) _ (λ held. tt))))
-is_done user (Restore name branch) mark =
-    after (session_of user name) _ (λ session. after (saved_in session branch) _ (λ sim. tt))
-is_done user (Forget name branch) mark =
-    after (session_of user name) _ (λ session. after (saved_in session branch) _ (λ sim. tt))
-is_done user (Tug name atom x y z) mark =
-    after (session_of user name) _ (λ session. after (has_atom session atom) _ (λ there. tt))
-is_done user (Measure name) mark = after (session_of user name) _ (λ session. tt)
-is_done user (Show name atom) mark =
-    after (session_of user name) _ (λ session. after (has_atom session atom) _ (λ there. tt))
-is_done user (Dump name) mark = after (session_of user name) _ (λ session. tt)
-is_done user ListSessions mark = tt
-is_done user (ListBranches name) mark = after (session_of user name) _ (λ session. tt)
-is_done user (Unload name) mark = after (session_of user name) _ (λ session. tt)
-is_done user Bye mark = tt
+    after (Load load) (admitted user load) _ (λ mix. after (Load load) (body_held load.body mark) _
+    (λ body. after (Load load) (session_read user mix load body) _
+    (λ session. loaded-replies (Load load) load.substance load.name (atoms_of session))))
+is_done user (Advance name n) mark = after (Advance name n) (session_of user name) _
+    (λ session. after (Advance name n) (unless (can_advance session n) StepRange) _ (λ near. (tt, tt)))
+is_done user (Start name n) mark = after (Start name n) (session_of user name) _
+    (λ session. after (Start name n) (unless (can_advance session n) StepRange) _ (λ near. (tt, tt)))
+is_done user (Reverse name) mark = after (Reverse name) (session_of user name) _ (λ session. (tt, tt))
+is_done user (Branch name branch) mark = after (Branch name branch) (session_of user name) _ (λ session.
+    after (Branch name branch) (unless (not (is_some (named branch session.saved))) BranchExists) _ (λ new.
+    after (Branch name branch) (unless (nat_lt (branches_used user) user.quota.branches) QuotaBranches) _ (λ room.
+    after (Branch name branch) (unless (not mark) Memory) _ (λ held. (tt, tt)))))
+is_done user (Restore name branch) mark = after (Restore name branch) (session_of user name) _
+    (λ session. after (Restore name branch) (saved_in session branch) _ (λ sim. (tt, tt)))
+is_done user (Forget name branch) mark = after (Forget name branch) (session_of user name) _
+    (λ session. after (Forget name branch) (saved_in session branch) _ (λ sim. (tt, tt)))
+is_done user (Tug name atom x y z) mark = after (Tug name atom x y z) (session_of user name) _
+    (λ session. after (Tug name atom x y z) (has_atom session atom) _ (λ there. (tt, tt)))
+is_done user (Measure name) mark = after (Measure name) (session_of user name) _ (λ session. (tt, tt))
+is_done user (Show name atom) mark = after (Show name atom) (session_of user name) _
+    (λ session. after (Show name atom) (has_atom session atom) _ (λ there. (tt, tt)))
+is_done user (Dump name) mark = after (Dump name) (session_of user name) _ (λ session. (tt, refl))
+is_done user ListSessions mark = (tt, tt)
+is_done user (ListBranches name) mark = after (ListBranches name) (session_of user name) _ (λ session. (tt, tt))
+is_done user (Unload name) mark = after (Unload name) (session_of user name) _ (λ session. (tt, tt))
+is_done user Bye mark = (tt, tt)
 
 -- so a refusal that is replied is an error, which changes nothing
 pub refused-unchanged : (P : Type 0) (old new : Owned) (command : Command) (result : Result Reply Refusal)
-    → Performs old command result new → OnErr result P
-    → OnRefused (Answered (reply_of result)) P
+    → Performs old command result new → OnErr result P → OnRefusal (reply_of result) P
 refused-unchanged P old new command (Err refusal) performs same = same
 refused-unchanged P old new command (Ok made) performs same = by made
-    (subst (λ r. IfOk r (λ made. IsDone made.0)) performs.performs (is_done _ command performs.mark))
+    (subst (λ r. IfOk r (λ made. Replies command made.0)) performs.performs (is_done _ command performs.mark)).0
   where
-    by : (made : Reply) → IsDone made → OnRefused (Answered made) P
+    by : (made : Reply) → IsDone made → OnRefusal made P
     by (reply.Refused refusal) h = absurd h
+    by _ h = tt
+
+-- to a session whose frame is told no step is owed
+pub settled-performed : (old new : Owned) (command : Command) (result : Result Reply Refusal)
+    → Performs old command result new → steps_before old command ≡ 0 → IsSettled new (reply_of result)
+unfolding waits_for
+settled-performed old new command (Err refusal) performs none = tt
+settled-performed old new command (Ok made) performs none = by made
+    (subst (λ r. IfOk r (λ made. Replies command made.0)) performs.performs (is_done _ command performs.mark)).1
+  where
+    told : (name : List ℕ) → command ≡ Dump name → owed_in new name ≡ 0
+    told name is = there (held_in new name) refl
+      where
+        before : owed_in old name ≡ 0
+        before = rw is at none
+
+        owed : (held : Held) (o : Option Held) → held_in old name ≡ o → StepsAfter (Dump name) o held → held.owed ≡ 0
+        owed held o e (inl idle) = idle.owed
+        owed held None e (inr lacking) = absurd lacking
+        owed held (Some was) e (inr same) =
+            same.owed ∙ (sym (ap (λ o. option_map_or (λ (h : Held). h.owed) o 0) e) ∙ before)
+
+        there : (o : Option Held) → held_in new name ≡ o → owed_in new name ≡ 0
+        there None e = rw e refl
+        there (Some held) e = rw e (owed held (held_in old name) refl
+            (subst (λ (k : Command). StepsAfter k (held_in old name) held) is (performs.steps name held (ap session_named is) e)))
+
+    by : (made : Reply) → DumpsOwn command made → IsSettled new made
+    by (reply.Dumped name) h = told name h
+    by _ h = tt
+
+-- nor does MEASURE tell a frame
+pub settled-measured : (old new : Owned) (name : List ℕ) (made : Reply) → Reads old (Measure name) (Ok made) → IsSettled new made
+settled-measured old new name made reads = by made
+    (subst (λ r. IfOk r (λ made. Replies (Measure name) made.0)) (reads false) (is_done _ (Measure name) false)).1
+  where
+    apart : (other : List ℕ) → Measure name ≡ Dump other → ⊥
+    apart other k = cc
+
+    by : (made : Reply) → DumpsOwn (Measure name) made → IsSettled new made
+    by (reply.Dumped other) h = absurd (apart other h)
     by _ h = tt

@@ -1,10 +1,10 @@
 -- What each command comes to, case by case.
 use Rattle.std.specs.Prelude.{is_some}
 use Rattle.std.proofs.Common.{◌≡◌, ℕ, Bool, true, false, ℤ, List, [], ◌∷◌, Option, Some, None, Result, Ok, Err, nat_lt}
-use Rattle.std.proofs.Common.{refl}
+use Rattle.std.proofs.Common.{refl, sym, subst, inr}
 use Rattle.lj_step.specs.Motion.{Simulation, place_at, steps, reversed, tugged, momentum, kinetic, potential}
 use Rattle.lj_session.specs.declared.command.Command.{Command}
-use Rattle.lj_session.specs.declared.command.Command.TheVariants.{Load, Advance, Reverse, Branch, Restore, Forget, Tug}
+use Rattle.lj_session.specs.declared.command.Command.TheVariants.{Load, Advance, Start, Reverse, Branch, Restore, Forget, Tug}
 use Rattle.lj_session.specs.declared.command.Command.TheVariants.{Measure, Show, Dump, List as ListSessions}
 use Rattle.lj_session.specs.declared.command.Command.TheVariants.{ListBranches, Unload, Bye}
 use Rattle.lj_session.specs.declared.refusal.Refusal.{Refusal}
@@ -15,30 +15,54 @@ use Rattle.lj_session.specs.declared.reply.Reply.TheVariants as reply
 use Rattle.lj_branch.specs.Named.{named, put, taken_out}
 use Rattle.lj_session.specs.Users.{Session, User, with_session, atoms_of, branches_used}
 use Rattle.lj_session.specs.Answers.{session_named, performed, can_advance, with_sim}
-use Rattle.lj_session.specs.States.{Owned, OthersKept, Performs, outcome, user_of}
+use Rattle.lj_session.specs.States.{Held, Owned, OthersKept, StepsFollow, StepsAfter, Performs, outcome, user_of, held_in, session_meant}
 
 -- a command that is done without the mark
 pub done : (old new : Owned) (command : Command) (reply : Reply)
     → performed (user_of old) command false ≡ Ok (reply, user_of new) → OthersKept command old new
+    → StepsFollow command old new
     → Performs old command (Ok reply) new
-done old new command reply h others = record { mark = false; performs = h; only_memory = λ marked. cc; others = others }
+done old new command reply h others steps =
+    record { mark = false; performs = h; only_memory = λ marked. cc; others = others; steps = steps }
+
+-- a START that the range does not allow, or another command
+abbrev pub IsFar : Command → Held → Type 0
+IsFar (Start name n) held = can_advance (session_meant held) n ≡ false
+IsFar command held = Unit {0}
+
+abbrev pub IsFarIn : Owned → Command → Type 0
+IsFarIn owned command =
+    (name : List ℕ) (held : Held) → session_named command ≡ Some name → held_in owned name ≡ Some held → IsFar command held
+
+-- nothing has changed
+same-after : (command : Command) (held : Held) → IsFar command held → StepsAfter command (Some held) held
+same-after (Start name n) held far = rw far refl
+same-after (Forget name branch) held far = record { live = refl; passed = refl; owed = refl }
+same-after (ListBranches name) held far = record { live = refl; passed = refl; owed = refl }
+same-after command held far = inr (record { live = refl; passed = refl; owed = refl })
+
+pub steps-same : (owned : Owned) (command : Command) → IsFarIn owned command → StepsFollow command owned owned
+steps-same owned command far name held is there =
+    subst (λ (o : Option Held). StepsAfter command o held) (sym there) (same-after command held (far name held is there))
 
 -- a command that is refused without it
 pub refused : (old new : Owned) (command : Command) (refusal : Refusal)
     → performed (user_of old) command false ≡ Err refusal → Performs old command (Err refusal) new
-refused old new command refusal h = record { mark = false; performs = h; only_memory = λ marked. cc; others = tt }
+refused old new command refusal h =
+    record { mark = false; performs = h; only_memory = λ marked. cc; others = tt; steps = tt }
 
 -- a command that memory was refused to
 pub starved : (old new : Owned) (command : Command) → performed (user_of old) command true ≡ Err Memory
     → Performs old command (Err Memory) new
-starved old new command h = record { mark = true; performs = h; only_memory = λ marked. refl; others = tt }
+starved old new command h =
+    record { mark = true; performs = h; only_memory = λ marked. refl; others = tt; steps = tt }
 
 -- a command that only reads
 pub read : (owned : Owned) (command : Command) (result : Result Reply Refusal)
     → ((mark : Bool) → performed (user_of owned) command mark ≡ outcome result (user_of owned))
-    → Performs owned command result owned
-read owned command (Ok reply) h = done owned owned command reply (h false) (λ other apart. refl)
-read owned command (Err refusal) h = refused owned owned command refusal (h false)
+    → IsFarIn owned command → Performs owned command result owned
+read owned command (Ok reply) h far = done owned owned command reply (h false) (λ other apart. refl) (steps-same owned command far)
+read owned command (Err refusal) h far = refused owned owned command refusal (h false)
 
 -- no session has the name
 abbrev pub IsNone : User → Option (List ℕ) → Type 0
@@ -56,6 +80,7 @@ pub none : (user : User) (command : Command) (mark : Bool) → IsAbsent user com
 unfolding performed
 none user (Load load) mark absent = absurd absent
 none user (Advance name n) mark absent = rw absent refl
+none user (Start name n) mark absent = rw absent refl
 none user (Reverse name) mark absent = rw absent refl
 none user (Branch name branch) mark absent = rw absent refl
 none user (Restore name branch) mark absent = rw absent refl
@@ -82,6 +107,18 @@ module _ (user : User) (name : List ℕ) (mark : Bool) where
         )
     unfolding performed
     advance-on n near = rw (found, near) refl
+
+    pub start-far : (n : ℕ) → can_advance session n ≡ false → performed user (Start name n) mark ≡ Err StepRange
+    unfolding performed
+    start-far n far = rw (found, far) refl
+
+    pub start-done : (n : ℕ) → can_advance session n ≡ true
+        → performed user (Start name n) mark ≡ Ok (
+          reply.Started name (steps session.composition n session.sim).step,
+          with_sim name session (steps session.composition n session.sim) user,
+        )
+    unfolding performed
+    start-done n near = rw (found, near) refl
 
     pub reverse-done : performed user (Reverse name) mark
         ≡ Ok (reply.Reversed name (reversed session.sim).step, with_sim name session (reversed session.sim) user)

@@ -60,7 +60,7 @@ not-saved save.Memory taken h new = refl
 pub performs-starved : (old new : Owned) (command : Command) (fault : Refusal) → fault ≡ Memory
     → performed (user_of old) command true ≡ Err Memory → Performs old command (Err fault) new
 performs-starved old new command fault is h =
-    record { mark = true; performs = h ∙ ap Err (sym is); only_memory = λ marked. ap Err is; others = tt }
+    record { mark = true; performs = h ∙ ap Err (sym is); only_memory = λ marked. ap Err is; others = tt; steps = tt }
 
 -- what is saved under a name is found by its count of atoms
 pub is_some-counted : (name : List ℕ) (saved seen : List (List ℕ × Simulation)) (count : Option ℕ) → seen ≡ saved

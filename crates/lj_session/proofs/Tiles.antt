@@ -1,8 +1,14 @@
 -- The first tile that is awaited, looked for from a place of the cover on.
 use Rattle.std.proofs.Common.{◌≡◌, ℕ, suc, ◌+◌, ◌-◌, ◌<◌, ◌≤◌, Bool, true, false, cond, Option, Some, None, refl, sym}
-use Rattle.std.proofs.Common.{ap, ◌∙◌, arith}
+use Rattle.std.proofs.Common.{ap, ◌∙◌, arith, List, [], ◌∷◌, slice_get}
+use Rattle.std.proofs.lemmas.Bool.{false≢true}
+use Rattle.std.specs.Prelude.{is_some}
+use Rattle.std.specs.Option.{option_and_then}
 use Rattle.std.specs.List.{find, range_with_len}
-use Rattle.lj_session.specs.States.{Held, as_session, next_tile, passed_to, with_posted}
+use Rattle.lj_tile.specs.declared.names.Label.{Label}
+use Rattle.lj_step.specs.Live.{Live, OpenStep}
+use Rattle.lj_step.specs.OpenSteps.{awaits_tile, cover, task_at, tiles_of}
+use Rattle.lj_session.specs.States.{Held, as_session, next_of, next_tile, passed_to, with_posted}
 
 pub find-step : (test : ℕ → Bool) (i n : ℕ) → i < n
     → find test (range_with_len i (n - i)) ≡ cond (test i) (Some i) (find test (range_with_len (i + 1) (n - (i + 1))))
@@ -40,3 +46,41 @@ posted-session held = by (next_tile held)
     by : (o : Option ℕ) → as_session (passed_to o held) ≡ as_session held
     by None = refl
     by (Some i) = refl
+
+-- what is found passes the test
+pub find-passes : {A : Type 0} (test : A → Bool) (xs : List A) (x : A) → find test xs ≡ Some x → test x ≡ true
+find-passes test [] x e = absurd (none x e)
+  where
+    none : {A : Type 0} (y : A) → None ≡ Some y → ⊥
+    none y k = cc
+find-passes test (first ∷ xs) x e = by (test first) refl (find-passes test xs x)
+  where
+    same : {A : Type 0} (y z : A) → Some y ≡ Some z → y ≡ z
+    same y z k = cc
+
+    by : (b : Bool) → test first ≡ b → (find test xs ≡ Some x → test x ≡ true) → test x ≡ true
+    by true t later = ap test (sym (same first x (rw t at e))) ∙ t
+    by false t later = later (rw t at e)
+
+-- a tile that is awaited has its task
+awaited-task : (live : Live) (label : Label) (i : ℕ) → awaits_tile live i ≡ true → is_some (task_at live label i) ≡ true
+awaited-task live label i h = by live.part refl
+  where
+    with_part : (p : OpenStep) → live.part ≡ Some p → (o : Option ℕ) → slice_get (cover live.composition live.sim.cur) i ≡ o
+        → is_some (task_at live label i) ≡ true
+    with_part p is None e = absurd (false≢true (let k = rw (is, e) at h in k))
+    with_part p is (Some k) e = rw (is, e) refl
+
+    by : (part : Option OpenStep) → live.part ≡ part → is_some (task_at live label i) ≡ true
+    by None e = absurd (false≢true (let k = rw e at h in k))
+    by (Some p) e = with_part p e (slice_get (cover live.composition live.sim.cur) i) refl
+
+-- so there is a next task exactly where a tile is found
+pub found-task : (held : Held) (label : Label) → is_some (next_of label (Some held)) ≡ is_some (next_tile held)
+found-task held label = by (next_tile held) refl
+  where
+    by : (o : Option ℕ) → next_tile held ≡ o → is_some (next_of label (Some held)) ≡ is_some o
+    by None e = rw e refl
+    by (Some i) e =
+        ap (λ o. is_some (option_and_then (task_at held.live label) o)) e
+        ∙ awaited-task held.live label i (find-passes (awaits_tile held.live) (range_with_len held.passed (tiles_of held.live - held.passed)) i e)

@@ -3,11 +3,12 @@ use Rattle.std.proofs.Common.{◌≡◌, ℕ, ◌+◌, ◌-◌, ◌≤◌, List,
 use Rattle.lj_quota.specs.declared.Used.{Used}
 use Rattle.lj_branch.specs.Named.{named, taken_out}
 use Rattle.lj_session.specs.Users.{Session, User, with_session, atoms_of, sessions_used, atoms_used, branches_used}
-use Rattle.lj_session.specs.States.{Held, Owned, as_session, user_of, used_by, held_in, with_held}
+use Rattle.lj_session.specs.States.{Held, Owned, session_meant, user_of, used_by, held_in, with_held}
 use Rattle.lj_session.specs.declared.sessions.Sessions.TheInside.{Inside}
 use Rattle.lj_session.specs.Totals.{owned_of}
 use Rattle.lj_session.proofs.Entries.{length-put, length-new, length-taken, sum-put, sum-new, sum-taken}
 use Rattle.lj_session.proofs.Holding.{named-held, named-absent, user_of-put, user_of-taken}
+use Rattle.lj_session.proofs.Owed.{count-meant}
 
 -- totals are equal where each part is
 pub same_used : (a b : Used) → a.sessions ≡ b.sessions → a.atoms ≡ b.atoms → a.branches ≡ b.branches → a ≡ b
@@ -16,31 +17,36 @@ same_used a b s t u = λ j. record { sessions = s j; atoms = t j; branches = u j
 abbrev saved_of : Session → ℕ
 saved_of session = length session.saved
 
-module _ (old : Owned) (name : List ℕ) (new : Held) where
-  abbrev user_used : User → Used
-  user_used user = record { sessions = sessions_used user; atoms = atoms_used user; branches = branches_used user }
+-- what a user has used
+abbrev pub user_used : User → Used
+user_used user = record { sessions = sessions_used user; atoms = atoms_used user; branches = branches_used user }
 
-  put_used : used_by (with_held name new old) ≡ user_used (with_session name (as_session new) (user_of old))
+module _ (old : Owned) (name : List ℕ) (new : Held) where
+  put_used : used_by (with_held name new old) ≡ user_used (with_session name (session_meant new) (user_of old))
   put_used = ap user_used (user_of-put old name new)
 
   -- a session changed
   module _ (held : Held) (found : held_in old name ≡ Some held) where
-    session : named name (user_of old).sessions ≡ Some (as_session held)
+    session : named name (user_of old).sessions ≡ Some (session_meant held)
     session = named-held old name held found
 
     pub sessions-changed : (used_by (with_held name new old)).sessions ≡ (used_by old).sessions
     sessions-changed = ap (λ (u : Used). u.sessions) put_used
-        ∙ length-put name (user_of old).sessions (as_session held) (as_session new) session
+        ∙ length-put name (user_of old).sessions (session_meant held) (session_meant new) session
 
     pub atoms-changed : (used_by (with_held name new old)).atoms + length held.live.sim.cur
         ≡ (used_by old).atoms + length new.live.sim.cur
-    atoms-changed = ap (λ (u : Used). u.atoms + length held.live.sim.cur) put_used
-        ∙ sum-put name atoms_of (user_of old).sessions (as_session held) (as_session new) session
+    atoms-changed =
+        let is = ap (λ (u : Used). u.atoms) put_used in
+        let sum = sum-put name atoms_of (user_of old).sessions (session_meant held) (session_meant new) session in
+        let was = count-meant held in
+        let now = count-meant new in
+        omega (arith, is, sum, was, now)
 
     pub branches-changed : (used_by (with_held name new old)).branches + length held.saved
         ≡ (used_by old).branches + length new.saved
     branches-changed = ap (λ (u : Used). u.branches + length held.saved) put_used
-        ∙ sum-put name saved_of (user_of old).sessions (as_session held) (as_session new) session
+        ∙ sum-put name saved_of (user_of old).sessions (session_meant held) (session_meant new) session
 
     -- with as many atoms and as many saved simulations as before
     pub used-same : length new.live.sim.cur ≡ length held.live.sim.cur → length new.saved ≡ length held.saved
@@ -51,17 +57,20 @@ module _ (old : Owned) (name : List ℕ) (new : Held) where
     pub sessions-taken : (used_by (record old { sessions = taken_out name old.sessions })).sessions + 1
         ≡ (used_by old).sessions
     sessions-taken = ap (λ (u : User). sessions_used u + 1) (user_of-taken old name)
-        ∙ length-taken name (user_of old).sessions (as_session held) session
+        ∙ length-taken name (user_of old).sessions (session_meant held) session
 
     pub atoms-taken : (used_by (record old { sessions = taken_out name old.sessions })).atoms + length held.live.sim.cur
         ≡ (used_by old).atoms
-    atoms-taken = ap (λ (u : User). atoms_used u + length held.live.sim.cur) (user_of-taken old name)
-        ∙ sum-taken name atoms_of (user_of old).sessions (as_session held) session
+    atoms-taken =
+        let is = ap atoms_used (user_of-taken old name) in
+        let sum = sum-taken name atoms_of (user_of old).sessions (session_meant held) session in
+        let was = count-meant held in
+        omega (arith, is, sum, was)
 
     pub branches-taken : (used_by (record old { sessions = taken_out name old.sessions })).branches + length held.saved
         ≡ (used_by old).branches
     branches-taken = ap (λ (u : User). branches_used u + length held.saved) (user_of-taken old name)
-        ∙ sum-taken name saved_of (user_of old).sessions (as_session held) session
+        ∙ sum-taken name saved_of (user_of old).sessions (session_meant held) session
 
   -- a new session
   module _ (absent : held_in old name ≡ None) where
@@ -69,14 +78,16 @@ module _ (old : Owned) (name : List ℕ) (new : Held) where
     none = named-absent old name absent
 
     pub sessions-new : (used_by (with_held name new old)).sessions ≡ (used_by old).sessions + 1
-    sessions-new = ap (λ (u : Used). u.sessions) put_used ∙ length-new name (user_of old).sessions (as_session new) none
+    sessions-new = ap (λ (u : Used). u.sessions) put_used ∙ length-new name (user_of old).sessions (session_meant new) none
 
     pub atoms-new : (used_by (with_held name new old)).atoms ≡ (used_by old).atoms + length new.live.sim.cur
-    atoms-new = ap (λ (u : Used). u.atoms) put_used ∙ sum-new name atoms_of (user_of old).sessions (as_session new) none
+    atoms-new =
+        ap (λ (u : Used). u.atoms) put_used ∙ sum-new name atoms_of (user_of old).sessions (session_meant new) none
+        ∙ ap (λ n. (used_by old).atoms + n) (count-meant new)
 
     pub branches-new : (used_by (with_held name new old)).branches ≡ (used_by old).branches + length new.saved
     branches-new =
-        ap (λ (u : Used). u.branches) put_used ∙ sum-new name saved_of (user_of old).sessions (as_session new) none
+        ap (λ (u : Used). u.branches) put_used ∙ sum-new name saved_of (user_of old).sessions (session_meant new) none
 
 -- The running totals, where a session is taken out and what is held becomes `next`.
 module _ (a : Inside) (old : Owned) (view : owned_of a ≡ old) (counted : a.used ≡ used_by (owned_of a))

@@ -4,7 +4,7 @@ use Rattle.std.proofs.Common.{refl, arith}
 use Rattle.std.proofs.lemmas.Int.{ints}
 use Rattle.std.proofs.lemmas.Bool.{le-leb}
 use Rattle.lj_session.specs.declared.command.Command.{Command}
-use Rattle.lj_session.specs.declared.command.Command.TheVariants.{Load, Advance, Reverse, Branch, Restore, Forget, Tug}
+use Rattle.lj_session.specs.declared.command.Command.TheVariants.{Load, Advance, Start, Reverse, Branch, Restore, Forget, Tug}
 use Rattle.lj_session.specs.declared.command.Command.TheVariants.{Measure, Show, Dump, List as ListSessions}
 use Rattle.lj_session.specs.declared.command.Command.TheVariants.{ListBranches, Unload, Bye}
 use Rattle.lj_branch.specs.Named.{named}
@@ -55,6 +55,7 @@ pub no-turns : (user : User) (command : Command) → ((name : List ℕ) (n : ℕ
 unfolding turns
 no-turns user (Load load) a m = refl
 no-turns user (Advance name n) a m = absurd (a name n refl)
+no-turns user (Start name n) a m = refl
 no-turns user (Reverse name) a m = refl
 no-turns user (Branch name branch) a m = refl
 no-turns user (Restore name branch) a m = refl

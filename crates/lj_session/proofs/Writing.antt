@@ -1,5 +1,5 @@
 -- A session written through the map of names in the code: what is held then, its user, and the running totals.
-use Rattle.std.proofs.Common.{◌≡◌, ℕ, ◌+◌, ◌-◌, ◌≤◌, ℤ, List, length, Option, Some, None, Ok, sym, ap, ◌∙◌, arith}
+use Rattle.std.proofs.Common.{◌≡◌, ℕ, ◌+◌, ◌-◌, ◌<◌, ◌≤◌, ℤ, List, length, Option, Some, None, Ok, sym, ap, ◌∙◌, arith}
 use Rattle.std.specs.Str.{bytes_eq}
 use Rattle.std.specs.Map.{set_value}
 use Rattle.lj_branch.specs.Named.{named}
@@ -7,10 +7,10 @@ use Rattle.lj_quota.specs.declared.Used.{Used}
 use Rattle.lj_session.specs.declared.command.Command.{Command}
 use Rattle.lj_session.specs.declared.reply.Reply.{Reply}
 use Rattle.lj_session.specs.declared.sessions.Sessions.TheInside.{Inside}
-use Rattle.lj_session.specs.States.{Held, Owned, Performs, as_session, user_of, used_by, held_in, with_held, changed}
+use Rattle.lj_session.specs.States.{Held, Owned, Performs, as_session, session_meant, user_of, used_by, held_in, owed_in, with_held, changed}
 use Rattle.lj_session.specs.Totals.{owned_of}
 use Rattle.lj_session.proofs.Entries.{put-same, set-put}
-use Rattle.lj_session.proofs.Holding.{named-held, named-absent, changed-some, user_of-kept}
+use Rattle.lj_session.proofs.Holding.{named-held, named-settled, named-absent, owed-of, changed-some, user_of-kept}
 use Rattle.lj_session.proofs.Totals.{same_used, used-same, sessions-changed, atoms-changed, branches-changed}
 
 -- in the map a name is looked up as among what is held
@@ -26,8 +26,24 @@ not_there a old view name h = named-absent old name (looked_up a old view name N
 -- what is in the map is one
 pub is_there : (a : Inside) (old : Owned) → owned_of a ≡ old → (name : List ℕ) (held : Held)
     → Some held ≡ named name a.sessions.entries
-    → named name (user_of old).sessions ≡ Some (as_session held)
+    → named name (user_of old).sessions ≡ Some (session_meant held)
 is_there a old view name held h = named-held old name held (looked_up a old view name (Some held) h)
+
+-- to which nothing is owed, where nothing is owed to its name
+pub none_owed : (a : Inside) (old : Owned) → owned_of a ≡ old → (name : List ℕ) (held : Held)
+    → Some held ≡ named name a.sessions.entries → owed_in old name ≡ 0 → held.owed ≡ 0
+none_owed a old view name held h none = owed-of old name held (looked_up a old view name (Some held) h) none
+
+-- to which steps are owed, where steps are owed to its name
+pub owes-some : (a : Inside) (old : Owned) → owned_of a ≡ old → (name : List ℕ) (held : Held)
+    → Some held ≡ named name a.sessions.entries → 0 < owed_in old name → 0 < held.owed
+owes-some a old view name held h some = rw (looked_up a old view name (Some held) h) at some
+
+pub is_settled : (a : Inside) (old : Owned) → owned_of a ≡ old → (name : List ℕ) (held : Held)
+    → Some held ≡ named name a.sessions.entries → owed_in old name ≡ 0
+    → named name (user_of old).sessions ≡ Some (as_session held)
+is_settled a old view name held h none =
+    let found = looked_up a old view name (Some held) h in named-settled old name held found (owed-of old name held found none)
 
 -- The session that a name stands for becomes another one, and `next` is held then.
 pub record Writes (a : Inside) (old : Owned) (name : List ℕ) (held new : Held) (next : Owned) : Type 0 where
@@ -60,7 +76,7 @@ module _ {a : Inside} {old : Owned} {name : List ℕ} {held new : Held} {next : 
   changed_by change same =
       w.is ∙ ap (λ (h : Held). with_held name h old) same ∙ sym (changed-some old name change held w.found)
 
-  pub user_kept : as_session new ≡ as_session held → user_of next ≡ user_of old
+  pub user_kept : session_meant new ≡ session_meant held → user_of next ≡ user_of old
   user_kept same = ap user_of w.is ∙ user_of-kept old name held new w.found same
 
   -- a command that is done so

@@ -4,7 +4,7 @@ use Rattle.std.specs.Prelude.{◌∷◌, Option, Some, None, Result, Ok, Err}
 use Rattle.lj_step.specs.Motion.{Simulation, place_at, steps, reversed, tugged, momentum, kinetic, potential}
 use Rattle.lj_xyz.specs.Atoms.{◌>>=◌}
 use Rattle.lj_session.specs.declared.command.Command.{Command}
-use Rattle.lj_session.specs.declared.command.Command.TheVariants.{Load, Advance, Reverse, Branch, Restore, Forget, Tug}
+use Rattle.lj_session.specs.declared.command.Command.TheVariants.{Load, Advance, Start, Reverse, Branch, Restore, Forget, Tug}
 use Rattle.lj_session.specs.declared.command.Command.TheVariants.{Measure, Show, Dump, List as ListSessions}
 use Rattle.lj_session.specs.declared.command.Command.TheVariants.{ListBranches, Unload, Bye}
 use Rattle.lj_session.specs.declared.refusal.Refusal.{Refusal}
@@ -48,6 +48,7 @@ can_advance session n =
 abbrev pub session_named : Command → Option (List ℕ)
 session_named (Load load) = Some load.name
 session_named (Advance name n) = Some name
+session_named (Start name n) = Some name
 session_named (Reverse name) = Some name
 session_named (Branch name branch) = Some name
 session_named (Restore name branch) = Some name
@@ -72,6 +73,10 @@ performed user (Advance name n) mark = do
   session ← session_of user name
   near ← unless (can_advance session n) StepRange
   let sim = steps session.composition n session.sim in Ok (reply.Advanced name sim.step, with_sim name session sim user)
+performed user (Start name n) mark = do
+  session ← session_of user name
+  near ← unless (can_advance session n) StepRange
+  let sim = steps session.composition n session.sim in Ok (reply.Started name sim.step, with_sim name session sim user)
 performed user (Reverse name) mark = do
   session ← session_of user name
   let sim = reversed session.sim in Ok (reply.Reversed name sim.step, with_sim name session sim user)

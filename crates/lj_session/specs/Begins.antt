@@ -16,10 +16,15 @@ abbrev pub OnRunning : Begin → Type 0 → Type 0
 OnRunning (Answered reply) P = Unit {0}
 OnRunning Running P = P
 
+-- a fact where a reply is a refusal
+abbrev pub OnRefusal : Reply → Type 0 → Type 0
+OnRefusal (Refused refusal) P = P
+OnRefusal _ P = Unit {0}
+
 -- a fact where the command is refused
 abbrev pub OnRefused : Begin → Type 0 → Type 0
-OnRefused (Answered (Refused refusal)) P = P
-OnRefused _ P = Unit {0}
+OnRefused (Answered reply) P = OnRefusal reply P
+OnRefused Running P = Unit {0}
 
 -- the reply to a command: a refusal is replied
 abbrev pub reply_of : Result Reply Refusal → Reply

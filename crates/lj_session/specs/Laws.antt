@@ -1,18 +1,19 @@
--- Laws of what runs and of what is answered, each proved on the function of its name.
-use Rattle.std.specs.Prelude.{◌≡◌, ℕ, ◌<◌, Bool, List, Option, Some, None, IsSome, IfSome}
+-- Laws of owners and of what is answered, each proved on the function of its name.
+use Rattle.std.specs.Prelude.{◌≡◌, ℕ, ◌<◌, Bool, false, List, Option, Some, None, IsSome, IfSome, if◌then◌else◌, nat_lt}
 use Rattle.lj_tile.specs.Tasks.{Work}
 use Rattle.lj_branch.specs.Named.{named}
 use Rattle.lj_session.specs.declared.command.Command.{Command}
+use Rattle.lj_session.specs.declared.command.Command.TheVariants.{Advance}
 use Rattle.lj_session.specs.declared.reply.Reply.{Reply}
 use Rattle.lj_session.specs.declared.reply.Reply.TheVariants.{Dumped, ListedBranches}
 use Rattle.lj_session.specs.Users.{User}
-use Rattle.lj_session.specs.Answers.{answer}
-use Rattle.lj_session.specs.Turns.{turns, turned}
-use Rattle.lj_session.specs.Owners.{Owning, user_in, begun, with_task_posted, with_task_in, turned_from}
+use Rattle.lj_session.specs.Answers.{answer, AnswersAlike}
+use Rattle.lj_session.specs.States.{Owned, user_of, rested, owed_in, steps_before, turns_before}
+use Rattle.lj_session.specs.Owners.{Owning, user_in, begun, with_task_posted, with_task_in, turned_from, IsLastTurn, WaitsAlike}
 
--- To begin a command leaves the user.
-abbrev pub BeginKeepsUser : Type 0
-BeginKeepsUser = (command : Command) (owner : Owning) → user_in (begun command owner) ≡ user_in owner
+-- To begin each step anew leaves the user.
+abbrev pub RestKeepsUser : Type 0
+RestKeepsUser = (owned : Owned) → user_of (rested owned) ≡ user_of owned
 
 -- To note a task as posted leaves the user.
 abbrev pub PostedKeepsUser : Type 0
@@ -22,15 +23,29 @@ PostedKeepsUser = (owner : Owning) → user_in (with_task_posted owner) ≡ user
 abbrev pub AcceptKeepsUser : Type 0
 AcceptKeepsUser = (work : Work) (owner : Owning) → user_in (with_task_in work owner) ≡ user_in owner
 
--- To turn a step, while more than one turn is left, gives the turned user.
-abbrev pub TurnGivesTurned : Type 0
-TurnGivesTurned = (command : Command) (owner : Owning) → 1 < turns (user_in owner) command
-    → user_in (turned_from command owner) ≡ turned (user_in owner) command
+-- the user that is meant once a command takes steps of its own: those of an ADVANCE are counted, and the steps of no other
+-- move anything
+abbrev pub user_taking : User → Command → User
+user_taking user (Advance name n) = (answer user (Advance name n) false).1
+user_taking user command = user
 
--- A command that has one turn left is answered with the turned user.
-abbrev pub LastTurnGivesTurned : Type 0
-LastTurnGivesTurned = (user : User) (command : Command) (mark : Bool) → turns user command ≡ 1
-    → (answer user command mark).1 ≡ turned user command
+-- A command that is begun and waits leaves the user, but for the steps of an ADVANCE that it begins to take; and it will
+-- be answered as it would be now.
+pub record BeginsAlike (command : Command) (owner : Owning) : Type 0 where
+  pub user : user_in (begun command owner)
+      ≡ (if nat_lt 0 (steps_before owner.state command) then user_in owner else user_taking (user_in owner) command)
+  pub left : IfSome (begun command owner).waiting (λ left.
+      AnswersAlike (user_in (begun command owner)) left (user_in owner) command)
+
+abbrev pub BegunWaitsAlike : Type 0
+BegunWaitsAlike = (command : Command) (owner : Owning) → 0 < turns_before owner.state command
+    → BeginsAlike command owner
+
+-- To turn a session to which steps are owed, where that does not answer what waits, keeps what will be answered; where
+-- nothing waits it leaves the user.
+abbrev pub TurnWaitsAlike : Type 0
+TurnWaitsAlike = (name : List ℕ) (owner : Owning) → 0 < owed_in owner.state name
+    → (IsLastTurn name owner → ⊥) → WaitsAlike owner (turned_from name owner)
 
 -- the session whose atoms a reply lists, as DUMP's does, or what is saved in it, as that of LIST with a name does
 abbrev pub session_listed : Reply → Option (List ℕ)

@@ -29,4 +29,5 @@ held_from mix symbols first last = record {
   };
   passed = 0;
   saved = [];
+  owed = 0;
 }

@@ -1,101 +1,153 @@
--- The owner of a user's state: the state, the number of its user, and the command that runs, as far as it is left.
-use Rattle.std.specs.Prelude.{◌≡◌, ℕ, Bool, true, false, IsSomeAnd, IfSome, List, Option, Some, None}
-use Rattle.std.specs.Option.{option_map, option_map_or, option_and_then}
+-- The owner of a user's state: the state, the number of its user, and the command that waits.
+use Rattle.std.specs.Prelude.{◌≡◌, ℕ, Bool, true, false, ◌||◌, nat_lt, is_some, IfSome, List, Option, Some, None, if◌then◌else◌}
+use Rattle.std.specs.Option.{option_map_or, option_and_then}
+use Rattle.std.specs.List.{find}
+use Rattle.std.specs.Str.{bytes_eq}
 use Rattle.lj_tile.specs.declared.names.Label.{Label}
-use Rattle.lj_tile.specs.declared.names.Kind.{Kind}
-use Rattle.lj_tile.specs.declared.names.Kind.TheVariants.{Force, Energy}
+use Rattle.lj_tile.specs.declared.names.Kind.TheVariants.{Energy}
 use Rattle.lj_tile.specs.Tasks.{Work}
 use Rattle.lj_step.specs.OpenSteps.{tile_number_of}
 use Rattle.lj_session.specs.declared.command.Command.{Command}
 use Rattle.lj_session.specs.declared.command.Command.TheVariants.{Advance, Measure}
 use Rattle.lj_session.specs.declared.refusal.Refusal.TheVariants.{Memory}
 use Rattle.lj_session.specs.declared.reply.Reply.{Reply}
-use Rattle.lj_session.specs.declared.reply.Reply.TheVariants.{Refused}
+use Rattle.lj_session.specs.declared.reply.Reply.TheVariants.{Dumped, Refused}
 use Rattle.lj_session.specs.Users.{User}
-use Rattle.lj_session.specs.Answers.{answer, IsAnswer}
-use Rattle.lj_session.specs.Turns.{turns, rest_of}
-use Rattle.lj_session.specs.States.{Held, Owned, user_of, changed, with_step, next_task, with_posted, IsAwaited, with_tile_in, is_whole_in, turned_on}
+use Rattle.lj_session.specs.Answers.{answer, AnswersAlike}
+use Rattle.lj_session.specs.Turns.{waits_for}
+use Rattle.lj_session.specs.States.{Held, Owned, user_of, names, changed, with_step, next_task, with_posted, IsAwaited, with_tile_in, is_whole_in}
+use Rattle.lj_session.specs.States.{owing, step_passed, rested, owed_in, steps_before, turns_before, is_measured}
 
--- what an owner has: the state, the number of its user, and what is left of the command that runs, if one runs
+-- what an owner has: the state, the number of its user, and the command that waits, if one does
 pub record Owning : Type 0 where
   pub state : Owned
   pub number : ℕ
-  pub rest : Option Command
+  pub waiting : Option Command
 
--- the user that the state is
+-- the user that the state means
 abbrev pub user_in : Owning → User
 user_in owner = user_of owner.state
 
--- the session whose steps a command takes, and what they sum: ADVANCE pushes, and MEASURE energies
-abbrev pub step_of : Command → Option (List ℕ × Kind)
-step_of (Advance name n) = Some (name, Force)
-step_of (Measure name) = Some (name, Energy)
-step_of _ = None
-
--- those of the command that runs, if one runs
-abbrev pub step_in : Owning → Option (List ℕ × Kind)
-step_in owner = option_and_then step_of owner.rest
-
--- the label of its tasks: the number of the user, and the name of the session
-abbrev pub label_in : Owning → Option Label
-label_in owner = option_map (λ step. record { user = owner.number; session = step.0 }) (step_in owner)
-
--- how many turns are left
-abbrev pub turns_left : Owning → ℕ
-turns_left owner = option_map_or (turns (user_in owner)) owner.rest 0
+-- an owner that has just been given a state: each step is begun anew
+abbrev pub entered : Owned → ℕ → Owning
+entered state number = record { state = rested state; number = number; waiting = None }
 
 abbrev pub with_state : Owned → Owning → Owning
 with_state state owner = record owner { state = state }
 
--- the session of the command that runs changed
-abbrev pub changed_in : Option (List ℕ × Kind) → (Held → Held) → Owned → Owned
-changed_in None change owned = owned
-changed_in (Some step) change owned = changed step.0 change owned
+-- a session owes a step: some are owed to it, or what waits measures it
+abbrev pub owes : Owning → List ℕ → Bool
+owes owner name = nat_lt 0 (owed_in owner.state name) || is_measured owner.waiting name
 
--- the step that a command takes opened in its session, with no tile posted or in
-abbrev pub opened_for : Option (List ℕ × Kind) → Owned → Owned
-opened_for None owned = owned
-opened_for (Some step) owned = changed step.0 (with_step step.1) owned
+-- whether some session owes a step
+abbrev pub is_busy : Owning → Bool
+is_busy owner = is_some (find (owes owner) (names owner.state))
 
--- a command runs, and its first step is open
+-- how many turns of its session are left before what waits is answered
+abbrev pub turns_left : Owning → ℕ
+turns_left owner = option_map_or (turns_before owner.state) owner.waiting 0
+
+-- whether what waits, waits for this session
+abbrev pub is_waited_for : Option Command → List ℕ → Bool
+is_waited_for waiting name = option_map_or (λ session. bytes_eq session name) (option_and_then waits_for waiting) false
+
+-- a command begins to take the steps of its own: those of an ADVANCE are owed to its session, and for a MEASURE the
+-- energy step is open
+unfoldable pub taken_up : Command → Owned → Owned
+taken_up (Advance name n) owned = changed name (owing n) owned
+taken_up (Measure name) owned = changed name (with_step Energy) owned
+taken_up _ owned = owned
+
+-- what then waits: an ADVANCE by 0, since its steps are owed
+unfoldable pub rest_of : Command → Command
+rest_of (Advance name n) = Advance name 0
+rest_of command = command
+
+-- A command that is begun and waits: for the steps that are owed to its session, and where none are it begins to take its
+-- own. What is held then, and what waits.
+abbrev pub begun_in : Command → Owned → Owned
+begun_in command owned = if nat_lt 0 (steps_before owned command) then owned else taken_up command owned
+
+abbrev pub left_in : Command → Owned → Command
+left_in command owned = if nat_lt 0 (steps_before owned command) then command else rest_of command
+
 abbrev pub begun : Command → Owning → Owning
-begun command owner = record owner { state = opened_for (step_of command) owner.state; rest = Some command }
+begun command owner =
+    record owner { state = begun_in command owner.state; waiting = Some (left_in command owner.state) }
 
--- the task of the first tile that is neither posted nor in, if a command runs and there is one
+abbrev pub begun_again : Option Command → Owning → Owning
+begun_again None owner = owner
+begun_again (Some command) owner = begun command owner
+
+-- the label of the tasks of a session
+abbrev pub label_of : Owning → List ℕ → Label
+label_of owner name = record { user = owner.number; session = name }
+
+-- the task of the first tile of a session that is neither posted nor in
+abbrev pub task_of_session : Owning → List ℕ → Option Work
+task_of_session owner name = next_task owner.state (label_of owner name)
+
+-- the first session, in order of loading, that has such a task
+abbrev pub next_session : Owning → Option (List ℕ)
+next_session owner = find (λ name. is_some (task_of_session owner name)) (names owner.state)
+
+-- its task
 abbrev pub task_in : Owning → Option Work
-task_in owner = option_and_then (next_task owner.state) (label_in owner)
+task_in owner = option_and_then (task_of_session owner) (next_session owner)
+
+abbrev pub changed_in : Option (List ℕ) → (Held → Held) → Owned → Owned
+changed_in None change owned = owned
+changed_in (Some name) change owned = changed name change owned
 
 -- that tile noted as posted
 abbrev pub with_task_posted : Owning → Owning
-with_task_posted owner = with_state (changed_in (step_in owner) with_posted owner.state) owner
+with_task_posted owner = with_state (changed_in (next_session owner) with_posted owner.state) owner
 
--- the task is that of a tile that the step of the running command awaits
+-- the task is that of a tile that the open step of its session awaits
 abbrev pub IsAwaitedIn : Owning → Work → Type 0
-IsAwaitedIn owner work = IsSomeAnd (label_in owner) (λ label. IsAwaited owner.state label work)
+IsAwaitedIn owner work = IsAwaited owner.state (label_of owner work.name.label.session) work
 
 -- that tile is in
 abbrev pub with_task_in : Work → Owning → Owning
-with_task_in work owner = with_state (changed_in (step_in owner) (with_tile_in (tile_number_of work)) owner.state) owner
+with_task_in work owner =
+    with_state (changed work.name.label.session (with_tile_in (tile_number_of work)) owner.state) owner
 
--- whether a command runs and all tiles of its step are in
-abbrev pub is_ready : Owning → Bool
-is_ready owner = option_map_or (λ step. is_whole_in owner.state step.0) (step_in owner) false
+-- the first session, in order of loading, whose step is open and whole
+abbrev pub ready_session : Owning → Option (List ℕ)
+ready_session owner = find (is_whole_in owner.state) (names owner.state)
 
--- the step of a command turned in its session
-abbrev pub turned_in : Command → Owned → Owned
-turned_in command owned = changed_in (step_of command) turned_on owned
+-- the step of a session passed, and what waits for the session begun again
+abbrev pub turned_from : List ℕ → Owning → Owning
+turned_from name owner =
+    let passed = with_state (changed name step_passed owner.state) owner in
+    if is_waited_for owner.waiting name then begun_again owner.waiting passed else passed
 
--- the step turned, and the next one of what is left of the command open
-abbrev pub turned_from : Command → Owning → Owning
-turned_from command owner = begun (rest_of command) (with_state (turned_in command owner.state) owner)
+-- The turn of this session is the last one before what waits is answered.
+pub record IsLastTurn (name : List ℕ) (owner : Owning) : Type 0 where
+  pub waited : is_waited_for owner.waiting name ≡ true
+  pub last : turns_left owner ≡ 1
 
--- A command is answered at once: reply and next user are the definition's under some mark, which is set only for the
--- memory refusal.
+-- A command is answered: reply and next user are the definition's under some mark, which is set only for the memory
+-- refusal.
 pub record IsAnswered (user : User) (command : Command) (reply : Reply) (next : User) : Type 0 where
   pub mark : Bool
   pub answers : (reply, next) ≡ answer user command mark
   pub only_memory : mark ≡ true → reply ≡ Refused Memory
 
--- What is left of the running command is answered: reply and next user are the definition's.
+-- What waits is answered so.
 abbrev pub IsReplied : Owning → Reply → User → Type 0
-IsReplied owner reply next = IfSome owner.rest (λ command. IsAnswer (user_in owner) command reply next)
+IsReplied owner reply next = IfSome owner.waiting (λ command. IsAnswered (user_in owner) command reply next)
+
+-- What waits will be answered as what waited would have been; where nothing waits the user stays.
+abbrev pub WaitsAlikeFor : Option Command → Option Command → User → User → Type 0
+WaitsAlikeFor None None old new = new ≡ old
+WaitsAlikeFor (Some before) (Some after) old new = AnswersAlike new after old before
+WaitsAlikeFor _ _ old new = ⊥
+
+abbrev pub WaitsAlike : Owning → Owning → Type 0
+WaitsAlike old new = WaitsAlikeFor old.waiting new.waiting (user_in old) (user_in new)
+
+-- no step is owed to a session whose frame a reply tells
+abbrev pub IsSettled : Owned → Reply → Type 0
+IsSettled owned (Dumped name) = owed_in owned name ≡ 0
+IsSettled owned _ = Unit {0}

@@ -1,11 +1,12 @@
--- Of the commands that run: how many turns one takes, the user after a turn, and what is then left of it.
-use Rattle.std.specs.Prelude.{ℕ, ◌-◌, List, Option, Some, None, if◌then◌else◌}
-use Rattle.lj_step.specs.Motion.{stepped}
+-- The steps that commands take of their own, each of them a turn of their session, and the sessions that they wait for.
+use Rattle.std.specs.Prelude.{ℕ, List, Option, Some, None, if◌then◌else◌}
 use Rattle.lj_session.specs.declared.command.Command.{Command}
-use Rattle.lj_session.specs.declared.command.Command.TheVariants.{Advance, Measure}
+use Rattle.lj_session.specs.declared.command.Command.TheVariants.{Load, Advance, Start, Reverse, Branch, Restore, Forget, Tug}
+use Rattle.lj_session.specs.declared.command.Command.TheVariants.{Measure, Show, Dump, List as ListSessions}
+use Rattle.lj_session.specs.declared.command.Command.TheVariants.{ListBranches, Unload, Bye}
 use Rattle.lj_branch.specs.Named.{named}
 use Rattle.lj_session.specs.Users.{Session, User}
-use Rattle.lj_session.specs.Answers.{can_advance, with_sim}
+use Rattle.lj_session.specs.Answers.{can_advance}
 
 -- a step is a turn
 abbrev pub advance_turns : Option Session → ℕ → ℕ
@@ -17,23 +18,27 @@ abbrev pub measure_turns : Option Session → ℕ
 measure_turns None = 0
 measure_turns (Some session) = 1
 
--- how many turns a command takes: ADVANCE as many as steps, MEASURE one, and what is answered at once none
+-- how many turns a command takes of its own: ADVANCE as many as steps, MEASURE one, and every other none
 unfoldable pub turns : User → Command → ℕ
 turns user (Advance name n) = advance_turns (named name user.sessions) n
 turns user (Measure name) = measure_turns (named name user.sessions)
 turns user _ = 0
 
--- the user with that session a step further
-abbrev pub session_turned : User → List ℕ → Option Session → User
-session_turned user name None = user
-session_turned user name (Some session) = with_sim name session (stepped session.composition session.sim) user
-
--- the user after a turn: ADVANCE goes one step on
-unfoldable pub turned : User → Command → User
-turned user (Advance name n) = session_turned user name (named name user.sessions)
-turned user _ = user
-
--- what is left of a command after a turn: ADVANCE by one step less
-unfoldable pub rest_of : Command → Command
-rest_of (Advance name n) = Advance name (n - 1)
-rest_of command = command
+-- The session that a command waits for, until no step is owed to it. The loads, START, FORGET, the lists and BYE wait
+-- for none.
+unfoldable pub waits_for : Command → Option (List ℕ)
+waits_for (Load load) = None
+waits_for (Advance name n) = Some name
+waits_for (Start name n) = None
+waits_for (Reverse name) = Some name
+waits_for (Branch name branch) = Some name
+waits_for (Restore name branch) = Some name
+waits_for (Forget name branch) = None
+waits_for (Tug name atom x y z) = Some name
+waits_for (Measure name) = Some name
+waits_for (Show name atom) = Some name
+waits_for (Dump name) = Some name
+waits_for ListSessions = None
+waits_for (ListBranches name) = None
+waits_for (Unload name) = Some name
+waits_for Bye = None

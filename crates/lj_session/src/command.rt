@@ -37,6 +37,12 @@ pub enum Command {
         name: Name,
         steps: u64,
     },
+    /// Goes on by a number of steps while other commands are answered. It is answered at once with the step that the
+    /// session is going to.
+    Start {
+        name: Name,
+        steps: u64,
+    },
     /// Turns the motion back.
     Reverse {
         name: Name,

@@ -1,10 +1,10 @@
-//! Laws of what runs and of what is answered: functions that do nothing, whose contracts are the laws.
-ghost use Rattle.lj_session.specs.Laws.{BeginKeepsUser, PostedKeepsUser, AcceptKeepsUser, TurnGivesTurned};
-ghost use Rattle.lj_session.specs.Laws.{LastTurnGivesTurned, ListedIsThere};
+//! Laws of owners and of what is answered: functions that do nothing, whose contracts are the laws.
+ghost use Rattle.lj_session.specs.Laws.{RestKeepsUser, PostedKeepsUser, AcceptKeepsUser, BegunWaitsAlike};
+ghost use Rattle.lj_session.specs.Laws.{TurnWaitsAlike, ListedIsThere};
 
-/// To begin a command leaves the user.
-pub fn begin_keeps_user()
-    ensures { BeginKeepsUser }
+/// To begin each step anew leaves the user.
+pub fn rest_keeps_user()
+    ensures { RestKeepsUser }
 {}
 
 /// To note a task as posted leaves the user.
@@ -17,14 +17,15 @@ pub fn accept_keeps_user()
     ensures { AcceptKeepsUser }
 {}
 
-/// To turn a step, while more than one turn is left, gives the turned user.
-pub fn turn_gives_turned()
-    ensures { TurnGivesTurned }
+/// A command that is begun and waits will be answered as it would be now, and the user stays but for the steps of an
+/// ADVANCE that it begins to take.
+pub fn begun_waits_alike()
+    ensures { BegunWaitsAlike }
 {}
 
-/// The last turn leaves the turned user as well: a command that has one turn left is answered with it.
-pub fn last_turn_gives_turned()
-    ensures { LastTurnGivesTurned }
+/// A turn that answers nothing keeps what will be answered; where nothing waits it leaves the user.
+pub fn turn_waits_alike()
+    ensures { TurnWaitsAlike }
 {}
 
 /// A reply lists the atoms of a session, or what is saved in it, only where that session is one of the user after it.

@@ -9,18 +9,18 @@ mod opening;
 mod owner;
 mod refusal;
 mod reply;
-mod running;
 mod seconds;
 mod session;
 mod sessions;
+mod settling;
 mod state;
 mod substance;
 
 pub use body::{Body, LoadBody};
 pub use command::{Command, Load, Mode};
 pub use laws::{
-    accept_keeps_user, begin_keeps_user, last_turn_gives_turned, listed_is_there,
-    posted_keeps_user, turn_gives_turned,
+    accept_keeps_user, begun_waits_alike, listed_is_there, posted_keeps_user, rest_keeps_user,
+    turn_waits_alike,
 };
 pub use lj_tile::Name;
 pub use owner::{Begin, Owner};

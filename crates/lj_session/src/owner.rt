@@ -1,18 +1,21 @@
 //! The owner of a user's state: a command is begun, and what takes time goes out as tasks that anyone may compute.
-ghost use Rattle.std.specs.Prelude.{◌≡◌, ◌↔◌, ◌<◌, ◌+◌, ℕ, Bool, true, Some, None, IsOk, IsSome, IsTrue, IfSome, IfErr, OnOk, OnErr, OnSome, IfNone, is_some};
+ghost use Rattle.std.specs.Prelude.{◌≡◌, ◌↔◌, ◌<◌, ◌+◌, ℕ, Bool, true, Some, None, IsOk, IsSome, IfSome, IfErr, OnOk, OnErr, OnSome, IfNone, is_some};
+ghost use Rattle.std.specs.List.{IsDistinct};
+ghost use Rattle.std.specs.Str.{bytes_eq};
 ghost use Rattle.lj_session.specs.Answers.{AnswersAlike};
-ghost use Rattle.lj_session.specs.Turns.{turns, turned, rest_of};
-ghost use Rattle.lj_session.specs.Owners.{IsAnswered, IsReplied, IsAwaitedIn, user_in, turns_left, begun, label_in, task_in, with_task_posted, with_task_in, is_ready, turned_from};
-ghost use Rattle.lj_session.specs.States.{OthersKept};
-ghost use Rattle.lj_session.specs.Begins.{IfAnswered, OnRunning, OnRefused, reply_of};
+ghost use Rattle.lj_session.specs.States.{OthersKept, OtherSessionsKept, StepsFollow, IsIdleIn, is_measured, is_whole_in, names, rested};
+ghost use Rattle.lj_session.specs.States.{turns_before, user_of};
+ghost use Rattle.lj_session.specs.Owners.{IsAnswered, IsReplied, IsAwaitedIn, IsLastTurn, IsSettled, WaitsAlike};
+ghost use Rattle.lj_session.specs.Owners.{user_in, entered, owes, is_busy, turns_left, is_waited_for, begun, label_of, task_in, next_session};
+ghost use Rattle.lj_session.specs.Owners.{with_task_posted, with_task_in, ready_session, turned_from};
+ghost use Rattle.lj_session.specs.Begins.{IfAnswered, OnRunning, OnRefused};
 
 use crate::command::Command;
-use crate::refusal::Refusal;
 use crate::reply::Reply;
-use crate::running::{Running, Turned};
+use crate::settling::{self, Settled};
 use crate::state::UserState;
 use lj_step::{NotAwaited, Stray};
-use lj_tile::{Done, Label, Task};
+use lj_tile::{Done, Label, Name, Task};
 use std::marker::Model;
 
 /// What the beginning of a command comes to.
@@ -24,13 +27,13 @@ pub enum Begin {
     Running,
 }
 
-/// Owns a user's state, and the command that runs on it. The state stays as the current step began until that step is
-/// turned.
+/// Owns a user's state, and the command that waits. Each session to which steps are owed goes on, tile by tile, while other
+/// commands are answered; a command that needs a session as it will be waits until nothing is owed to it.
 #[derive(Drop)]
 pub struct Owner {
     state: UserState,
     user: u8,
-    running: Option<Running>,
+    waiting: Option<Command>,
 }
 
 impl Model for Owner {
@@ -38,54 +41,65 @@ impl Model for Owner {
 
     ghost Value = { Owning };
 
-    ghost use Rattle.lj_session.specs.KeptOwners.{owning_of, IsRunning};
+    ghost use Rattle.lj_session.specs.KeptOwners.{owning_of, IsOwner};
 
     ghost view = { owning_of };
 
-    ghost invariant = { IsRunning };
+    ghost invariant = { IsOwner };
 }
 
 impl Owner {
-    /// Nothing runs. The number of the user stands in the names of the tasks.
+    /// Nothing waits, and the step of each session to which steps are owed is begun anew. The number of the user stands in
+    /// the names of the tasks.
     pub fn new(state: UserState, user: u8) -> Owner
-        ensures { result ≡ record { state = state; number = user; rest = None } }
+        ensures value { result ≡ entered state user }
+        ensures distinct { IsDistinct bytes_eq (names result.state) }
     {
+        let mut state = state;
+        state.rest();
         Owner {
             state,
             user,
-            running: None,
+            waiting: None,
         }
     }
 
-    /// Begins a command. One that takes no turn is answered at once; of another the first step is opened. Only LOAD,
+    /// Begins a command. It is answered at once where no step is owed to the session that it waits for and it takes none of
+    /// its own; else it waits. START is always answered at once, with the step that the session is going to. Only LOAD,
     /// LOADMIX and BRANCH take memory.
     #[inline(never)]
     pub fn begin(&mut self, command: Command) -> Begin
-        requires idle { self.old.rest ≡ None }
-        ensures at_once { IfAnswered result (λ _. turns (user_in self.old) command ≡ 0) }
+        requires idle { self.old.waiting ≡ None }
+        ensures at_once { IfAnswered result (λ _. turns_before self.old.state command ≡ 0) }
         ensures answered { IfAnswered result (λ reply. IsAnswered (user_in self.old) command reply (user_in self.new)) }
-        ensures idle { IfAnswered result (λ _. self.new.rest ≡ None) }
-        ensures takes_turns { OnRunning result (0 < turns (user_in self.old) command) }
-        ensures running { OnRunning result (self.new ≡ begun command self.old) }
-        ensures user { OnRunning result (user_in self.new ≡ user_in self.old) }
+        ensures idle { IfAnswered result (λ _. self.new.waiting ≡ None) }
+        ensures settled { IfAnswered result (IsSettled self.new.state) }
+        ensures steps { IfAnswered result (λ _. StepsFollow command self.old.state self.new.state) }
+        ensures takes_turns { OnRunning result (0 < turns_before self.old.state command) }
+        ensures begun { OnRunning result (self.new ≡ begun command self.old) }
+        ensures alike { OnRunning result (IfSome self.new.waiting (λ left.
+            AnswersAlike (user_in self.new) left (user_in self.old) command)) }
+        ensures turns { OnRunning result (turns_left self.new ≡ turns_before self.old.state command) }
         ensures unchanged { OnRefused result (self.new ≡ self.old) }
         ensures others { OthersKept command self.old.state self.new.state }
         ensures number { self.new.number ≡ self.old.number }
         ensures quota { self.new.state.quota ≡ self.old.state.quota }
     {
-        let Some(running) = Running::of(&self.state, &command) else {
-            return Begin::Answered(replied(self.state.perform(command)));
-        };
-        self.state.open_step(running.session(), running.sums());
-        self.running = Some(running);
-        Begin::Running
+        match settling::settle(&mut self.state, command) {
+            Settled::Answered(reply) => Begin::Answered(reply),
+            Settled::Waits(left) => {
+                self.waiting = Some(left);
+                Begin::Running
+            }
+        }
     }
 
-    /// The task of the first tile that is neither posted nor in. None where there is none, and where nothing runs.
+    /// The task of the first tile that is neither posted nor in, of the first session, in order of loading, that has one.
     pub fn next_task(&self) -> Option<Task>
         ensures { result ≡ task_in self.now }
     {
-        self.state.next_task(&self.label()?)
+        let name = self.next_session()?;
+        self.state.next_task(&self.label(name))
     }
 
     /// Notes that tile as posted.
@@ -94,13 +108,12 @@ impl Owner {
         ensures noted { self.new ≡ with_task_posted self.old }
         ensures user { user_in self.new ≡ user_in self.old }
     {
-        if let Some(running) = &self.running {
-            self.state.post(running.session());
+        if let Some(name) = self.next_session() {
+            self.state.post(&name);
         }
     }
 
-    /// Takes in the result of a task that the step of the running command awaits. Another is handed back, and nothing
-    /// has changed.
+    /// Takes in the result of a task that the step of a session awaits. Another is handed back, and nothing has changed.
     pub fn accept(&mut self, done: Done) -> Result<(), Stray>
         ensures accepted { IsOk result ↔ IsAwaitedIn self.old done }
         ensures taken { OnOk result (self.new ≡ with_task_in done self.old) }
@@ -121,87 +134,138 @@ impl Owner {
         ensures user { user_in self.new ≡ user_in self.old }
         ensures unchanged { OnErr result (self.new ≡ self.old) }
     {
-        let Some(label) = self.label() else {
-            return Err(NotAwaited);
-        };
+        let label = self.label(done.task().name().label.session.copy());
         self.state.take_in(&label, done)
     }
 
-    /// Whether a command runs and all tiles of its step are in.
-    pub fn ready(&self) -> bool
-        ensures { result ≡ is_ready self.now }
+    /// Whether some session owes a step.
+    pub fn is_busy(&self) -> bool
+        ensures { result ≡ is_busy self.now }
     {
-        match &self.running {
-            Some(running) => self.state.is_whole(running.session()),
-            None => false,
+        for i in 0..self.state.len() {
+            if self.owes(self.state.name_at(i)) {
+                return true;
+            }
         }
+        false
     }
 
-    /// Turns the step. The last turn gives the reply, and nothing runs then; after another one the next step is open.
-    pub fn turn(&mut self) -> Option<Reply>
-        requires { is_ready self.old ≡ true }
-        ensures last { IsSome result ↔ (turns_left self.old ≡ 1) }
-        ensures replied { IfSome result (λ reply. IsReplied self.old reply (user_in self.new)) }
-        ensures idle { OnSome result (self.new.rest ≡ None) }
-        ensures opened { IfNone result (IfSome self.old.rest (λ command. self.new ≡ turned_from command self.old)) }
-        ensures turned { let user = user_in self.old in
-            IfNone result (IfSome self.old.rest (λ command. user_in self.new ≡ turned user command)) }
-        ensures kept { IfNone result (IfSome self.old.rest (λ command.
-            AnswersAlike (user_in self.new) (rest_of command) (user_in self.old) command)) }
-        ensures fewer { IfNone result (turns_left self.new + 1 ≡ turns_left self.old) }
-        ensures others { IfSome self.old.rest (λ command. OthersKept command self.old.state self.new.state) }
-        ensures quota { self.new.state.quota ≡ self.old.state.quota }
-        ensures number { self.new.number ≡ self.old.number }
+    /// Whether a session owes a step of which all tiles are in.
+    pub fn is_whole(&self, name: &Name) -> bool
+        ensures value { result ≡ is_whole_in self.now.state name.now }
+        ensures owes { result ≡ true → owes self.now name.now ≡ true }
     {
-        match self.running.take()?.turn(&mut self.state) {
-            Turned::Replied(reply) => Some(reply),
-            Turned::Goes(running) => {
-                self.running = Some(running);
+        self.state.is_whole(name)
+    }
+
+    /// The first session, in order of loading, that owes a step of which all tiles are in.
+    pub fn ready_session(&self) -> Option<Name>
+        ensures first { result ≡ ready_session self.now }
+        ensures whole { IfSome result (λ name. is_whole_in self.now.state name ≡ true) }
+        ensures owes { IfSome result (λ name. owes self.now name ≡ true) }
+    {
+        Some(self.state.first_whole()?.copy())
+    }
+
+    /// Turns the step of a session: one step less is owed to it, and the next one is open if there is one. Where that was
+    /// what a command waited for, the command begins again: it is answered, or begins to take steps of its own. No other
+    /// session is changed.
+    pub fn turn_session(&mut self, name: &Name) -> Option<Reply>
+        requires { is_whole_in self.old.state name.now ≡ true }
+        ensures last { IsSome result ↔ IsLastTurn name.now self.old }
+        ensures replied { IfSome result (λ reply. IsReplied self.old reply (user_in self.new)) }
+        ensures idle { OnSome result (self.new.waiting ≡ None) }
+        ensures settled { IfSome result (IsSettled self.new.state) }
+        ensures rests { OnSome result (IsIdleIn self.new.state name.now) }
+        ensures turned { IfNone result (self.new ≡ turned_from name.now self.old) }
+        ensures alike { IfNone result (WaitsAlike self.old self.new) }
+        ensures others { OtherSessionsKept name.now self.old.state self.new.state }
+        ensures number { self.new.number ≡ self.old.number }
+        ensures quota { self.new.state.quota ≡ self.old.state.quota }
+    {
+        if !self.is_waited_for(name) {
+            self.state.pass_step(name);
+            return None;
+        }
+        match settling::turn(&mut self.state, name, self.waiting.take()?) {
+            Settled::Answered(reply) => Some(reply),
+            Settled::Waits(left) => {
+                self.waiting = Some(left);
                 None
             }
         }
     }
 
-    /// Whether a command runs.
-    pub fn is_running(&self) -> bool
-        ensures { result ≡ is_some self.now.rest }
+    /// Whether a command waits.
+    pub fn is_waiting(&self) -> bool
+        ensures value { result ≡ is_some self.now.waiting }
+        ensures some { result ≡ true → 0 < turns_left self.now }
     {
-        self.running.is_some()
+        self.waiting.is_some()
     }
 
-    /// The state. While a command runs it stands as the current step began.
+    /// The state. Each session stands as its present step began.
     pub fn state(&self) -> &UserState
         ensures { result.now ≡ self.now.state }
     {
         &self.state
     }
 
-    /// Hands the state back.
+    /// Hands the state back, with what is owed to its sessions. Their steps are begun anew, so that no tile is posted or in.
     pub fn into_state(self) -> UserState
-        requires { self.rest ≡ None }
-        ensures { result ≡ self.state }
+        requires { self.waiting ≡ None }
+        ensures state { result ≡ rested self.state }
+        ensures user { user_of result ≡ user_in self }
     {
-        self.state
+        let mut state = self.state;
+        state.rest();
+        state
     }
 
-    /// Gives up the state, and what runs.
+    /// Gives up the state, and what waits.
     pub fn abandon(self) {}
 
-    /// The label of the tasks of the running command.
-    fn label(&self) -> Option<Label>
-        ensures { result ≡ label_in self.now }
+    /// The first session, in order of loading, that has a tile which is neither posted nor in.
+    fn next_session(&self) -> Option<Name>
+        ensures { result ≡ next_session self.now }
     {
-        let running = self.running.as_ref()?;
-        Some(Label {
-            user: self.user,
-            session: running.session().copy(),
-        })
+        Some(self.state.next_session(self.user)?.copy())
     }
-}
 
-/// A refusal is replied.
-fn replied(outcome: Result<Reply, Refusal>) -> Reply
-    ensures { result ≡ reply_of outcome }
-{
-    outcome.unwrap_or_else(Reply::Refused)
+    /// Whether a session owes a step.
+    fn owes(&self, name: &Name) -> bool
+        ensures { result ≡ owes self.now name.now }
+    {
+        self.state.owed(name) > 0 || self.is_measured(name)
+    }
+
+    /// Whether what waits measures this session.
+    fn is_measured(&self, name: &Name) -> bool
+        ensures { result ≡ is_measured self.now.waiting name.now }
+    {
+        match &self.waiting {
+            Some(Command::Measure { name: session }) => session == name,
+            _ => false,
+        }
+    }
+
+    /// Whether what waits, waits for this session.
+    fn is_waited_for(&self, name: &Name) -> bool
+        ensures { result ≡ is_waited_for self.now.waiting name.now }
+    {
+        match &self.waiting {
+            Some(command) => command.waits_for().is_some_and(|session| session == name),
+            None => false,
+        }
+    }
+
+    /// The label of the tasks of a session.
+    fn label(&self, session: Name) -> Label
+        ensures { result ≡ label_of self.now session }
+    {
+        Label {
+            user: self.user,
+            session,
+        }
+    }
 }

@@ -20,6 +20,11 @@ pub enum Reply {
         name: Name,
         step: i64,
     },
+    /// The step is the one that the session is going to.
+    Started {
+        name: Name,
+        step: i64,
+    },
     Reversed {
         name: Name,
         step: i64,

@@ -1,7 +1,8 @@
 //! A session as it is held.
 ghost use Rattle.std.specs.Prelude.{◌≡◌, ◌↔◌, ◌<◌, ◌+◌, ◌^◌, [], length, slice_get, Some, IsOk, IsSome, IsErrOf};
-ghost use Rattle.std.specs.Prelude.{IfSome, OnOk, OnErr, ◌≤◌, unsigned_abs, IsTrue, IfOk};
-ghost use Rattle.lj_tile.specs.declared.names.Kind.TheVariants.{Energy};
+ghost use Rattle.std.specs.Prelude.{IfSome, OnOk, OnErr, ◌≤◌, unsigned_abs, IfOk, true, is_some, nat_le, pos, ◌&&◌, ◌+ℤ◌, ◌*ℤ◌};
+ghost use Rattle.lj_tile.specs.declared.names.Label.{Label as Labelled};
+ghost use Rattle.lj_tile.specs.declared.names.Kind.TheVariants.{Force};
 ghost use Rattle.lj_branch.specs.declared.faults.SaveFault.TheVariants.{Exists};
 ghost use Rattle.lj_step.specs.Motion as motion;
 ghost use Rattle.lj_step.specs.OpenSteps as steps;
@@ -9,7 +10,7 @@ ghost use Rattle.lj_branch.specs.Named.{named, put, taken_out};
 ghost use Rattle.lj_session.specs.Users.{atoms_of};
 ghost use Rattle.lj_session.specs.Answers.{can_advance};
 ghost use Rattle.lj_session.specs.States as states;
-ghost use Rattle.lj_session.specs.States.{as_session, moved_to, keeping, IsWhole, CanTurn};
+ghost use Rattle.lj_session.specs.States.{session_meant, moved_to, keeping, IsWhole};
 
 use lj_branch::{Branches, NoBranch, SaveFault};
 use lj_step::{Displacement, NotAwaited, Sim};
@@ -23,13 +24,14 @@ const MAX_STEPS: u64 = 1_000_000;
 /// The largest size of a step number.
 const MAX_STEP_NUMBER: u64 = 1_000_000_000_000;
 
-/// The symbols of some atoms, their simulation, and what is saved of it.
+/// The symbols of some atoms, their simulation, what is saved of it, and how many steps are owed to it.
 #[derive(Drop)]
 pub(crate) struct Session {
     symbols: Vec<Symbol>,
     sim: Sim,
     passed: usize,
     branches: Branches,
+    owed: u64,
 }
 
 impl Model for Session {
@@ -45,17 +47,19 @@ impl Model for Session {
 }
 
 impl Session {
-    /// A session of which nothing is saved and no step is open.
+    /// A session of which nothing is saved, and to which no step is owed.
     pub fn new(symbols: Vec<Symbol>, sim: Sim, branches: Branches) -> Session
         requires symbols { length symbols.items ≡ length sim.sim.cur }
         requires branches { branches ≡ [] }
-        ensures { result ≡ record { symbols = symbols.items; live = sim; passed = 0; saved = [] } }
+        ensures { result ≡ record { symbols = symbols.items; live = sim; passed = 0; saved = []; owed = 0 } }
     {
+        let _most = sim.step();
         Session {
             symbols,
             sim,
             passed: 0,
             branches,
+            owed: 0,
         }
     }
 
@@ -81,24 +85,53 @@ impl Session {
         &self.symbols[atom]
     }
 
-    /// Whether it may go on by so many steps.
-    pub fn can_advance(&self, steps: u64) -> bool
-        ensures value { result ≡ can_advance (as_session self.now) steps }
-        ensures here { IsTrue result → unsigned_abs self.now.live.sim.step ≤ MAX_STEP_NUMBER }
+    /// How many steps are owed to it.
+    pub fn owed(&self) -> u64
+        ensures { result ≡ self.now.owed }
     {
-        if steps > MAX_STEPS {
-            return false;
+        self.owed
+    }
+
+    /// The step number that it is going to: the one after all steps that are owed to it.
+    #[tactic(auto, using(crate::proofs::Owed::target_is))]
+    pub fn target(&self) -> i64
+        ensures value { result ≡ (session_meant self.now).sim.step }
+        ensures most { unsigned_abs result ≤ MAX_STEP_NUMBER }
+    {
+        self.sim.step() + self.sim.dir() * self.owed as i64
+    }
+
+    /// Whether it may go on by so many steps, after those that are owed to it.
+    #[tactic(auto, using(crate::proofs::Owed::dir_is))]
+    pub fn can_advance(&self, steps: u64) -> bool
+        ensures { result ≡ can_advance (session_meant self.now) steps }
+    {
+        leads_in_range(self.target(), self.sim.dir(), steps)
+    }
+
+    /// Owes it so many steps more. Where none were owed the first of them is open then.
+    pub fn owe(&mut self, steps: u64)
+        requires { can_advance (session_meant self.old) steps ≡ true }
+        ensures { self.new ≡ states.owing steps self.old }
+    {
+        let _dir = self.sim.dir();
+        let _step = self.sim.step();
+        let first = steps > 0 && self.owed == 0;
+        self.owed += steps;
+        if first {
+            self.sim.open_step(Kind::Force);
+            self.passed = 0;
         }
-        let target = self.sim.step() + self.sim.dir() * steps as i64;
-        target.unsigned_abs() <= MAX_STEP_NUMBER
     }
 
     /// Turns the motion back. No step is open then.
     pub fn reverse(&mut self)
+        requires { self.old.owed ≡ 0 }
         ensures value { self.new ≡ moved_to self.old (motion.reversed self.old.live.sim) }
         ensures count { length self.new.live.sim.cur ≡ length self.old.live.sim.cur }
     {
         self.sim.reverse();
+        let _most = self.sim.step();
     }
 
     /// Gives an atom a displacement more for each step. No step is open then.
@@ -127,13 +160,16 @@ impl Session {
     /// # Errors
     /// `NoBranch` where nothing is saved under it. Nothing has changed then.
     pub fn restore(&mut self, branch: &Name) -> Result<(), NoBranch>
+        requires { self.old.owed ≡ 0 }
         ensures found { IsOk result ↔ IsSome (named branch.now self.old.saved) }
         ensures restored { let saved = named branch.now self.old.saved in
             OnOk result (IfSome saved (λ sim. self.new ≡ moved_to self.old sim)) }
         ensures count { length self.new.live.sim.cur ≡ length self.old.live.sim.cur }
         ensures unchanged { OnErr result (self.new ≡ self.old) }
     {
-        self.branches.restore_into(branch, &mut self.sim)
+        let restored = self.branches.restore_into(branch, &mut self.sim);
+        let _most = self.sim.step();
+        restored
     }
 
     /// Takes out what is saved under a name.
@@ -156,6 +192,25 @@ impl Session {
         self.passed = 0;
     }
 
+    /// Closes the step that is open. The motion stays.
+    pub fn close_step(&mut self)
+        ensures { self.new ≡ states.step_closed self.old }
+    {
+        self.sim.close_step();
+        self.passed = 0;
+    }
+
+    /// Begins its step anew where one is owed, so that no tile is posted or in; elsewhere none is open then.
+    pub fn rest(&mut self)
+        ensures { self.new ≡ states.at_rest self.old }
+    {
+        if self.owed > 0 {
+            self.open_step(Kind::Force);
+        } else {
+            self.close_step();
+        }
+    }
+
     /// The position in the cover of the first tile that is neither posted nor in.
     fn next_tile(&self) -> Option<usize>
         ensures value { result ≡ states.next_tile self.now }
@@ -174,6 +229,13 @@ impl Session {
         ensures { result ≡ states.next_of label.now (Some self.now) }
     {
         self.sim.task(self.next_tile()?, label)
+    }
+
+    /// Whether there is such a tile.
+    pub fn has_task(&self) -> bool
+        ensures { (label : Labelled) → result ≡ is_some (states.next_of label (Some self.now)) }
+    {
+        self.next_tile().is_some()
     }
 
     /// Notes that tile as posted.
@@ -195,11 +257,33 @@ impl Session {
         self.sim.take_in(label, done)
     }
 
-    /// Turns the whole force step: the motion goes one step on, and no step is open.
-    pub fn turn(&mut self)
-        requires { CanTurn self.old }
-        ensures { self.new ≡ states.turned_on self.old }
+    /// Turns the whole force step, one that is owed: the motion goes one step on, and the next step is open if one is
+    /// owed.
+    pub fn pass_step(&mut self)
+        requires whole { IsWhole Force self.old }
+        requires owed { 0 < self.old.owed }
+        ensures { self.new ≡ states.step_passed self.old }
     {
+        let _dir = self.sim.dir();
+        let _step = self.sim.step();
         self.sim.turn();
+        self.owed -= 1;
+        if self.owed > 0 {
+            self.sim.open_step(Kind::Force);
+            self.passed = 0;
+        }
     }
+}
+
+/// Whether a million steps or fewer lead from a step number in a direction to one in range.
+fn leads_in_range(step: i64, dir: i64, steps: u64) -> bool
+    requires here { unsigned_abs step ≤ MAX_STEP_NUMBER }
+    requires dir { unsigned_abs dir ≡ 1 }
+    ensures { result ≡ (nat_le steps MAX_STEPS && nat_le (unsigned_abs (step +ℤ dir *ℤ pos steps)) MAX_STEP_NUMBER) }
+{
+    if steps > MAX_STEPS {
+        return false;
+    }
+    let target = step + dir * steps as i64;
+    target.unsigned_abs() <= MAX_STEP_NUMBER
 }

@@ -4,8 +4,7 @@ ghost use Rattle.std.specs.List.{IsDistinct};
 ghost use Rattle.std.specs.Option.{option_copied};
 ghost use Rattle.std.specs.Str.{bytes_eq};
 ghost use Rattle.lj_branch.specs.Named.{named};
-ghost use Rattle.lj_session.specs.Turns.{turns};
-ghost use Rattle.lj_session.specs.States.{Performs, empty, user_of, used_by, names, held_in, held_at};
+ghost use Rattle.lj_session.specs.States.{Performs, empty, user_of, used_by, names, held_in, held_at, turns_before};
 
 mod advancing;
 mod loading;
@@ -113,12 +112,12 @@ impl Sessions {
         self.find(name).is_some()
     }
 
-    /// Performs a command that takes no turn.
+    /// Performs a command that waits for nothing, and takes no step of its own.
     ///
     /// # Errors
     /// The command's first refusal. Nothing has changed then.
     pub fn perform(&mut self, command: Command) -> Result<Reply, Refusal>
-        requires { turns (user_of self.old) command ≡ 0 }
+        requires { turns_before self.old command ≡ 0 }
         ensures performs { Performs self.old command result self.new }
         ensures quota { self.new.quota ≡ self.old.quota }
         ensures unchanged { OnErr result (self.new ≡ self.old) }
@@ -126,6 +125,7 @@ impl Sessions {
         match command {
             Command::Load(load) => self.load(load),
             Command::Advance { name, steps } => self.advance_at_once(name, steps),
+            Command::Start { name, steps } => self.start(name, steps),
             Command::Reverse { name } => self.reverse(name),
             Command::Branch { name, branch } => self.branch(name, branch),
             Command::Restore { name, branch } => self.restore(name, branch),

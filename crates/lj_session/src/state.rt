@@ -1,18 +1,19 @@
 //! The state of a user, which every command goes through.
-ghost use Rattle.std.specs.Prelude.{◌≡◌, ◌↔◌, ◌<◌, ℕ, Bool, IsTrue, true, Some, Ok, length, slice_get, position};
-ghost use Rattle.std.specs.Prelude.{option_map, IsOk, IsSome, IfSome, OnOk, OnErr};
-ghost use Rattle.std.specs.List.{IsDistinct};
-ghost use Rattle.std.specs.Option.{ForSome};
+ghost use Rattle.std.specs.Prelude.{◌≡◌, ◌↔◌, ◌<◌, Bool, IsTrue, true, false, Some, Ok, length, slice_get, position};
+ghost use Rattle.std.specs.Prelude.{option_map, IsOk, IsSome, IfSome, OnOk, OnErr, is_some};
+ghost use Rattle.std.specs.List.{IsDistinct, find};
+ghost use Rattle.std.specs.Option.{ForSome, option_copied};
 ghost use Rattle.std.specs.Str.{bytes_eq};
-ghost use Rattle.lj_tile.specs.declared.names.Kind.TheVariants.{Energy};
+ghost use Rattle.lj_tile.specs.declared.names.Kind.TheVariants.{Energy, Force};
 ghost use Rattle.lj_step.specs.OpenSteps.{tile_number_of};
 ghost use Rattle.lj_ring.specs.Mixes.{edge_of};
 ghost use Rattle.lj_session.specs.declared.command.Command.TheVariants.{Advance, Measure};
-ghost use Rattle.lj_session.specs.Turns.{turns, turned};
+ghost use Rattle.lj_session.specs.Answers.{answer, can_advance};
+ghost use Rattle.lj_session.specs.Turns.{turns};
 ghost use Rattle.lj_session.specs.States as states;
-ghost use Rattle.lj_session.specs.States.{Reached, IsHere, Performs, Reads, CanTurn, IsWhole, IsAwaited, empty};
-ghost use Rattle.lj_session.specs.States.{user_of, used_by, names, held_in, held_at, changed, with_step, with_posted};
-ghost use Rattle.lj_session.specs.States.{with_tile_in, turned_on, is_whole_in};
+ghost use Rattle.lj_session.specs.States.{Reached, Performs, Reads, IsWhole, IsAwaited, empty, turns_before, session_meant};
+ghost use Rattle.lj_session.specs.States.{user_of, used_by, names, held_in, held_at, owed_in, changed, with_step, with_posted};
+ghost use Rattle.lj_session.specs.States.{with_tile_in, owing, step_closed, step_passed, rested, is_whole_in};
 
 use crate::command::Command;
 use crate::refusal::Refusal;
@@ -27,7 +28,8 @@ use lj_xyz::Symbol;
 use std::alloc::Global;
 use std::marker::Model;
 
-/// A user's quota and sessions. It is always the last user of some list of commands, begun without sessions.
+/// A user's quota and sessions, with the steps that are owed to them. With these done it is always the last user of some
+/// list of commands, begun without sessions.
 #[derive(Drop)]
 pub struct UserState {
     sessions: Sessions,
@@ -91,7 +93,7 @@ impl UserState {
         self.sessions.name_at(i)
     }
 
-    /// The simulation of the i-th session.
+    /// The simulation of the i-th session, as its present step began.
     pub fn sim_at(&self, i: usize) -> &Sim
         requires { i < length self.now.sessions }
         ensures { option_map (λ held. held.live) (held_at self.now i) ≡ Some result.now }
@@ -124,25 +126,56 @@ impl UserState {
         self.sessions.at(i).branches()
     }
 
-    /// How many turns a command takes. One that takes none is answered at once.
+    /// The step number that the i-th session is going to: the one after all steps that are owed to it.
+    pub fn target_at(&self, i: usize) -> i64
+        requires { i < length self.now.sessions }
+        ensures { option_map (λ held. (session_meant held).sim.step) (held_at self.now i) ≡ Some result }
+    {
+        self.sessions.at(i).target()
+    }
+
+    /// How many steps are owed to the session of a name; 0 where there is none.
+    pub(crate) fn owed(&self, name: &Name) -> u64
+        ensures { result ≡ owed_in self.now name.now }
+    {
+        self.sessions.owed(name)
+    }
+
+    /// How many steps are owed to the session that a command waits for.
+    pub(crate) fn steps_before(&self, command: &Command) -> u64
+        ensures { result ≡ states.steps_before self.now command.now }
+    {
+        self.sessions.steps_before(command)
+    }
+
+    /// How many turns a command takes of its own.
     pub(crate) fn turns(&self, command: &Command) -> u64
-        ensures value { result ≡ turns (user_of self.now) command.now }
-        ensures here { 0 < result → IsHere self.now command.now }
+        ensures { result ≡ turns (user_of self.now) command.now }
     {
         self.sessions.turns(command)
     }
 
-    /// Performs a command that takes no turn.
+    /// Performs a command that waits for nothing, and takes no step of its own.
     ///
     /// # Errors
     /// The command's first refusal. The user is as before then. `Memory` comes only from LOAD, LOADMIX and BRANCH.
     pub(crate) fn perform(&mut self, command: Command) -> Result<Reply, Refusal>
-        requires { turns (user_of self.old) command ≡ 0 }
+        requires { turns_before self.old command ≡ 0 }
         ensures performs { Performs self.old command result self.new }
         ensures quota { self.new.quota ≡ self.old.quota }
         ensures unchanged { OnErr result (self.new ≡ self.old) }
     {
         self.sessions.perform(command)
+    }
+
+    /// Owes so many steps more to a session, which may go on by them.
+    pub(crate) fn owe(&mut self, name: &Name, steps: u64)
+        requires session { IsSome (held_in self.old name.now) }
+        requires near { ForSome (held_in self.old name.now) (λ held. can_advance (session_meant held) steps ≡ true) }
+        ensures owed { self.new ≡ changed name.now (owing steps) self.old }
+        ensures user { user_of self.new ≡ (answer (user_of self.old) (Advance name.now steps) false).1 }
+    {
+        self.sessions.owe(name, steps);
     }
 
     /// Opens a step of a kind in a session. No tile of it is posted or in.
@@ -153,11 +186,37 @@ impl UserState {
         self.sessions.open_step(name, kind);
     }
 
+    /// Closes the open step of a session.
+    pub(crate) fn close_step(&mut self, name: &Name)
+        ensures closed { self.new ≡ changed name.now step_closed self.old }
+        ensures user { user_of self.new ≡ user_of self.old }
+    {
+        self.sessions.close_step(name);
+    }
+
+    /// Begins each step anew: of a session to which steps are owed one is open, with no tile posted or in, and of every
+    /// other none.
+    pub(crate) fn rest(&mut self)
+        ensures rested { self.new ≡ rested self.old }
+        ensures user { user_of self.new ≡ user_of self.old }
+        ensures distinct { IsDistinct bytes_eq (names self.new) }
+    {
+        self.sessions.rest();
+    }
+
     /// The task of the first tile of a session's open step that is neither posted nor in.
     pub(crate) fn next_task(&self, label: &Label) -> Option<Task>
         ensures { result ≡ states.next_task self.now label.now }
     {
         self.sessions.next_task(label)
+    }
+
+    /// The first session, in order of loading, that has such a tile. The tasks are of the user of this number.
+    pub(crate) fn next_session(&self, user: u8) -> Option<&Name>
+        ensures { option_copied result
+            ≡ find (λ name. is_some (states.next_task self.now (record { user = user; session = name }))) (names self.now) }
+    {
+        self.sessions.next_session(user)
     }
 
     /// Notes that tile as posted.
@@ -186,27 +245,29 @@ impl UserState {
         self.sessions.is_whole(name)
     }
 
-    /// Turns the whole force step of a session: its motion goes one step on, and no step is open in it.
-    pub(crate) fn turn(&mut self, name: &Name)
-        requires session { IsSome (held_in self.old name.now) }
-        requires may { ForSome (held_in self.old name.now) CanTurn }
-        ensures turned { self.new ≡ changed name.now turned_on self.old }
-        ensures user { (n : ℕ) → user_of self.new ≡ turned (user_of self.old) (Advance name.now n) }
+    /// The first session, in order of loading, of which a step is open and all its tiles are in.
+    pub(crate) fn first_whole(&self) -> Option<&Name>
+        ensures { option_copied result ≡ find (is_whole_in self.now) (names self.now) }
     {
-        self.sessions.turn(name);
+        self.sessions.first_whole()
     }
 
-    /// The reply to an ADVANCE that has no step left to go.
-    pub(crate) fn advanced(&self, name: Name) -> Reply
-        requires { IsSome (held_in self.now name) }
-        ensures { Reads self.now (Advance name 0) (Ok result) }
+    /// Turns the whole force step of a session, one that is owed: its motion goes one step on, and the next step is open
+    /// if one is owed.
+    pub(crate) fn pass_step(&mut self, name: &Name)
+        requires session { IsSome (held_in self.old name.now) }
+        requires owed { 0 < owed_in self.old name.now }
+        requires whole { ForSome (held_in self.old name.now) (IsWhole Force) }
+        ensures passed { self.new ≡ changed name.now step_passed self.old }
+        ensures user { user_of self.new ≡ user_of self.old }
     {
-        self.sessions.advanced(name)
+        self.sessions.pass_step(name);
     }
 
     /// The reply to a MEASURE, by the whole energy step of the session.
     pub(crate) fn measured(&self, name: Name) -> Reply
         requires session { IsSome (held_in self.now name) }
+        requires settled { owed_in self.now name ≡ 0 }
         requires whole { ForSome (held_in self.now name) (IsWhole Energy) }
         ensures { Reads self.now (Measure name) (Ok result) }
     {

@@ -5,6 +5,8 @@
 #[cfg(test)]
 mod books;
 #[cfg(test)]
+mod owing;
+#[cfg(test)]
 mod queues;
 #[cfg(test)]
 mod strays;

@@ -1,17 +1,36 @@
-//! Tests of the pools: a full queue, a closed pool, ends that are gone, ends that poll, and tasks that a gate sends back.
+//! Tests of the pools: a full queue, a closed pool, ends that are gone, ends that poll, tasks that a gate sends back, work
+//! that goes ahead of the next command, and sessions that are worked on at once.
 
+mod ahead;
 mod closing;
 mod ends;
 mod handed_back;
 mod polling;
 mod room;
+mod side_by_side;
 
 use crate::tasks::task;
-use lj_pool::Pool;
-use lj_queue::{PoolPass, QueueEnd, QueuePool, Room};
+use lj_pool::{Gate, Pool, Share};
+use lj_queue::{PoolPass, QueueEnd, QueuePool, Room, work_queue};
+use lj_table::Table;
 use lj_tile::Task;
+use std::io::Write;
 use std::process::Abort;
+use std::rt::Clock;
 use std::sync::Wait;
+use std::sync::atomic::{AtomicU64, Ordering};
+use std::thread::Threads;
+use std::time::Duration;
+use std::{io, thread};
+
+/// How many milliseconds a pool stays open.
+const LATE_MILLIS: u64 = 20;
+
+/// How often a gate looks at most before it lets a task pass.
+const TURNS: u64 = 1_000_000;
+
+/// How long it waits after each look, so that other threads get on.
+const TURN_MICROS: u64 = 20;
 
 /// The next pass or share of those that a pool was made with.
 fn next<T>(rt: &impl Abort, items: &mut Vec<T>) -> T {
@@ -51,4 +70,72 @@ fn posting_end<'p, L: Room, R: Wait + Abort>(
     let mut end = pool.end(rt, next(rt, passes), user);
     post_some(rt, &mut end, user, tasks);
     end
+}
+
+/// Closes a pool, after a while.
+fn close_late<L: Room, R: Wait + Clock>(rt: &R, pool: &QueuePool<L>) {
+    thread::sleep(rt, Duration::from_millis(LATE_MILLIS));
+    pool.close(rt);
+}
+
+/// Looks again and again whether something was counted, and answers whether it was.
+fn wait_for<R: Clock>(rt: &R, count: &AtomicU64) -> bool {
+    for _ in 0..TURNS {
+        if count.load(Ordering::SeqCst) > 0 {
+            return true;
+        }
+        thread::sleep(rt, Duration::from_micros(TURN_MICROS));
+    }
+    false
+}
+
+/// A writer that counts the replies that begin so.
+#[derive(Drop)]
+struct Counted<'a, W> {
+    output: W,
+    begins: &'a [u8],
+    count: &'a AtomicU64,
+}
+
+impl<W: Write> Write for Counted<'_, W> {
+    fn write(&mut self, buf: &[u8]) -> io::Result<usize> {
+        let written = self.output.write(buf)?;
+        if buf.starts_with(self.begins) {
+            self.count.fetch_add(1, Ordering::SeqCst);
+        }
+        Ok(written)
+    }
+
+    fn flush(&mut self) -> io::Result<()> {
+        Ok(())
+    }
+}
+
+/// A worker with its share, and its pass to a queue.
+type Hand<L> = (Share<L>, PoolPass<L>);
+
+/// A worker computes tasks until the pool is closed.
+fn work_with<L: Room, G: Gate, R: Wait + Clock>(
+    rt: &R,
+    pool: &QueuePool<L>,
+    gate: &G,
+    hand: Hand<L>,
+) -> Hand<L> {
+    let (share, pass) = hand;
+    work_queue(rt, pool, share, pass, gate, &Table::new())
+}
+
+/// So do both workers.
+fn work_both<L: Room + Send + Sync, G: Gate + Sync, R: Threads + Wait + Clock + Sync>(
+    rt: &R,
+    pool: &QueuePool<L>,
+    gate: &G,
+    hands: (Hand<L>, Hand<L>),
+) -> (Hand<L>, Hand<L>) {
+    let (first, second) = hands;
+    thread::join(
+        rt,
+        move || work_with(rt, pool, gate, first),
+        move || work_with(rt, pool, gate, second),
+    )
 }

@@ -31,7 +31,8 @@ enum Step {
     Next(u8),
     Post(u8),
     Fetch(u8, usize),
-    Turn(u8),
+    /// Turns this session, or where the word is empty the first one that is ready.
+    Turn(u8, &'static str),
     Leave(u8),
     By(u8, Deed),
 }
@@ -58,7 +59,7 @@ const STEPS: [Step; 24] = [
     Step::By(1, Deed::Compute),
     Step::By(1, Deed::Give),
     Step::Fetch(2, 0),
-    Step::Turn(2),
+    Step::Turn(2, ""),
     Step::Next(2),
     Step::End(1),
     Step::Leave(1),
@@ -68,7 +69,7 @@ const TOLD: &str = "A 1 OK LOAD a 0 2\nB 2 OK LOAD b 0 2\nA 1 OK BRANCH a k 0\n\
     A 1 OK LIST 1\na 0 2 1\nB 2 OK ADVANCE b 1\nB 2 OK LIST 1\nb 1 2 0\n";
 
 /// Events of connections and workers that are none.
-const OF_NOBODY: [Step; 27] = [
+const OF_NOBODY: [Step; 29] = [
     Step::Hello(0, "A"),
     Step::Hello(65, "A"),
     Step::Hello(255, "A"),
@@ -93,8 +94,10 @@ const OF_NOBODY: [Step; 27] = [
     Step::By(17, Deed::HandBack),
     Step::Fetch(0, 0),
     Step::Fetch(65, 0),
-    Step::Turn(0),
-    Step::Turn(65),
+    Step::Turn(0, ""),
+    Step::Turn(0, "b"),
+    Step::Turn(65, ""),
+    Step::Turn(65, "b"),
     Step::Leave(0),
 ];
 
@@ -121,10 +124,19 @@ fn event(rt: &(impl Abort + AllocGlobal), step: Step) -> Result<Event, AllocErro
         Step::Next(connection) => at(connection, Act::Next),
         Step::Post(connection) => at(connection, Act::Post),
         Step::Fetch(connection, pick) => at(connection, Act::Fetch { pick }),
-        Step::Turn(connection) => at(connection, Act::Turn),
+        Step::Turn(connection, word) => at(connection, turn(rt, word)),
         Step::Leave(connection) => at(connection, Act::Leave),
         Step::By(worker, deed) => Event::By { worker, deed },
     })
+}
+
+fn turn(rt: &impl Abort, word: &str) -> Act {
+    let session = if word.is_empty() {
+        None
+    } else {
+        Some(name(rt, word))
+    };
+    Act::Turn { session }
 }
 
 fn at(connection: u8, act: Act) -> Event {

@@ -86,6 +86,7 @@ verb_filled None words body = refl
 verb_filled (Some verb.Load) words body = counted_filled (last_count words) (load_of words) body
 verb_filled (Some verb.LoadMix) words body = counted_filled (last_count words) (load_mix_of words) body
 verb_filled (Some verb.Advance) words body = number_stays command.Advance (λ p body. refl) words body
+verb_filled (Some verb.Start) words body = number_stays command.Start (λ p body. refl) words body
 verb_filled (Some verb.Reverse) words body = session_stays command.Reverse (λ name body. refl) words body
 verb_filled (Some verb.Branch) words body = branch_stays command.Branch (λ p body. refl) words body
 verb_filled (Some verb.Restore) words body = branch_stays command.Restore (λ p body. refl) words body

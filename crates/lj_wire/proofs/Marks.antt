@@ -15,7 +15,7 @@ use Rattle.lj_session.specs.declared.body.LoadBody.{LoadBody}
 use Rattle.lj_session.specs.declared.body.LoadBody.TheVariants.{Unread, Lost, Read}
 use Rattle.lj_session.specs.declared.command.Load.{Load}
 use Rattle.lj_session.specs.declared.command.Command.{Command}
-use Rattle.lj_session.specs.declared.command.Command.TheVariants.{Load as LoadCommand, Advance, Reverse, Branch, Restore}
+use Rattle.lj_session.specs.declared.command.Command.TheVariants.{Load as LoadCommand, Advance, Start, Reverse, Branch, Restore}
 use Rattle.lj_session.specs.declared.command.Command.TheVariants.{Forget, Tug}
 use Rattle.lj_session.specs.declared.command.Command.TheVariants.{Measure, Show, Dump, List as ListSessions}
 use Rattle.lj_session.specs.declared.command.Command.TheVariants.{ListBranches, Unload, Bye}
@@ -137,6 +137,7 @@ command_tells : (user : User) (command : Command) → Tells user (λ mark. perfo
 unfolding performed
 command_tells user (LoadCommand load) = load_tells user load load.body (admitted user load)
 command_tells user (Advance name n) = inl (λ mark. refl)
+command_tells user (Start name n) = inl (λ mark. refl)
 command_tells user (Reverse name) = inl (λ mark. refl)
 command_tells user (Branch name branch) = branch_tells user name branch (session_of user name)
 command_tells user (Restore name branch) = inl (λ mark. refl)

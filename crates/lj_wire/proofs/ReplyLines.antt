@@ -1,7 +1,7 @@
 -- The lines of replies: of sessions in a list, of what is saved, and of atoms in a frame.
 use Rattle.std.proofs.lemmas.Grind.{flat_map-append}
 use Rattle.std.proofs.Common.{append_assoc, append-nil, Bool, true, false, not, cond, nat_lt, one-add, ◌≡◌, ℕ, zero}
-use Rattle.std.proofs.Common.{suc, ◌+◌, ◌-◌, ◌<◌, ◌≤◌, List, [], ◌∷◌, ◌++◌, length, map, Option, Some, None, refl, sym}
+use Rattle.std.proofs.Common.{suc, ◌+◌, ◌-◌, ◌<◌, ◌≤◌, ℤ, List, [], ◌∷◌, ◌++◌, length, map, Option, Some, None, refl, sym}
 use Rattle.std.proofs.Common.{ap, ◌∙◌, subst, arith, rules, slice_get, slice_index_or, IfSome}
 use Rattle.std.specs.Fmt.{decimal, signed_decimal}
 use Rattle.std.specs.List.{join_with_byte, flat_map, position, position_or_len}
@@ -19,35 +19,42 @@ use Rattle.lj_ring.specs.declared.coordinates.Place.{Place}
 use Rattle.lj_step.specs.Motion.{Simulation}
 use Rattle.lj_step.specs.Live.{Live}
 use Rattle.lj_branch.specs.Named.{named}
-use Rattle.lj_session.specs.States.{Held, Owned, held_at, names, user_of, as_session, as_entry}
+use Rattle.lj_session.specs.States.{Held, Owned, held_in, held_at, names, user_of, as_session, session_meant, as_entry}
+use Rattle.lj_session.specs.States.{owed_in}
 use Rattle.lj_session.specs.Users.{Session}
+use Rattle.lj_session.proofs.Owed.{count-meant, meant-settled}
+use Rattle.lj_session.proofs.Holding.{owed-of}
 use Rattle.lj_wire.specs.Lines.{blank_and}
 use Rattle.lj_wire.specs.Texts.{line_of, session_line, branch_line, atom_line, atom_lines}
 
 -- the line of a session, by what its readers answer
-session_entry_line : (entry : Option (List ℕ × Held)) (name : List ℕ) (live : Live) (saved : List (List ℕ × Simulation))
+session_entry_line : (entry : Option (List ℕ × Held)) (name : List ℕ) (step : ℤ) (live : Live)
+    (saved : List (List ℕ × Simulation))
     → option_map (λ e. e.0) entry ≡ Some name
+    → option_map (λ held. (session_meant held).sim.step) (option_map (λ e. e.1) entry) ≡ Some step
     → option_map (λ held. held.live) (option_map (λ e. e.1) entry) ≡ Some live
     → option_map (λ held. held.saved) (option_map (λ e. e.1) entry) ≡ Some saved
-    → Some (line_of (name ∷ signed_decimal live.sim.step ∷ decimal (length live.sim.cur) ∷ decimal (length saved) ∷ []))
+    → Some (line_of (name ∷ signed_decimal step ∷ decimal (length live.sim.cur) ∷ decimal (length saved) ∷ []))
     ≡ option_map session_line (option_map as_entry entry)
-session_entry_line None name live saved named is_live is_saved = cc
-session_entry_line (Some entry) name live saved named is_live is_saved =
+session_entry_line None name step live saved named is_step is_live is_saved = cc
+session_entry_line (Some entry) name step live saved named is_step is_live is_saved =
     let n : entry.0 ≡ name = cc in
+    let t : (session_meant entry.1).sim.step ≡ step = cc in
     let l : entry.1.live ≡ live = cc in
     let s : entry.1.saved ≡ saved = cc in
-    rw (← n, ← l, ← s) refl
+    rw (← n, ← t, ← l, ← s, count-meant entry.1) refl
 
-pub session_line_at : (owned : Owned) (i : ℕ) (name : List ℕ) (live : Live) (saved : List (List ℕ × Simulation))
+pub session_line_at : (owned : Owned) (i : ℕ) (name : List ℕ) (step : ℤ) (live : Live) (saved : List (List ℕ × Simulation))
     → slice_get (names owned) i ≡ Some name
+    → option_map (λ held. (session_meant held).sim.step) (held_at owned i) ≡ Some step
     → option_map (λ held. held.live) (held_at owned i) ≡ Some live
     → option_map (λ held. held.saved) (held_at owned i) ≡ Some saved
-    → Some (line_of (name ∷ signed_decimal live.sim.step ∷ decimal (length live.sim.cur) ∷ decimal (length saved) ∷ []))
+    → Some (line_of (name ∷ signed_decimal step ∷ decimal (length live.sim.cur) ∷ decimal (length saved) ∷ []))
     ≡ option_map session_line (slice_get (user_of owned).sessions i)
-session_line_at owned i name live saved named is_live is_saved =
+session_line_at owned i name step live saved named is_step is_live is_saved =
     rw (slice_get-map as_entry owned.sessions i)
-    (session_entry_line (slice_get owned.sessions i) name live saved
-    (sym (slice_get-map (λ e. e.0) owned.sessions i) ∙ named) is_live is_saved)
+    (session_entry_line (slice_get owned.sessions i) name step live saved
+    (sym (slice_get-map (λ e. e.0) owned.sessions i) ∙ named) is_step is_live is_saved)
 
 -- atom t's line in a frame
 pub atom_lines-get : (edge : ℕ) (symbols : List (List ℕ)) (places : List Place) (t : ℕ) (symbol : List ℕ)
@@ -141,12 +148,12 @@ held_under owned name =
         omega (arith, ltb-false _ _ past, length-map owned.sessions (λ e. e.0)) in
         found ∙ ap (option_map (λ e. e.1)) (slice_get_past owned.sessions _ beyond)
 
--- the session of a name in the user that is held, by the place of the name
+-- the session of a name in the user that is meant, by the place of the name
 pub named-index : (owned : Owned) (name : List ℕ) (index : Option ℕ) → index ≡ position (bytes_eq name) (names owned)
-    → named name (user_of owned).sessions ≡ option_map as_session (option_and_then (held_at owned) index)
+    → named name (user_of owned).sessions ≡ option_map session_meant (option_and_then (held_at owned) index)
 named-index owned name index is_index =
-    lookup-map_values as_session (bytes_eq name) owned.sessions
-    ∙ ap (option_map as_session) (rw is_index (held_under owned name))
+    lookup-map_values session_meant (bytes_eq name) owned.sessions
+    ∙ ap (option_map session_meant) (rw is_index (held_under owned name))
 
 -- the place of a name is one of a session
 pub index_within : (owned : Owned) (name : List ℕ) (i : ℕ) → Some i ≡ position (bytes_eq name) (names owned)
@@ -161,15 +168,15 @@ index_within owned name i found =
 -- what is true of the session at the place of a name is true of the session of that name
 pub under_name : (owned : Owned) (name : List ℕ) (i : ℕ) (P : Option Session → Type 0)
     → Some i ≡ position (bytes_eq name) (names owned)
-    → IfSome (held_at owned i) (λ held. P (Some (as_session held))) → P (named name (user_of owned).sessions)
+    → IfSome (held_at owned i) (λ held. P (Some (session_meant held))) → P (named name (user_of owned).sessions)
 under_name owned name i P found holds =
     let within : i < length owned.sessions = index_within owned name i found in
     let is_named = named-index owned name (Some i) found in
     there (held_at owned i) refl is_named holds within
   where
     there : (entry : Option Held) → held_at owned i ≡ entry
-        → named name (user_of owned).sessions ≡ option_map as_session entry
-        → IfSome entry (λ held. P (Some (as_session held))) → i < length owned.sessions
+        → named name (user_of owned).sessions ≡ option_map session_meant entry
+        → IfSome entry (λ held. P (Some (session_meant held))) → i < length owned.sessions
         → P (named name (user_of owned).sessions)
     there None gone is_named holds within =
         let past : slice_get (names owned) i ≡ None =
@@ -182,6 +189,22 @@ under_name owned name i P found holds =
         lost None h = refl
         lost (Some e) h = cc
     there (Some held) is_held is_named holds within = subst P (sym is_named) holds
+
+-- where nothing is owed to the session of a name, nothing is owed to the one at the place of the name
+pub settled_at : (owned : Owned) (name : List ℕ) (i : ℕ) → Some i ≡ position (bytes_eq name) (names owned)
+    → owed_in owned name ≡ 0 → ForSome (held_at owned i) (λ held. held.owed ≡ 0)
+settled_at owned name i found none held there =
+    let at_place : held_in owned name ≡ held_at owned i =
+    subst (λ (index : Option ℕ). held_in owned name ≡ option_and_then (held_at owned) index) (sym found)
+    (held_under owned name) in
+    owed-of owned name held (at_place ∙ there) none
+
+-- what is true of a session as its present step began is true of the one that is meant, where nothing is owed to it
+pub settled : (entry : Option Held) (P : Option Session → Type 0) → ForSome entry (λ held. held.owed ≡ 0)
+    → IfSome entry (λ held. P (Some (as_session held))) → IfSome entry (λ held. P (Some (session_meant held)))
+settled None P none holds = tt
+settled (Some held) P none holds =
+    subst (λ (session : Session). P (Some session)) (sym (meant-settled held (none held refl))) holds
 
 -- where a name has no place, no session has it
 pub no_name : (owned : Owned) (name : List ℕ) → None ≡ position (bytes_eq name) (names owned)

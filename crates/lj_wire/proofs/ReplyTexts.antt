@@ -2,7 +2,7 @@
 use Rattle.std.proofs.Common.{◌≡◌, ℕ, List, [], ◌∷◌, refl, sym, append-nil}
 use Rattle.std.specs.List.{concat}
 use Rattle.lj_session.specs.declared.reply.Reply.{Reply}
-use Rattle.lj_session.specs.declared.reply.Reply.TheVariants.{Loaded, LoadedMix, Advanced, Reversed, Branched}
+use Rattle.lj_session.specs.declared.reply.Reply.TheVariants.{Loaded, LoadedMix, Advanced, Started, Reversed, Branched}
 use Rattle.lj_session.specs.declared.reply.Reply.TheVariants.{Restored, Forgotten}
 use Rattle.lj_session.specs.declared.reply.Reply.TheVariants.{Tugged, Measured, Shown, Dumped, Listed, ListedBranches}
 use Rattle.lj_session.specs.declared.reply.Reply.TheVariants.{Unloaded, Bye, Refused}
@@ -17,6 +17,7 @@ unfolding text reply_lines
 text-lines user (Loaded name atoms) = one _
 text-lines user (LoadedMix name atoms) = one _
 text-lines user (Advanced name step) = one _
+text-lines user (Started name step) = one _
 text-lines user (Reversed name step) = one _
 text-lines user (Branched name branch step) = one _
 text-lines user (Restored name branch step) = one _

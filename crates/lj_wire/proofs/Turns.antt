@@ -1,51 +1,59 @@
--- The turns of what runs.
-use Rattle.std.proofs.Common.{◌≡◌, ◌+◌, ◌<◌, Bool, false, refl, ap, arith}
+-- Items before which turns come: they do not end the connection.
+use Rattle.std.proofs.Common.{◌≡◌, ◌<◌, Bool, true, false, cond, nat_lt, refl, ap, arith}
 use Rattle.lj_session.specs.declared.command.Command.{Command}
-use Rattle.lj_session.specs.declared.command.Command.TheVariants.{Load, Advance, Reverse, Branch, Restore, Forget, Tug}
+use Rattle.lj_session.specs.declared.command.Command.TheVariants.{Load, Advance, Start, Reverse, Branch, Restore, Forget, Tug}
 use Rattle.lj_session.specs.declared.command.Command.TheVariants.{Measure, Show, Dump, List as ListSessions}
 use Rattle.lj_session.specs.declared.command.Command.TheVariants.{ListBranches, Unload, Bye}
 use Rattle.lj_session.specs.Users.{User}
-use Rattle.lj_session.specs.Turns.{turns, rest_of}
-use Rattle.lj_session.proofs.Advancing.{command_keeps, command_lowers}
+use Rattle.lj_session.specs.Answers.{AnswersAlike}
+use Rattle.lj_session.specs.Turns.{turns, waits_for}
+use Rattle.lj_session.specs.States.{Owned, steps_before, turns_before}
+use Rattle.lj_session.specs.Owners.{rest_of, left_in}
 use Rattle.lj_wire.specs.declared.item.Item.{Item}
 use Rattle.lj_wire.specs.declared.item.Item.TheVariants as items
 use Rattle.lj_wire.specs.Items.{ends}
 use Rattle.lj_wire.specs.Texts.{text}
 use Rattle.lj_wire.specs.Told.{told}
-use Rattle.lj_wire.specs.Runs.{item_turns, user_turned, item_left}
+use Rattle.lj_wire.specs.Runs.{item_before}
 
-command_goes_on : (user : User) (command : Command) → 0 < turns user command
+pub told_alike : (new : User) (left : Command) (old : User) (command : Command) (mark : Bool)
+    → AnswersAlike new left old command
+    → told new (items.Command left) mark ≡ told old (items.Command command) mark
+told_alike new left old command mark alike = ap (λ a. (text a.1 a.0, a.1)) (alike mark)
+
+-- before BYE no turn comes
+bye_at_once : (owned : Owned) → turns_before owned Bye ≡ 0
+unfolding turns waits_for
+bye_at_once owned = refl
+
+command_goes_on : (owned : Owned) (command : Command) → 0 < turns_before owned command
     → (ends (items.Command command) ≡ false) × (ends (items.Command (rest_of command)) ≡ false)
-unfolding turns rest_of
-command_goes_on user Bye h = absurd (omega (arith, h))
-command_goes_on user (Advance name n) h = (refl, refl)
-command_goes_on user (Measure name) h = (refl, refl)
-command_goes_on user (Load load) h = (refl, refl)
-command_goes_on user (Reverse name) h = (refl, refl)
-command_goes_on user (Branch name branch) h = (refl, refl)
-command_goes_on user (Restore name branch) h = (refl, refl)
-command_goes_on user (Forget name branch) h = (refl, refl)
-command_goes_on user (Tug name atom x y z) h = (refl, refl)
-command_goes_on user (Show name atom) h = (refl, refl)
-command_goes_on user (Dump name) h = (refl, refl)
-command_goes_on user ListSessions h = (refl, refl)
-command_goes_on user (ListBranches name) h = (refl, refl)
-command_goes_on user (Unload name) h = (refl, refl)
+unfolding rest_of
+command_goes_on owned Bye h = absurd (omega (arith, h, bye_at_once owned))
+command_goes_on owned (Advance name n) h = (refl, refl)
+command_goes_on owned (Start name n) h = (refl, refl)
+command_goes_on owned (Measure name) h = (refl, refl)
+command_goes_on owned (Load load) h = (refl, refl)
+command_goes_on owned (Reverse name) h = (refl, refl)
+command_goes_on owned (Branch name branch) h = (refl, refl)
+command_goes_on owned (Restore name branch) h = (refl, refl)
+command_goes_on owned (Forget name branch) h = (refl, refl)
+command_goes_on owned (Tug name atom x y z) h = (refl, refl)
+command_goes_on owned (Show name atom) h = (refl, refl)
+command_goes_on owned (Dump name) h = (refl, refl)
+command_goes_on owned ListSessions h = (refl, refl)
+command_goes_on owned (ListBranches name) h = (refl, refl)
+command_goes_on owned (Unload name) h = (refl, refl)
 
-pub steps_on : (user : User) (item : Item) (mark : Bool) → 1 < item_turns user item
-    → told (user_turned user item) (item_left item) mark ≡ told user item mark
-steps_on user (items.Command command) mark h = ap (λ a. (text a.1 a.0, a.1)) (command_keeps user command mark h)
-steps_on user (items.Bad fault) mark h = refl
-steps_on user (items.Last fault) mark h = refl
+pub waits_on : (owned : Owned) (item : Item) → 0 < item_before owned item → ends item ≡ false
+waits_on owned (items.Command command) h = (command_goes_on owned command h).0
+waits_on owned (items.Bad fault) h = refl
+waits_on owned (items.Last fault) h = absurd (omega (arith, h))
 
-pub one_less : (user : User) (item : Item) → 1 < item_turns user item
-    → item_turns (user_turned user item) (item_left item) + 1 ≡ item_turns user item
-one_less user (items.Command command) h = command_lowers user command h
-one_less user (items.Bad fault) h = absurd (omega (arith, h))
-one_less user (items.Last fault) h = absurd (omega (arith, h))
-
-pub runs_on : (user : User) (item : Item) → 0 < item_turns user item
-    → (ends item ≡ false) × (ends (item_left item) ≡ false)
-runs_on user (items.Command command) h = command_goes_on user command h
-runs_on user (items.Bad fault) h = (refl, refl)
-runs_on user (items.Last fault) h = absurd (omega (arith, h))
+pub left_goes_on : (owned : Owned) (command : Command) → 0 < turns_before owned command
+    → ends (items.Command (left_in command owned)) ≡ false
+left_goes_on owned command h = by_test (nat_lt 0 (steps_before owned command))
+  where
+    by_test : (owes : Bool) → ends (items.Command (cond owes command (rest_of command))) ≡ false
+    by_test true = (command_goes_on owned command h).0
+    by_test false = (command_goes_on owned command h).1

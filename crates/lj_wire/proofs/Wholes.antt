@@ -7,7 +7,7 @@ use Rattle.std.proofs.KnownBytes.{Consumes-nil}
 use Rattle.std.specs.Io.KnownBytes.{Keeps, Consumes}
 use Rattle.lj_session.specs.declared.body.LoadBody.{LoadBody}
 use Rattle.lj_session.specs.declared.body.LoadBody.TheVariants.{Unread, Lost, Read}
-use Rattle.lj_session.specs.declared.command.Command.TheVariants.{Load, Advance, Reverse, Branch, Restore, Forget, Tug}
+use Rattle.lj_session.specs.declared.command.Command.TheVariants.{Load, Advance, Start, Reverse, Branch, Restore, Forget, Tug}
 use Rattle.lj_session.specs.declared.command.Command.TheVariants.{Measure, Show, Dump, List as ListSessions}
 use Rattle.lj_session.specs.declared.command.Command.TheVariants.{ListBranches, Unload, Bye}
 use Rattle.lj_wire.specs.declared.limits.TheConstants.{MAX_LINE_BYTES, LONG_LINE_BYTES, MAX_ITEMS}
@@ -31,6 +31,7 @@ lost : (item : Item) (body : List ℕ) (handed : Item) → takes_body item ≡ t
     → IsLost (with_body item (Read body)) handed
 lost (Command (Load load)) body handed can is = record { load = load; body = body; found_is = refl; item_is = is }
 lost (Command (Advance name steps)) body handed can is = cc
+lost (Command (Start name steps)) body handed can is = cc
 lost (Command (Reverse name)) body handed can is = cc
 lost (Command (Branch name branch)) body handed can is = cc
 lost (Command (Restore name branch)) body handed can is = cc

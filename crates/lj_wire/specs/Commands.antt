@@ -173,6 +173,7 @@ abbrev pub verb_command : Verb → LoadBody → Words → Option Command
 verb_command verb.Load body words = load_command body (load_of words)
 verb_command verb.LoadMix body words = load_command body (load_mix_of words)
 verb_command verb.Advance body words = number_command command.Advance words
+verb_command verb.Start body words = number_command command.Start words
 verb_command verb.Reverse body words = session_command command.Reverse words
 verb_command verb.Branch body words = branch_command command.Branch words
 verb_command verb.Restore body words = branch_command command.Restore words

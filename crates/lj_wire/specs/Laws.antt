@@ -1,8 +1,13 @@
 -- Laws of streams and of answers, each proved on the function of its name.
-use Rattle.std.specs.Prelude.{◌≡◌, ℕ, ◌+◌, ◌<◌, ◌≤◌, Bool, true, false, List}
+use Rattle.std.specs.Prelude.{◌≡◌, ℕ, ◌<◌, ◌≤◌, Bool, true, false, List}
 use Rattle.lj_session.specs.declared.body.LoadBody.TheVariants.{Lost}
+use Rattle.lj_session.specs.declared.command.Command.{Command as Order}
 use Rattle.lj_session.specs.Users.{User}
+use Rattle.lj_session.specs.Answers.{AnswersAlike}
+use Rattle.lj_session.specs.States.{Owned, turns_before}
+use Rattle.lj_session.specs.Owners.{left_in}
 use Rattle.lj_wire.specs.declared.item.Item.{Item}
+use Rattle.lj_wire.specs.declared.item.Item.TheVariants.{Command}
 use Rattle.lj_wire.specs.declared.limits.TheConstants.{MAX_BODY_BYTES}
 use Rattle.lj_wire.specs.Items.{ends}
 use Rattle.lj_wire.specs.Commands.{announced, item_with, item_of}
@@ -10,7 +15,7 @@ use Rattle.std.specs.List.{concat}
 use Rattle.lj_session.specs.declared.reply.Reply.{Reply}
 use Rattle.lj_wire.specs.Texts.{is_memory, text, reply_lines}
 use Rattle.lj_wire.specs.Told.{answered, told}
-use Rattle.lj_wire.specs.Runs.{item_turns, user_turned, item_left}
+use Rattle.lj_wire.specs.Runs.{item_before}
 use Rattle.lj_wire.specs.Streams.{Splits}
 
 -- A stream has one splitting into items and a rest.
@@ -27,20 +32,17 @@ abbrev pub MarkIsTold : Type 0
 MarkIsTold = (user : User) (item : Item) (mark : Bool)
     → told user item mark ≡ told user item (is_memory (told user item mark).0)
 
--- While more than one turn is left, a turn does not change what is told in the end.
-abbrev pub TurnKeepsTold : Type 0
-TurnKeepsTold = (user : User) (item : Item) (mark : Bool) → 1 < item_turns user item
-    → told (user_turned user item) (item_left item) mark ≡ told user item mark
+-- Where two commands are answered alike, each from a user of its own, the same is told.
+abbrev pub AlikeIsTold : Type 0
+AlikeIsTold = (new : User) (left : Order) (old : User) (command : Order) (mark : Bool)
+    → AnswersAlike new left old command → told new (Command left) mark ≡ told old (Command command) mark
 
--- A turn lowers the number of turns by one, while more than one is left.
-abbrev pub TurnLowersTurns : Type 0
-TurnLowersTurns = (user : User) (item : Item) → 1 < item_turns user item
-    → item_turns (user_turned user item) (item_left item) + 1 ≡ item_turns user item
-
--- What runs does not end the connection, and what is left of it does not either.
-abbrev pub RunningGoesOn : Type 0
-RunningGoesOn = (user : User) (item : Item) → 0 < item_turns user item
-    → (ends item ≡ false) × (ends (item_left item) ≡ false)
+-- An item before which turns come does not end the connection, and what is left of a command before which they come does
+-- not either.
+pub record WaitingGoesOn : Type 0 where
+  pub whole : (owned : Owned) (item : Item) → 0 < item_before owned item → ends item ≡ false
+  pub left : (owned : Owned) (command : Order) → 0 < turns_before owned command
+      → ends (Command (left_in command owned)) ≡ false
 
 -- A line whose body found no memory is answered what it is answered where memory is refused to it.
 abbrev pub BodyMissingIsMarked : Type 0

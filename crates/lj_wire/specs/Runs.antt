@@ -1,25 +1,12 @@
--- Items that run take turns, ADVANCE one for each step: how many turns an item takes, the user after a turn, and what
--- is then left of the item.
+-- Items that wait: how many turns come before an item is answered.
 use Rattle.std.specs.Prelude.{ℕ}
-use Rattle.lj_session.specs.Users.{User}
-use Rattle.lj_session.specs.Turns.{turns, turned, rest_of}
+use Rattle.lj_session.specs.States.{Owned, turns_before}
 use Rattle.lj_wire.specs.declared.item.Item.{Item}
 use Rattle.lj_wire.specs.declared.item.Item.TheVariants.{Command, Bad, Last}
 
--- how many turns an item takes
-abbrev pub item_turns : User → Item → ℕ
-item_turns user (Command command) = turns user command
-item_turns user (Bad fault) = 0
-item_turns user (Last fault) = 0
-
--- the user after a turn
-abbrev pub user_turned : User → Item → User
-user_turned user (Command command) = turned user command
-user_turned user (Bad fault) = user
-user_turned user (Last fault) = user
-
--- what is left of the item
-abbrev pub item_left : Item → Item
-item_left (Command command) = Command (rest_of command)
-item_left (Bad fault) = Bad fault
-item_left (Last fault) = Last fault
+-- how many turns come before an item is answered: the steps that are owed to the session that it waits for, and those of
+-- its own
+abbrev pub item_before : Owned → Item → ℕ
+item_before owned (Command command) = turns_before owned command
+item_before owned (Bad fault) = 0
+item_before owned (Last fault) = 0

@@ -10,7 +10,7 @@ use Rattle.lj_step.specs.Motion.{Simulation}
 use Rattle.lj_xyz.specs.Texts.{count_text, comment_text, atom_text}
 use Rattle.lj_session.specs.declared.refusal.Refusal.TheVariants.{Memory}
 use Rattle.lj_session.specs.declared.reply.Reply.{Reply}
-use Rattle.lj_session.specs.declared.reply.Reply.TheVariants.{Loaded, LoadedMix, Advanced, Reversed, Branched}
+use Rattle.lj_session.specs.declared.reply.Reply.TheVariants.{Loaded, LoadedMix, Advanced, Started, Reversed, Branched}
 use Rattle.lj_session.specs.declared.reply.Reply.TheVariants.{Restored, Forgotten}
 use Rattle.lj_session.specs.declared.reply.Reply.TheVariants.{Tugged, Measured, Shown, Dumped, Listed, ListedBranches}
 use Rattle.lj_session.specs.declared.reply.Reply.TheVariants.{Unloaded, Bye, Refused}
@@ -80,6 +80,7 @@ unfoldable pub text : User → Reply → List ℕ
 text user (Loaded name atoms) = ok (codes "LOAD" ∷ name ∷ codes "0" ∷ decimal atoms ∷ [])
 text user (LoadedMix name atoms) = ok (codes "LOADMIX" ∷ name ∷ codes "0" ∷ decimal atoms ∷ [])
 text user (Advanced name step) = ok (codes "ADVANCE" ∷ name ∷ signed_decimal step ∷ [])
+text user (Started name step) = ok (codes "START" ∷ name ∷ signed_decimal step ∷ [])
 text user (Reversed name step) = ok (codes "REVERSE" ∷ name ∷ signed_decimal step ∷ [])
 text user (Branched name branch step) = ok (codes "BRANCH" ∷ name ∷ branch ∷ signed_decimal step ∷ [])
 text user (Restored name branch step) = ok (codes "RESTORE" ∷ name ∷ branch ∷ signed_decimal step ∷ [])

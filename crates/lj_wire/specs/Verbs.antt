@@ -11,6 +11,7 @@ verbs =
     (codes "LOAD", verb.Load)
     ∷ (codes "LOADMIX", verb.LoadMix)
     ∷ (codes "ADVANCE", verb.Advance)
+    ∷ (codes "START", verb.Start)
     ∷ (codes "REVERSE", verb.Reverse)
     ∷ (codes "BRANCH", verb.Branch)
     ∷ (codes "RESTORE", verb.Restore)

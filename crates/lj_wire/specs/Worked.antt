@@ -37,6 +37,17 @@ pub one_branch : IsWritten (quota 8 16384 1)
 unfolding computed
 one_branch = played (quota 8 16384 1) 15 nothing _ _ refl refl refl
 
+-- two sessions are started, and what asks for one of them is answered as it will be; LIST tells where they are going
+pub two_started : IsWritten USUAL
+    (codes "LOAD a 256 1 131072 rest 28\n2\ndimer\nAr 0 0 0\nAr 1.5 0 0\n"
+    ++ (codes "LOAD b 256 1 131072 rest 28\n2\ndimer\nAr 0 0 0\nAr 1.5 0 0\nSTART a 2\nSTART b 1\nSHOW b 0\nSHOW a 0\n"
+    ++ codes "START a 1\nLIST\nREVERSE a\nSHOW a 0\nSTART z 1\nSTART a 1000001\nSTART a 1\nBRANCH a k\n"))
+    (codes "OK LOAD a 0 2\nOK LOAD b 0 2\nOK START a 2\nOK START b 1\nOK SHOW b 1 0 589 0 0\nOK SHOW a 2 0 1774 0 0\n"
+    ++ (codes "OK START a 3\nOK LIST 2\na 3 2 0\nb 1 2 0\nOK REVERSE a 2\nOK SHOW a 2 0 1774 0 0\nERR 10 NO_SESSION\n"
+    ++ codes "ERR 23 STEP_RANGE\nOK START a 1\nOK BRANCH a k 1\n"))
+unfolding computed
+two_started = played USUAL 14 nothing _ _ refl refl refl
+
 -- carriage returns, a column that is not used and a last line without line feed; and bodies that are cut short
 pub short_bodies : IsWritten USUAL
     (codes "LOAD g 256 1 1 rest 35\n2\r\nc\r\nNa 0 0 0 1.0\r\nCl 1.5 0 0 -1.0LOAD k 256 1 1 rest 13\n2\nc\n"

@@ -40,6 +40,10 @@ pub(crate) fn parse_words(verb: Verb, words: Words) -> Option<Command>
             let (name, steps) = name_and_number(words)?;
             Some(Command::Advance { name, steps })
         }
+        Verb::Start => {
+            let (name, steps) = name_and_number(words)?;
+            Some(Command::Start { name, steps })
+        }
         Verb::Reverse => Some(Command::Reverse {
             name: one_name(words)?,
         }),

@@ -1,6 +1,6 @@
 //! Laws of streams and of answers: functions that do nothing, whose contracts are the laws.
-ghost use Rattle.lj_wire.specs.Laws.{OneSplitting, SomeSplitting, MarkIsTold, TurnKeepsTold, TurnLowersTurns};
-ghost use Rattle.lj_wire.specs.Laws.{RunningGoesOn, BodyMissingIsMarked, BodyIsBounded, LinesAreTheText};
+ghost use Rattle.lj_wire.specs.Laws.{OneSplitting, SomeSplitting, MarkIsTold, AlikeIsTold, WaitingGoesOn};
+ghost use Rattle.lj_wire.specs.Laws.{BodyMissingIsMarked, BodyIsBounded, LinesAreTheText};
 
 /// A stream has one splitting into items and a rest.
 pub fn one_splitting()
@@ -17,19 +17,14 @@ pub fn mark_is_told()
     ensures { MarkIsTold }
 {}
 
-/// While more than one turn is left, a turn does not change what is told in the end.
-pub fn turn_keeps_told()
-    ensures { TurnKeepsTold }
+/// Where two commands are answered alike, the same is told.
+pub fn alike_is_told()
+    ensures { AlikeIsTold }
 {}
 
-/// A turn lowers the number of turns by one.
-pub fn turn_lowers_turns()
-    ensures { TurnLowersTurns }
-{}
-
-/// What runs does not end the connection.
-pub fn running_goes_on()
-    ensures { RunningGoesOn }
+/// An item that has to wait does not end the connection, and neither does what is left of it.
+pub fn waiting_goes_on()
+    ensures { WaitingGoesOn }
 {}
 
 /// A line whose body found no memory is answered what it is answered where memory is refused to it.

@@ -9,7 +9,8 @@ ghost use Rattle.lj_ring.specs.Mixes.{edge_of};
 ghost use Rattle.lj_session.specs.Refusals.{refusal_text};
 ghost use Rattle.lj_branch.specs.Named.{named};
 ghost use Rattle.lj_session.specs.Users.{User};
-ghost use Rattle.lj_session.specs.States.{held_at, names, user_of, as_session};
+ghost use Rattle.lj_session.specs.States.{held_at, names, user_of, session_meant};
+ghost use Rattle.lj_session.specs.Owners.{IsSettled};
 ghost use Rattle.lj_wire.specs.Texts.{ok, ended, text, reply_lines, line_of, session_line, session_lines, branch_line};
 ghost use Rattle.lj_wire.specs.Texts.{branch_lines, dump_lines, atom_lines};
 ghost use Rattle.lj_wire.specs.Lines.{blank_and, is_one_line};
@@ -260,7 +261,8 @@ fn listed_line(line: &mut Line, sessions: usize)
     end(line);
 }
 
-/// The line of a session in a list: its name, its step, how many atoms it has and how much is saved in it.
+/// The line of a session in a list: its name, the step that it is going to, how many atoms it has and how much is saved in
+/// it.
 fn entry_line(line: &mut Line, name: &Name, step: i64, atoms: usize, branches: usize)
     ensures { line.new.items ≡ line_of (name.now ∷ signed_decimal step ∷ decimal atoms ∷ decimal branches ∷ []) }
 {
@@ -282,7 +284,7 @@ fn session_line(line: &mut Line, state: &UserState, i: usize)
     entry_line(
         line,
         state.name_at(i),
-        sim.step(),
+        state.target_at(i),
         sim.count(),
         branches.len(),
     );
@@ -328,6 +330,7 @@ fn only_line(line: &mut Line, reply: &Reply)
         Reply::Loaded { name, atoms } => loaded_line(line, b"LOAD", name, *atoms),
         Reply::LoadedMix { name, atoms } => loaded_line(line, b"LOADMIX", name, *atoms),
         Reply::Advanced { name, step } => number_line(line, b"ADVANCE", name, *step),
+        Reply::Started { name, step } => number_line(line, b"START", name, *step),
         Reply::Reversed { name, step } => number_line(line, b"REVERSE", name, *step),
         Reply::Branched { name, branch, step } => names_and_step_line(
             line, b"BRANCH", name, branch, *step,
@@ -379,7 +382,7 @@ fn list_line(line: &mut Line, state: &UserState, k: usize) -> Option<()>
 fn branches_line(line: &mut Line, state: &UserState, i: usize, name: &Name, k: usize) -> Option<()>
     requires { i < length state.now.sessions }
     ensures text { IfSome (held_at state.now i) (λ held.
-        option_map (λ _. line.new.items) result ≡ slice_get (branch_lines name.now (Some (as_session held))) k) }
+        option_map (λ _. line.new.items) result ≡ slice_get (branch_lines name.now (Some (session_meant held))) k) }
     ensures unchanged { IfNone result (line.new ≡ line.old) }
 {
     let branches = state.branches_at(i);
@@ -395,11 +398,13 @@ fn branches_line(line: &mut Line, state: &UserState, i: usize, name: &Name, k: u
     Some(())
 }
 
-/// Line k of the reply to DUMP of the i-th session, which has this name. None past the last line.
+/// Line k of the reply to DUMP of the i-th session, which has this name, and to which no step is owed. None past the last
+/// line.
 fn dump_line(line: &mut Line, state: &UserState, i: usize, name: &Name, k: usize) -> Option<()>
-    requires { i < length state.now.sessions }
+    requires session { i < length state.now.sessions }
+    requires settled { ForSome (held_at state.now i) (λ held. held.owed ≡ 0) }
     ensures text { IfSome (held_at state.now i) (λ held.
-        option_map (λ _. line.new.items) result ≡ slice_get (dump_lines name.now (Some (as_session held))) k) }
+        option_map (λ _. line.new.items) result ≡ slice_get (dump_lines name.now (Some (session_meant held))) k) }
     ensures unchanged { IfNone result (line.new ≡ line.old) }
 {
     let sim = state.sim_at(i);
@@ -416,6 +421,7 @@ fn dump_line(line: &mut Line, state: &UserState, i: usize, name: &Name, k: usize
 
 /// Line k of a reply, counted from 0, with the state of the user after the command. None past the last line.
 pub fn reply_line(state: &UserState, reply: &Reply, k: usize) -> Option<Line>
+    requires settled { IsSettled state.now reply.now }
     ensures { option_map (λ line. line.items) result ≡ slice_get (reply_lines (user_of state.now) reply.now) k }
 {
     let mut line = Line::new();
@@ -427,6 +433,7 @@ pub fn reply_line(state: &UserState, reply: &Reply, k: usize) -> Option<Line>
 /// command. None past the last line; `line` is as before then.
 #[tactic(auto, unfolding(crate::specs::Texts::reply_lines))]
 pub fn put_reply_line(line: &mut Line, state: &UserState, reply: &Reply, k: usize) -> Option<()>
+    requires settled { IsSettled state.now reply.now }
     ensures text { option_map (λ _. line.new.items) result ≡ slice_get (reply_lines (user_of state.now) reply.now) k }
     ensures unchanged { IfNone result (line.new ≡ line.old) }
 {

@@ -1,20 +1,18 @@
 -- What a connection does, put together from what the calls below it say.
-use Rattle.std.proofs.Common.{◌≡◌, ℕ, ◌-◌, ◌↔◌, true, false, List, Option, Some, None, Result, Ok, Err, IsOk, OnOk, OnErr, IsSome, IsSomeAnd, IfSome, is_some, is_ok, slice_get, refl, ap, sym, subst, inl, inr}
+use Rattle.std.proofs.Common.{◌≡◌, ℕ, ◌-◌, ◌↔◌, true, false, List, Option, Some, None, Result, Ok, Err, IsOk, OnOk, OnErr, IsSomeAnd, is_some, is_ok, slice_get, refl, ap, sym, subst, inl, inr}
 use Rattle.lj_tile.specs.Tasks.{Work}
 use Rattle.lj_step.specs.declared.simulations.Stray.{Stray}
-use Rattle.std.specs.Option.{option_map_or, option_and_then}
-use Rattle.lj_session.specs.declared.command.Command.{Command as Order}
-use Rattle.lj_session.specs.States.{is_whole_in}
-use Rattle.lj_session.specs.Owners.{Owning, IsAwaitedIn, with_task_in, is_ready, step_of}
+use Rattle.lj_session.specs.States.{rested}
+use Rattle.lj_session.specs.Owners.{Owning, is_busy, IsAwaitedIn, with_task_in}
 use Rattle.lj_access.specs.Rows.{Row, HasEntered, changed, with_home}
 use Rattle.lj_book.specs.declared.marks.Mark.TheVariants.{ToFetch}
 use Rattle.lj_book.specs.Held.{Held, at, mark_of, Fetches, Withdraws}
 use Rattle.lj_world.specs.declared.event.Act.TheVariants.{Fetch, Turn, Leave}
 use Rattle.lj_world.specs.States.{Talk, inside, gone, with_stage}
-use Rattle.lj_world.specs.Connections.{here, IsGiven, CanTurn, IsDone}
+use Rattle.lj_world.specs.Connections.{here, IsGiven, IsDone}
 use Rattle.lj_world.specs.Attempts.{Acts}
 use Rattle.lj_world.specs.Kept.{HasRow}
-use Rattle.lj_world.specs.Begun.{TurnsTo}
+use Rattle.lj_world.specs.Begun.{CanTurn, TurnsTo}
 
 -- nothing is there
 pub none_there : {A : Type 0} (o : Option A) → is_some o ≡ false → o ≡ None
@@ -29,14 +27,14 @@ given owner after work (Err stray) awaited taken unchanged = inr (λ h. let e : 
 
 -- a result of the user leaves the book
 pub fetches : (talk : Talk) (rows : List Row) (old new : Held) (owner after : Owning) (work : Work) (key pick : ℕ)
-    → talk.stage ≡ inside owner → IsSome owner.rest → Fetches old new work key → mark_of (at old key) ≡ ToFetch talk.user
+    → talk.stage ≡ inside owner → is_busy owner ≡ true → Fetches old new work key → mark_of (at old key) ≡ ToFetch talk.user
     → IsGiven owner work after
     → Acts (Fetch pick) (here talk rows old) None (here (record talk { stage = inside after; posted = talk.posted - 1 }) rows new)
-fetches talk rows old new owner after work key pick owns runs f done g = inl (record {
+fetches talk rows old new owner after work key pick owns busy f done g = inl (record {
   quiet = refl;
   owner = owner;
   owns = owns;
-  runs = runs;
+  busy = busy;
   key = key;
   work = work;
   of_user = let m = ap mark_of f.was in cc;
@@ -48,9 +46,9 @@ fetches talk rows old new owner after work key pick owns runs f done g = inl (re
 
 -- the state goes home
 pub leaves : (talk : Talk) (rows : List Row) (old new : Held) (owner : Owning) → talk.stage ≡ inside owner
-    → owner.rest ≡ None → IsDone talk → Withdraws talk.user old new
+    → owner.waiting ≡ None → IsDone talk → Withdraws talk.user old new
     → Acts Leave (here talk rows old) None
-    (here (with_stage gone talk) (changed talk.user (with_home owner.state) rows) new)
+    (here (with_stage gone talk) (changed talk.user (with_home (rested owner.state)) rows) new)
 leaves talk rows old new owner owns idle done w = inl (record {
   quiet = refl;
   owner = owner;
@@ -73,43 +71,9 @@ pub at_ok : {T E : Type 0} (r : Result T E) (P : Type 0) → IsOk r → OnOk r P
 at_ok (Ok x) P ok p = p
 at_ok {T} {E} (Err e) P ok p = absurd (let k : is_ok {T = T} {E = E} (Err e) ≡ true = ok in cc)
 
--- where a step is whole, a command runs
-runs_from : (owner : Owning) (rest : Option Order) → option_map_or (λ step. is_whole_in owner.state step.0) (option_and_then step_of rest) false ≡ true
-    → (command : Order) × (rest ≡ Some command)
-runs_from owner None e = absurd (let k : false ≡ true = e in cc)
-runs_from owner (Some command) e = (command, refl)
-
-pub ready_runs : (owner : Owning) → is_ready owner ≡ true → (command : Order) × (owner.rest ≡ Some command)
-ready_runs owner ready = runs_from owner owner.rest ready
-
--- the turn of a step that is whole
-turns_by : (talk : Talk) (owner after : Owning) (command : Order) (text : Option (List ℕ)) → CanTurn talk owner command
-    → TurnsTo owner command text after → (rows : List Row) (book : Held)
-    → Acts Turn (here talk rows book) text (here (with_stage (inside after) talk) rows book)
-turns_by talk owner after command None can t rows book = inl (inl (record {
-  quiet = refl;
-  owner = owner;
-  command = command;
-  whole = can;
-  more = t.more;
-  next = ap (λ (o : Owning). here (with_stage (inside o) talk) rows book) t.next;
-}))
-turns_by talk owner after command (Some text) can t rows book = inl (inr (record {
-  owner = owner;
-  command = command;
-  whole = can;
-  last = t.last;
-  told = text;
-  after = after;
-  answers = t.answers;
-  replies = refl;
-  next = refl;
-}))
-
-pub turns_acts : (talk : Talk) (owner after : Owning) (text : Option (List ℕ)) → talk.stage ≡ inside owner
-    → is_ready owner ≡ true → IfSome owner.rest (λ command. TurnsTo owner command text after) → (rows : List Row) (book : Held)
-    → Acts Turn (here talk rows book) text (here (with_stage (inside after) talk) rows book)
-turns_acts talk owner after text owns ready t =
-    let r = ready_runs owner ready in
-    let P : Option Order → Type 0 = λ rest. IfSome rest (λ command. TurnsTo owner command text after) in
-    turns_by talk owner after r.0 text (record { owns = owns; runs = r.1; ready = ready }) (subst P r.1 t)
+-- a session is turned
+pub turns_acts : (talk : Talk) (session : Option (List ℕ)) (owner after : Owning) (name : List ℕ) (text : Option (List ℕ))
+    → talk.stage ≡ inside owner → CanTurn session owner name → TurnsTo owner name text after → (rows : List Row) (book : Held)
+    → Acts (Turn session) (here talk rows book) text (here (with_stage (inside after) talk) rows book)
+turns_acts talk session owner after name text owns can turns rows book =
+    inl (record { owner = owner; owns = owns; name = name; can = can; after = after; turns = turns; next = refl })

@@ -1,45 +1,72 @@
--- Items that are answered at once, told as texts.
-use Rattle.std.proofs.Common.{◌≡◌, ℕ, false, List, None, refl, ap, ◌∙◌}
+-- Items that are answered, told as texts.
+use Rattle.std.proofs.Common.{◌≡◌, ℕ, false, List, Option, Some, None, IfSome, refl, sym, ap, ◌∙◌, subst, true≢false}
 use Rattle.lj_session.specs.declared.command.Command.{Command as Order}
 use Rattle.lj_session.specs.declared.reply.Reply.{Reply}
 use Rattle.lj_session.specs.declared.reply.Reply.TheVariants.{Refused}
 use Rattle.lj_session.specs.Users.{User}
-use Rattle.lj_session.specs.Turns.{turns}
-use Rattle.lj_session.specs.Owners.{Owning, user_in, IsAnswered}
+use Rattle.lj_session.specs.States.{turns_before, OthersKept, OtherSessionsKept, IsIdleIn, StepsFollow}
+use Rattle.lj_session.specs.Owners.{Owning, user_in, IsAnswered, IsReplied, IsLastTurn, is_waited_for}
 use Rattle.lj_wire.specs.declared.item.Fault.{Fault}
 use Rattle.lj_wire.specs.declared.item.Item.TheVariants.{Command, Bad, Last}
 use Rattle.lj_wire.specs.Items.{refusal_of}
 use Rattle.lj_wire.specs.Texts as texts
-use Rattle.lj_world.specs.Begun.{BeginsAtOnce}
+use Rattle.lj_world.specs.Begun.{Answers, BeginsAtOnce, TurnsLast}
 
--- a command that takes no turn
-pub command_answered : (owner next : Owning) (command : Order) (reply : Reply) (text : List ℕ)
-    → turns (user_in owner) command ≡ 0 → IsAnswered (user_in owner) command reply (user_in next)
-    → next.rest ≡ None → next.number ≡ owner.number → text ≡ texts.text (user_in next) reply
-    → BeginsAtOnce owner (Command command) text next
-command_answered owner next command reply text none answered idle number made = record {
-  at_once = none;
-  answers = record {
-    mark = answered.mark;
-    is_told = ap (λ (t : List ℕ). (t, user_in next)) made
-        ∙ ap (λ (a : Reply × User). (texts.text a.1 a.0, a.1)) answered.answers;
-    idle = idle;
-    number = number;
-  };
+-- a command that is answered, as a text
+told_answer : (owner next : Owning) (command : Order) (reply : Reply) (text : List ℕ) → IsAnswered (user_in owner) command reply (user_in next)
+    → next.waiting ≡ None → next.number ≡ owner.number → text ≡ texts.text (user_in next) reply → Answers owner (Command command) text next
+told_answer owner next command reply text answered idle number made = record {
+  mark = answered.mark;
+  is_told = ap (λ (t : List ℕ). (t, user_in next)) made
+      ∙ ap (λ (a : Reply × User). (texts.text a.1 a.0, a.1)) answered.answers;
+  idle = idle;
+  number = number;
 }
 
+-- a command before which no turn comes
+pub command_answered : (owner next : Owning) (command : Order) (reply : Reply) (text : List ℕ)
+    → turns_before owner.state command ≡ 0 → IsAnswered (user_in owner) command reply (user_in next)
+    → next.waiting ≡ None → next.number ≡ owner.number → OthersKept command owner.state next.state
+    → StepsFollow command owner.state next.state → text ≡ texts.text (user_in next) reply
+    → BeginsAtOnce owner (Command command) text next
+command_answered owner next command reply text none answered idle number others steps made = record {
+  at_once = none;
+  answers = told_answer owner next command reply text answered idle number made;
+  steps = (others, steps);
+}
+
+-- what waits, at the last turn of its session
+pub wait_answered : (owner next : Owning) (name : List ℕ) (reply : Reply) (text : List ℕ) → IsLastTurn name owner
+    → IsReplied owner reply (user_in next) → next.waiting ≡ None → next.number ≡ owner.number → IsIdleIn next.state name
+    → OtherSessionsKept name owner.state next.state → text ≡ texts.text (user_in next) reply → TurnsLast owner name text next
+wait_answered owner next name reply text last replied idle number rests others made = by owner.waiting refl
+  where
+    by : (waiting : Option Order) → owner.waiting ≡ waiting → TurnsLast owner name text next
+    by None e = absurd (true≢false (sym last.waited ∙ ap (λ w. is_waited_for w name) e))
+    by (Some command) e = record {
+      last = last;
+      command = command;
+      waits = e;
+      answers = told_answer owner next command reply text
+          (subst (λ w. IfSome w (λ k. IsAnswered (user_in owner) k reply (user_in next))) e replied) idle number made;
+      rests = rests;
+      others = others;
+    }
+
 -- a line that is no command
-pub fault_answered : (owner : Owning) (fault : Fault) (text : List ℕ) → owner.rest ≡ None
+pub fault_answered : (owner : Owning) (fault : Fault) (text : List ℕ) → owner.waiting ≡ None
     → text ≡ texts.text (user_in owner) (Refused (refusal_of fault)) → BeginsAtOnce owner (Bad fault) text owner
 fault_answered owner fault text idle made = record {
   at_once = refl;
   answers = record { mark = false; is_told = ap (λ (t : List ℕ). (t, user_in owner)) made; idle = idle; number = refl };
+  steps = refl;
 }
 
 -- a fault that ends the connection
-pub last_answered : (owner : Owning) (fault : Fault) (text : List ℕ) → owner.rest ≡ None
+pub last_answered : (owner : Owning) (fault : Fault) (text : List ℕ) → owner.waiting ≡ None
     → text ≡ texts.text (user_in owner) (Refused (refusal_of fault)) → BeginsAtOnce owner (Last fault) text owner
 last_answered owner fault text idle made = record {
   at_once = refl;
   answers = record { mark = false; is_told = ap (λ (t : List ℕ). (t, user_in owner)) made; idle = idle; number = refl };
+  steps = refl;
 }

@@ -4,7 +4,6 @@ use Rattle.std.proofs.Common.{◌≡◌, ◌≢◌, ℕ, zero, suc, ◌<◌, Boo
 use Rattle.std.proofs.lemmas.Bool.{eqb-false}
 use Rattle.std.proofs.lemmas.Bool.Decides.{eqb_tells}
 use Rattle.lj_session.specs.Users.{User}
-use Rattle.lj_wire.specs.Laws.{TurnKeepsTold, RunningGoesOn}
 use Rattle.lj_access.specs.Rows.{Row, user_with}
 use Rattle.lj_world.specs.States.{State, Talk, talk_at}
 use Rattle.lj_world.specs.Scripts.{Heard}
@@ -66,9 +65,9 @@ pub goes_same : (seat : Seat) (reply : Option (List ℕ)) (x : Seat) → Goes se
 goes_same seat reply x (arrives item still) = record { connection = refl; user = refl; number = refl }
 goes_same seat reply x ends_now = record { connection = refl; user = refl; number = refl }
 goes_same seat reply x (works owner after posted e r u) = record { connection = refl; user = refl; number = refl }
-goes_same seat reply x (begins owner after command items e r o i t a u) = record { connection = refl; user = refl; number = refl }
+goes_same seat reply x (begins owner after command left items e r o i t a u) = record { connection = refl; user = refl; number = refl }
 goes_same seat reply x (answers owner after item items mark text e r o i t a) = record { connection = refl; user = refl; number = refl }
-goes_same seat reply x (turns_on owner after command e r t a u) = record { connection = refl; user = refl; number = refl }
+goes_same seat reply x (turns_on owner after command left e r a u) = record { connection = refl; user = refl; number = refl }
 goes_same seat reply x (turns_last owner after command mark text e r t a) = record { connection = refl; user = refl; number = refl }
 
 -- what a user is told by a reply to a connection of another or of itself
@@ -106,55 +105,54 @@ pub changes_length : (c : ℕ) (seat x : Seat) (seats new : List Seat) → Chang
 changes_length c seat x seats new (here e) = refl
 changes_length c seat x seats new (there {other} {line = rest} {new = changed} e ch) = ap suc (changes_length c seat x rest changed ch)
 
-module _ (keeps : TurnKeepsTold) (goes_on : RunningGoesOn) where
-  -- a connection goes on, and all rows stay
-  pub goes : (rows : List Row) (user : ℕ) (from : User) (s t : State) (hs new_hs : List Heard) (texts : Texts) (k : Keeps rows user from s hs texts)
-      (c : ℕ) (seat x : Seat) (reply : Option (List ℕ)) → found c k.seats ≡ Some seat → Goes seat reply x → t.rows ≡ s.rows
-      → t.talks ≡ slice_set s.talks c (Some x.talk) → ((new : List Seat) → Changes c seat x k.seats new → new_hs ≡ map heard_of new)
-      → Keeps rows user from t new_hs (grown texts (told_if (nat_eq seat.talk.user user) reply))
-  goes rows user from s t hs new_hs texts k c seat x reply is_found g rows_stay talks heard_new = record {
-    seats = new;
-    heard_is = heard_new new ch;
-    places = ap length talks ∙ length-set {A = Option Talk} s.talks c (Some x.talk) ∙ k.places;
-    seated = seated_changed s t c seat x k.seats new ch same.connection k.places within talks k.seated;
-    distinct = distinct_changed c seat x k.seats new ch same.connection k.distinct;
-    names = λ name token. ap (λ r. user_with r name token) rows_stay ∙ k.names name token;
-    granted = λ v row e. k.granted v row (sym (ap (λ r. slice_get r v) rows_stay) ∙ e) ∙ sym (lengths v);
-    row = k.row;
-    there_is = ap (λ r. slice_get r user) rows_stay ∙ k.there_is;
-    stands = (line_goes (nat_eq seat.talk.user user) refl).0;
-    numbered = (line_goes (nat_eq seat.talk.user user) refl).1;
-  }
-    where
-      same : Same seat x
-      same = goes_same seat reply x g
+-- a connection goes on, and all rows stay
+pub goes : (rows : List Row) (user : ℕ) (from : User) (s t : State) (hs new_hs : List Heard) (texts : Texts) (k : Keeps rows user from s hs texts)
+    (c : ℕ) (seat x : Seat) (reply : Option (List ℕ)) → found c k.seats ≡ Some seat → Goes seat reply x → t.rows ≡ s.rows
+    → t.talks ≡ slice_set s.talks c (Some x.talk) → ((new : List Seat) → Changes c seat x k.seats new → new_hs ≡ map heard_of new)
+    → Keeps rows user from t new_hs (grown texts (told_if (nat_eq seat.talk.user user) reply))
+goes rows user from s t hs new_hs texts k c seat x reply is_found g rows_stay talks heard_new = record {
+  seats = new;
+  heard_is = heard_new new ch;
+  places = ap length talks ∙ length-set {A = Option Talk} s.talks c (Some x.talk) ∙ k.places;
+  seated = seated_changed s t c seat x k.seats new ch same.connection k.places within talks k.seated;
+  distinct = distinct_changed c seat x k.seats new ch same.connection k.distinct;
+  names = λ name token. ap (λ r. user_with r name token) rows_stay ∙ k.names name token;
+  granted = λ v row e. k.granted v row (sym (ap (λ r. slice_get r v) rows_stay) ∙ e) ∙ sym (lengths v);
+  row = k.row;
+  there_is = ap (λ r. slice_get r user) rows_stay ∙ k.there_is;
+  stands = (line_goes (nat_eq seat.talk.user user) refl).0;
+  numbered = (line_goes (nat_eq seat.talk.user user) refl).1;
+}
+  where
+    same : Same seat x
+    same = goes_same seat reply x g
 
-      changes : (new : List Seat) × Changes c seat x k.seats new
-      changes = found_changes c k.seats seat x is_found
+    changes : (new : List Seat) × Changes c seat x k.seats new
+    changes = found_changes c k.seats seat x is_found
 
-      new : List Seat
-      new = changes.0
+    new : List Seat
+    new = changes.0
 
-      ch : Changes c seat x k.seats new
-      ch = changes.1
+    ch : Changes c seat x k.seats new
+    ch = changes.1
 
-      within : c < 65
-      within = let w = within_places s.talks c seat.talk (k.seated c ∙ ap (option_map (λ seat. seat.talk)) is_found) in omega (arith, w, k.places)
+    within : c < 65
+    within = let w = within_places s.talks c seat.talk (k.seated c ∙ ap (option_map (λ seat. seat.talk)) is_found) in omega (arith, w, k.places)
 
-      lengths : (v : ℕ) → length (line_in v new) ≡ length (line_in v k.seats)
-      lengths v = by (nat_eq seat.talk.user v) refl
-        where
-          by : (b : Bool) → nat_eq seat.talk.user v ≡ b → length (line_in v new) ≡ length (line_in v k.seats)
-          by true e = changes_length c seat x (line_in v k.seats) (line_in v new) (line_changes v c seat x k.seats new ch e same.user)
-          by false e = ap length (line_stays v c seat x k.seats new ch e same.user)
+    lengths : (v : ℕ) → length (line_in v new) ≡ length (line_in v k.seats)
+    lengths v = by (nat_eq seat.talk.user v) refl
+      where
+        by : (b : Bool) → nat_eq seat.talk.user v ≡ b → length (line_in v new) ≡ length (line_in v k.seats)
+        by true e = changes_length c seat x (line_in v k.seats) (line_in v new) (line_changes v c seat x k.seats new ch e same.user)
+        by false e = ap length (line_stays v c seat x k.seats new ch e same.user)
 
-      line_goes : (b : Bool) → nat_eq seat.talk.user user ≡ b
-          → Stands from k.row.past k.row.home (line_in user new) (grown texts (told_if b reply)) × Numbered 0 (line_in user new)
-      line_goes true e =
-          let line_ch = line_changes user c seat x k.seats new ch e same.user in (
-            stands_goes keeps goes_on from k.row.past k.row.home c seat x (line_in user k.seats) (line_in user new) texts reply line_ch g k.stands,
-            numbered_changed c seat x 0 (line_in user k.seats) (line_in user new) line_ch same.number k.numbered,
-          )
-      line_goes false e =
-          subst (λ l. Stands from k.row.past k.row.home l texts × Numbered 0 l) (sym (line_stays user c seat x k.seats new ch e same.user))
-          (k.stands, k.numbered)
+    line_goes : (b : Bool) → nat_eq seat.talk.user user ≡ b
+        → Stands from k.row.past k.row.home (line_in user new) (grown texts (told_if b reply)) × Numbered 0 (line_in user new)
+    line_goes true e =
+        let line_ch = line_changes user c seat x k.seats new ch e same.user in (
+          stands_goes from k.row.past k.row.home c seat x (line_in user k.seats) (line_in user new) texts reply line_ch g k.stands,
+          numbered_changed c seat x 0 (line_in user k.seats) (line_in user new) line_ch same.number k.numbered,
+        )
+    line_goes false e =
+        subst (λ l. Stands from k.row.past k.row.home l texts × Numbered 0 l) (sym (line_stays user c seat x k.seats new ch e same.user))
+        (k.stands, k.numbered)

@@ -9,6 +9,7 @@ pub mod PlacesKept
 pub mod Tellings
 pub mod Cuts
 pub mod Seats
+pub mod Waiting
 pub mod Lines
 pub mod Agreeing
 pub mod Finding
@@ -20,3 +21,4 @@ pub mod Running
 pub mod Values
 pub mod Others
 pub mod Pushing
+pub mod Ongoing

@@ -7,14 +7,13 @@ use Rattle.lj_session.specs.States.{Owned, user_of}
 use Rattle.lj_session.specs.Owners.{Owning, user_in}
 use Rattle.lj_wire.specs.declared.item.Item.{Item}
 use Rattle.lj_wire.specs.declared.item.Item.TheVariants.{Command}
-use Rattle.lj_wire.specs.Laws.{TurnKeepsTold, RunningGoesOn}
 use Rattle.lj_world.specs.States.{waiting, inside}
 use Rattle.lj_world.specs.Connections.{IsDone}
 use Rattle.lj_world.specs.Scripts.{is_closed, cut, joined}
-use Rattle.lj_world.specs.Laws.{after_turns}
+use Rattle.lj_world.specs.Laws.{WaitsOn}
 use Rattle.lj_world.proofs.Tellings.{Texts, Told, told-append}
 use Rattle.lj_world.proofs.Cuts.{cut-none}
-use Rattle.lj_world.proofs.Seats.{Seat, heard_of, seat_inside, seat_gone, Goes, grown, Waits, HasLeft, Now, rests, over, runs, Owns, now_of, not_waiting, not_gone, gone_waiting, wait_goes, left_goes, own_goes, own_leaves, wait_enters}
+use Rattle.lj_world.proofs.Seats.{Seat, heard_of, seat_inside, seat_gone, Goes, grown, Waits, HasLeft, Now, rests, over, waits_on, Owns, now_of, not_waiting, not_gone, gone_waiting, wait_goes, left_goes, own_goes, own_leaves, wait_enters}
 
 -- the first seat of this connection changed
 pub data Changes (connection : ℕ) (seat x : Seat) : List Seat → List Seat → Type 0 where
@@ -73,34 +72,33 @@ grown-append : (early late : Texts) (reply : Option (List ℕ)) → grown (early
 grown-append early late None = refl
 grown-append early late (Some text) = append_assoc early late (text ∷ [])
 
-module _ (keeps : TurnKeepsTold) (goes_on : RunningGoesOn) where
-  -- one connection goes on
-  pub stands_goes : (from : User) (past : ℕ) (home : Option Owned) (connection : ℕ) (seat x : Seat) (line new : List Seat) (texts : Texts) (reply : Option (List ℕ))
-      → Changes connection seat x line new → Goes seat reply x → Stands from past home line texts → Stands from past home new (grown texts reply)
-  unfolding Stands
-  stands_goes from zero (Some state) connection seat x line new texts reply ch g (none, same, ws) =
-      let r = all_wait_goes connection seat x line new reply ch g ws in
-      subst (λ o. Stands from zero (Some state) new (grown texts o)) (sym r.0) (none, same, r.1)
-  stands_goes from zero None connection seat x line new texts reply (here e) g (o, ws) = (own_goes keeps goes_on from texts seat reply x o g, ws)
-  stands_goes from zero None connection seat x line new texts reply (there {other} {line = rest} {new = changed} e ch) g (o, ws) =
-      let r = all_wait_goes connection seat x rest changed reply ch g ws in
-      subst (λ p. Stands from zero None (other ∷ changed) (grown texts p)) (sym r.0) (o, r.1)
-  stands_goes from (suc past) home connection seat x line new texts reply (here {line = rest} e) g (between, early, late, left, s, whole) =
-      let r = left_goes from seat reply x early between left g in
-      subst (λ o. Stands from (suc past) home (x ∷ rest) (grown texts o)) (sym r.0) (between, early, late, r.1, s, whole)
-  stands_goes from (suc past) home connection seat x line new texts reply (there {other} {line = rest} {new = changed} e ch) g (between, early, late, left, s, whole) = (
-    between,
-    early,
-    grown late reply,
-    left,
-    stands_goes between past home connection seat x rest changed late reply ch g s,
-    ap (λ ts. grown ts reply) whole ∙ grown-append early late reply,
-  )
+-- one connection goes on
+pub stands_goes : (from : User) (past : ℕ) (home : Option Owned) (connection : ℕ) (seat x : Seat) (line new : List Seat) (texts : Texts) (reply : Option (List ℕ))
+    → Changes connection seat x line new → Goes seat reply x → Stands from past home line texts → Stands from past home new (grown texts reply)
+unfolding Stands
+stands_goes from zero (Some state) connection seat x line new texts reply ch g (none, same, ws) =
+    let r = all_wait_goes connection seat x line new reply ch g ws in
+    subst (λ o. Stands from zero (Some state) new (grown texts o)) (sym r.0) (none, same, r.1)
+stands_goes from zero None connection seat x line new texts reply (here e) g (o, ws) = (own_goes from texts seat reply x o g, ws)
+stands_goes from zero None connection seat x line new texts reply (there {other} {line = rest} {new = changed} e ch) g (o, ws) =
+    let r = all_wait_goes connection seat x rest changed reply ch g ws in
+    subst (λ p. Stands from zero None (other ∷ changed) (grown texts p)) (sym r.0) (o, r.1)
+stands_goes from (suc past) home connection seat x line new texts reply (here {line = rest} e) g (between, early, late, left, s, whole) =
+    let r = left_goes from seat reply x early between left g in
+    subst (λ o. Stands from (suc past) home (x ∷ rest) (grown texts o)) (sym r.0) (between, early, late, r.1, s, whole)
+stands_goes from (suc past) home connection seat x line new texts reply (there {other} {line = rest} {new = changed} e ch) g (between, early, late, left, s, whole) = (
+  between,
+  early,
+  grown late reply,
+  left,
+  stands_goes between past home connection seat x rest changed late reply ch g s,
+  ap (λ ts. grown ts reply) whole ∙ grown-append early late reply,
+)
 
 -- the first ticket that has not left enters
 pub stands_enters : (from : User) (past n : ℕ) (state : Owned) (connection : ℕ) (seat : Seat) (owner : Owning) (line new : List Seat) (texts : Texts)
     → Changes connection seat (seat_inside owner seat) line new → seat.talk.stage ≡ waiting → Numbered n line → seat.talk.number ≡ n + past
-    → owner.rest ≡ None → user_in owner ≡ user_of state → Stands from past (Some state) line texts → Stands from past None new texts
+    → owner.waiting ≡ None → user_in owner ≡ user_of state → Stands from past (Some state) line texts → Stands from past None new texts
 unfolding Stands AllWait Numbered
 stands_enters from zero n state connection seat owner line new texts (here e) waits numbered number idle u (none, same, (w, ws)) =
     (wait_enters from texts seat owner w none idle (u ∙ same), ws)
@@ -118,18 +116,18 @@ stands_enters from (suc past) n state connection seat owner line new texts (ther
 )
 
 -- the owner leaves
-pub stands_leaves : (from : User) (past : ℕ) (connection : ℕ) (seat : Seat) (owner : Owning) (line new : List Seat) (texts : Texts)
-    → Changes connection seat (seat_gone seat) line new → seat.talk.stage ≡ inside owner → owner.rest ≡ None → IsDone seat.talk
-    → Stands from past None line texts → Stands from (suc past) (Some owner.state) new texts
+pub stands_leaves : (from : User) (past : ℕ) (connection : ℕ) (seat : Seat) (owner : Owning) (state : Owned) (line new : List Seat) (texts : Texts)
+    → Changes connection seat (seat_gone seat) line new → seat.talk.stage ≡ inside owner → owner.waiting ≡ None → IsDone seat.talk
+    → user_of state ≡ user_in owner → Stands from past None line texts → Stands from (suc past) (Some state) new texts
 unfolding Stands AllWait
-stands_leaves from zero connection seat owner line new texts (here e) inside_is idle done (o, ws) =
-    (user_in owner, texts, [], own_leaves from texts seat owner o inside_is idle done, (refl, refl, ws), sym (append-nil texts))
-stands_leaves from zero connection seat owner line new texts (there {other} {line = rest} {new = changed} e ch) inside_is idle done (o, ws) =
+stands_leaves from zero connection seat owner state line new texts (here e) inside_is idle done u (o, ws) =
+    (user_in owner, texts, [], own_leaves from texts seat owner o inside_is idle done, (refl, u, ws), sym (append-nil texts))
+stands_leaves from zero connection seat owner state line new texts (there {other} {line = rest} {new = changed} e ch) inside_is idle done u (o, ws) =
     let w = one_waits connection seat (seat_gone seat) rest changed ch ws in absurd (not_waiting seat.talk.stage owner w.waits inside_is)
-stands_leaves from (suc past) connection seat owner line new texts (here e) inside_is idle done (between, early, late, left, s, whole) =
+stands_leaves from (suc past) connection seat owner state line new texts (here e) inside_is idle done u (between, early, late, left, s, whole) =
     absurd (not_gone seat.talk.stage owner left.is_gone inside_is)
-stands_leaves from (suc past) connection seat owner line new texts (there {other} {line = rest} {new = changed} e ch) inside_is idle done (between, early, late, left, s, whole) =
-    (between, early, late, left, stands_leaves between past connection seat owner rest changed late ch inside_is idle done s, whole)
+stands_leaves from (suc past) connection seat owner state line new texts (there {other} {line = rest} {new = changed} e ch) inside_is idle done u (between, early, late, left, s, whole) =
+    (between, early, late, left, stands_leaves between past connection seat owner state rest changed late ch inside_is idle done u s, whole)
 
 all_wait_append : (line : List Seat) (x : Seat) → AllWait line → Waits x → AllWait (line ++ x ∷ [])
 unfolding AllWait
@@ -150,17 +148,17 @@ stands_hello from (suc past) home (seat ∷ line) x texts w (between, early, lat
 -- where a value stands beside the items of a script that are not answered
 unfoldable pub At : User → User → Option Order → List Item → Type 0
 At last value None others = value ≡ last
-At last value (Some command) others =
-    (item : Item) × (n : ℕ) × (more : List Item) × (others ≡ item ∷ more) × ((value, Command command) ≡ after_turns n last item)
+At last value (Some left) others =
+    (command : Order) × (more : List Item) × (others ≡ Command command ∷ more) × WaitsOn last command value left
 
--- From a user on, some first items of a script are told these texts, and this is the value, and what runs.
-pub record Account (from : User) (items : List Item) (texts : Texts) (value : User) (rest : Option Order) : Type 0 where
+-- From a user on, some first items of a script are told these texts, and this is the value, and what waits.
+pub record Account (from : User) (items : List Item) (texts : Texts) (value : User) (waits : Option Order) : Type 0 where
   pub answered : List Item
   pub others : List Item
   pub last : User
   pub split : items ≡ answered ++ others
   pub is_told : Told from answered texts last
-  pub at : At last value rest others
+  pub at : At last value waits others
 
 -- the items of a line
 abbrev pub items_in : List Seat → List Item
@@ -171,7 +169,7 @@ abbrev tail_items : Seat → List Seat → List Item
 tail_items seat line = cond (is_closed (heard_of seat)) (items_in line) []
 
 now_account : (from : User) (texts : Texts) (seat : Seat) (owner : Owning) (line : List Seat) → Now from texts seat owner
-    → Account from (items_in (seat ∷ line)) texts (user_in owner) owner.rest
+    → Account from (items_in (seat ∷ line)) texts (user_in owner) owner.waiting
 unfolding At
 now_account from texts seat owner line (rests idle _ answered split none is_told) = record {
   answered = answered;
@@ -190,16 +188,17 @@ now_account from texts seat owner line (over idle _ one is_told) = record {
   is_told = is_told;
   at = subst (λ o. At (user_in owner) (user_in owner) o (tail_items seat line)) (sym idle) refl;
 }
-now_account from texts seat owner line (runs command running _ answered item split none goes value is_told alike n left) =
-    let others = cut (item ∷ seat.talk.inbox) ++ tail_items seat line in
+now_account from texts seat owner line (waits_on left still _ answered first split none goes value is_told on) =
+    let others = cut (Command first ∷ seat.talk.inbox) ++ tail_items seat line in
     record {
       answered = answered;
       others = others;
       last = value;
-      split = ap (λ xs. cut xs ++ tail_items seat line) split ∙ ap (λ xs. xs ++ tail_items seat line) (cut-none answered (item ∷ seat.talk.inbox) none)
-          ∙ append_assoc answered (cut (item ∷ seat.talk.inbox)) (tail_items seat line);
+      split = ap (λ xs. cut xs ++ tail_items seat line) split
+          ∙ ap (λ xs. xs ++ tail_items seat line) (cut-none answered (Command first ∷ seat.talk.inbox) none)
+          ∙ append_assoc answered (cut (Command first ∷ seat.talk.inbox)) (tail_items seat line);
       is_told = is_told;
-      at = subst (λ o. At value (user_in owner) o others) (sym running) (item, n, _, refl, left);
+      at = subst (λ o. At value (user_in owner) o others) (sym still) (first, _, refl, on.waits);
     }
 
 home_account : (from : User) (state : Owned) (line : List Seat) (texts : Texts) → texts ≡ [] → user_of state ≡ from
@@ -208,10 +207,10 @@ unfolding At
 home_account from state line texts none same =
     record { answered = []; others = items_in line; last = from; split = refl; is_told = (none, refl); at = same }
 
-later_account : (from between : User) (seat : Seat) (line : List Seat) (early late texts : Texts) (value : User) (rest : Option Order)
-    → HasLeft from seat early between → texts ≡ early ++ late → Account between (items_in line) late value rest
-    → Account from (items_in (seat ∷ line)) texts value rest
-later_account from between seat line early late texts value rest left whole a = record {
+later_account : (from between : User) (seat : Seat) (line : List Seat) (early late texts : Texts) (value : User) (waits : Option Order)
+    → HasLeft from seat early between → texts ≡ early ++ late → Account between (items_in line) late value waits
+    → Account from (items_in (seat ∷ line)) texts value waits
+later_account from between seat line early late texts value waits left whole a = record {
   answered = cut seat.items ++ a.answered;
   others = a.others;
   last = a.last;
@@ -224,11 +223,11 @@ later_account from between seat line early late texts value rest left whole a = 
 
 -- a line that stands has a value
 pub stands_account : (from : User) (past : ℕ) (home : Option Owned) (line : List Seat) (texts : Texts) → Stands from past home line texts
-    → (value : User) × (rest : Option Order) × Account from (items_in line) texts value rest
+    → (value : User) × (waits : Option Order) × Account from (items_in line) texts value waits
 unfolding Stands
 stands_account from zero (Some state) line texts (none, same, ws) = (user_of state, None, home_account from state line texts none same)
 stands_account from zero None [] texts s = absurd s
-stands_account from zero None (seat ∷ line) texts (o, ws) = (user_in o.owner, o.owner.rest, now_account from texts seat o.owner line o.now)
+stands_account from zero None (seat ∷ line) texts (o, ws) = (user_in o.owner, o.owner.waiting, now_account from texts seat o.owner line o.now)
 stands_account from (suc past) home [] texts s = absurd s
 stands_account from (suc past) home (seat ∷ line) texts (between, early, late, left, s, whole) =
     let a = stands_account between past home line late s in
@@ -254,7 +253,7 @@ account_home from (suc past) home state (seat ∷ line) texts e (between, early,
 -- and so is the value of the owner
 pub account_owned : (from : User) (past : ℕ) (home : Option Owned) (connection : ℕ) (seat x : Seat) (line new : List Seat) (owner : Owning) (texts : Texts)
     → Changes connection seat x line new → seat.talk.stage ≡ inside owner → Stands from past home line texts
-    → (home ≡ None) × Account from (items_in line) texts (user_in owner) owner.rest
+    → (home ≡ None) × Account from (items_in line) texts (user_in owner) owner.waiting
 unfolding Stands AllWait
 account_owned from zero (Some state) connection seat x line new owner texts ch i (none, same, ws) =
     let w = one_waits connection seat x line new ch ws in absurd (not_waiting seat.talk.stage owner w.waits i)
@@ -266,4 +265,4 @@ account_owned from (suc past) home connection seat x line new owner texts (here 
     absurd (not_gone seat.talk.stage owner left.is_gone i)
 account_owned from (suc past) home connection seat x line new owner texts (there {other} {line = rest} {new = changed} e ch) i (between, early, late, left, s, whole) =
     let a = account_owned between past home connection seat x rest changed owner late ch i s in
-    (a.0, later_account from between other rest early late texts (user_in owner) owner.rest left whole a.1)
+    (a.0, later_account from between other rest early late texts (user_in owner) owner.waiting left whole a.1)

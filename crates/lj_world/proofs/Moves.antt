@@ -1,5 +1,6 @@
 -- What a connection does to its ticket and to the rows of the users: it stays, is given the state, or hands it back.
-use Rattle.std.proofs.Common.{◌≡◌, ℕ, List, slice_get, Option, Some, refl, sym, ◌∙◌, subst, inl, inr}
+use Rattle.std.proofs.Common.{◌≡◌, ℕ, List, slice_get, Option, Some, refl, sym, ◌∙◌, subst}
+use Rattle.lj_session.specs.States.{rested}
 use Rattle.lj_session.specs.Owners.{Owning}
 use Rattle.lj_access.specs.Rows.{Row, CanEnter, changed, lent, with_home}
 use Rattle.lj_book.specs.Held.{Held}
@@ -15,7 +16,7 @@ pub data Moves (talk : Talk) (rows : List Row) : Talk → List Row → Type 0 wh
   goes_in : (owner : Owning) (row : Row) → slice_get rows talk.user ≡ Some row → CanEnter talk.number row
       → Moves talk rows (with_stage (inside owner) talk) (changed talk.user lent rows)
   goes_home : (owner : Owning) → talk.stage ≡ inside owner
-      → Moves talk rows (with_stage gone talk) (changed talk.user (with_home owner.state) rows)
+      → Moves talk rows (with_stage gone talk) (changed talk.user (with_home (rested owner.state)) rows)
 
 module _ (talk : Talk) (rows : List Row) where
   abbrev MovesTo : Here → Type 0
@@ -34,10 +35,8 @@ module _ (talk : Talk) (rows : List Row) where
   does_moves (Arrive item) book text h d = subst MovesTo (sym d.next) (as_before _ refl refl refl)
   does_moves End book text h d = subst MovesTo (sym d.next) (as_before _ refl refl refl)
   does_moves Enter book text h d = subst MovesTo (sym d.next) (goes_in _ d.row d.there d.may_enter)
-  does_moves Next book text h (inl d) = subst MovesTo (sym d.next) (owned _ d.owner d.begins.owns refl refl)
-  does_moves Next book text h (inr d) = subst MovesTo (sym d.next) (owned _ d.owner d.begins.owns refl refl)
+  does_moves Next book text h d = subst MovesTo (sym d.next) (owned _ d.owner d.can.owns refl refl)
   does_moves Post book text h d = subst MovesTo (sym d.next) (owned _ d.owner d.owns refl refl)
   does_moves (Fetch pick) book text h d = subst MovesTo (sym d.next) (owned _ d.owner d.owns refl refl)
-  does_moves Turn book text h (inl d) = subst MovesTo (sym d.next) (owned _ d.owner d.whole.owns refl refl)
-  does_moves Turn book text h (inr d) = subst MovesTo (sym d.next) (owned _ d.owner d.whole.owns refl refl)
+  does_moves (Turn session) book text h d = subst MovesTo (sym d.next) (owned _ d.owner d.owns refl refl)
   does_moves Leave book text h d = subst MovesTo (sym d.next) (goes_home d.owner d.owns)

@@ -1,6 +1,7 @@
 -- An event that is not a user's changes nothing of it.
 use Rattle.std.proofs.Common.{◌≡◌, ◌≢◌, ℕ, zero, suc, true, false, cond, nat_eq, List, [], ◌∷◌, slice_get, slice_set, slice_index_or, Option, Some, None, option_map, option_and_then, ◌⊎◌, inl, inr, refl, sym, ◌∙◌, ap, ne_eqb, get_or-set_other}
 use Rattle.std.proofs.lemmas.Bool.Decides.{eqb_tells}
+use Rattle.lj_session.specs.States.{rested}
 use Rattle.lj_access.specs.Rows.{Row, with_ticket, lent, with_home}
 use Rattle.lj_world.specs.declared.event.Event.{Event}
 use Rattle.lj_world.specs.declared.event.Event.TheVariants.{Hello, At, By}
@@ -63,7 +64,7 @@ own : (user : ℕ) (talk : Talk) (rows : List Row) (new : Talk) (after : List Ro
     → (new.user ≡ talk.user) × (talk.user ≢ user → slice_get after user ≡ slice_get rows user)
 own user talk rows new after (stays _ kept) = (kept.user, λ differs. refl)
 own user talk rows new after (goes_in owner row there may) = (refl, row_other rows talk.user lent user)
-own user talk rows new after (goes_home owner owns) = (refl, row_other rows talk.user (with_home owner.state) user)
+own user talk rows new after (goes_home owner owns) = (refl, row_other rows talk.user (with_home (rested owner.state)) user)
 
 -- no row and no connection changes
 front_stays : (user : ℕ) (old new : State) (reply : Option Entry) → reply ≡ None → new.rows ≡ old.rows → new.talks ≡ old.talks → Untouched user old reply new

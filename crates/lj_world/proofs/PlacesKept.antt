@@ -1,6 +1,6 @@
 -- What a connection does leaves the connections and rows of the machine as they have to be.
 use Rattle.std.proofs.Common.{◌≡◌, ◌≢◌, ℕ, ◌<◌, List, length, set, get_or, slice_get, Option, Some, None, refl, ap, ◌∙◌, sym, subst, inl, inr}
-use Rattle.lj_session.specs.States.{Owned}
+use Rattle.lj_session.specs.States.{Owned, rested}
 use Rattle.lj_session.specs.Owners.{Owning}
 use Rattle.lj_access.specs.Rows.{Row, CanEnter, changed, lent, with_home}
 use Rattle.lj_book.specs.Held.{Held}
@@ -77,7 +77,7 @@ module _ (rows : List Row) (talks : List (Option Talk)) (hands : List (Option Ha
   moves_keeps : (new : Talk) (after : List Row) → Moves talk rows new after → IsMachine after (set talks c (Some new)) hands
   moves_keeps new after (stays _ kept) = stays_keeps new kept
   moves_keeps new after (goes_in owner row there may) = enters_keeps owner row there may
-  moves_keeps new after (goes_home owner owns) = leaves_keeps owner owner.state owns
+  moves_keeps new after (goes_home owner owns) = leaves_keeps owner (rested owner.state) owns
 
   -- whatever the connection does, or cannot do
   pub acts_keeps : (act : Act) (book : Held) (text : Option (List ℕ)) (h : Here) → Acts act (here talk rows book) text h

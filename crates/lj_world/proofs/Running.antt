@@ -15,13 +15,13 @@ use Rattle.lj_world.specs.declared.transcript.Entry.{Entry}
 use Rattle.lj_world.specs.States.{State, Talk, start}
 use Rattle.lj_world.specs.Runs.{Run}
 use Rattle.lj_world.specs.Scripts.{Heard, hear, heard, line_of, joined, replies}
-use Rattle.lj_world.specs.Laws.{HasQuota, RepliesAreFirstTexts}
+use Rattle.lj_world.specs.Laws.{Known, HasQuota, RepliesAreFirstTexts}
 use Rattle.lj_world.proofs.Tellings.{Texts, texts-told}
 use Rattle.lj_world.proofs.Seats.{grown}
 use Rattle.lj_world.proofs.Lines.{Stands, AllWait, Numbered, items_in, stands_account}
 use Rattle.lj_world.proofs.Finding.{found, line_in, line_heard}
 use Rattle.lj_world.proofs.Keeping.{Keeps, Distinct}
-use Rattle.lj_world.proofs.Stepping.{Known, told_to, step_keeps}
+use Rattle.lj_world.proofs.Stepping.{told_to, step_keeps}
 
 -- the replies of a user grow by what it is told
 replies_grow : (user : ℕ) (told_texts : Texts) (reply : Option Entry) (later : List Entry)

@@ -1,44 +1,36 @@
 -- What is kept in a run is kept by each step.
-use Rattle.std.proofs.Common.{◌≡◌, ℕ, ◌+◌, ◌-◌, ◌<◌, Bool, true, false, not, ◌&&◌, cond, nat_eq, nat_lt, nat_le, List, [], ◌∷◌, ◌++◌, length, slice_get, slice_set, slice_index_or, Option, Some, None, option_map, is_some, inl, inr, refl, sym, ◌∙◌, ap, ap₂, subst, subst₂, arith, add-one, le-leb, lt-ltb, leb-true, ltb-true, true≢false}
+use Rattle.std.proofs.Common.{◌≡◌, ℕ, ◌+◌, ◌-◌, Bool, true, false, not, ◌&&◌, cond, nat_eq, nat_lt, nat_le, List, [], ◌∷◌, ◌++◌, length, slice_get, slice_set, slice_index_or, Option, Some, None, option_map, is_some, inl, inr, refl, sym, ◌∙◌, ap, ap₂, subst, subst₂, arith, add-one, le-leb, lt-ltb, leb-true, ltb-true, true≢false}
 use Rattle.std.proofs.lemmas.List.{length-map}
 use Rattle.std.proofs.lemmas.List.Quantifiers.{position-Some}
 use Rattle.std.proofs.lemmas.Option.{slice_get-get_or}
-use Rattle.std.specs.Option.{option_map_or}
 use Rattle.std.specs.List.{list_any}
 use Rattle.lj_tile.specs.Tasks.{Work}
 use Rattle.lj_session.specs.Users.{User}
-use Rattle.lj_session.specs.Turns.{turns}
-use Rattle.lj_session.specs.Owners.{Owning, user_in, begun, with_task_posted, turned_from}
-use Rattle.lj_session.specs.Laws.{BeginKeepsUser, PostedKeepsUser, AcceptKeepsUser, TurnGivesTurned}
+use Rattle.lj_session.specs.States.{rested}
+use Rattle.lj_session.specs.Owners.{Owning, user_in, entered, left_in, with_task_posted}
+use Rattle.lj_session.specs.Laws.{AcceptKeepsUser}
 use Rattle.lj_wire.specs.declared.item.Item.{Item}
-use Rattle.lj_wire.specs.Laws.{TurnKeepsTold, RunningGoesOn}
+use Rattle.lj_wire.specs.declared.item.Item.TheVariants.{Command}
 use Rattle.lj_access.specs.Rows.{Row, is_of, user_with, lent, with_home}
 use Rattle.lj_world.specs.declared.event.Event.{Event}
 use Rattle.lj_world.specs.declared.event.Event.TheVariants.{Hello, At, By}
 use Rattle.lj_world.specs.declared.event.Act.{Act}
 use Rattle.lj_world.specs.declared.event.Act.TheVariants.{Arrive, End, Enter, Next, Post, Fetch, Turn, Leave}
 use Rattle.lj_world.specs.declared.transcript.Entry.{Entry}
-use Rattle.lj_world.specs.States.{State, Talk, gone, talk_at, with_stage}
-use Rattle.lj_world.specs.Connections.{Here, here, Receives, Closes, GoesIn, IsGiven, GoesHome, Does}
+use Rattle.lj_world.specs.States.{State, Talk, inside, gone, talk_at, with_stage}
+use Rattle.lj_world.specs.Connections.{Here, here, to, Receives, Closes, GoesIn, IsGiven, GoesHome, Does}
 use Rattle.lj_world.specs.Happenings.{Happens, SaysHello, entry, with_here}
 use Rattle.lj_world.specs.Runs.{Step, IsPossible}
+use Rattle.lj_world.specs.Laws.{Known}
 use Rattle.lj_world.specs.Scripts.{Heard, hear, with_heard, with_item, with_end, greeting, is_granted, line_of}
 use Rattle.lj_world.proofs.Lifting.{does_happens}
 use Rattle.lj_world.proofs.Tellings.{Texts}
-use Rattle.lj_world.proofs.Seats.{Seat, heard_of, seat_with, seat_inside, Goes, arrives, ends_now, works, begins, answers, turns_on, turns_last, grown}
+use Rattle.lj_world.proofs.Seats.{Seat, heard_of, seat_with, seat_inside, GoesOn, Goes, arrives, ends_now, works, begins, answers, turns_on, turns_last, grown}
+use Rattle.lj_world.proofs.Waiting.{Turned, stays, again, begun_goes_on, turn_goes_on}
 use Rattle.lj_world.proofs.Lines.{Stands, stands_enters, stands_leaves, account_owned}
 use Rattle.lj_world.proofs.Finding.{found, line_in, found_changes, heard_changes, heard_stays, heard_nowhere, line_heard, any_found}
 use Rattle.lj_world.proofs.Keeping.{Keeps, seat_at, told_if, goes}
 use Rattle.lj_world.proofs.Rowing.{rows_go, lent_leaves, home_leaves, nowhere, new_seat, hello_goes}
-
--- the laws of what runs
-pub record Known : Type 0 where
-  pub keeps : TurnKeepsTold
-  pub goes_on : RunningGoesOn
-  pub begin : BeginKeepsUser
-  pub posted : PostedKeepsUser
-  pub accept : AcceptKeepsUser
-  pub turn : TurnGivesTurned
 
 -- what a user is told by a reply
 unfoldable pub told_to : ℕ → Option Entry → Option (List ℕ)
@@ -84,11 +76,11 @@ told_own user c talk (Some text) = refl
 same_row : (o : Option Row) (a b : Row) → o ≡ Some a → o ≡ Some b → a ≡ b
 same_row o a b e h = cc
 
--- an owner that is given a result keeps what runs, and the user
+-- an owner that is given a result keeps what waits, and the user
 given_keeps : AcceptKeepsUser → (owner after : Owning) (work : Work) → IsGiven owner work after
-    → (after.rest ≡ owner.rest) × (user_in after ≡ user_in owner)
-given_keeps accept owner after work (inl h) = (ap (λ (o : Owning). o.rest) h.1, ap user_in h.1 ∙ accept work owner)
-given_keeps accept owner after work (inr h) = (ap (λ (o : Owning). o.rest) h.1, ap user_in h.1)
+    → (after.waiting ≡ owner.waiting) × (user_in after ≡ user_in owner)
+given_keeps accept owner after work (inl h) = (ap (λ (o : Owning). o.waiting) h.1, ap user_in h.1 ∙ accept work owner)
+given_keeps accept owner after work (inr h) = (ap (λ (o : Owning). o.waiting) h.1, ap user_in h.1)
 
 -- a known connection does something
 module _ (known : Known) (rows : List Row) (user : ℕ) (from : User) (s : State) (hs : List Heard) (texts : Texts)
@@ -113,7 +105,7 @@ module _ (known : Known) (rows : List Row) (user : ℕ) (from : User) (s : State
       → ((seat : Seat) → heard_of (seat_with x.talk seat) ≡ heard_of (seat_with talk seat)) → After h hs text
   one_goes h x text next rows_stay g unheard =
       let seat = seat_with talk its_seat.0 in
-      goes known.keeps known.goes_on rows user from s (with_here c h s) hs hs texts k c seat (seat_with x.talk its_seat.0) text its_seat.1 (g its_seat.0)
+      goes rows user from s (with_here c h s) hs hs texts k c seat (seat_with x.talk its_seat.0) text its_seat.1 (g its_seat.0)
       (ap (λ (z : Here). z.rows) next ∙ rows_stay) (ap (λ (z : Here). slice_set s.talks c (Some z.talk)) next)
       (λ line ch. k.heard_is ∙ sym (heard_stays c seat (seat_with x.talk its_seat.0) k.seats line ch (unheard its_seat.0)))
 
@@ -122,7 +114,7 @@ module _ (known : Known) (rows : List Row) (user : ℕ) (from : User) (s : State
       let seat = seat_with talk its_seat.0 in
       let x : Seat = record { connection = seat.connection; items = seat.items ++ item ∷ []; talk = record talk { inbox = talk.inbox ++ item ∷ [] } } in
       let heard_is : heard_of x ≡ with_item item (heard_of seat) = sym (ap (λ b. cond b (heard_of seat) (heard_of x)) d.not_ended) in
-      goes known.keeps known.goes_on rows user from s (with_here c h s) hs (with_heard c (with_item item) hs) texts k c seat x None its_seat.1 (arrives item d.not_ended)
+      goes rows user from s (with_here c h s) hs (with_heard c (with_item item) hs) texts k c seat x None its_seat.1 (arrives item d.not_ended)
       (ap (λ (z : Here). z.rows) d.next) (ap (λ (z : Here). slice_set s.talks c (Some z.talk)) d.next)
       (λ line ch. ap (with_heard c (with_item item)) k.heard_is ∙ heard_changes c (with_item item) seat x k.seats line ch heard_is)
 
@@ -130,13 +122,13 @@ module _ (known : Known) (rows : List Row) (user : ℕ) (from : User) (s : State
   end_keeps text h d =
       let seat = seat_with talk its_seat.0 in
       let x : Seat = seat_with (record talk { ended = true }) its_seat.0 in
-      goes known.keeps known.goes_on rows user from s (with_here c h s) hs (with_heard c with_end hs) texts k c seat x None its_seat.1 ends_now
+      goes rows user from s (with_here c h s) hs (with_heard c with_end hs) texts k c seat x None its_seat.1 ends_now
       (ap (λ (z : Here). z.rows) d.next) (ap (λ (z : Here). slice_set s.talks c (Some z.talk)) d.next)
       (λ line ch. ap (with_heard c with_end) k.heard_is ∙ heard_changes c with_end seat x k.seats line ch refl)
 
   enter_keeps : (text : Option (List ℕ)) (h : Here) → GoesIn old text h → Keeps rows user from (with_here c h s) hs texts
   enter_keeps text h d =
-      let owner : Owning = record { state = d.state; number = talk.user; rest = None } in
+      let owner : Owning = entered d.state talk.user in
       let seat = seat_with talk its_seat.0 in
       rows_go rows user from s (with_here c h s) hs texts k c seat (seat_inside owner seat) lent its_seat.1
       (record { connection = refl; user = refl; number = refl }) refl lent_leaves
@@ -145,36 +137,51 @@ module _ (known : Known) (rows : List Row) (user : ℕ) (from : User) (s : State
       let row : d.row ≡ k.row = same_row (slice_get s.rows user) d.row k.row (ap (slice_get s.rows) (sym mine) ∙ d.there) k.there_is in
       let home : k.row.home ≡ Some d.state = ap (λ (r : Row). r.home) (sym row) ∙ d.home in
       let number : talk.number ≡ k.row.past = sym d.may_enter.first.past ∙ ap (λ (r : Row). r.past) row in
-      stands_enters from k.row.past 0 d.state c seat owner (line_in user k.seats) line texts ch d.waits k.numbered (omega (arith, number)) refl refl
+      stands_enters from k.row.past 0 d.state c seat owner (line_in user k.seats) line texts ch d.waits k.numbered (omega (arith, number)) refl (known.rest d.state)
       (subst (λ o. Stands from k.row.past o (line_in user k.seats) texts) home k.stands))
 
   leave_keeps : (text : Option (List ℕ)) (h : Here) → GoesHome old text h → Keeps rows user from (with_here c h s) hs texts
   leave_keeps text h d =
       let seat = seat_with talk its_seat.0 in
       let x = seat_with (with_stage gone talk) its_seat.0 in
-      rows_go rows user from s (with_here c h s) hs texts k c seat x (with_home d.owner.state) its_seat.1
-      (record { connection = refl; user = refl; number = refl }) refl (home_leaves d.owner.state)
+      rows_go rows user from s (with_here c h s) hs texts k c seat x (with_home (rested d.owner.state)) its_seat.1
+      (record { connection = refl; user = refl; number = refl }) refl (home_leaves (rested d.owner.state))
       (ap (λ (z : Here). z.rows) d.next) (ap (λ (z : Here). slice_set s.talks c (Some z.talk)) d.next)
       (λ mine line ch.
       let away = (account_owned from k.row.past k.row.home c seat x (line_in user k.seats) line d.owner texts ch d.owns k.stands).0 in
-      subst (λ n. Stands from n (Some d.owner.state) line texts) (sym (add-one k.row.past))
-      (stands_leaves from k.row.past c seat d.owner (line_in user k.seats) line texts ch d.owns d.idle d.done
+      subst (λ n. Stands from n (Some (rested d.owner.state)) line texts) (sym (add-one k.row.past))
+      (stands_leaves from k.row.past c seat d.owner (rested d.owner.state) (line_in user k.seats) line texts ch d.owns d.idle d.done
+      (known.rest d.owner.state)
       (subst (λ o. Stands from k.row.past o (line_in user k.seats) texts) away k.stands)))
+
+  -- a turn that answers nothing
+  turn_keeps : (owner after : Owning) (h : Here) → talk.stage ≡ inside owner → h ≡ to (with_stage (inside after) talk) old
+      → Turned owner after → After h hs None
+  turn_keeps owner after h owns next (stays w u) =
+      one_goes h _ None next refl (λ seat. works owner after talk.posted owns w u) (λ seat. refl)
+  turn_keeps owner after h owns next (again command left is now on) =
+      one_goes h _ None next refl (λ seat. turns_on owner after command left owns is now on) (λ seat. refl)
 
   -- what is kept is kept by what the connection does
   does_keeps : (act : Act) (text : Option (List ℕ)) (h : Here) → Does act old text h → After h (hear rows hs (At c act)) text
   does_keeps (Arrive item) text h d = subst (After h (with_heard c (with_item item) hs)) (sym d.quiet) (arrive_keeps item text h d)
   does_keeps End text h d = subst (After h (with_heard c with_end hs)) (sym d.quiet) (end_keeps text h d)
   does_keeps Enter text h d = quietly h hs text d.quiet (enter_keeps text h d)
-  does_keeps Next text h (inl d) =
-      subst (After h hs) (sym d.replies) (one_goes h _ (Some d.told) d.next refl
-      (λ seat. answers d.owner d.after d.item d.items d.answers.mark d.told d.begins.owns d.begins.idle d.begins.not_over d.begins.inbox d.answers.is_told d.answers.idle)
-      (λ seat. refl))
-  does_keeps Next text h (inr d) =
-      subst (After h hs) (sym d.quiet) (one_goes h _ None d.next refl
-      (λ seat. begins d.owner (begun d.command d.owner) d.command d.items d.begins.owns d.begins.idle d.begins.not_over d.begins.inbox d.takes_turns refl
-      (known.begin d.command d.owner))
-      (λ seat. refl))
+  does_keeps Next None h d =
+      let command = d.begins.command in
+      let on = begun_goes_on known.alike known.begun command d.owner d.begins.takes_turns in
+      one_goes h _ None d.next refl
+      (λ seat. begins d.owner d.after command (left_in command d.owner.state) d.items d.can.owns d.can.idle d.can.not_over
+      (d.can.inbox ∙ ap (λ i. i ∷ d.items) d.begins.is)
+      (known.goes_on.whole d.owner.state (Command command) d.begins.takes_turns)
+      (ap (λ (o : Owning). o.waiting) d.begins.next)
+      (subst (λ (o : Owning). GoesOn (user_in d.owner) command (user_in o) (left_in command d.owner.state)) (sym d.begins.next) on))
+      (λ seat. refl)
+  does_keeps Next (Some told) h d =
+      one_goes h _ (Some told) d.next refl
+      (λ seat. answers d.owner d.after d.item d.items d.begins.answers.mark told d.can.owns d.can.idle d.can.not_over d.can.inbox
+      d.begins.answers.is_told d.begins.answers.idle)
+      (λ seat. refl)
   does_keeps Post text h d =
       subst (After h hs) (sym d.quiet) (one_goes h _ None d.next refl
       (λ seat. works d.owner (with_task_posted d.owner) (talk.posted + 1) d.owns refl (known.posted d.owner))
@@ -184,15 +191,13 @@ module _ (known : Known) (rows : List Row) (user : ℕ) (from : User) (s : State
       subst (After h hs) (sym d.quiet) (one_goes h _ None d.next refl
       (λ seat. works d.owner d.after (talk.posted - 1) d.owns same.0 same.1)
       (λ seat. refl))
-  does_keeps Turn text h (inl d) =
-      let more : 1 < turns (user_in d.owner) d.command = subst (λ o. 1 < option_map_or (turns (user_in d.owner)) o 0) d.whole.runs d.more in
-      subst (After h hs) (sym d.quiet) (one_goes h _ None d.next refl
-      (λ seat. turns_on d.owner (turned_from d.command d.owner) d.command d.whole.owns d.whole.runs more refl (known.turn d.command d.owner more))
-      (λ seat. refl))
-  does_keeps Turn text h (inr d) =
-      subst (After h hs) (sym d.replies) (one_goes h _ (Some d.told) d.next refl
-      (λ seat. turns_last d.owner d.after d.command d.answers.mark d.told d.whole.owns d.whole.runs d.answers.is_told d.answers.idle)
-      (λ seat. refl))
+  does_keeps (Turn session) None h d =
+      turn_keeps d.owner d.after h d.owns d.next
+      (subst (Turned d.owner) (sym d.turns.next) (turn_goes_on known.alike known.begun session d.owner d.name d.can d.turns.more))
+  does_keeps (Turn session) (Some told) h d =
+      one_goes h _ (Some told) d.next refl
+      (λ seat. turns_last d.owner d.after d.turns.command d.turns.answers.mark told d.owns d.turns.waits d.turns.answers.is_told d.turns.answers.idle)
+      (λ seat. refl)
   does_keeps Leave text h d = quietly h hs text d.quiet (leave_keeps text h d)
 
 -- a known connection is heard

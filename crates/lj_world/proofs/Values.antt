@@ -8,19 +8,19 @@ use Rattle.lj_session.specs.Users.{User as Value, fresh}
 use Rattle.lj_session.specs.States.{Owned, user_of}
 use Rattle.lj_session.specs.Owners.{Owning, user_in}
 use Rattle.lj_wire.specs.declared.item.Item.{Item}
+use Rattle.lj_wire.specs.declared.item.Item.TheVariants.{Command}
 use Rattle.lj_wire.specs.Texts.{is_memory}
 use Rattle.lj_wire.specs.Told.{last_user}
 use Rattle.lj_wire.specs.Laws.{MarkIsTold}
 use Rattle.lj_access.specs.Rows.{Row, opening}
 use Rattle.lj_world.specs.States.{State, inside}
 use Rattle.lj_world.specs.Scripts.{Heard, heard, line_of, joined, replies}
-use Rattle.lj_world.specs.Laws.{HasValue, IsAtHome, IsOwned, IsScriptValue, HasTicket, ValueIsThatOfScript, TicketsAreInOrder, after_turns}
+use Rattle.lj_world.specs.Laws.{Known, HasValue, IsAtHome, IsOwned, IsScriptValue, HasTicket, ValueIsThatOfScript, TicketsAreInOrder, WaitsOn}
 use Rattle.lj_world.proofs.Tellings.{Texts, told-length, last_user-told}
 use Rattle.lj_world.proofs.Seats.{Seat, heard_of, seat_with}
 use Rattle.lj_world.proofs.Lines.{Stands, Numbered, Account, At, items_in, account_home, account_owned}
 use Rattle.lj_world.proofs.Finding.{found, line_in, found_changes, line_changes, line_heard}
 use Rattle.lj_world.proofs.Keeping.{Keeps, Distinct, seat_at}
-use Rattle.lj_world.proofs.Stepping.{Known}
 use Rattle.lj_world.proofs.Running.{script_items, run_kept}
 
 -- a seat of a line
@@ -78,17 +78,17 @@ stood from (suc past) home (seat ∷ line) texts (between, early, late, left, s,
 
 -- each user has a value
 has_value : (rows : List Row) (user : ℕ) (from : Value) (t : State) (hs : List Heard) (texts : Texts) → Keeps rows user from t hs texts
-    → (value : Value) × (rest : Option Order) × HasValue t user value rest
+    → (value : Value) × (waits : Option Order) × HasValue t user value waits
 has_value rows user from t hs texts k = by (stood from k.row.past k.row.home (line_in user k.seats) texts k.stands)
   where
-    by : Stood k.row.home (line_in user k.seats) → (value : Value) × (rest : Option Order) × HasValue t user value rest
+    by : Stood k.row.home (line_in user k.seats) → (value : Value) × (waits : Option Order) × HasValue t user value waits
     by (at_home state e) =
         let home : IsAtHome t user (user_of state) = record { row = k.row; there = k.there_is; state = state; home = e; is = refl } in
         (user_of state, None, inl (home, refl))
     by (owned seat owner i e) =
         let place = in_line user seat k.seats i in
         let is_found = found_in seat k.seats place.0 k.distinct in
-        let own : IsOwned t user (user_in owner) owner.rest = record {
+        let own : IsOwned t user (user_in owner) owner.waiting = record {
           connection = seat.connection;
           talk = seat.talk;
           known = k.seated seat.connection ∙ ap (option_map (λ s. s.talk)) is_found;
@@ -96,26 +96,26 @@ has_value rows user from t hs texts k = by (stood from k.row.past k.row.home (li
           owner = owner;
           owns = e;
           is = refl;
-          runs = refl;
-        } in (user_in owner, owner.rest, inr own)
+          left = refl;
+        } in (user_in owner, owner.waiting, inr own)
 
 -- the value of a user in what is kept is accounted for
 value_account : (rows : List Row) (user : ℕ) (from : Value) (t : State) (hs : List Heard) (texts : Texts) (k : Keeps rows user from t hs texts)
-    (value : Value) (rest : Option Order) → HasValue t user value rest → Account from (items_in (line_in user k.seats)) texts value rest
-value_account rows user from t hs texts k value rest (inl (h, none)) =
+    (value : Value) (waits : Option Order) → HasValue t user value waits → Account from (items_in (line_in user k.seats)) texts value waits
+value_account rows user from t hs texts k value waits (inl (h, none)) =
     let row : h.row ≡ k.row = same_some (slice_get t.rows user) h.row k.row h.there k.there_is in
     let home : k.row.home ≡ Some h.state = ap (λ r. r.home) (sym row) ∙ h.home in
     let a = account_home from k.row.past k.row.home h.state (line_in user k.seats) texts home k.stands in
-    subst (λ v. Account from (items_in (line_in user k.seats)) texts v rest) (sym h.is)
+    subst (λ v. Account from (items_in (line_in user k.seats)) texts v waits) (sym h.is)
     (subst (Account from (items_in (line_in user k.seats)) texts (user_of h.state)) (sym none) a)
-value_account rows user from t hs texts k value rest (inr h) =
+value_account rows user from t hs texts k value waits (inr h) =
     let seat0 = seat_at h.connection k.seats h.talk (sym (k.seated h.connection) ∙ h.known) in
     let seat = seat_with h.talk seat0.0 in
     let ch = found_changes h.connection k.seats seat seat seat0.1 in
     let line_ch = line_changes user h.connection seat seat k.seats ch.0 ch.1 (eq-eqb h.talk.user user h.of_user) refl in
     let a = (account_owned from k.row.past k.row.home h.connection seat seat (line_in user k.seats) (line_in user ch.0) h.owner texts line_ch h.owns k.stands).1 in
-    subst (λ v. Account from (items_in (line_in user k.seats)) texts v rest) (sym h.is)
-    (subst (Account from (items_in (line_in user k.seats)) texts (user_in h.owner)) (sym h.runs) a)
+    subst (λ v. Account from (items_in (line_in user k.seats)) texts v waits) (sym h.is)
+    (subst (Account from (items_in (line_in user k.seats)) texts (user_in h.owner)) (sym h.left) a)
 
 take_front : {A : Type 0} (xs ys : List A) → take (length xs) (xs ++ ys) ≡ xs
 take_front [] ys = refl
@@ -126,10 +126,10 @@ get_after [] y ys = refl
 get_after (x ∷ xs) y ys = get_after xs y ys
 
 -- what is accounted for is the value of the script
-script_value : MarkIsTold → (quota : Quota) (items : List Item) (told_texts : Texts) (value : Value) (rest : Option Order)
-    → Account (fresh quota) items told_texts value rest → IsScriptValue quota (record { items = items; marks = map is_memory told_texts }) value rest
+script_value : MarkIsTold → (quota : Quota) (items : List Item) (told_texts : Texts) (value : Value) (waits : Option Order)
+    → Account (fresh quota) items told_texts value waits → IsScriptValue quota (record { items = items; marks = map is_memory told_texts }) value waits
 unfolding At
-script_value marked quota items told_texts value rest a = by rest a.at
+script_value marked quota items told_texts value waits a = by waits a.at
   where
     marks : List Bool
     marks = map is_memory told_texts
@@ -144,11 +144,11 @@ script_value marked quota items told_texts value rest a = by rest a.at
 
     by : (o : Option Order) → At a.last value o a.others → IsScriptValue quota (record { items = items; marks = marks }) value o
     by None at = at ∙ sym so_far
-    by (Some command) (item, n, more, others, is) = (
-      item,
-      n,
-      ap (slice_get items) counted ∙ ap (λ xs. slice_get xs (length a.answered)) (a.split ∙ ap (λ ys. a.answered ++ ys) others) ∙ get_after a.answered item more,
-      is ∙ ap (λ v. after_turns n v item) (sym so_far),
+    by (Some left) (command, more, others, on) = (
+      command,
+      ap (slice_get items) counted ∙ ap (λ xs. slice_get xs (length a.answered)) (a.split ∙ ap (λ ys. a.answered ++ ys) others)
+          ∙ get_after a.answered (Command command) more,
+      subst (λ v. WaitsOn v command value left) (sym so_far) on,
     )
 
 -- in every run the value of a user is that of its script so far
@@ -159,9 +159,9 @@ value_is_of_script marked known users events entries last user quota run has_quo
     let hs = heard users events in
     let told_texts = replies user entries in (
       has_value rows user (fresh quota) last hs told_texts k,
-      λ value rest h. script_value marked quota (joined (line_of user hs)) told_texts value rest
-          (subst (λ xs. Account (fresh quota) xs told_texts value rest) (sym (script_items rows user (fresh quota) last hs told_texts k))
-          (value_account rows user (fresh quota) last hs told_texts k value rest h)),
+      λ value waits h. script_value marked quota (joined (line_of user hs)) told_texts value waits
+          (subst (λ xs. Account (fresh quota) xs told_texts value waits) (sym (script_items rows user (fresh quota) last hs told_texts k))
+          (value_account rows user (fresh quota) last hs told_texts k value waits h)),
     )
 
 -- the seat at a place of a line

@@ -1,15 +1,16 @@
 -- The laws of runs, each proved on the function of its name, and the headline.
-use Rattle.std.specs.Prelude.{◌≡◌, ◌≢◌, ℕ, zero, suc, nat_eq, List, length, take, slice_get, Option, Some, None, if◌then◌else◌, ◌⊎◌}
+use Rattle.std.specs.Prelude.{◌≡◌, ◌≢◌, ℕ, ◌<◌, nat_eq, List, length, take, slice_get, Option, Some, None, if◌then◌else◌, ◌⊎◌}
 use Rattle.std.specs.Option.{option_map, option_and_then}
 use Rattle.lj_quota.specs.declared.Quota.{Quota}
 use Rattle.lj_session.specs.declared.command.Command.{Command as Order}
 use Rattle.lj_session.specs.Users.{User as Value, fresh}
 use Rattle.lj_session.specs.States.{Owned, user_of}
-use Rattle.lj_session.specs.Owners.{Owning, user_in}
-use Rattle.lj_wire.specs.declared.item.Item.{Item}
+use Rattle.lj_session.specs.Owners.{Owning, user_in, rest_of}
+use Rattle.lj_session.specs.Turns.{turns}
+use Rattle.lj_session.specs.Laws.{RestKeepsUser, PostedKeepsUser, AcceptKeepsUser, BegunWaitsAlike, user_taking}
 use Rattle.lj_wire.specs.declared.item.Item.TheVariants.{Command}
 use Rattle.lj_wire.specs.Told.{alone, last_user}
-use Rattle.lj_wire.specs.Runs.{user_turned, item_left}
+use Rattle.lj_wire.specs.Laws.{AlikeIsTold, WaitingGoesOn}
 use Rattle.lj_access.specs.declared.user.User.{User}
 use Rattle.lj_access.specs.Rows.{Row, user_with}
 use Rattle.lj_world.specs.declared.event.Event.{Event}
@@ -18,6 +19,15 @@ use Rattle.lj_world.specs.declared.transcript.Entry.{Entry}
 use Rattle.lj_world.specs.States.{State, Talk, inside, start, talk_at}
 use Rattle.lj_world.specs.Runs.{Step, Run, IsTranscript}
 use Rattle.lj_world.specs.Scripts.{Heard, Script, Agree, IsPrefix, OneIsPrefix, heard, line_of, replies, script}
+
+-- What is known of what waits: the laws of owners and of texts on which those of runs stand.
+pub record Known : Type 0 where
+  pub rest : RestKeepsUser
+  pub posted : PostedKeepsUser
+  pub accept : AcceptKeepsUser
+  pub begun : BegunWaitsAlike
+  pub alike : AlikeIsTold
+  pub goes_on : WaitingGoesOn
 
 -- a user of this number has this quota
 abbrev pub HasQuota : List User → ℕ → Quota → Type 0
@@ -93,8 +103,8 @@ pub record IsAtHome (s : State) (user : ℕ) (value : Value) : Type 0 where
   pub home : row.home ≡ Some state
   pub is : value ≡ user_of state
 
--- A connection owns the state of the user, this is its value, and this runs or nothing.
-pub record IsOwned (s : State) (user : ℕ) (value : Value) (rest : Option Order) : Type 0 where
+-- A connection owns the state of the user, this is its value, and this waits or nothing.
+pub record IsOwned (s : State) (user : ℕ) (value : Value) (waits : Option Order) : Type 0 where
   pub connection : ℕ
   pub talk : Talk
   pub known : talk_at s connection ≡ Some talk
@@ -102,38 +112,41 @@ pub record IsOwned (s : State) (user : ℕ) (value : Value) (rest : Option Order
   pub owner : Owning
   pub owns : talk.stage ≡ inside owner
   pub is : value ≡ user_in owner
-  pub runs : rest ≡ owner.rest
+  pub left : waits ≡ owner.waiting
 
--- the value of a user in a state, and what runs on it
+-- the value of a user in a state, and what waits
 abbrev pub HasValue : State → ℕ → Value → Option Order → Type 0
-HasValue s user value rest = IsAtHome s user value × (rest ≡ None) ⊎ IsOwned s user value rest
+HasValue s user value waits = IsAtHome s user value × (waits ≡ None) ⊎ IsOwned s user value waits
 
--- the user and what is left of the item, after so many turns of it
-abbrev pub after_turns : ℕ → Value → Item → Value × Item
-after_turns zero value item = (value, item)
-after_turns (suc n) value item =
-    let before = after_turns n value item in (user_turned before.0 before.1, item_left before.1)
+-- A command takes steps of its own: the value counts them, and what is left of it waits.
+pub record TakesSteps (before : Value) (command : Order) (value : Value) (left : Order) : Type 0 where
+  pub some : 0 < turns before command
+  pub counts : value ≡ user_taking before command
+  pub rest : left ≡ rest_of command
+
+-- A command that was begun waits: nothing of it is done yet, or it takes its steps.
+abbrev pub WaitsOn : Value → Order → Value → Order → Type 0
+WaitsOn before command value left = (value ≡ before) × (left ≡ command) ⊎ TakesSteps before command value left
 
 -- the user after so many items of a script as have marks
 abbrev pub value_so_far : Quota → Script → Value
 value_so_far quota s = last_user (fresh quota) (take (length s.marks) s.items) s.marks
 
--- The value is that of the script so far; while an item runs it is that after some turns of the item, and what runs is
--- what is then left of it.
+-- The value is that of the script so far; while something waits, it is the script's next item that does.
 abbrev pub IsScriptValue : Quota → Script → Value → Option Order → Type 0
 IsScriptValue quota s value None = value ≡ value_so_far quota s
-IsScriptValue quota s value (Some command) =
-    (item : Item) × (n : ℕ) × (slice_get s.items (length s.marks) ≡ Some item)
-    × ((value, Command command) ≡ after_turns n (value_so_far quota s) item)
+IsScriptValue quota s value (Some left) =
+    (command : Order) × (slice_get s.items (length s.marks) ≡ Some (Command command))
+    × WaitsOn (value_so_far quota s) command value left
 
 -- In every run each user has a value, and it is that of its script so far.
 abbrev pub ValueIsThatOfScript : Type 0
 ValueIsThatOfScript =
     (users : List User) (events : List Event) (entries : List Entry) (last : State) (user : ℕ) (quota : Quota)
     → Run (start users) events entries last → HasQuota users user quota
-    → ((value : Value) × (rest : Option Order) × HasValue last user value rest)
-    × ((value : Value) (rest : Option Order) → HasValue last user value rest
-    → IsScriptValue quota (script user users events entries) value rest)
+    → ((value : Value) × (waits : Option Order) × HasValue last user value waits)
+    × ((value : Value) (waits : Option Order) → HasValue last user value waits
+    → IsScriptValue quota (script user users events entries) value waits)
 
 -- The connection has the user's ticket of this number.
 pub record HasTicket (s : State) (connection user number : ℕ) : Type 0 where
@@ -175,3 +188,11 @@ pub record Untouched (user : ℕ) (old : State) (reply : Option Entry) (new : St
 abbrev pub OthersChangeNothing : Type 0
 OthersChangeNothing = (old : State) (event : Event) (reply : Option Entry) (new : State) (user : ℕ)
     → Step old event reply new → actor old event ≢ Some user → Untouched user old reply new
+
+-- These events have a run from this state.
+abbrev pub HasRun : State → List Event → Type 0
+HasRun old events = (entries : List Entry) × (last : State) × Run old events entries last
+
+-- No list of events is without a run, whichever state it begins in: what cannot happen changes nothing.
+abbrev pub EachListHasARun : Type 0
+EachListHasARun = (old : State) (events : List Event) → ¬ ¬ HasRun old events

@@ -1,15 +1,16 @@
 //! Items begun and steps turned by an owner, where what is answered is a text.
-ghost use Rattle.std.specs.Prelude.{◌≡◌, Some, None, true, IfOk, IfSome};
-ghost use Rattle.lj_session.specs.Owners.{is_ready};
-ghost use Rattle.lj_world.specs.Begun.{Begins, TurnsTo};
+ghost use Rattle.std.specs.Prelude.{◌≡◌, None, true, IfOk, IfSome, IfNone, List, ℕ};
+ghost use Rattle.lj_session.specs.States.{is_whole_in};
+ghost use Rattle.lj_world.specs.Begun.{Begins, CanTurn, TurnsTo};
 
 use crate::texts::text_of;
 use crate::transcript::ReplyText;
 use lj_session::{Begin, Owner, Reply};
+use lj_tile::Name;
 use lj_wire::Item;
 use std::alloc::{AllocError, Global};
 
-/// Begins an item. None where it runs, else the text that it is answered.
+/// Begins an item. None where it waits, else the text that it is answered.
 ///
 /// # Errors
 /// Out of memory. The item has been begun then, and the text of its answer is lost.
@@ -18,7 +19,7 @@ pub(crate) fn begin(
     owner: &mut Owner,
     item: Item,
 ) -> Result<Option<ReplyText>, AllocError>
-    requires { owner.old.rest ≡ None }
+    requires { owner.old.waiting ≡ None }
     ensures { IfOk result (λ text. Begins owner.old item text owner.new) }
 {
     let reply = match item {
@@ -32,16 +33,34 @@ pub(crate) fn begin(
     Ok(Some(text_of(alloc, owner.state(), &reply)?))
 }
 
-/// Turns the step of what runs, where all its tiles are in. None where a next step is open then, else the text that the
-/// command is answered.
+/// The session that a turn is of, where it can be turned: the one that is named, or the first that is ready.
+pub(crate) fn session_to_turn(owner: &Owner, session: Option<Name>) -> Option<Name>
+    ensures some { IfSome result (CanTurn session owner.now) }
+    ensures none { IfNone result ((name : List ℕ) → ¬ CanTurn session owner.now name) }
+{
+    let Some(name) = session else {
+        return owner.ready_session();
+    };
+    if !owner.is_whole(&name) {
+        return None;
+    }
+    Some(name)
+}
+
+/// Turns the step of a session, all tiles of which are in. None where nothing is answered, else the text that what waits
+/// is answered.
 ///
 /// # Errors
 /// Out of memory. The step has been turned then, and the text of the answer is lost.
-pub(crate) fn turn(alloc: Global, owner: &mut Owner) -> Result<Option<ReplyText>, AllocError>
-    requires { is_ready owner.old ≡ true }
-    ensures { IfOk result (λ text. IfSome owner.old.rest (λ command. TurnsTo owner.old command text owner.new)) }
+pub(crate) fn turn(
+    alloc: Global,
+    owner: &mut Owner,
+    name: &Name,
+) -> Result<Option<ReplyText>, AllocError>
+    requires { is_whole_in owner.old.state name.now ≡ true }
+    ensures { IfOk result (λ text. TurnsTo owner.old name.now text owner.new) }
 {
-    match owner.turn() {
+    match owner.turn_session(name) {
         Some(reply) => Ok(Some(text_of(alloc, owner.state(), &reply)?)),
         None => Ok(None),
     }

@@ -16,7 +16,7 @@ use crate::transcript::ReplyText;
 use lj_access::{Directory, Ticket};
 use lj_book::Book;
 use lj_session::Owner;
-use lj_tile::Done;
+use lj_tile::{Done, Name};
 use lj_wire::Item;
 use std::alloc::{AllocError, Global};
 use std::collections::VecDeque;
@@ -105,7 +105,7 @@ impl Connection {
             Act::Next => return self.next(),
             Act::Post => self.post(book),
             Act::Fetch { pick } => self.fetch(book, pick),
-            Act::Turn => return self.turn(),
+            Act::Turn { session } => return self.turn(session),
             Act::Leave => self.leave(directory, book),
         }
         Ok(None)
@@ -156,7 +156,7 @@ impl Connection {
         let Position::Inside(owner) = &mut self.position else {
             return Ok(None);
         };
-        if self.over || owner.is_running() {
+        if self.over || owner.is_waiting() {
             return Ok(None);
         }
         let Some(item) = self.inbox.pop_front() else {
@@ -164,11 +164,11 @@ impl Connection {
         };
         let ends = item.ends();
         let text = answers::begin(self.alloc, owner, item)?;
-        self.over = ends && text.is_some();
+        self.over = text.is_some() && ends;
         Ok(text)
     }
 
-    /// Posts the next task of what runs.
+    /// Posts the next task that a session has.
     fn post(&mut self, book: &mut Book)
         ensures { (rows : List Row)
             → Acts Post (here self.old rows book.old) None (here self.new rows book.new) }
@@ -188,7 +188,7 @@ impl Connection {
         }
     }
 
-    /// Fetches a result of its user. One that the step does not await is dropped.
+    /// Fetches a result of its user. One that no session awaits is dropped.
     fn fetch(&mut self, book: &mut Book, pick: usize)
         ensures { (rows : List Row)
             → Acts (Fetch pick) (here self.old rows book.old) None (here self.new rows book.new) }
@@ -196,7 +196,7 @@ impl Connection {
         let Position::Inside(owner) = &mut self.position else {
             return;
         };
-        if !owner.is_running() {
+        if !owner.is_busy() {
             return;
         }
         let Some(done) = book.fetch(self.user, pick) else {
@@ -206,19 +206,19 @@ impl Connection {
         self.posted = self.posted.saturating_sub(1);
     }
 
-    /// Turns the step of what runs.
-    fn turn(&mut self) -> Result<Option<ReplyText>, AllocError>
+    /// Turns the step of a session: of the one that is named, or of the first that is ready.
+    fn turn(&mut self, session: Option<Name>) -> Result<Option<ReplyText>, AllocError>
         ensures acts { IfOk result (λ text. (rows : List Row) (book : Held)
-            → Acts Turn (here self.old rows book) text (here self.new rows book)) }
+            → Acts (Turn session) (here self.old rows book) text (here self.new rows book)) }
         ensures stays { OnErr result (Stays self.old self.new) }
     {
         let Position::Inside(owner) = &mut self.position else {
             return Ok(None);
         };
-        if !owner.ready() {
+        let Some(name) = answers::session_to_turn(owner, session) else {
             return Ok(None);
-        }
-        answers::turn(self.alloc, owner)
+        };
+        answers::turn(self.alloc, owner, &name)
     }
 
     /// Hands the state of its user back, where nothing is left to answer.
@@ -232,7 +232,7 @@ impl Connection {
         let Position::Inside(owner) = &self.position else {
             return;
         };
-        if owner.is_running() {
+        if owner.is_waiting() {
             return;
         }
         let Some(ticket) = self.ticket.take() else {

@@ -36,12 +36,12 @@ pub enum Act {
     Enter,
     /// A connection begins its next item.
     Next,
-    /// A connection posts the next task of what runs.
+    /// A connection posts the next task that a session of its user has.
     Post,
     /// A connection fetches a result of its user.
     Fetch { pick: usize },
-    /// A connection turns the step of what runs.
-    Turn,
+    /// A connection turns the step of a session: of the one that is named, or of the first that is ready.
+    Turn { session: Option<Name> },
     /// A connection hands the state of its user back.
     Leave,
 }

@@ -1,27 +1,20 @@
 //! Laws of runs: functions that do nothing of their own, whose contracts are the laws.
-ghost use Rattle.lj_session.specs.Laws.{BeginKeepsUser, PostedKeepsUser, AcceptKeepsUser, TurnGivesTurned};
-ghost use Rattle.lj_wire.specs.Laws.{TurnKeepsTold, RunningGoesOn};
-ghost use Rattle.lj_world.specs.Laws.{RepliesAreFirstTexts, AgreeingScriptsAgreeInTexts, Headline};
-ghost use Rattle.lj_world.specs.Laws.{ValueIsThatOfScript, TicketsAreInOrder, OthersChangeNothing};
+ghost use Rattle.lj_world.specs.Laws.{Known, RepliesAreFirstTexts, AgreeingScriptsAgreeInTexts, Headline};
+ghost use Rattle.lj_world.specs.Laws.{ValueIsThatOfScript, TicketsAreInOrder, OthersChangeNothing, EachListHasARun};
 
-use lj_session::{accept_keeps_user, begin_keeps_user, posted_keeps_user, turn_gives_turned};
-use lj_wire::{mark_is_told, running_goes_on, turn_keeps_told};
+use lj_session::{accept_keeps_user, begun_waits_alike, posted_keeps_user, rest_keeps_user};
+use lj_wire::{alike_is_told, mark_is_told, waiting_goes_on};
 
-/// What runs is told in the end what it would be told now, and only its turns change the user.
-fn laws_of_what_runs()
-    ensures keeps { TurnKeepsTold }
-    ensures goes_on { RunningGoesOn }
-    ensures begin { BeginKeepsUser }
-    ensures posted { PostedKeepsUser }
-    ensures accept { AcceptKeepsUser }
-    ensures turn { TurnGivesTurned }
+/// What waits is told in the end what it would be told now, and what is done meanwhile leaves the user.
+fn laws_of_what_waits()
+    ensures { Known }
 {
-    turn_keeps_told();
-    running_goes_on();
-    begin_keeps_user();
+    rest_keeps_user();
     posted_keeps_user();
     accept_keeps_user();
-    turn_gives_turned();
+    begun_waits_alike();
+    alike_is_told();
+    waiting_goes_on();
 }
 
 /// In every run a user's replies are the first texts of its script answered alone, one for each mark.
@@ -29,7 +22,7 @@ pub fn replies_are_first_texts()
     ensures { RepliesAreFirstTexts }
 {
     mark_is_told();
-    laws_of_what_runs();
+    laws_of_what_waits();
 }
 
 /// Of two scripts that agree the one list of texts is a prefix of the other.
@@ -46,22 +39,27 @@ pub fn headline()
     agreeing_scripts_agree_in_texts();
 }
 
-/// In every run the value of a user is that of its script so far, while an item runs after some of its turns.
+/// In every run the value of a user is that of its script so far; while something waits, it is the script's next item.
 pub fn value_is_that_of_script()
     ensures { ValueIsThatOfScript }
 {
     mark_is_told();
-    laws_of_what_runs();
+    laws_of_what_waits();
 }
 
 /// In every run a user's n-th granted HELLO, counted from 0, gets its ticket n.
 pub fn tickets_are_in_order()
     ensures { TicketsAreInOrder }
 {
-    laws_of_what_runs();
+    laws_of_what_waits();
 }
 
 /// An event that is not a user's changes nothing of it.
 pub fn others_change_nothing()
     ensures { OthersChangeNothing }
+{}
+
+/// No list of events is without a run, whichever state it begins in.
+pub fn each_list_has_a_run()
+    ensures { EachListHasARun }
 {}

@@ -1,6 +1,7 @@
 //! The text of a reply.
 ghost use Rattle.std.specs.Prelude.{◌≡◌, IfOk};
 ghost use Rattle.lj_session.specs.States.{user_of};
+ghost use Rattle.lj_session.specs.Owners.{IsSettled};
 ghost use Rattle.lj_wire.specs.Texts.{text};
 
 use crate::transcript::ReplyText;
@@ -17,6 +18,7 @@ pub(crate) fn text_of(
     state: &UserState,
     reply: &Reply,
 ) -> Result<ReplyText, AllocError>
+    requires { IsSettled state.now reply.now }
     ensures { IfOk result (λ made. made ≡ text (user_of state.now) reply.now) }
 {
     let mut bytes = Vec::new(alloc);

@@ -2,7 +2,7 @@
 use Rattle.std.specs.Prelude.{◌≡◌, ℕ, List, Option}
 use Rattle.std.specs.Io.KnownBytes.{IsAtEnd}
 use Rattle.lj_quota.specs.declared.Quota.{Quota}
-use Rattle.lj_session.specs.Users.{User, fresh}
+use Rattle.lj_session.specs.States.{Owned, empty}
 use Rattle.lj_pool.specs.declared.served.Served.{Served}
 use Rattle.lj_pool.specs.declared.served.Served.TheVariants.{End, PoolClosed, TooManyStrays}
 use Rattle.lj_pool.specs.Seen.{Seen, unseen}
@@ -13,8 +13,8 @@ use Rattle.lj_pool.specs.Served.{Serves}
 pub record Converses (served : Served) (quota : Quota) (left was is : Option (List ℕ)) : Type 0 where
   pub rest : Option (List ℕ)
   pub seen : Seen
-  pub next : Option User
-  pub serves : Serves served (fresh quota) left rest was is unseen seen next
+  pub next : Option Owned
+  pub serves : Serves served (empty quota) left rest was is unseen seen next
   pub all : served ≡ End → IsAtEnd rest
   pub never_closed : served ≡ PoolClosed → ⊥
   pub few_strays : served ≡ TooManyStrays → ⊥

@@ -43,12 +43,22 @@ fn parse_act(verb: &[u8], mut words: Words) -> Option<Event> {
         b"fetch" => Act::Fetch {
             pick: parse_pick(words.next()?)?,
         },
-        b"turn" => Act::Turn,
+        b"turn" => Act::Turn {
+            session: parse_session(&mut words)?,
+        },
         b"leave" => Act::Leave,
         _ => return None,
     };
     words.end()?;
     Some(Event::At { connection, act })
+}
+
+/// The session that the next word names, or `Some(None)` where no word is left. None of a word that is no name.
+fn parse_session(words: &mut Words) -> Option<Option<Name>> {
+    match words.next() {
+        Some(word) => Some(Some(Name::parse(word)?)),
+        None => Some(None),
+    }
 }
 
 /// What a worker does.

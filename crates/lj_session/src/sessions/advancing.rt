@@ -1,10 +1,13 @@
-//! ADVANCE and MEASURE: how many turns they take, and what is answered without one.
-ghost use Rattle.std.specs.Prelude.{◌≡◌, ◌<◌, Bool, Ok, IsSome};
-ghost use Rattle.std.specs.Option.{ForSome};
+//! ADVANCE, START and MEASURE: what is owed to a session, how many steps a command takes of its own, and what is answered
+//! without one.
+ghost use Rattle.std.specs.Prelude.{◌≡◌, Bool, false, true, Ok, IsSome, OnErr};
+ghost use Rattle.std.specs.Option.{ForSome, option_copied};
 ghost use Rattle.lj_tile.specs.declared.names.Kind.TheVariants.{Energy};
 ghost use Rattle.lj_session.specs.declared.command.Command.TheVariants as commands;
+ghost use Rattle.lj_session.specs.Answers.{answer, can_advance};
 ghost use Rattle.lj_session.specs.Turns as definition;
-ghost use Rattle.lj_session.specs.States.{IsHere, IsWhole, Reads, user_of, held_in};
+ghost use Rattle.lj_session.specs.States as states;
+ghost use Rattle.lj_session.specs.States.{IsWhole, Performs, Reads, changed, held_in, owed_in, owing, session_meant, user_of};
 
 use crate::command::Command;
 use crate::refusal::Refusal;
@@ -13,11 +16,56 @@ use crate::session::Session;
 use crate::sessions::Sessions;
 use lj_tile::Name;
 
+impl Command {
+    /// The session that it waits for, until no step is owed to it.
+    #[tactic(auto, unfolding(crate::specs::Turns::waits_for))]
+    pub(crate) fn waits_for(&self) -> Option<&Name>
+        ensures { option_copied result ≡ definition.waits_for self.now }
+    {
+        match self {
+            Command::Advance { name, .. }
+            | Command::Reverse { name }
+            | Command::Branch { name, .. }
+            | Command::Restore { name, .. }
+            | Command::Tug { name, .. }
+            | Command::Measure { name }
+            | Command::Show { name, .. }
+            | Command::Dump { name }
+            | Command::Unload { name } => Some(name),
+            Command::Load(_)
+            | Command::Start { .. }
+            | Command::Forget { .. }
+            | Command::List
+            | Command::ListBranches { .. }
+            | Command::Bye => None,
+        }
+    }
+}
+
 impl Sessions {
-    /// How many turns a command takes.
+    /// How many steps are owed to the session of a name; 0 where there is none.
+    pub fn owed(&self, name: &Name) -> u64
+        ensures { result ≡ owed_in self.now name.now }
+    {
+        match self.find(name) {
+            Some(session) => session.owed(),
+            None => 0,
+        }
+    }
+
+    /// How many steps are owed to the session that a command waits for.
+    pub fn steps_before(&self, command: &Command) -> u64
+        ensures { result ≡ states.steps_before self.now command.now }
+    {
+        match command.waits_for() {
+            Some(name) => self.owed(name),
+            None => 0,
+        }
+    }
+
+    /// How many turns a command takes of its own.
     pub fn turns(&self, command: &Command) -> u64
-        ensures value { result ≡ definition.turns (user_of self.now) command.now }
-        ensures here { 0 < result → IsHere self.now command.now }
+        ensures { result ≡ definition.turns (user_of self.now) command.now }
     {
         match command {
             Command::Advance { name, steps } => self.advance_turns(name, *steps),
@@ -27,8 +75,7 @@ impl Sessions {
     }
 
     fn advance_turns(&self, name: &Name, steps: u64) -> u64
-        ensures value { result ≡ definition.turns (user_of self.now) (commands.Advance name.now steps) }
-        ensures here { 0 < result → IsHere self.now (commands.Advance name.now steps) }
+        ensures { result ≡ definition.turns (user_of self.now) (commands.Advance name.now steps) }
     {
         let Some(session) = self.find(name) else {
             return 0;
@@ -48,7 +95,37 @@ impl Sessions {
         1
     }
 
-    /// An ADVANCE that takes no turn: it is refused, or by 0.
+    /// Owes so many steps more to a session, which may go on by them.
+    pub fn owe(&mut self, name: &Name, steps: u64)
+        requires { ForSome (held_in self.old name.now) (λ held. can_advance (session_meant held) steps ≡ true) }
+        ensures owed { self.new ≡ changed name.now (owing steps) self.old }
+        ensures user { IsSome (held_in self.old name.now)
+            → user_of self.new ≡ (answer (user_of self.old) (commands.Advance name.now steps) false).1 }
+    {
+        let Some(session) = self.sessions.get_mut(name) else {
+            return;
+        };
+        session.owe(steps);
+    }
+
+    /// Owes so many steps more to a session. The reply has the step number that it is then going to.
+    pub fn start(&mut self, name: Name, steps: u64) -> Result<Reply, Refusal>
+        ensures performs { Performs self.old (commands.Start name steps) result self.new }
+        ensures quota { self.new.quota ≡ self.old.quota }
+        ensures unchanged { OnErr result (self.new ≡ self.old) }
+    {
+        let Some(session) = self.sessions.get_mut(&name) else {
+            return Err(Refusal::NoSession);
+        };
+        if !session.can_advance(steps) {
+            return Err(Refusal::StepRange);
+        }
+        session.owe(steps);
+        let step = session.target();
+        Ok(Reply::Started { name, step })
+    }
+
+    /// An ADVANCE that waits for nothing, and takes no turn: it is refused, or by 0.
     pub fn advance_at_once(&self, name: Name, steps: u64) -> Result<Reply, Refusal>
         requires { definition.turns (user_of self.now) (commands.Advance name steps) ≡ 0 }
         ensures { Reads self.now (commands.Advance name steps) result }
@@ -59,16 +136,8 @@ impl Sessions {
         if !session.can_advance(steps) {
             return Err(Refusal::StepRange);
         }
-        Ok(self.advanced(name))
-    }
-
-    /// The reply to an ADVANCE that has no step left to go.
-    pub fn advanced(&self, name: Name) -> Reply
-        requires { IsSome (held_in self.now name) }
-        ensures { Reads self.now (commands.Advance name 0) (Ok result) }
-    {
-        let step = self.session(&name).sim().step();
-        Reply::Advanced { name, step }
+        let step = session.target();
+        Ok(Reply::Advanced { name, step })
     }
 
     /// A MEASURE that takes no turn: it is refused.
@@ -82,6 +151,7 @@ impl Sessions {
     /// The reply to a MEASURE, by the whole energy step of the session.
     pub fn measured(&self, name: Name) -> Reply
         requires session { IsSome (held_in self.now name) }
+        requires settled { owed_in self.now name ≡ 0 }
         requires whole { ForSome (held_in self.now name) (IsWhole Energy) }
         ensures { Reads self.now (commands.Measure name) (Ok result) }
     {

@@ -2,7 +2,7 @@
 ghost use Rattle.std.specs.Prelude.{◌≡◌, OnErr};
 ghost use Rattle.lj_session.specs.declared.command.Command.TheVariants as commands;
 ghost use Rattle.lj_session.specs.Loads.{admitted};
-ghost use Rattle.lj_session.specs.States.{Performs, user_of};
+ghost use Rattle.lj_session.specs.States.{Performs, user_of, owed_in};
 
 use crate::body::LoadBody;
 use crate::command::Load;
@@ -47,6 +47,7 @@ impl Sessions {
 
     /// Gives up a session. The others keep their order.
     pub fn unload(&mut self, name: Name) -> Result<Reply, Refusal>
+        requires { owed_in self.old name ≡ 0 }
         ensures performs { Performs self.old (commands.Unload name) result self.new }
         ensures quota { self.new.quota ≡ self.old.quota }
         ensures unchanged { OnErr result (self.new ≡ self.old) }

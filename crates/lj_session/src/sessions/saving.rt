@@ -1,7 +1,7 @@
 //! BRANCH, RESTORE and FORGET.
 ghost use Rattle.std.specs.Prelude.{◌≡◌, OnErr};
 ghost use Rattle.lj_session.specs.declared.command.Command.TheVariants as commands;
-ghost use Rattle.lj_session.specs.States.{Performs};
+ghost use Rattle.lj_session.specs.States.{Performs, owed_in};
 
 use crate::refusal::Refusal;
 use crate::reply::Reply;
@@ -12,6 +12,7 @@ use lj_tile::Name;
 impl Sessions {
     /// Saves the simulation of a session under a new name.
     pub fn branch(&mut self, name: Name, branch: Name) -> Result<Reply, Refusal>
+        requires { owed_in self.old name ≡ 0 }
         ensures performs { Performs self.old (commands.Branch name branch) result self.new }
         ensures quota { self.new.quota ≡ self.old.quota }
         ensures unchanged { OnErr result (self.new ≡ self.old) }
@@ -31,6 +32,7 @@ impl Sessions {
 
     /// Goes back to what is saved in a session under a name.
     pub fn restore(&mut self, name: Name, branch: Name) -> Result<Reply, Refusal>
+        requires { owed_in self.old name ≡ 0 }
         ensures performs { Performs self.old (commands.Restore name branch) result self.new }
         ensures quota { self.new.quota ≡ self.old.quota }
         ensures unchanged { OnErr result (self.new ≡ self.old) }

@@ -1,7 +1,7 @@
 //! SHOW, DUMP and LIST of a session.
 ghost use Rattle.std.specs.Prelude.{◌≡◌, Bool};
 ghost use Rattle.lj_session.specs.declared.command.Command.TheVariants as commands;
-ghost use Rattle.lj_session.specs.States.{Reads};
+ghost use Rattle.lj_session.specs.States.{Reads, owed_in};
 
 use crate::refusal::Refusal;
 use crate::reply::Reply;
@@ -11,6 +11,7 @@ use lj_tile::Name;
 impl Sessions {
     /// Shows the place of an atom of a session.
     pub fn show(&self, name: Name, atom: u64) -> Result<Reply, Refusal>
+        requires { owed_in self.now name ≡ 0 }
         ensures { Reads self.now (commands.Show name atom) result }
     {
         let Some(session) = self.find(&name) else {

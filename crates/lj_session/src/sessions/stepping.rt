@@ -1,11 +1,12 @@
-//! The open step of a session.
-ghost use Rattle.std.specs.Prelude.{◌≡◌, ◌↔◌, ℕ, IsOk, IsSome, OnOk, OnErr};
-ghost use Rattle.std.specs.Option.{ForSome};
+//! The open steps of sessions.
+ghost use Rattle.std.specs.Prelude.{◌≡◌, ◌↔◌, ◌<◌, ℕ, IsOk, IsSome, OnOk, OnErr, is_some};
+ghost use Rattle.std.specs.List.{IsDistinct, find};
+ghost use Rattle.std.specs.Option.{ForSome, option_copied};
+ghost use Rattle.std.specs.Str.{bytes_eq};
+ghost use Rattle.lj_tile.specs.declared.names.Kind.TheVariants.{Force};
 ghost use Rattle.lj_step.specs.OpenSteps.{tile_number_of};
-ghost use Rattle.lj_session.specs.declared.command.Command.TheVariants.{Advance};
-ghost use Rattle.lj_session.specs.Turns.{turned};
-ghost use Rattle.lj_session.specs.States.{CanTurn, IsAwaited, user_of, held_in, changed, with_step, with_posted};
-ghost use Rattle.lj_session.specs.States.{with_tile_in, turned_on, is_whole_in};
+ghost use Rattle.lj_session.specs.States.{IsWhole, IsAwaited, user_of, held_in, names, owed_in, changed, with_step, with_posted};
+ghost use Rattle.lj_session.specs.States.{with_tile_in, step_closed, step_passed, rested, is_whole_in};
 ghost use Rattle.lj_session.specs.States as states;
 
 use crate::sessions::Sessions;
@@ -24,11 +25,61 @@ impl Sessions {
         session.open_step(kind);
     }
 
+    /// Closes the open step of a session.
+    pub fn close_step(&mut self, name: &Name)
+        ensures closed { self.new ≡ changed name.now step_closed self.old }
+        ensures user { user_of self.new ≡ user_of self.old }
+    {
+        let Some(session) = self.sessions.get_mut(name) else {
+            return;
+        };
+        session.close_step();
+    }
+
+    /// Begins each step anew: of a session to which steps are owed one is open, with no tile posted or in, and of every
+    /// other none.
+    pub fn rest(&mut self)
+        ensures rested { self.new ≡ rested self.old }
+        ensures user { user_of self.new ≡ user_of self.old }
+        ensures distinct { IsDistinct bytes_eq (names self.new) }
+    {
+        for i in 0..self.sessions.len() {
+            let Some(session) = self.sessions.get_index_mut(i) else {
+                return;
+            };
+            session.rest();
+        }
+    }
+
     /// The task of the first tile of a session's open step that is neither posted nor in.
     pub fn next_task(&self, label: &Label) -> Option<Task>
         ensures { result ≡ states.next_task self.now label.now }
     {
         self.find(&label.session)?.next_task(label)
+    }
+
+    /// Whether there is such a tile.
+    fn has_task(&self, name: &Name) -> bool
+        ensures { (user : ℕ) → result ≡ is_some (states.next_task self.now (record { user = user; session = name.now })) }
+    {
+        match self.find(name) {
+            Some(session) => session.has_task(),
+            None => false,
+        }
+    }
+
+    /// The first session, in order of loading, that has such a tile. The tasks are of the user of this number.
+    pub fn next_session(&self, user: u8) -> Option<&Name>
+        ensures { option_copied result
+            ≡ find (λ name. is_some (states.next_task self.now (record { user = user; session = name }))) (names self.now) }
+    {
+        for i in 0..self.len() {
+            let name = self.name_at(i);
+            if self.has_task(name) {
+                return Some(name);
+            }
+        }
+        None
     }
 
     /// Notes that tile as posted.
@@ -66,16 +117,31 @@ impl Sessions {
         }
     }
 
-    /// Turns the whole force step of a session: its motion goes one step on, and no step is open in it.
-    pub fn turn(&mut self, name: &Name)
+    /// The first session, in order of loading, of which a step is open and all its tiles are in.
+    pub fn first_whole(&self) -> Option<&Name>
+        ensures { option_copied result ≡ find (is_whole_in self.now) (names self.now) }
+    {
+        for i in 0..self.len() {
+            let name = self.name_at(i);
+            if self.is_whole(name) {
+                return Some(name);
+            }
+        }
+        None
+    }
+
+    /// Turns the whole force step of a session, one that is owed: its motion goes one step on, and the next step is open
+    /// if one is owed.
+    pub fn pass_step(&mut self, name: &Name)
         requires session { IsSome (held_in self.old name.now) }
-        requires may { ForSome (held_in self.old name.now) CanTurn }
-        ensures turned { self.new ≡ changed name.now turned_on self.old }
-        ensures user { (n : ℕ) → user_of self.new ≡ turned (user_of self.old) (Advance name.now n) }
+        requires owed { 0 < owed_in self.old name.now }
+        requires whole { ForSome (held_in self.old name.now) (IsWhole Force) }
+        ensures passed { self.new ≡ changed name.now step_passed self.old }
+        ensures user { user_of self.new ≡ user_of self.old }
     {
         let Some(session) = self.sessions.get_mut(name) else {
             return;
         };
-        session.turn();
+        session.pass_step();
     }
 }

@@ -1,7 +1,7 @@
 //! A pool that is closed while an end waits for a result.
 ghost use Rattle.std.specs.Prelude.{◌≡◌};
 
-use super::{next, put_back};
+use super::{close_late, next, put_back};
 use crate::tasks::task;
 use lj_pool::Pool;
 use lj_queue::{QueueBlank, QueueEnd, QueuePool, Room, Settled};
@@ -13,10 +13,6 @@ use std::sync::Wait;
 use std::test::Fail;
 use std::thread;
 use std::thread::Threads;
-use std::time::Duration;
-
-/// How many milliseconds the pool stays open.
-const LATE_MILLIS: u64 = 20;
 
 const USER: u8 = 7;
 
@@ -26,11 +22,6 @@ fn wait_in_vain<L: Room, R: Wait + Abort>(rt: &R, end: &mut QueueEnd<L, R>) -> b
         return false;
     }
     end.fetch(USER).is_none() && end.closed()
-}
-
-fn close_late<L: Room, R: Wait + Clock>(rt: &R, pool: &QueuePool<L>) {
-    thread::sleep(rt, Duration::from_millis(LATE_MILLIS));
-    pool.close(rt);
 }
 
 fn close_while_one_waits<L: Room + Send + Sync, R: Threads + Wait + Clock + Abort + Sync>(

@@ -1,18 +1,17 @@
 //! A gate that sends each task back once: two users are told the same over either pool.
 ghost use Rattle.std.specs.Prelude.{◌≡◌, ◌+◌, []};
 
-use super::{next, put_back};
+use super::{Counted, Hand, next, put_back, wait_for, work_both};
 use arrayvec::ArrayVec;
 use lj_book::Counts;
 use lj_pool::{Gate, LockPool, Pool, Share, serve, work};
-use lj_queue::{CONNECTIONS, PoolPass, QueueBlank, QueuePool, Room, Settled, work_queue};
+use lj_queue::{CONNECTIONS, PoolPass, QueueBlank, QueuePool, Room, Settled};
 use lj_quota::Quota;
 use lj_session::UserState;
 use lj_table::Table;
 use lj_tile::{Kind, TaskName};
 use lj_wire::{Reading, Writing};
 use std::alloc::{AllocError, AllocGlobal, Global};
-use std::io::Write;
 use std::marker::Brand;
 use std::process::Abort;
 use std::rt::Clock;
@@ -20,15 +19,8 @@ use std::sync::atomic::{AtomicU64, Ordering};
 use std::sync::ledger::{Blank, Ledger};
 use std::sync::{Mutex, Wait};
 use std::test::Fail;
+use std::thread;
 use std::thread::Threads;
-use std::time::Duration;
-use std::{io, thread};
-
-/// How often the gate looks at most before it lets the task pass.
-const TURNS: u64 = 1_000_000;
-
-/// How long it waits after each look, so that the other user's threads get on.
-const TURN_MICROS: u64 = 20;
 
 /// The user whose step is held back.
 const HELD: u8 = 0;
@@ -53,14 +45,8 @@ impl<R: Clock + Wait> Gate for SendBack<'_, R> {
         if name.label.user != HELD || name.kind != Kind::Force {
             return;
         }
-        for _ in 0..TURNS {
-            if self.measured.load(Ordering::SeqCst) > 0 {
-                if self.advanced.load(Ordering::SeqCst) == 0 {
-                    self.seen.fetch_add(1, Ordering::SeqCst);
-                }
-                return;
-            }
-            thread::sleep(self.rt, Duration::from_micros(TURN_MICROS));
+        if wait_for(self.rt, &self.measured) && self.advanced.load(Ordering::SeqCst) == 0 {
+            self.seen.fetch_add(1, Ordering::SeqCst);
         }
     }
 
@@ -94,28 +80,6 @@ impl<'a, R: Wait> SendBack<'a, R> {
 
 /// What a user is told.
 type Output = ArrayVec<u8, 128>;
-
-/// A writer that counts the replies that begin so.
-#[derive(Drop)]
-struct Counted<'a> {
-    output: Output,
-    begins: &'a [u8],
-    count: &'a AtomicU64,
-}
-
-impl Write for Counted<'_> {
-    fn write(&mut self, buf: &[u8]) -> io::Result<usize> {
-        let written = self.output.write(buf)?;
-        if buf.starts_with(self.begins) {
-            self.count.fetch_add(1, Ordering::SeqCst);
-        }
-        Ok(written)
-    }
-
-    fn flush(&mut self) -> io::Result<()> {
-        Ok(())
-    }
-}
 
 /// What the user is asked whose step is held back, and what the other one is.
 const ADVANCES: &str = "LOAD a 256 1 131072 rest 28\n2\ndimer\nAr 0 0 0\nAr 1.5 0 0\nADVANCE a 1\n";
@@ -224,35 +188,6 @@ fn serve_queued<L: Room, R: Wait>(
     let mut end = pool.end(rt, pass, user);
     let output = serve_user(alloc, user, gate, &mut end);
     (output, end.finish())
-}
-
-/// A worker with its share, and its pass to a queue.
-type Hand<L> = (Share<L>, PoolPass<L>);
-
-/// A worker computes tasks until the pool is closed.
-fn work_with<L: Room, R: Wait + Clock>(
-    rt: &R,
-    pool: &QueuePool<L>,
-    gate: &SendBack<R>,
-    hand: Hand<L>,
-) -> Hand<L> {
-    let (share, pass) = hand;
-    work_queue(rt, pool, share, pass, gate, &Table::new())
-}
-
-/// So do both workers.
-fn work_both<L: Room + Send + Sync, R: Threads + Wait + Clock + Sync>(
-    rt: &R,
-    pool: &QueuePool<L>,
-    gate: &SendBack<R>,
-    hands: (Hand<L>, Hand<L>),
-) -> (Hand<L>, Hand<L>) {
-    let (first, second) = hands;
-    thread::join(
-        rt,
-        move || work_with(rt, pool, gate, first),
-        move || work_with(rt, pool, gate, second),
-    )
 }
 
 /// Serves both users at once over a pool with a queue, and then closes it. The passes are given back.

@@ -1,19 +1,26 @@
-use Rattle.std.proofs.Common.{sym, ap, subst, refl}
-use Rattle.lj_pool.specs.Running.{HasBegun}
-use Rattle.lj_pool.specs.Counting.{CountsRise, turns_tiles}
-use Rattle.lj_session.specs.Owners.{user_in}
-use Rattle.lj_pool.proofs.Beginning.{has_begun, rises-none}
+use Rattle.lj_pool.proofs.Ending.{begun_gathers, begun_counted, at_once_gathers, at_once_counted, on_both}
 use Rattle.lj_pool.proofs.running.answer_over.Goals as goal
 
-pub run-requires-clause-begun : goal.run-requires-clause-begun
-run-requires-clause-begun g c =
-    subst HasBegun (sym c.in-Running.ensures.running)
-    (has_begun c.args.command c.args.owner.now c.in-Running.ensures.takes_turns)
+pub run-requires-clause-gathers : goal.run-requires-clause-gathers
+run-requires-clause-gathers g c =
+    begun_gathers c.args.owner.now (g.P.Pool.seen c.args.pool.now) c.requires.gathers c.requires.idle c.args.command
+    c.begin.new.self c.in-Running.ensures.takes_turns c.in-Running.ensures.begun
+
+pub returns-in-Answered-clause-gathers : goal.returns-in-Answered-clause-gathers
+returns-in-Answered-clause-gathers g c =
+    at_once_gathers c.args.owner.now (g.P.Pool.seen c.args.pool.now) c.requires.gathers c.requires.idle c.args.command
+    c.begin.new.self c.in-Answered.reply c.begin.ensures.number c.in-Answered.ensures.idle c.in-Answered.ensures.at_once
+    c.in-Answered.ensures.answered c.in-Answered.ensures.unchanged c.begin.ensures.others c.in-Answered.ensures.steps
 
 pub returns-in-Answered-clause-counted : goal.returns-in-Answered-clause-counted
-unfolding turns_tiles
 returns-in-Answered-clause-counted g c =
-    let seen = g.P.Pool.seen c.args.pool.now in
-    subst (λ n. CountsRise n seen seen)
-    (sym (ap (λ n. turns_tiles n (user_in c.args.owner.now) c.args.command) c.in-Answered.ensures.at_once))
-    (rises-none seen seen refl refl)
+    at_once_counted c.args.owner.now (g.P.Pool.seen c.args.pool.now) c.requires.gathers c.requires.idle c.args.command
+    c.begin.new.self c.in-Answered.reply c.begin.ensures.number c.in-Answered.ensures.idle c.in-Answered.ensures.at_once
+    c.in-Answered.ensures.answered c.in-Answered.ensures.unchanged c.begin.ensures.others c.in-Answered.ensures.steps
+
+pub returns-in-Running-clause-counted : goal.returns-in-Running-clause-counted
+returns-in-Running-clause-counted g c =
+    on_both c.run.result
+    (begun_counted c.args.owner.now (g.P.Pool.seen c.args.pool.now) c.requires.gathers c.requires.idle c.args.command
+    c.begin.new.self c.in-Running.ensures.takes_turns c.in-Running.ensures.begun c.run.new.owner (g.P.Pool.seen c.run.new.pool))
+    c.run.ensures.idle c.run.ensures.counted

@@ -1,30 +1,30 @@
-use Rattle.std.proofs.Common.{sym, ◌∙◌, ap, subst, arith}
-use Rattle.lj_pool.specs.Gathering.{Gathers, awaited_in, unposted_in}
-use Rattle.lj_pool.proofs.Gathering.{owes_some, gathers_posted, posted_fewer, posted_awaits}
+use Rattle.std.proofs.Common.{◌<◌, sym, ◌∙◌, subst}
+use Rattle.lj_session.specs.Owners.{Owning}
+use Rattle.lj_pool.specs.Coming.{GoesOn, posts_coming}
+use Rattle.lj_pool.proofs.Gathered.{owes_some}
+use Rattle.lj_pool.proofs.Going.{goes_nothing, goes_unchanged, goes_posted, fewer_posts}
 use Rattle.lj_pool.proofs.running.post_next.Goals as goal
 
+pub returns-then-full-clause-goes_on : goal.returns-then-full-clause-goes_on
+returns-then-full-clause-goes_on g c = goes_nothing c.args.owner.now (g.P.Pool.seen c.args.pool.now) c.requires.gathers
+
+pub returns-in_default-clause-goes_on : goal.returns-in_default-clause-goes_on
+returns-in_default-clause-goes_on g c = goes_nothing c.args.owner.now (g.P.Pool.seen c.args.pool.now) c.requires.gathers
+
 pub returns-in_default-clause-owes : goal.returns-in_default-clause-owes
-returns-in_default-clause-owes g c _ =
-    owes_some c.args.owner.now (g.P.Pool.seen c.args.pool.now).owed c.requires.gathers c.requires.going
+returns-in_default-clause-owes g c = λ alone waits none_ready _.
+    owes_some c.args.owner.now (g.P.Pool.seen c.args.pool.now).owed c.requires.gathers waits none_ready
     (sym c.next_task.ensures ∙ c.in_default.is)
 
-pub returns-in-Ok-clause-gathers : goal.returns-in-Ok-clause-gathers
-returns-in-Ok-clause-gathers g c =
-    let some = sym c.next_task.ensures ∙ c.in-Some.is in
-    subst (λ owner. Gathers owner (g.P.Pool.seen c.post.new.self).owed) (sym c.posted.ensures.noted)
-    (subst (Gathers _) (sym c.in-Ok.ensures.posted.owed)
-    (gathers_posted c.args.owner.now (g.P.Pool.seen c.args.pool.now).owed c.requires.gathers c.in-Some.task some))
-
-pub returns-in-Ok-clause-awaited : goal.returns-in-Ok-clause-awaited
-returns-in-Ok-clause-awaited g c =
-    let some = sym c.next_task.ensures ∙ c.in-Some.is in
-    ap awaited_in c.posted.ensures.noted ∙ posted_awaits c.args.owner.now
-    (g.P.Pool.seen c.args.pool.now).owed c.requires.gathers c.in-Some.task some
+pub returns-in-Ok-clause-goes_on : goal.returns-in-Ok-clause-goes_on
+returns-in-Ok-clause-goes_on g c =
+    subst (λ (o : Owning). GoesOn c.args.owner.now (g.P.Pool.seen c.args.pool.now) o (g.P.Pool.seen c.post.new.self))
+    (sym c.posted.ensures.noted)
+    (goes_posted c.args.owner.now (g.P.Pool.seen c.args.pool.now) (g.P.Pool.seen c.post.new.self) c.requires.gathers
+    c.in-Some.task (sym c.next_task.ensures ∙ c.in-Some.is) c.in-Ok.ensures.posted)
 
 pub returns-in-Ok-clause-fewer : goal.returns-in-Ok-clause-fewer
 returns-in-Ok-clause-fewer g c _ =
-    let some = sym c.next_task.ensures ∙ c.in-Some.is in
-    let less =
-    posted_fewer c.args.owner.now (g.P.Pool.seen c.args.pool.now).owed c.requires.gathers c.in-Some.task some in
-    let now = ap unposted_in c.posted.ensures.noted in
-    omega (arith, less, now)
+    subst (λ (o : Owning). posts_coming o < posts_coming c.args.owner.now) (sym c.posted.ensures.noted)
+    (fewer_posts c.args.owner.now (g.P.Pool.seen c.args.pool.now) (g.P.Pool.seen c.post.new.self) c.requires.gathers
+    c.in-Some.task (sym c.next_task.ensures ∙ c.in-Some.is))

@@ -1,45 +1,73 @@
-use Rattle.std.proofs.Common.{◌≡◌, ◌-◌, true, false, refl, sym, ◌∙◌, arith, rules}
-use Rattle.lj_pool.specs.Gathering.{awaited_in}
-use Rattle.lj_pool.specs.Running.{tiles_left, tiles_now}
-use Rattle.lj_session.specs.Owners.{user_in, turns_left, IsReplied}
-use Rattle.lj_pool.proofs.Beginning.{goes_on, rises-more, same_turns, last_tiles}
-use Rattle.lj_pool.proofs.Quotas.{replied_keeps}
+use Rattle.std.proofs.Common.{◌≡◌, true, false, refl, arith, rules}
+use Rattle.lj_pool.proofs.Ending.{alike_some, ends_replied, ends_gathers, ends_counted, strays_none}
+use Rattle.lj_pool.proofs.Going.{goes_then, goes_turned, turned_fewer}
 use Rattle.lj_pool.proofs.running.run.Goals as goal
 
-pub returns-in-Some-clause-counted : goal.returns-in-Some-clause-counted
-returns-in-Some-clause-counted g c =
-    let owner = c.loop-owner.owner in
-    let last : turns_left c.gather.new.owner ≡ 1 = c.in-Some.ensures.last.0 refl in
-    let tiles : tiles_left owner ≡ tiles_now owner =
-    last_tiles owner (sym (same_turns owner c.gather.new.owner c.gather.ensures.same) ∙ last) in
-    let awaited : awaited_in owner ≡ tiles_now owner = c.loop-owner.invariant.begun.awaited in
-    rises-more (tiles_left c.args.owner.now - tiles_left owner) (awaited_in owner) (tiles_left c.args.owner.now)
-    c.loop-owner.invariant.counted c.in_ok-gather.ensures.counted
-    (omega (arith, tiles, awaited))
+pub returns-in-Some-turn_session-clause-replied : goal.returns-in-Some-turn_session-clause-replied
+returns-in-Some-turn_session-clause-replied g c =
+    ends_replied c.args.owner.now (g.P.Pool.seen c.args.pool.now) c.loop-name.owner (g.P.Pool.seen c.loop-name.pool)
+    c.loop-name.invariant.goes c.in-Some.name c.in-Some.ensures.whole (c.in-Some-turn_session.ensures.last.0 refl)
+    c.turn_session.new.self c.in-Some-turn_session.reply c.turn_session.ensures.number c.in-Some-turn_session.ensures.idle
+    c.turn_session.ensures.others c.in-Some-turn_session.ensures.rests
+    (alike_some c.args.owner.now c.loop-name.owner c.loop-name.invariant.goes.alike c.requires.waits)
+    c.in-Some-turn_session.ensures.replied
 
-pub loop-owner-preserved : goal.loop-owner-preserved
-loop-owner-preserved g c =
-    let owner = c.loop-owner.owner in
-    let on = goes_on c.args.owner.now owner c.gather.new.owner c.turn.new.self
-    c.loop-owner.invariant.begun c.loop-owner.invariant.keeps
-    c.gather.ensures.same (λ e. let last : false ≡ true = c.in_default.ensures.last.1 e in cc)
-    c.in_default.ensures.fewer
-    c.in_default.ensures.opened c.in_default.ensures.turned c.in_default.ensures.kept in
-    let awaited : awaited_in owner ≡ tiles_now owner = c.loop-owner.invariant.begun.awaited in
+pub returns-in-Some-turn_session-clause-gathers : goal.returns-in-Some-turn_session-clause-gathers
+returns-in-Some-turn_session-clause-gathers g c =
+    ends_gathers c.args.owner.now (g.P.Pool.seen c.args.pool.now) c.loop-name.owner (g.P.Pool.seen c.loop-name.pool)
+    c.loop-name.invariant.goes c.in-Some.name c.in-Some.ensures.whole (c.in-Some-turn_session.ensures.last.0 refl)
+    c.turn_session.new.self c.in-Some-turn_session.reply c.turn_session.ensures.number c.in-Some-turn_session.ensures.idle
+    c.turn_session.ensures.others c.in-Some-turn_session.ensures.rests
+    (alike_some c.args.owner.now c.loop-name.owner c.loop-name.invariant.goes.alike c.requires.waits)
+    c.in-Some-turn_session.ensures.replied
+
+pub returns-in-Some-turn_session-clause-counted : goal.returns-in-Some-turn_session-clause-counted
+returns-in-Some-turn_session-clause-counted g c =
+    ends_counted c.args.owner.now (g.P.Pool.seen c.args.pool.now) c.loop-name.owner (g.P.Pool.seen c.loop-name.pool)
+    c.loop-name.invariant.goes c.in-Some.name c.in-Some.ensures.whole (c.in-Some-turn_session.ensures.last.0 refl)
+    c.turn_session.new.self c.in-Some-turn_session.reply c.turn_session.ensures.number c.in-Some-turn_session.ensures.idle
+    c.turn_session.ensures.others c.in-Some-turn_session.ensures.rests
+    (alike_some c.args.owner.now c.loop-name.owner c.loop-name.invariant.goes.alike c.requires.waits)
+    c.in-Some-turn_session.ensures.replied
+
+pub poll_next-requires : goal.poll_next-requires
+poll_next-requires g c = record {
+  gathers = (goes_turned c.loop-name.owner c.turn_session.new.self (g.P.Pool.seen c.loop-name.pool)
+      c.loop-name.invariant.goes.gathers c.in-Some.name c.in-Some.ensures.whole
+      (λ e. let last : false ≡ true = c.in_default-turn_session.ensures.last.1 e in cc)
+      c.in_default-turn_session.ensures.turned c.in_default-turn_session.ensures.alike
+      c.turn_session.ensures.number c.turn_session.ensures.quota).gathers;
+}
+
+pub loop-name-preserved-in-Some : goal.loop-name-preserved-in-Some
+loop-name-preserved-in-Some g c =
+    let turned = goes_turned c.loop-name.owner c.turn_session.new.self (g.P.Pool.seen c.loop-name.pool)
+    c.loop-name.invariant.goes.gathers c.in-Some.name c.in-Some.ensures.whole
+    (λ e. let last : false ≡ true = c.in_default-turn_session.ensures.last.1 e in cc)
+    c.in_default-turn_session.ensures.turned c.in_default-turn_session.ensures.alike
+    c.turn_session.ensures.number c.turn_session.ensures.quota in
+    let goes = goes_then c.loop-name.invariant.goes
+    (goes_then turned (goes_then c.poll_next.ensures.goes_on c.post_next.ensures.goes_on)) in
     record {
-      begun = on.begun;
-      number = search rules;
-      none_owed = c.in_ok-gather.ensures.none_owed;
-      keeps = on.keeps;
-      counted =
-          rises-more (tiles_left c.args.owner.now - tiles_left owner) (awaited_in owner)
-          (tiles_left c.args.owner.now - tiles_left c.turn.new.self)
-          c.loop-owner.invariant.counted c.in_ok-gather.ensures.counted (omega (arith, on.tiles, awaited));
+      goes = goes;
+      in_a_row = strays_none (g.P.Pool.seen c.args.pool.now) (g.P.Pool.seen c.post_next.new.pool) goes.counted;
+      few = omega arith;
       own = search rules;
     }
 
-pub returns-in-Some-clause-quota : goal.returns-in-Some-clause-quota
-returns-in-Some-clause-quota g c =
-    let first = c.requires.begun.gathers in
-    let replied : IsReplied c.args.owner.now c.in-Some.reply (user_in c.turn.new.self) = search rules in
-    replied_keeps c.args.owner.now (first.name, first.kind) c.in-Some.reply (user_in c.turn.new.self) first.step replied
+pub loop-name-smaller-in-Some : goal.loop-name-smaller-in-Some
+loop-name-smaller-in-Some g c =
+    let turned = goes_turned c.loop-name.owner c.turn_session.new.self (g.P.Pool.seen c.loop-name.pool)
+    c.loop-name.invariant.goes.gathers c.in-Some.name c.in-Some.ensures.whole
+    (λ e. let last : false ≡ true = c.in_default-turn_session.ensures.last.1 e in cc)
+    c.in_default-turn_session.ensures.turned c.in_default-turn_session.ensures.alike
+    c.turn_session.ensures.number c.turn_session.ensures.quota in
+    let less = turned_fewer c.loop-name.owner c.turn_session.new.self (g.P.Pool.seen c.loop-name.pool)
+    c.loop-name.invariant.goes.gathers c.in-Some.name c.in-Some.ensures.whole
+    (λ e. let last : false ≡ true = c.in_default-turn_session.ensures.last.1 e in cc)
+    c.in_default-turn_session.ensures.turned in
+    let rest = goes_then c.poll_next.ensures.goes_on c.post_next.ensures.goes_on in
+    let tiles = turned.tiles in let posts = turned.posts in
+    let turns_then = rest.turns in let tiles_then = rest.tiles in let posts_then = rest.posts in
+    let few = c.loop-name.invariant.few in
+    omega (arith, less, tiles, posts, turns_then, tiles_then, posts_then, few)

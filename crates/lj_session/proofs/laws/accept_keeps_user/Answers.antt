@@ -1,4 +1,4 @@
-use Rattle.lj_session.proofs.Keeping.{taken_user}
+use Rattle.lj_session.proofs.Waiting.{taken_user}
 use Rattle.lj_session.proofs.laws.accept_keeps_user.Goals as goal
 
 pub returns : goal.returns

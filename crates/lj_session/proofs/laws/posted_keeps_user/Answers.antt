@@ -1,4 +1,4 @@
-use Rattle.lj_session.proofs.Keeping.{posted_user}
+use Rattle.lj_session.proofs.Waiting.{posted_user}
 use Rattle.lj_session.proofs.laws.posted_keeps_user.Goals as goal
 
 pub returns : goal.returns

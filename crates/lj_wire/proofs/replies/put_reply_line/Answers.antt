@@ -2,8 +2,12 @@ use Rattle.std.proofs.Common.{◌≡◌, Option, slice_get, refl}
 use Rattle.std.specs.Option.{option_map}
 use Rattle.lj_session.specs.Users.{Session}
 use Rattle.lj_wire.specs.Texts.{reply_lines, branch_lines, dump_lines}
-use Rattle.lj_wire.proofs.ReplyLines.{under_name, no_name}
+use Rattle.lj_wire.proofs.ReplyLines.{settled_at, under_name, no_name}
 use Rattle.lj_wire.proofs.replies.put_reply_line.Goals as goal
+
+pub dump_line-requires-clause-settled : goal.dump_line-requires-clause-settled
+dump_line-requires-clause-settled c =
+    settled_at c.args.state.now c.in-Dumped.name c.in-Some.i c.in-Some.ensures (rw c.in-Dumped.is at c.requires.settled)
 
 pub returns-in-Some-clause-text : goal.returns-in-Some-clause-text
 unfolding reply_lines

@@ -1,15 +1,5 @@
-use Rattle.lj_world.proofs.Stepping.{Known}
 use Rattle.lj_world.proofs.Values.{value_is_of_script}
 use Rattle.lj_world.proofs.laws.value_is_that_of_script.Goals as goal
 
 pub returns : goal.returns
-returns c =
-    let known : Known = record {
-      keeps = c.laws_of_what_runs.ensures.keeps;
-      goes_on = c.laws_of_what_runs.ensures.goes_on;
-      begin = c.laws_of_what_runs.ensures.begin;
-      posted = c.laws_of_what_runs.ensures.posted;
-      accept = c.laws_of_what_runs.ensures.accept;
-      turn = c.laws_of_what_runs.ensures.turn;
-    } in
-    value_is_of_script c.mark_is_told.ensures known
+returns c = value_is_of_script c.mark_is_told.ensures c.laws_of_what_waits.ensures

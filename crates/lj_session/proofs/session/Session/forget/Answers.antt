@@ -8,4 +8,6 @@ invariant_of-self c = record {
   saved = counts-forgotten (length c.self.inside.sim.sim.cur)
       c.args.branch.now c.forget.result c.self.inside.branches c.forget.new.self
       c.forget.ensures.taken c.forget.ensures.unchanged c.self.invariant.saved;
+  near = c.self.invariant.near;
+  few = c.self.invariant.few;
 }

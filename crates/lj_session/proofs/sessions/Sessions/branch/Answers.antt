@@ -12,7 +12,7 @@ use Rattle.lj_session.proofs.Performing as performing
 use Rattle.lj_session.proofs.Outcomes as outcomes
 use Rattle.lj_session.proofs.Outcomes.{read-step}
 use Rattle.lj_session.proofs.Results.{performs-refused, performs-starved, on_err, none-of, not-saved, is_some-counted}
-use Rattle.lj_session.proofs.Writing.{Writes, not_there, writes, is_there, unchanged, totals_unchanged, totals_saved}
+use Rattle.lj_session.proofs.Writing.{Writes, not_there, writes, is_settled, none_owed, unchanged, totals_unchanged, totals_saved}
 use Rattle.lj_session.proofs.Writing.{done_at}
 use Rattle.lj_session.proofs.sessions.Sessions.branch.Goals.{In-Some, After-may_branch, After-save}
 use Rattle.lj_session.proofs.sessions.Sessions.branch.Goals as goal
@@ -51,7 +51,7 @@ returns-then-is_some-clause-performs c =
     let held = c.in-Some.session.now in
     performing.refused c.args.self.now _ _ _ (performing.branch-exists (user_of c.args.self.now)
     c.args.name false (as_session held)
-    (is_there c.self.inside c.args.self.now c.self.view_is c.args.name held c.in-Some.ensures.value) c.args.branch
+    (is_settled c.self.inside c.args.self.now c.self.view_is c.args.name held c.in-Some.ensures.value c.requires) c.args.branch
     (is_some-counted c.args.branch held.saved c.branches.result.now c.count_of.result c.branches.ensures
     c.count_of.ensures ∙ (sym c.is_some.ensures ∙ c.if-is_some.true)))
 
@@ -73,7 +73,7 @@ returns-in_err-may_branch-clause-performs c =
     c.from_residual.ensures.1
     (rw which (performing.refused c.args.self.now _ _ _
     (performing.branch-over (user_of c.args.self.now) c.args.name false (as_session held)
-    (is_there c.self.inside c.args.self.now c.self.view_is c.args.name held c.in-Some.ensures.value) c.args.branch
+    (is_settled c.self.inside c.args.self.now c.self.view_is c.args.name held c.in-Some.ensures.value c.requires) c.args.branch
     (is_new (goal.at.returns-in_err-may_branch-clause-performs c).After-may_branch)
     (branches-over c.self.inside c.args.self.now c.self.view_is c.self.invariant over))))
 
@@ -95,7 +95,7 @@ returns-in_err-save-clause-performs c =
     (not-saved c.in_err-save.field-0.0 (is_some (named c.copy.result held.saved)) c.in_err-save.ensures.exists.0
     (ap (λ b. is_some (named b held.saved)) c.copy.ensures ∙ new))
     (performing.branch-memory (user_of c.args.self.now) c.args.name (as_session held)
-    (is_there c.self.inside c.args.self.now c.self.view_is c.args.name held c.in-Some.ensures.value) c.args.branch new
+    (is_settled c.self.inside c.args.self.now c.self.view_is c.args.name held c.in-Some.ensures.value c.requires) c.args.branch new
     (branches-room c.self.inside c.args.self.now c.self.view_is c.self.invariant
     (c.in_ok-may_branch.ensures.may.0 refl))))
 
@@ -122,7 +122,8 @@ returns-clause-performs c =
     let new = is_new (goal.at.returns-clause-performs c).After-may_branch in
     let saved = c.in_ok-save.ensures.saved ∙ ap (λ b. keeping held (put b held.live.sim held.saved)) c.copy.ensures in
     done_at wrote _ (reply.Branched c.args.name c.args.branch) _ _ _
-    (outcomes.branch c.args.self.now c.args.name held wrote.found c.args.branch new
+    (outcomes.branch c.args.self.now c.args.name held wrote.found
+    (none_owed c.self.inside c.args.self.now c.self.view_is c.args.name held c.in-Some.ensures.value c.requires) c.args.branch new
     (branches-room c.self.inside c.args.self.now c.self.view_is c.self.invariant
     (c.in_ok-may_branch.ensures.may.0 refl)))
     (read-step c.step-step.result c.step-step.ensures.most

@@ -1,6 +1,6 @@
 use Rattle.std.proofs.Common.{◌+◌, false, length, refl, ap, ◌∙◌}
 use Rattle.lj_branch.specs.Named.{named}
-use Rattle.lj_session.specs.States.{Held, as_session, user_of}
+use Rattle.lj_session.specs.States.{Held, session_meant, user_of}
 use Rattle.lj_session.proofs.Entries.{length-taken}
 use Rattle.lj_session.proofs.Performing as performing
 use Rattle.lj_session.proofs.Outcomes as outcomes
@@ -31,7 +31,7 @@ returns-in_err-forget-clause-performs c =
     let held = c.in-Some.session.now in
     performs-refused c.args.self.now _ _ c.from_residual.result _ c.from_residual.ensures.1
     (performing.refused c.args.self.now _ _ _ (performing.forget-no_branch (user_of c.args.self.now)
-    c.args.name false (as_session held)
+    c.args.name false (session_meant held)
     (is_there c.self.inside c.args.self.now c.self.view_is c.args.name held c.in-Some.ensures.value)
     c.args.branch (none-if (named c.args.branch held.saved) c.in_err-forget.ensures.found.1)))
 

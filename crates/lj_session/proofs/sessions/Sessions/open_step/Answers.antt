@@ -1,5 +1,5 @@
 use Rattle.std.proofs.Common.{length, ap}
-use Rattle.lj_session.specs.States.{Held, as_session, with_step}
+use Rattle.lj_session.specs.States.{Held, session_meant, with_step}
 use Rattle.lj_session.proofs.Writing.{Writes, writes, changed_by, user_kept, totals_kept}
 use Rattle.lj_session.proofs.sessions.Sessions.open_step.Goals.{After-open_step}
 use Rattle.lj_session.proofs.sessions.Sessions.open_step.Goals as goal
@@ -25,4 +25,4 @@ returns-clause-opened c =
 pub returns-clause-user : goal.returns-clause-user
 returns-clause-user c =
     user_kept (written (goal.at.returns-clause-user c).After-open_step)
-    (ap as_session c.open_step.ensures)
+    (ap session_meant c.open_step.ensures)

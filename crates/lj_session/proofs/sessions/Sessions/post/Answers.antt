@@ -1,7 +1,8 @@
 use Rattle.std.proofs.Common.{length, ap, ◌∙◌}
 use Rattle.lj_session.specs.Users.{Session}
-use Rattle.lj_session.specs.States.{as_session, with_posted}
+use Rattle.lj_session.specs.States.{as_session, session_meant, with_posted}
 use Rattle.lj_session.proofs.Tiles.{posted-session}
+use Rattle.lj_session.proofs.Owed.{meant-posted}
 use Rattle.lj_session.proofs.Writing.{Writes, writes, changed_by, user_kept, totals_kept}
 use Rattle.lj_session.proofs.sessions.Sessions.post.Goals.{After-post}
 use Rattle.lj_session.proofs.sessions.Sessions.post.Goals as goal
@@ -27,4 +28,4 @@ returns-clause-posted c =
 pub returns-clause-user : goal.returns-clause-user
 returns-clause-user c =
     user_kept (written (goal.at.returns-clause-user c).After-post)
-    (ap as_session c.post.ensures ∙ posted-session c.in-Some.session.now)
+    (ap session_meant c.post.ensures ∙ meant-posted c.in-Some.session.now)

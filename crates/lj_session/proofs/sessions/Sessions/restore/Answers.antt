@@ -7,7 +7,7 @@ use Rattle.lj_session.proofs.Performing as performing
 use Rattle.lj_session.proofs.Outcomes as outcomes
 use Rattle.lj_session.proofs.Outcomes.{read-step}
 use Rattle.lj_session.proofs.Results.{performs-refused, on_err, none-if, some-with}
-use Rattle.lj_session.proofs.Writing.{Writes, not_there, writes, is_there, unchanged, totals_kept, totals_unchanged}
+use Rattle.lj_session.proofs.Writing.{Writes, not_there, writes, is_settled, none_owed, unchanged, totals_kept, totals_unchanged}
 use Rattle.lj_session.proofs.Writing.{done_at}
 use Rattle.lj_session.proofs.sessions.Sessions.restore.Goals.{After-restore}
 use Rattle.lj_session.proofs.sessions.Sessions.restore.Goals as goal
@@ -38,7 +38,7 @@ returns-in_err-restore-clause-performs c =
     performs-refused c.args.self.now _ _ c.from_residual.result _ c.from_residual.ensures.1
     (performing.refused c.args.self.now _ _ _ (performing.restore-no_branch (user_of c.args.self.now)
     c.args.name false (as_session held)
-    (is_there c.self.inside c.args.self.now c.self.view_is c.args.name held c.in-Some.ensures.value)
+    (is_settled c.self.inside c.args.self.now c.self.view_is c.args.name held c.in-Some.ensures.value c.requires)
     c.args.branch (none-if (named c.args.branch held.saved) c.in_err-restore.ensures.found.1)))
 
 pub returns-in_err-restore-clause-unchanged : goal.returns-in_err-restore-clause-unchanged
@@ -63,7 +63,8 @@ returns-clause-performs c =
     some-with (λ sim. c.restore.new.self ≡ moved_to held sim) (named c.args.branch held.saved)
     (c.in_ok-restore.ensures.found.0 refl) c.in_ok-restore.ensures.restored in
     done_at wrote _ (reply.Restored c.args.name c.args.branch) _ _ _
-    (outcomes.restore c.args.self.now c.args.name held wrote.found c.args.branch saved.0 saved.1)
+    (outcomes.restore c.args.self.now c.args.name held wrote.found
+    (none_owed c.self.inside c.args.self.now c.self.view_is c.args.name held c.in-Some.ensures.value c.requires) c.args.branch saved.0 saved.1)
     (read-step c.step-step.result c.step-step.ensures.most
     ∙ (c.step-step.ensures.value ∙ ap (λ (l : Live). l.sim.step) c.sim.ensures
     ∙ ap (λ (h : Held). h.live.sim.step) saved.2)) saved.2

@@ -5,7 +5,7 @@ use Rattle.lj_session.specs.States.{Held, user_of}
 use Rattle.lj_session.proofs.Performing as performing
 use Rattle.lj_session.proofs.Outcomes as outcomes
 use Rattle.lj_session.proofs.Outcomes.{read-step}
-use Rattle.lj_session.proofs.Writing.{Writes, not_there, writes, totals_kept, done_at}
+use Rattle.lj_session.proofs.Writing.{Writes, not_there, writes, none_owed, totals_kept, done_at}
 use Rattle.lj_session.proofs.sessions.Sessions.reverse.Goals.{After-reverse}
 use Rattle.lj_session.proofs.sessions.Sessions.reverse.Goals as goal
 
@@ -32,7 +32,8 @@ pub returns-clause-performs : goal.returns-clause-performs
 returns-clause-performs c =
     let wrote = written (goal.at.returns-clause-performs c).After-reverse in
     done_at wrote _ (reply.Reversed c.args.name) _ _ _
-    (outcomes.reverse c.args.self.now c.args.name c.in-Some.session.now wrote.found)
+    (outcomes.reverse c.args.self.now c.args.name c.in-Some.session.now wrote.found
+    (none_owed c.self.inside c.args.self.now c.self.view_is c.args.name c.in-Some.session.now c.in-Some.ensures.value c.requires))
     (read-step c.step-step.result c.step-step.ensures.most
     ∙ (c.step-step.ensures.value ∙ ap (λ (l : Live). l.sim.step) c.sim.ensures
     ∙ ap (λ (h : Held). h.live.sim.step) c.reverse.ensures.value)) c.reverse.ensures.value

@@ -1,7 +1,7 @@
 use Rattle.std.proofs.Common.{length, sym, ap, ◌∙◌, arith}
 use Rattle.lj_step.specs.Live.{Live}
 use Rattle.lj_step.specs.Motion.{place_at}
-use Rattle.lj_session.proofs.Holding.{named-held, named-absent}
+use Rattle.lj_session.proofs.Holding.{named-settled, named-absent, owed-of}
 use Rattle.lj_session.proofs.Performing as performing
 use Rattle.lj_session.proofs.Outcomes as outcomes
 use Rattle.lj_session.proofs.Outcomes.{read-step, shown}
@@ -18,7 +18,8 @@ returns-then-atom-count c = λ mark.
     let old = c.args.self.now in
     let held = c.in-Some.session.now in
     performing.show-no_atom (user_of old) c.args.name mark (as_session held)
-    (named-held old c.args.name held (sym c.in-Some.ensures)) c.args.atom
+    (named-settled old c.args.name held (sym c.in-Some.ensures)
+    (owed-of old c.args.name held (sym c.in-Some.ensures) c.requires)) c.args.atom
     (outcomes.past c.args.atom (length held.live.sim.cur)
     (let n = c.count.ensures.value ∙ ap (λ (l : Live). length l.sim.cur)
     c.sim-sim.ensures in let t = c.if-atom-count.true in omega (arith, n, t)))
@@ -28,7 +29,8 @@ returns c = λ mark.
     let old = c.args.self.now in
     let held = c.in-Some.session.now in
     performing.show-done (user_of old) c.args.name mark (as_session held)
-    (named-held old c.args.name held (sym c.in-Some.ensures)) c.args.atom
+    (named-settled old c.args.name held (sym c.in-Some.ensures)
+    (owed-of old c.args.name held (sym c.in-Some.ensures) c.requires)) c.args.atom
     (outcomes.there c.args.atom (length held.live.sim.cur)
     (let n = c.count.ensures.value ∙ ap (λ (l : Live). length l.sim.cur)
     c.sim-sim.ensures in let t = c.if-atom-count.false in omega (arith, n, t)))

@@ -1,6 +1,6 @@
 use Rattle.std.proofs.Common.{ℕ, length, refl, ap}
 use Rattle.lj_step.specs.OpenSteps.{tile_number_of}
-use Rattle.lj_session.specs.States.{Held, as_session, with_tile_in}
+use Rattle.lj_session.specs.States.{Held, session_meant, with_tile_in}
 use Rattle.lj_session.proofs.Results.{on_ok-then, on_err-then, same-either}
 use Rattle.lj_session.proofs.Writing.{Writes, writes, changed_by, unchanged, user_kept, totals_kept}
 use Rattle.lj_session.proofs.sessions.Sessions.take_in.Goals.{After-take_in}
@@ -32,7 +32,7 @@ returns-clause-taken c = on_ok-then c.take_in.result
 pub returns-clause-user : goal.returns-clause-user
 returns-clause-user c =
     user_kept (written (goal.at.returns-clause-user c).After-take_in)
-    (same-either c.take_in.result as_session c.take_in.new.self c.in-Some.session.now
+    (same-either c.take_in.result session_meant c.take_in.new.self c.in-Some.session.now
     (with_tile_in (tile_number_of c.args.done.now) c.in-Some.session.now)
     c.take_in.ensures.taken c.take_in.ensures.unchanged refl)
 

@@ -5,7 +5,7 @@ use Rattle.lj_session.specs.States.{Held, as_session, user_of}
 use Rattle.lj_session.proofs.Performing as performing
 use Rattle.lj_session.proofs.Outcomes as outcomes
 use Rattle.lj_session.proofs.Outcomes.{read-step}
-use Rattle.lj_session.proofs.Writing.{Writes, not_there, writes, is_there, unchanged, totals_kept, totals_unchanged}
+use Rattle.lj_session.proofs.Writing.{Writes, not_there, writes, is_settled, none_owed, unchanged, totals_kept, totals_unchanged}
 use Rattle.lj_session.proofs.Writing.{done_at}
 use Rattle.lj_session.proofs.sessions.Sessions.tug.Goals.{In-Some, After-tug}
 use Rattle.lj_session.proofs.sessions.Sessions.tug.Goals as goal
@@ -38,7 +38,7 @@ returns-then-atom-count-clause-performs c =
     let held = c.in-Some.session.now in
     performing.refused c.args.self.now _ _ _ (performing.tug-no_atom (user_of c.args.self.now)
     c.args.name false (as_session held)
-    (is_there c.self.inside c.args.self.now c.self.view_is c.args.name held c.in-Some.ensures.value)
+    (is_settled c.self.inside c.args.self.now c.self.view_is c.args.name held c.in-Some.ensures.value c.requires)
     c.args.atom c.args.by.x c.args.by.y c.args.by.z
     (outcomes.past c.args.atom (length held.live.sim.cur)
     (let n = c.count.ensures.value ∙ ap (λ (l : Live). length l.sim.cur)
@@ -57,7 +57,8 @@ returns-clause-performs c =
     let held = c.in-Some.session.now in
     let wrote = written (goal.at.returns-clause-performs c).After-tug in
     done_at wrote _ (reply.Tugged c.args.name c.args.atom) _ _ _
-    (outcomes.tug c.args.self.now c.args.name held wrote.found c.args.atom c.args.by.x c.args.by.y c.args.by.z
+    (outcomes.tug c.args.self.now c.args.name held wrote.found
+    (none_owed c.self.inside c.args.self.now c.self.view_is c.args.name held c.in-Some.ensures.value c.requires) c.args.atom c.args.by.x c.args.by.y c.args.by.z
     (outcomes.there c.args.atom (length held.live.sim.cur)
     (let n = c.count.ensures.value ∙ ap (λ (l : Live). length l.sim.cur)
     c.sim.ensures in let t = c.if-atom-count.false in omega (arith, n, t))))

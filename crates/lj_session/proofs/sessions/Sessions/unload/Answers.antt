@@ -1,12 +1,13 @@
-use Rattle.std.proofs.Common.{◌≡◌, Some, false, length, refl, ap, ◌∙◌, arith}
+use Rattle.std.proofs.Common.{◌≡◌, Some, None, false, length, refl, sym, ap, ◌∙◌, arith}
+use Rattle.lj_branch.specs.Named.{named, taken_out}
 use Rattle.lj_step.specs.Live.{Live}
 use Rattle.lj_session.proofs.Holding.{taken-of}
-use Rattle.lj_session.proofs.Writing.{looked_up, not_there}
+use Rattle.lj_session.proofs.Writing.{looked_up, not_there, none_owed}
 use Rattle.lj_session.proofs.Performing as performing
 use Rattle.lj_session.proofs.Outcomes as outcomes
 use Rattle.lj_session.proofs.Outcomes.{written-to}
 use Rattle.lj_session.proofs.Totals.{used-less, atoms-within, saved-within}
-use Rattle.lj_session.specs.States.{user_of, held_in}
+use Rattle.lj_session.specs.States.{Owned, user_of, held_in}
 use Rattle.lj_session.proofs.sessions.Sessions.unload.Goals.{In-Some}
 use Rattle.lj_session.proofs.sessions.Sessions.unload.Goals as goal
 
@@ -14,6 +15,12 @@ use Rattle.lj_session.proofs.sessions.Sessions.unload.Goals as goal
 found : (c : In-Some) → held_in c.args.self.now c.args.name ≡ Some c.in-Some.session
 found c =
     looked_up c.self.inside c.args.self.now c.self.view_is c.args.name (Some c.in-Some.session) c.in-Some.ensures.value
+
+-- and its name is gone
+gone : (c : In-Some) → named c.args.name (taken_out c.args.name c.args.self.now.sessions) ≡ None
+gone c =
+    ap (λ (o : Owned). named c.args.name (taken_out c.args.name o.sessions)) (sym c.self.view_is)
+    ∙ ap (named c.args.name) (sym c.in-Some.ensures.entries) ∙ c.in-Some.ensures.updates.1
 
 pub returns-in_default-clause-performs : goal.returns-in_default-clause-performs
 returns-in_default-clause-performs c =
@@ -55,5 +62,7 @@ returns-clause-performs c =
     let old = c.args.self.now in
     let held = c.in-Some.session in
     let there = found (goal.at.returns-clause-performs c).In-Some in
-    written-to old _ _ _ _ (outcomes.unload old c.args.name held there)
+    written-to old _ _ _ _ (outcomes.unload old c.args.name held there
+    (none_owed c.self.inside old c.self.view_is c.args.name held c.in-Some.ensures.value c.requires)
+    (gone (goal.at.returns-clause-performs c).In-Some))
     (taken-of c.self.inside old c.self.view_is c.args.name _ c.in-Some.ensures.entries)

@@ -11,5 +11,5 @@ returns c =
     rw (← c.self.view_is, c.saturating_sub-self-inside.ensures)
     (λ rows. fetches (the_view c.self.inside) rows c.args.book.now c.fetch.new.self c.in-Inside.owner
     c.accept-taken_in.new.self c.in-Some.done some.0 c.args.pick (ap stage_of c.in-Inside.is)
-    (sym c.is_running.ensures ∙ c.if-not-is_running.false) some.1 some.2.passes
+    (sym c.is_busy.ensures ∙ c.if-not-is_busy.false) some.1 some.2.passes
     (given c.in-Inside.owner c.accept-taken_in.new.self c.in-Some.done c.accept-taken_in.result a.accepted a.taken a.unchanged))

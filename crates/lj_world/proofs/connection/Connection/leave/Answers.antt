@@ -1,5 +1,6 @@
 use Rattle.std.proofs.Common.{◌≡◌, sym, ap, ◌∙◌, subst, None, IsSomeAnd, slice_get}
-use Rattle.lj_session.specs.States.{Owned}
+use Rattle.lj_session.specs.States.{Owned, rested}
+use Rattle.lj_session.specs.Owners.{Owning}
 use Rattle.lj_access.specs.Rows.{Pass, HasEntered, changed, with_home}
 use Rattle.lj_world.specs.States.{inside}
 use Rattle.lj_world.specs.contracts.connection.Connection.{the_view}
@@ -14,8 +15,8 @@ returns c =
     let talk = the_view c.self.inside in
     let owns : talk.stage ≡ inside c.in-Inside.owner = ap stage_of c.in-Inside.is in
     let row : HasRow c.args.directory.now talk = subst (HasRow c.args.directory.now) (sym c.self.view_is) c.requires in
-    let idle : c.in-Inside.owner.rest ≡ None =
-    none_there c.in-Inside.owner.rest (sym c.is_running.ensures ∙ c.if-is_running.false) in
+    let idle : c.in-Inside.owner.waiting ≡ None =
+    none_there c.in-Inside.owner.waiting (sym c.is_waiting.ensures.value ∙ c.if-is_waiting.false) in
     let kept = rw c.in-Inside.is at c.self.invariant in
     let ticket : c.in-Some.ticket ≡ record { user = c.self.inside.user; number = c.self.inside.number } = cc in
     let P : Pass → Type 0 = λ t. IsSomeAnd (slice_get c.args.directory.now t.user) (HasEntered t.number) in
@@ -23,11 +24,12 @@ returns c =
     subst P (sym ticket) (has_entered talk c.args.directory.now c.in-Inside.owner owns row) in
     let home = at_ok c.leave-home.result _ (c.leave-home.ensures.entered.1 entered) c.leave-home.ensures.home in
     let owner : c.in-Inside-replace.owner ≡ c.in-Inside.owner = cc in
-    let state : c.into_state.result ≡ c.in-Inside.owner.state = cc in
+    let state : c.into_state.result ≡ rested c.in-Inside.owner.state =
+    c.into_state.ensures.state ∙ ap (λ (o : Owning). rested o.state) owner in
     let Q : Pass → Owned → Type 0 =
     λ t s. c.leave-home.new.self ≡ changed t.user (with_home s) c.args.directory.now in
-    let now : Q (record { user = c.self.inside.user; number = c.self.inside.number }) c.in-Inside.owner.state =
-    subst (λ t. Q t c.in-Inside.owner.state) ticket (subst (Q c.in-Some.ticket) state home) in
+    let now : Q (record { user = c.self.inside.user; number = c.self.inside.number }) (rested c.in-Inside.owner.state) =
+    subst (λ t. Q t (rested c.in-Inside.owner.state)) ticket (subst (Q c.in-Some.ticket) state home) in
     rw (← c.self.view_is, now, c.replace.ensures.after)
     (leaves talk c.args.directory.now c.args.book.now c.withdraw.new.self c.in-Inside.owner owns idle
     (subst IsDone (sym c.self.view_is) (c.is_done.ensures.0 c.if-not-is_done.false)) c.withdraw.ensures)

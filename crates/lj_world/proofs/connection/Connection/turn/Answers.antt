@@ -1,4 +1,4 @@
-use Rattle.std.proofs.Common.{sym, ap, ◌∙◌}
+use Rattle.std.proofs.Common.{ap}
 use Rattle.std.proofs.lemmas.Result.{IfOk-weaker}
 use Rattle.lj_world.specs.contracts.connection.Connection.{the_view}
 use Rattle.lj_world.specs.Positions.{stage_of}
@@ -8,5 +8,5 @@ use Rattle.lj_world.proofs.connection.Connection.turn.Goals as goal
 pub returns-clause-acts : goal.returns-clause-acts
 returns-clause-acts c =
     rw (← c.self.view_is)
-    (IfOk-weaker c.turn.result _ _ (λ text t. turns_acts (the_view c.self.inside) c.in-Inside.owner c.turn.new.owner text
-    (ap stage_of c.in-Inside.is) (sym c.ready.ensures ∙ c.if-not-ready.false) t) c.turn.ensures)
+    (IfOk-weaker c.turn.result _ _ (λ text t. turns_acts (the_view c.self.inside) c.args.session c.in-Inside.owner c.turn.new.owner
+    c.in-Some.name text (ap stage_of c.in-Inside.is) c.in-Some.ensures.some t) c.turn.ensures)

@@ -1,0 +1,596 @@
+-- Commands that are answered, at once or at a turn: what the pool owes stays, and what is to come grows by the steps of START.
+use Rattle.std.proofs.Common.{◌≡◌, ◌≢◌, ◌⊎◌, inl, inr, ℕ, ◌+◌, ◌-◌, ◌<◌, ◌≤◌, Bool, true, false, nat_lt, List, [], Option, Some, None}
+use Rattle.std.proofs.Common.{Result, Ok, Err, refl, sym, ap, ◌∙◌, subst, arith}
+use Rattle.std.specs.Prelude.{if◌then◌else◌, IfOk, IfSome, IsSome, IsSomeAnd, is_some}
+use Rattle.std.specs.List.{IsDistinct, filter}
+use Rattle.std.specs.Option.{option_map_or}
+use Rattle.std.specs.Str.{bytes_eq}
+use Rattle.std.proofs.lemmas.Bool.{ltb-true, true≢false}
+use Rattle.std.proofs.lemmas.Option.{none-some, same_Some}
+use Rattle.std.proofs.lemmas.Slice.Eq.{bytes_eq-Decides}
+use Rattle.lj_tile.specs.declared.names.Label.{Label}
+use Rattle.lj_tile.specs.Tasks.{Work}
+use Rattle.lj_step.specs.Motion.{stepped}
+use Rattle.lj_step.specs.OpenSteps.{kind_of}
+use Rattle.lj_ring.specs.Mixes.{Mixture}
+use Rattle.lj_xyz.specs.Atoms.{◌>>=◌}
+use Rattle.lj_branch.specs.Named.{named, put, taken_out}
+use Rattle.lj_session.specs.declared.command.Load.{Load as LoadParts}
+use Rattle.lj_session.specs.declared.command.Command.{Command}
+use Rattle.lj_session.specs.declared.command.Command.TheVariants.{Load, Advance, Start, Reverse, Branch, Restore, Forget, Tug}
+use Rattle.lj_session.specs.declared.command.Command.TheVariants.{Measure, Show, Dump, List as ListSessions}
+use Rattle.lj_session.specs.declared.command.Command.TheVariants.{ListBranches, Unload, Bye}
+use Rattle.lj_session.specs.declared.refusal.Refusal.{Refusal}
+use Rattle.lj_session.specs.declared.refusal.Refusal.TheVariants.{StepRange}
+use Rattle.lj_session.specs.declared.reply.Reply.{Reply}
+use Rattle.lj_session.specs.declared.reply.Reply.TheVariants.{Refused}
+use Rattle.lj_session.specs.Users.{Session, User}
+use Rattle.lj_session.specs.Loads.{admitted, unless}
+use Rattle.lj_session.specs.Answers.{session_named, session_of, saved_in, can_advance, performed, settled, answer}
+use Rattle.lj_session.specs.Turns.{turns, waits_for, advance_turns, measure_turns}
+use Rattle.lj_session.specs.Begins.{OnRefusal}
+use Rattle.lj_session.specs.States.{Held, Owned, IsAtWork, IsIdle, IsIdleIn, SameSteps, StepsAfter, StepsFollow, OthersKept, user_of}
+use Rattle.lj_session.specs.States.{OtherSessionsKept, session_meant, held_in, owed_in, names, changed, started, steps_before, turns_before}
+use Rattle.lj_session.specs.States.{is_whole_in, is_measured, kind_owed}
+use Rattle.lj_session.specs.Owners.{Owning, IsAnswered, user_in, label_of, turns_left, IsLastTurn}
+use Rattle.lj_session.proofs.AtWork.{at_work-follows, kind-none}
+use Rattle.lj_session.proofs.Entries.{by_test, named-put_any}
+use Rattle.lj_session.proofs.Holding.{named-held, named-absent, owed-of, none-before}
+use Rattle.lj_session.proofs.Loading.{new-admitted}
+use Rattle.lj_session.proofs.Passing.{unmeasured}
+use Rattle.lj_pool.specs.Gathering.{is_of, posted_of, IsGathered, IsOpenFor, Gathers}
+use Rattle.lj_pool.specs.Counting.{steps_tiles, advance_tiles, measure_tiles, command_tiles, sum_over}
+use Rattle.lj_pool.specs.Coming.{tiles_of_session, tiles_after, waiting_tiles_of, tiles_to_come, tiles_coming}
+use Rattle.lj_pool.proofs.Sessions.{there-changed, other-changed, names-changed, sum-changed, sum-below, distinct-answered}
+use Rattle.lj_pool.proofs.Tiles.{idle-tiles, idle-gathered, closed-part, closed-posted, same-posted, same-tiles, same-gathered}
+use Rattle.lj_pool.proofs.Tiles.{started-tiles, started-posted, started-gathered}
+use Rattle.lj_pool.proofs.Begun.{start-waits, waited_name, whole-open, whole-left, whole-owes}
+
+-- a command that is answered takes no steps of its own but START
+no-own-tiles : (user : User) (command : Command) → turns user command ≡ 0
+    → ((name : List ℕ) (n : ℕ) → command ≡ Start name n → ⊥) → command_tiles user command ≡ 0
+unfolding turns command_tiles
+no-own-tiles user (Advance name n) none apart = by (named name user.sessions) none
+  where
+    by : (o : Option Session) → advance_turns o n ≡ 0 → advance_tiles o n ≡ 0
+    by None h = refl
+    by (Some session) h = by_test (can_advance session n)
+        (λ t. let zero_steps : n ≡ 0 = rw t at h in rw (t, zero_steps) refl)
+        (λ t. rw t refl)
+no-own-tiles user (Measure name) none apart = by (named name user.sessions) none
+  where
+    by : (o : Option Session) → measure_turns o ≡ 0 → measure_tiles o ≡ 0
+    by None h = refl
+    by (Some session) h = absurd (omega (arith, h))
+no-own-tiles user (Start name n) none apart = absurd (apart name n refl)
+no-own-tiles user command none apart = refl
+
+-- a session that was there is there after START, FORGET and LIST
+record Stays (name : List ℕ) (result : Result (Reply × User) Refusal) : Type 0 where
+  there : IfOk result (λ a. IsSome (named name a.1.sessions))
+
+stays-then : {A : Type 0} (name : List ℕ) (r : Result A Refusal) (f : A → Result (Reply × User) Refusal)
+    → ((x : A) → Stays name (f x)) → Stays name (r >>= f)
+stays-then name (Ok x) f h = h x
+stays-then name (Err refusal) f h = record { there = tt }
+
+put_there : (name : List ℕ) (es : List (List ℕ × Session)) (v : Session) → IsSome (named name (put name v es))
+put_there name es v = ap is_some (named-put_any name es v)
+
+start_stays : (user : User) (name : List ℕ) (n : ℕ) (mark : Bool) → Stays name (performed user (Start name n) mark)
+unfolding performed
+start_stays user name n mark = stays-then name (session_of user name) _ (λ session.
+    stays-then name (unless (can_advance session n) StepRange) _ (λ near. record { there = put_there name user.sessions _ }))
+
+forget_stays : (user : User) (name branch : List ℕ) (mark : Bool) → Stays name (performed user (Forget name branch) mark)
+unfolding performed
+forget_stays user name branch mark = stays-then name (session_of user name) _ (λ session.
+    stays-then name (saved_in session branch) _ (λ sim. record { there = put_there name user.sessions _ }))
+
+list_stays : (user : User) (name : List ℕ) (mark : Bool) → IsSome (named name user.sessions)
+    → Stays name (performed user (ListBranches name) mark)
+unfolding performed
+list_stays user name mark some = stays-then name (session_of user name) _ (λ session. record { there = some })
+
+still-there : (user : User) (name : List ℕ) (r : Result (Reply × User) Refusal) → IsSome (named name user.sessions) → Stays name r
+    → IsSome (named name (settled user r).1.sessions)
+still-there user name (Ok a) some stays = stays.there
+still-there user name (Err refusal) some stays = some
+
+-- a LOAD of a name that is there is refused
+refused-load : (user : User) (load : LoadParts) (mark : Bool) → is_some (named load.name user.sessions) ≡ true
+    → (r : Refusal) × ((answer user (Load load) mark).0 ≡ Refused r)
+unfolding performed
+refused-load user load mark there = by (admitted user load) refl
+  where
+    by : (r : Result Mixture Refusal) → admitted user load ≡ r → (r : Refusal) × ((answer user (Load load) mark).0 ≡ Refused r)
+    by (Ok mix) e = absurd (true≢false (sym there ∙ (new-admitted user load mix e).0))
+    by (Err refusal) e = (refusal, rw e refl)
+
+-- what becomes of the steps of a session: none is owed or open before and after; or they are as they were; or START owes more
+pub record RestsBoth (old new : Owned) (name : List ℕ) : Type 0 where
+  pub before : IsIdleIn old name
+  pub after : IsIdleIn new name
+
+pub record SameThere (old new : Owned) (name : List ℕ) : Type 0 where
+  pub before : Held
+  pub after : Held
+  pub was : held_in old name ≡ Some before
+  pub is : held_in new name ≡ Some after
+  pub same : SameSteps before after
+
+pub record StartedThere (old new : Owned) (command : Command) (name : List ℕ) : Type 0 where
+  pub n : ℕ
+  pub start : command ≡ Start name n
+  pub before : Held
+  pub was : held_in old name ≡ Some before
+  pub is : held_in new name ≡ Some (started n before)
+
+abbrev Outcome : Owned → Owned → Command → List ℕ → Type 0
+Outcome old new command name = RestsBoth old new name ⊎ SameThere old new name ⊎ StartedThere old new command name
+
+module _ (old new : Owned) (command : Command) (reply : Reply) (work : IsAtWork None old)
+    (answered : IsAnswered (user_of old) command reply (user_of new)) (unchanged : OnRefusal reply (new ≡ old))
+    (steps : StepsFollow command old new) (at_once : turns_before old command ≡ 0) (name : List ℕ)
+    (named_is : session_named command ≡ Some name) where
+  answer_user : user_of new ≡ (answer (user_of old) command answered.mark).1
+  answer_user = ap (λ a. a.1) answered.answers
+
+  absent : (held : Held) → held_in old name ≡ None → held_in old name ≡ Some held → ⊥
+  absent held none some = none-some held (sym none ∙ some)
+
+  -- nothing is owed to a session that the command waits for
+  waited_idle : waits_for command ≡ Some name → IsIdleIn old name
+  waited_idle waits held found =
+      let none = owed-of old name held found (none-before old command name waits at_once) in
+      record { owed = none; closed = work name held found ∙ kind-none None name held none refl }
+
+  generic : IsIdleIn old name
+      → ((after : Held) → held_in new name ≡ Some after → IsIdle after ⊎ IsSomeAnd (held_in old name) (λ held. SameSteps held after))
+      → Outcome old new command name
+  generic idle follows = by (held_in new name) refl
+    where
+      kept : (after : Held) → held_in new name ≡ Some after → (o : Option Held) → held_in old name ≡ o
+          → IsSomeAnd (held_in old name) (λ held. SameSteps held after) → Outcome old new command name
+      kept after e None w same = absurd (subst (λ o. IsSomeAnd o (λ held. SameSteps held after)) w same)
+      kept after e (Some before) w same = inr (inl (record {
+        before = before;
+        after = after;
+        was = w;
+        is = e;
+        same = subst (λ o. IsSomeAnd o (λ held. SameSteps held after)) w same;
+      }))
+
+      either : (after : Held) → held_in new name ≡ Some after
+          → IsIdle after ⊎ IsSomeAnd (held_in old name) (λ held. SameSteps held after) → Outcome old new command name
+      either after e (inl i) = inl (record {
+        before = idle;
+        after = λ held found. subst IsIdle (same_Some after held (sym e ∙ found)) i;
+      })
+      either after e (inr same) = kept after e (held_in old name) refl same
+
+      by : (o : Option Held) → held_in new name ≡ o → Outcome old new command name
+      by None e = inl (record { before = idle; after = λ held found. absurd (none-some held (sym e ∙ found)) })
+      by (Some after) e = either after e (follows after e)
+
+  -- where it is there neither before nor after
+  gone : held_in old name ≡ None → held_in new name ≡ None → Outcome old new command name
+  gone before after = inl (record {
+    before = λ held found. absurd (none-some held (sym before ∙ found));
+    after = λ held found. absurd (none-some held (sym after ∙ found));
+  })
+
+  -- it stays
+  staying : ((held : Held) → held_in old name ≡ Some held → IsSome (named name (answer (user_of old) command answered.mark).1.sessions))
+      → (held : Held) → held_in old name ≡ Some held → held_in new name ≡ None → ⊥
+  staying stays held found none =
+      let some : is_some (named name (user_of new).sessions) ≡ true =
+      ap (λ (u : User). is_some (named name u.sessions)) answer_user ∙ stays held found in
+      true≢false (sym some ∙ ap is_some (named-absent new name none))
+
+  same_kept : ((held : Held) → held_in old name ≡ Some held → held_in new name ≡ None → ⊥)
+      → ((after : Held) → held_in new name ≡ Some after → IsSomeAnd (held_in old name) (λ held. SameSteps held after))
+      → Outcome old new command name
+  same_kept stays follows = by (held_in old name) refl (held_in new name) refl
+    where
+      by : (o : Option Held) → held_in old name ≡ o → (p : Option Held) → held_in new name ≡ p → Outcome old new command name
+      by None w None e = gone w e
+      by (Some before) w None e = absurd (stays before w e)
+      by None w (Some after) e = absurd (subst (λ o. IsSomeAnd o (λ held. SameSteps held after)) w (follows after e))
+      by (Some before) w (Some after) e = inr (inl (record {
+        before = before;
+        after = after;
+        was = w;
+        is = e;
+        same = subst (λ o. IsSomeAnd o (λ held. SameSteps held after)) w (follows after e);
+      }))
+
+  start_owes : (n : ℕ) → command ≡ Start name n
+      → ((held : Held) → held_in old name ≡ Some held → held_in new name ≡ None → ⊥)
+      → ((after : Held) → held_in new name ≡ Some after → IsSomeAnd (held_in old name) (λ held. after ≡ started n held))
+      → Outcome old new command name
+  start_owes n which stays follows = by (held_in old name) refl (held_in new name) refl
+    where
+      by : (o : Option Held) → held_in old name ≡ o → (p : Option Held) → held_in new name ≡ p → Outcome old new command name
+      by None w None e = gone w e
+      by (Some before) w None e = absurd (stays before w e)
+      by None w (Some after) e = absurd (subst (λ o. IsSomeAnd o (λ held. after ≡ started n held)) w (follows after e))
+      by (Some before) w (Some after) e = inr (inr (record {
+        n = n;
+        start = which;
+        before = before;
+        was = w;
+        is = e ∙ ap (λ (h : Held). Some h) (subst (λ o. IsSomeAnd o (λ held. after ≡ started n held)) w (follows after e));
+      }))
+
+  some_of : (held : Held) → held_in old name ≡ Some held → IsSome (named name (user_of old).sessions)
+  some_of held found = ap is_some (named-held old name held found)
+
+-- for each command
+same_name_of : (a b : List ℕ) → Some a ≡ Some b → a ≡ b
+same_name_of a b e = cc
+
+none_named : (name : List ℕ) → None ≡ Some name → ⊥
+none_named name e = cc
+
+outcome : (old new : Owned) (command : Command) (reply : Reply) → IsAtWork None old
+    → IsAnswered (user_of old) command reply (user_of new) → OnRefusal reply (new ≡ old)
+    → StepsFollow command old new → turns_before old command ≡ 0 → (name : List ℕ) → session_named command ≡ Some name
+    → Outcome old new command name
+unfolding waits_for
+outcome old new (Load load) reply work a u s z name n = by (held_in old name) refl
+  where
+    is : load.name ≡ name
+    is = same_name_of load.name name n
+
+    unchanged_by : (held : Held) → held_in old name ≡ Some held → new ≡ old
+    unchanged_by held found =
+        let refused = refused-load (user_of old) load a.mark
+        (ap (λ k. is_some (named k (user_of old).sessions)) is ∙ ap is_some (named-held old name held found)) in
+        subst (λ r. OnRefusal r (new ≡ old)) (ap (λ x. x.0) a.answers ∙ refused.1) u
+
+    by : (o : Option Held) → held_in old name ≡ o → Outcome old new (Load load) name
+    by None e = generic old new (Load load) reply work a u s z name n
+        (λ held found. absurd (none-some held (sym e ∙ found))) (λ after there. s name after n there)
+    by (Some held) e = inr (inl (record {
+      before = held;
+      after = held;
+      was = e;
+      is = ap (λ (o : Owned). held_in o name) (unchanged_by held e) ∙ e;
+      same = record { live = refl; passed = refl; owed = refl };
+    }))
+outcome old new (Start session k) reply work a u s z name n =
+    let is = same_name_of session name n in
+    start_owes old new (Start session k) reply work a u s z name n k (ap (λ m. Start m k) is)
+    (staying old new (Start session k) reply work a u s z name n (λ held found.
+    still-there (user_of old) name (performed (user_of old) (Start session k) a.mark)
+    (ap is_some (named-held old name held found))
+    (subst (λ m. Stays name (performed (user_of old) (Start m k) a.mark)) (sym is) (start_stays (user_of old) name k a.mark))))
+    (λ after there. s name after n there)
+outcome old new (Forget session branch) reply work a u s z name n =
+    let is = same_name_of session name n in
+    same_kept old new (Forget session branch) reply work a u s z name n
+    (staying old new (Forget session branch) reply work a u s z name n (λ held found.
+    still-there (user_of old) name (performed (user_of old) (Forget session branch) a.mark)
+    (ap is_some (named-held old name held found))
+    (subst (λ m. Stays name (performed (user_of old) (Forget m branch) a.mark)) (sym is)
+    (forget_stays (user_of old) name branch a.mark))))
+    (λ after there. s name after n there)
+outcome old new (ListBranches session) reply work a u s z name n =
+    let is = same_name_of session name n in
+    same_kept old new (ListBranches session) reply work a u s z name n
+    (staying old new (ListBranches session) reply work a u s z name n (λ held found.
+    still-there (user_of old) name (performed (user_of old) (ListBranches session) a.mark)
+    (ap is_some (named-held old name held found))
+    (subst (λ m. Stays name (performed (user_of old) (ListBranches m) a.mark)) (sym is)
+    (list_stays (user_of old) name a.mark (ap is_some (named-held old name held found))))))
+    (λ after there. s name after n there)
+outcome old new ListSessions reply work a u s z name n = absurd (none_named name n)
+outcome old new Bye reply work a u s z name n = absurd (none_named name n)
+outcome old new (Advance session k) reply work a u s z name n = generic old new (Advance session k) reply work a u s z name n
+    (waited_idle old new (Advance session k) reply work a u s z name n n) (λ after there. s name after n there)
+outcome old new (Reverse session) reply work a u s z name n = generic old new (Reverse session) reply work a u s z name n
+    (waited_idle old new (Reverse session) reply work a u s z name n n) (λ after there. s name after n there)
+outcome old new (Branch session b) reply work a u s z name n = generic old new (Branch session b) reply work a u s z name n
+    (waited_idle old new (Branch session b) reply work a u s z name n n) (λ after there. s name after n there)
+outcome old new (Restore session b) reply work a u s z name n = generic old new (Restore session b) reply work a u s z name n
+    (waited_idle old new (Restore session b) reply work a u s z name n n) (λ after there. s name after n there)
+outcome old new (Tug session i x y k) reply work a u s z name n = generic old new (Tug session i x y k) reply work a u s z name n
+    (waited_idle old new (Tug session i x y k) reply work a u s z name n n) (λ after there. s name after n there)
+outcome old new (Measure session) reply work a u s z name n = generic old new (Measure session) reply work a u s z name n
+    (waited_idle old new (Measure session) reply work a u s z name n n) (λ after there. s name after n there)
+outcome old new (Show session i) reply work a u s z name n = generic old new (Show session i) reply work a u s z name n
+    (waited_idle old new (Show session i) reply work a u s z name n n) (λ after there. s name after n there)
+outcome old new (Dump session) reply work a u s z name n = generic old new (Dump session) reply work a u s z name n
+    (waited_idle old new (Dump session) reply work a u s z name n n) (λ after there. s name after n there)
+outcome old new (Unload session) reply work a u s z name n = generic old new (Unload session) reply work a u s z name n
+    (waited_idle old new (Unload session) reply work a u s z name n n) (λ after there. s name after n there)
+
+-- what is posted, and how many tiles are to come, of one session before and after
+pub record Settles (old new : Owned) (posted : (o : Option Held) → List Work) (name : List ℕ) : Type 0 where
+  pub posted_is : posted (held_in new name) ≡ posted (held_in old name)
+  pub gathered : (held : Held) → held_in new name ≡ Some held → IsGathered held
+
+module _ (owner : Owning) (owed : List Work) (t : Gathers owner owed) (next : Owning) (number : next.number ≡ owner.number) where
+  posted_next : (name : List ℕ) (o : Option Held) → posted_of (label_of next name) o ≡ posted_of (label_of owner name) o
+  posted_next name o = ap (λ n. posted_of (record { user = n; session = name }) o) number
+
+  -- what an owner to whom nothing waits is owed
+  pub gathers_settled : next.waiting ≡ None → IsAtWork None next.state → IsDistinct bytes_eq (names next.state)
+      → ((name : List ℕ) → Settles owner.state next.state (posted_of (label_of owner name)) name) → Gathers next owed
+  gathers_settled idle work distinct settles = record {
+    at_work = subst (λ w. IsAtWork w next.state) (sym idle) work;
+    waits = subst (λ w. IfSome w (IsOpenFor next.state)) (sym idle) tt;
+    distinct = distinct;
+    gathered = λ name. (settles name).gathered;
+    each = λ name. t.each name ∙ sym (posted_next name (held_in next.state name) ∙ (settles name).posted_is);
+  }
+
+  settles_same : (name : List ℕ) → held_in next.state name ≡ held_in owner.state name
+      → Settles owner.state next.state (posted_of (label_of owner name)) name
+  settles_same name same = record {
+    posted_is = ap (posted_of (label_of owner name)) same;
+    gathered = λ held found. t.gathered name held (sym same ∙ found);
+  }
+
+idle_posted : (owned : Owned) (name : List ℕ) (label : Label) → IsIdleIn owned name → posted_of label (held_in owned name) ≡ []
+idle_posted owned name label idle = by (held_in owned name) refl
+  where
+    by : (o : Option Held) → held_in owned name ≡ o → posted_of label (held_in owned name) ≡ []
+    by None e = ap (posted_of label) e
+    by (Some held) e = ap (posted_of label) e ∙ closed-posted held label (closed-part held.live.part (idle held e).closed)
+
+-- a number of a session, if it is there
+abbrev number_in : (Held → ℕ) → Owned → List ℕ → ℕ
+number_in f owned name = option_map_or f (held_in owned name) 0
+
+-- a command that is answered at once
+module _ (owner : Owning) (owed : List Work) (t : Gathers owner owed) (idle : owner.waiting ≡ None)
+    (command : Command) (reply : Reply) (next : Owning) (number : next.number ≡ owner.number) (done : next.waiting ≡ None)
+    (at_once : turns_before owner.state command ≡ 0)
+    (answered : IsAnswered (user_in owner) command reply (user_in next))
+    (unchanged : OnRefusal reply (next ≡ owner)) (others : OthersKept command owner.state next.state)
+    (steps : StepsFollow command owner.state next.state) where
+  work : IsAtWork None owner.state
+  work = subst (λ w. IsAtWork w owner.state) idle t.at_work
+
+  unchanged_state : OnRefusal reply (next.state ≡ owner.state)
+  unchanged_state = by reply unchanged
+    where
+      by : (r : Reply) → OnRefusal r (next ≡ owner) → OnRefusal r (next.state ≡ owner.state)
+      by (Refused refusal) h = ap (λ (o : Owning). o.state) h
+      by _ h = tt
+
+  outcome_of : (name : List ℕ) → session_named command ≡ Some name → Outcome owner.state next.state command name
+  outcome_of name is = outcome owner.state next.state command reply work answered unchanged_state steps at_once name is
+
+  -- each session is that of the command, or another, which is kept
+  of_each : {P : List ℕ → Type 0} → ((name : List ℕ) → held_in next.state name ≡ held_in owner.state name → P name)
+      → ((name : List ℕ) → session_named command ≡ Some name → P name) → (name : List ℕ) → P name
+  of_each {P} other own name = by (session_named command) refl
+    where
+      by : (o : Option (List ℕ)) → session_named command ≡ o → P name
+      by None e = other name (others name (λ same. none_named name (sym e ∙ same)))
+      by (Some session) e = by_test (bytes_eq session name)
+          (λ b. own name (e ∙ ap (λ (n : List ℕ). Some n) ((bytes_eq-Decides session name).0 b)))
+          (λ b. other name (others name (λ same. true≢false (sym ((bytes_eq-Decides session name).1
+          (same_name_of session name (sym e ∙ same))) ∙ b))))
+
+  work_of : (name : List ℕ) (held : Held) → held_in owner.state name ≡ Some held → kind_of held.live.part ≡ kind_owed None [] held
+  work_of name held found = work name held found
+
+  settles : (name : List ℕ) → Settles owner.state next.state (posted_of (label_of owner name)) name
+  settles name = of_each {P = λ name. Settles owner.state next.state (posted_of (label_of owner name)) name}
+      (settles_same owner owed t next number) (λ name is. by name (outcome_of name is)) name
+    where
+      by : (name : List ℕ) → Outcome owner.state next.state command name
+          → Settles owner.state next.state (posted_of (label_of owner name)) name
+      by name (inl rests) = record {
+        posted_is = idle_posted next.state name (label_of owner name) rests.after
+            ∙ sym (idle_posted owner.state name (label_of owner name) rests.before);
+        gathered = λ held found. idle-gathered held (rests.after held found);
+      }
+      by name (inr (inl s)) = record {
+        posted_is = ap (posted_of (label_of owner name)) s.is
+            ∙ same-posted s.before s.after s.same.live s.same.passed s.same.owed (label_of owner name)
+            ∙ sym (ap (posted_of (label_of owner name)) s.was);
+        gathered = λ held found. subst IsGathered (same_Some s.after held (sym s.is ∙ found))
+            (same-gathered s.before s.after s.same.live s.same.passed s.same.owed (t.gathered name s.before s.was));
+      }
+      by name (inr (inr s)) = record {
+        posted_is = ap (posted_of (label_of owner name)) s.is
+            ∙ started-posted s.before s.n (work_of name s.before s.was) (label_of owner name)
+            ∙ sym (ap (posted_of (label_of owner name)) s.was);
+        gathered = λ held found. subst IsGathered (same_Some (started s.n s.before) held (sym s.is ∙ found))
+            (started-gathered s.before s.n (work_of name s.before s.was) (t.gathered name s.before s.was));
+      }
+
+  pub answered_gathers : Gathers next owed
+  answered_gathers = gathers_settled owner owed t next number done
+      (at_work-follows command owner.state next.state others steps work)
+      (distinct-answered owner.state next.state command answered.mark reply answered.answers t.distinct)
+      settles
+
+  -- the tiles of each session
+  tiles_below : ((name : List ℕ) (n : ℕ) → command ≡ Start name n → ⊥) → (name : List ℕ) (held : Held)
+      → held_in owner.state name ≡ Some held → tiles_of_session held ≤ number_in tiles_of_session next.state name
+  tiles_below no_start name held found = of_each {P = λ name. (held : Held) → held_in owner.state name ≡ Some held
+      → tiles_of_session held ≤ number_in tiles_of_session next.state name}
+      (λ name same held found. let is = ap (λ o. option_map_or tiles_of_session o 0) (same ∙ found) in omega (arith, is))
+      (λ name is. by name (outcome_of name is)) name held found
+    where
+      by : (name : List ℕ) → Outcome owner.state next.state command name → (held : Held)
+          → held_in owner.state name ≡ Some held → tiles_of_session held ≤ number_in tiles_of_session next.state name
+      by name (inl rests) held found = let none = idle-tiles held (rests.before held found) in omega (arith, none)
+      by name (inr (inl s)) held found =
+          let same = same-tiles s.before s.after s.same.live s.same.passed s.same.owed in
+          let is = ap (λ o. option_map_or tiles_of_session o 0) s.is in
+          let was = ap tiles_of_session (same_Some s.before held (sym s.was ∙ found)) in
+          omega (arith, same, is, was)
+      by name (inr (inr s)) held found = absurd (no_start name s.n s.start)
+
+  answered_quiet : ((name : List ℕ) (n : ℕ) → command ≡ Start name n → ⊥)
+      → tiles_to_come owner.state + command_tiles (user_in owner) command ≤ tiles_to_come next.state
+  answered_quiet no_start =
+      let own : turns (user_in owner) command ≡ 0 = omega (arith, at_once) in
+      let none = no-own-tiles (user_in owner) command own no_start in
+      let below = sum-below tiles_of_session owner.state.sessions next.state.sessions t.distinct (tiles_below no_start) in
+      omega (arith, none, below)
+
+  -- a START
+  module _ (session : List ℕ) (n : ℕ) (which : command ≡ Start session n) where
+    session_is : session_named command ≡ Some session
+    session_is = ap session_named which
+
+    abbrev given : Owned
+    given = changed session (started n) owner.state
+
+    kept_else : (name : List ℕ) → (session ≡ name → ⊥) → held_in next.state name ≡ held_in owner.state name
+    kept_else name apart = others name (λ same. apart (same_name_of session name (sym session_is ∙ same)))
+
+    start_tiles_is : (held : Held) → held_in owner.state session ≡ Some held
+        → command_tiles (user_in owner) (Start session n) ≡ advance_tiles (Some (session_meant held)) n
+    unfolding command_tiles
+    start_tiles_is held found = ap (λ o. advance_tiles o n) (named-held owner.state session held found)
+
+    start_tiles_none : held_in owner.state session ≡ None → command_tiles (user_in owner) (Start session n) ≡ 0
+    unfolding command_tiles
+    start_tiles_none absent = ap (λ o. advance_tiles o n) (named-absent owner.state session absent)
+
+    answered_start_at : (before : Held) → held_in owner.state session ≡ Some before
+        → held_in next.state session ≡ Some (started n before)
+        → tiles_to_come owner.state + command_tiles (user_in owner) command ≤ tiles_to_come next.state
+    answered_start_at before was is =
+        let sum = sum-changed owner.state session (started n) tiles_of_session before was in
+        let more = started-tiles before n (work_of session before was) in
+        let tiles : command_tiles (user_in owner) command ≡ advance_tiles (Some (session_meant before)) n =
+        ap (command_tiles (user_in owner)) which ∙ start_tiles_is before was in
+        let distinct = subst (IsDistinct bytes_eq) (sym (names-changed owner.state session (started n))) t.distinct in
+        let below = sum-below tiles_of_session given.sessions next.state.sessions distinct below_each in
+        omega (arith, sum, more, tiles, below)
+      where
+        lookup_is : (name : List ℕ) → held_in given name ≡ held_in next.state name
+        lookup_is name = by_test (bytes_eq session name)
+            (λ b. let same = (bytes_eq-Decides session name).0 b in
+            subst (λ (m : List ℕ). held_in given m ≡ held_in next.state m) same
+            (there-changed owner.state session (started n) before was ∙ sym is))
+            (λ b. let apart : session ≡ name → ⊥ = λ same. true≢false (sym ((bytes_eq-Decides session name).1 same) ∙ b) in
+            other-changed owner.state session (started n) name apart ∙ sym (kept_else name apart))
+
+        below_each : (name : List ℕ) (held : Held) → held_in given name ≡ Some held
+            → tiles_of_session held ≤ number_in tiles_of_session next.state name
+        below_each name held found =
+            let is = ap (λ o. option_map_or tiles_of_session o 0) (sym (lookup_is name) ∙ found) in omega (arith, is)
+
+    answered_start : tiles_to_come owner.state + command_tiles (user_in owner) command ≤ tiles_to_come next.state
+    answered_start = by (held_in owner.state session) refl (outcome_of session session_is)
+      where
+        by : (o : Option Held) → held_in owner.state session ≡ o → Outcome owner.state next.state command session
+            → tiles_to_come owner.state + command_tiles (user_in owner) command ≤ tiles_to_come next.state
+        by None w o =
+            let none : command_tiles (user_in owner) command ≡ 0 = ap (command_tiles (user_in owner)) which ∙ start_tiles_none w in
+            let below = sum-below tiles_of_session owner.state.sessions next.state.sessions t.distinct (λ name held found.
+            let same = kept_else name (λ is. none-some held (sym w ∙ ap (held_in owner.state) is ∙ found)) in
+            let is = ap (λ o. option_map_or tiles_of_session o 0) (same ∙ found) in omega (arith, is)) in
+            omega (arith, none, below)
+        by (Some before) w o = answered_start_at before w (started_by (held_in next.state session) refl)
+          where
+            started_by : (p : Option Held) → held_in next.state session ≡ p → held_in next.state session ≡ Some (started n before)
+            started_by None e = absurd (staying owner.state next.state command reply work answered unchanged_state steps at_once
+                session session_is (λ held found. still-there (user_in owner) session (performed (user_in owner) command answered.mark)
+                (ap is_some (named-held owner.state session held found))
+                (subst (λ (k : Command). Stays session (performed (user_in owner) k answered.mark)) (sym which)
+                (start_stays (user_in owner) session n answered.mark))) before w e)
+            started_by (Some after) e =
+                let s : StepsAfter (Start session n) (held_in owner.state session) after =
+                subst (λ (k : Command). StepsAfter k (held_in owner.state session) after) which (steps session after session_is e) in
+                e ∙ ap (λ (h : Held). Some h) (subst (λ o. IsSomeAnd o (λ held. after ≡ started n held)) w s)
+
+  pub answered_tiles : tiles_to_come owner.state + command_tiles (user_in owner) command ≤ tiles_to_come next.state
+  answered_tiles = by command refl
+    where
+      by : (k : Command) → command ≡ k → tiles_to_come owner.state + command_tiles (user_in owner) command ≤ tiles_to_come next.state
+      by (Start session n) e = answered_start session n e
+      by k e = answered_quiet (λ name n is. let differ = sym e ∙ is in cc)
+
+-- the turn at which what waited is answered
+module _ (owner : Owning) (owed : List Work) (t : Gathers owner owed) (name : List ℕ)
+    (whole : is_whole_in owner.state name ≡ true) (last : IsLastTurn name owner) (next : Owning)
+    (number : next.number ≡ owner.number) (done : next.waiting ≡ None)
+    (others : OtherSessionsKept name owner.state next.state) (rests : IsIdleIn next.state name)
+    (distinct : IsDistinct bytes_eq (names next.state)) where
+  -- what waited, waited for the session
+  record Waited : Type 0 where
+    command : Command
+    is : owner.waiting ≡ Some command
+    waits : waits_for command ≡ Some name
+
+  waited : Waited
+  waited = by owner.waiting refl
+    where
+      by : (w : Option Command) → owner.waiting ≡ w → Waited
+      by None e = absurd (true≢false (sym last.waited ∙ rw e refl))
+      by (Some command) e = record { command = command; is = e; waits = waited_name command name (rw e at last.waited) }
+
+  one : turns_before owner.state waited.command ≡ 1
+  one = sym (ap (λ w. option_map_or (turns_before owner.state) w 0) waited.is) ∙ last.last
+
+  of_each_session : {P : List ℕ → Type 0} → P name → ((other : List ℕ) → (name ≡ other → ⊥) → P other) → (other : List ℕ) → P other
+  of_each_session {P} own others_own other = by_test (bytes_eq name other)
+      (λ b. subst P ((bytes_eq-Decides name other).0 b) own)
+      (λ b. others_own other (λ same. true≢false (sym ((bytes_eq-Decides name other).1 same) ∙ b)))
+
+  work_next : IsAtWork None next.state
+  work_next other held found =
+      of_each_session {P = λ other. (held : Held) → held_in next.state other ≡ Some held
+      → kind_of held.live.part ≡ kind_owed None other held}
+      (λ held found. let i = rests held found in i.closed ∙ sym (kind-none None name held i.owed refl))
+      (λ other apart held found.
+      let quiet : is_measured owner.waiting other ≡ false =
+      ap (λ w. is_measured w other) waited.is ∙ unmeasured waited.command name other waited.waits apart in
+      t.at_work other held (sym (others other apart) ∙ found) ∙ rw quiet refl)
+      other held found
+
+  pub ended_gathers : Gathers next owed
+  ended_gathers = gathers_settled owner owed t next number done work_next distinct
+      (of_each_session {P = λ other. Settles owner.state next.state (posted_of (label_of owner other)) other}
+      (record {
+        posted_is = idle_posted next.state name (label_of owner name) rests
+            ∙ sym (ap (posted_of (label_of owner name)) (whole-open owner owed t name whole).there
+            ∙ whole-owes owner owed t name whole);
+        gathered = λ held found. idle-gathered held (rests held found);
+      })
+      (λ other apart. settles_same owner owed t next number other (others other apart)))
+
+  -- no tile of the session was to come
+  none_here : (held : Held) → held_in owner.state name ≡ Some held → tiles_of_session held ≡ 0
+  none_here held found =
+      let open_there = whole-open owner owed t name whole in
+      let same = same_Some open_there.held held (sym open_there.there ∙ found) in
+      let left = whole-left owner owed t name whole in
+      let owed : held.owed ≤ 1 =
+      let steps = ap (λ o. option_map_or (owed_in owner.state) o 0) waited.waits in
+      let is = ap (λ o. option_map_or (λ (h : Held). h.owed) o 0) found in
+      let few = one in omega (arith, steps, is, few) in
+      let later : tiles_after held ≡ 0 =
+      ap (λ n. steps_tiles held.live.composition n (stepped held.live.composition held.live.sim))
+      (let none : held.owed - 1 ≡ 0 = omega (arith, owed) in none) in
+      subst (λ (h : Held). tiles_after h ≡ 0 → tiles_of_session h ≡ 0) same (λ l. omega (arith, left, l)) later
+
+  own_none : waiting_tiles_of owner owner.waiting ≡ 0
+  own_none = ap (waiting_tiles_of owner) waited.is ∙ by_test (nat_lt 0 (steps_before owner.state waited.command))
+      (λ b. rw b (let few = one in let some = ltb-true 0 (steps_before owner.state waited.command) b in
+      no-own-tiles (user_in owner) waited.command (omega (arith, few, some))
+      (λ n k e. none_named name (sym (start-waits waited.command n k e) ∙ waited.waits))))
+      (λ b. rw b refl)
+
+  pub ended_tiles : tiles_coming owner ≤ tiles_coming next
+  ended_tiles =
+      let below = sum-below tiles_of_session owner.state.sessions next.state.sessions t.distinct
+      (of_each_session {P = λ other. (held : Held) → held_in owner.state other ≡ Some held
+      → tiles_of_session held ≤ number_in tiles_of_session next.state other}
+      (λ held found. let none = none_here held found in omega (arith, none))
+      (λ other apart held found. let is = ap (λ o. option_map_or tiles_of_session o 0) (others other apart ∙ found) in
+      omega (arith, is))) in
+      let own = own_none in
+      omega (arith, below, own)

@@ -1,0 +1,162 @@
+-- What waited is answered at a turn, after work that went on; and a command that is answered once its work is done.
+use Rattle.std.proofs.Common.{◌≡◌, ℕ, ◌+◌, ◌-◌, ◌<◌, ◌≤◌, Bool, true, false, List, Option, Some, None, Result, Ok, Err, refl, sym, ap, ◌∙◌, subst, arith}
+use Rattle.std.specs.Prelude.{IfSome, IfNone, IsSome, OnOk, is_some}
+use Rattle.std.specs.List.{IsDistinct}
+use Rattle.std.specs.Str.{bytes_eq}
+use Rattle.std.proofs.lemmas.Bool.{true≢false}
+use Rattle.lj_session.specs.declared.command.Command.{Command}
+use Rattle.lj_session.specs.declared.reply.Reply.{Reply}
+use Rattle.lj_session.specs.Users.{User}
+use Rattle.lj_session.specs.Answers.{AnswersAlike}
+use Rattle.lj_session.specs.Begins.{OnRefusal}
+use Rattle.lj_session.specs.States.{IsIdleIn, OthersKept, OtherSessionsKept, StepsFollow, is_whole_in, names, turns_before}
+use Rattle.lj_session.specs.Owners.{Owning, IsAnswered, IsReplied, IsLastTurn, WaitsAlike, WaitsAlikeFor, begun, user_in}
+use Rattle.lj_pool.specs.declared.running.Halt.{Halt}
+use Rattle.lj_pool.specs.declared.running.Halt.TheVariants.{PoolClosed, TooManyStrays}
+use Rattle.lj_pool.specs.declared.pool.TheConstants.{MAX_STRAYS}
+use Rattle.lj_pool.specs.Seen.{Seen}
+use Rattle.lj_pool.specs.Gathering.{Gathers}
+use Rattle.lj_pool.specs.Counting.{CountsRise, StraysRise, command_tiles}
+use Rattle.lj_pool.specs.Coming.{GoesOn, tiles_to_come, tiles_coming, waiting_tiles_of}
+use Rattle.lj_pool.specs.Running.{IsHalted}
+use Rattle.lj_pool.proofs.Sessions.{distinct-answered}
+use Rattle.lj_pool.proofs.Begun.{Begins, begins}
+use Rattle.lj_pool.proofs.Answered.{answered_gathers, answered_tiles, ended_gathers, ended_tiles}
+use Rattle.lj_pool.proofs.Going.{rises_more, rises_none, replied_alike}
+
+-- what waits goes on waiting, and where nothing waits nothing does
+pub alike_some : (a b : Owning) → WaitsAlike a b → IsSome a.waiting → IsSome b.waiting
+alike_some a b alike some = by a.waiting b.waiting alike some
+  where
+    by : (x y : Option Command) → WaitsAlikeFor x y (user_in a) (user_in b) → IsSome x → IsSome y
+    by None y p s = absurd (true≢false (sym s))
+    by (Some c) None p s = absurd p
+    by (Some c) (Some d) p s = refl
+
+pub alike_none : (a b : Owning) → WaitsAlike a b → a.waiting ≡ None → (b.waiting ≡ None) × (user_in b ≡ user_in a)
+alike_none a b alike none = by b.waiting refl (subst (λ x. WaitsAlikeFor x b.waiting (user_in a) (user_in b)) none alike)
+  where
+    by : (y : Option Command) → b.waiting ≡ y → WaitsAlikeFor None y (user_in a) (user_in b)
+        → (y ≡ None) × (user_in b ≡ user_in a)
+    by None e p = (refl, p)
+    by (Some d) e p = absurd p
+
+-- where nothing waits no turn is the last
+pub none_last : (name : List ℕ) (owner : Owning) → owner.waiting ≡ None → IsLastTurn name owner → ⊥
+none_last name owner none last = true≢false (sym last.waited ∙ rw none refl)
+
+distinct_replied : (now next : Owning) (reply : Reply) → IsSome now.waiting → IsReplied now reply (user_in next)
+    → IsDistinct bytes_eq (names now.state) → IsDistinct bytes_eq (names next.state)
+distinct_replied now next reply some replied distinct = by now.waiting some replied
+  where
+    by : (w : Option Command) → IsSome w → IfSome w (λ command. IsAnswered (user_in now) command reply (user_in next))
+        → IsDistinct bytes_eq (names next.state)
+    by None s r = absurd (true≢false (sym s))
+    by (Some command) s r = distinct-answered now.state next.state command r.mark reply r.answers distinct
+
+-- the last turn
+module _ (start : Owning) (before : Seen) (now : Owning) (after : Seen) (goes : GoesOn start before now after) (name : List ℕ)
+    (whole : is_whole_in now.state name ≡ true) (last : IsLastTurn name now) (next : Owning) (reply : Reply)
+    (number : next.number ≡ now.number) (done : next.waiting ≡ None)
+    (others : OtherSessionsKept name now.state next.state) (rests : IsIdleIn next.state name)
+    (some : IsSome now.waiting) (replied : IsReplied now reply (user_in next)) where
+  distinct : IsDistinct bytes_eq (names next.state)
+  distinct = distinct_replied now next reply some replied goes.gathers.distinct
+
+  pub ends_replied : IsReplied start reply (user_in next)
+  ends_replied = replied_alike start now reply (user_in next) goes.alike replied
+
+  pub ends_gathers : Gathers next after.owed
+  ends_gathers = ended_gathers now after.owed goes.gathers name whole last next number done others rests distinct
+
+  pub ends_counted : CountsRise (tiles_coming start - tiles_coming next) before after
+  ends_counted =
+      let more = ended_tiles now after.owed goes.gathers name whole last next number done others rests distinct in
+      rises_more (tiles_coming start - tiles_coming now) 0 (tiles_coming start - tiles_coming next) goes.counted
+      (rises_none after after 0 refl refl (omega arith)) (omega (arith, more))
+
+-- a command that begins
+module _ (owner : Owning) (seen : Seen) (t : Gathers owner seen.owed) (idle : owner.waiting ≡ None) (command : Command)
+    (next : Owning) where
+  -- and waits
+  module _ (takes : 0 < turns_before owner.state command) (is : next ≡ begun command owner) where
+    its : Begins owner seen.owed command (begun command owner)
+    its = begins owner seen.owed t idle command takes
+
+    pub begun_gathers : Gathers next seen.owed
+    begun_gathers = subst (λ (o : Owning). Gathers o seen.owed) (sym is) its.gathers
+
+    pub begun_tiles : tiles_coming next ≡ tiles_to_come owner.state + command_tiles (user_in owner) command
+    begun_tiles = ap tiles_coming is ∙ its.tiles
+
+    pub begun_some : IsSome next.waiting
+    begun_some = ap (λ (o : Owning). is_some o.waiting) is
+
+    -- an answer to what is left is one to the command
+    pub begun_answered : (reply : Reply) (last : User) → IfSome next.waiting (λ left. AnswersAlike (user_in next) left (user_in owner) command)
+        → IsReplied next reply last → IsAnswered (user_in owner) command reply last
+    begun_answered reply last alike replied = by next.waiting begun_some alike replied
+      where
+        by : (w : Option Command) → IsSome w → IfSome w (λ left. AnswersAlike (user_in next) left (user_in owner) command)
+            → IfSome w (λ left. IsAnswered (user_in next) left reply last) → IsAnswered (user_in owner) command reply last
+        by None s a r = absurd (true≢false (sym s))
+        by (Some left) s a r = record { mark = r.mark; answers = r.answers ∙ a r.mark; only_memory = r.only_memory }
+
+    -- and its tiles are counted
+    pub begun_counted : (last : Owning) (after : Seen) → last.waiting ≡ None
+        → CountsRise (tiles_coming next - tiles_coming last) seen after
+        → CountsRise (command_tiles (user_in owner) command + tiles_to_come owner.state - tiles_to_come last.state) seen after
+    begun_counted last after done counted =
+        let first = begun_tiles in
+        let none : tiles_coming last ≡ tiles_to_come last.state =
+        ap (λ w. tiles_to_come last.state + waiting_tiles_of last w) done ∙ omega arith in
+        rises_more (tiles_coming next - tiles_coming last) 0
+        (command_tiles (user_in owner) command + tiles_to_come owner.state - tiles_to_come last.state) counted
+        (rises_none after after 0 refl refl (omega arith)) (omega (arith, first, none))
+
+  -- and is answered at once
+  module _ (reply : Reply) (number : next.number ≡ owner.number) (done : next.waiting ≡ None)
+      (at_once : turns_before owner.state command ≡ 0) (answered : IsAnswered (user_in owner) command reply (user_in next))
+      (unchanged : OnRefusal reply (next ≡ owner)) (others : OthersKept command owner.state next.state)
+      (steps : StepsFollow command owner.state next.state) where
+    pub at_once_gathers : Gathers next seen.owed
+    at_once_gathers = answered_gathers owner seen.owed t idle command reply next number done at_once answered unchanged others steps
+
+    pub at_once_counted : CountsRise
+        (command_tiles (user_in owner) command + tiles_to_come owner.state - tiles_to_come next.state) seen seen
+    at_once_counted =
+        let more = answered_tiles owner seen.owed t idle command reply next number done at_once answered unchanged others steps in
+        rises_none seen seen (command_tiles (user_in owner) command + tiles_to_come owner.state - tiles_to_come next.state)
+        refl refl (omega (arith, more))
+
+-- strays in a row, and what halts
+pub strays_then : (a b c : Seen) (n : ℕ) → StraysRise n a b → StraysRise 1 b c → b.strays ≤ c.strays → StraysRise (n + 1) a c
+strays_then a b c n first one more = λ below.
+    let last = one below in
+    let before = first (omega (arith, below, more)) in
+    omega (arith, last, before)
+
+pub strays_none : {n : ℕ} (a b : Seen) → CountsRise n a b → StraysRise 0 a b
+strays_none a b risen = λ below. let more = risen.strays in omega (arith, more)
+
+pub strays_on : {k : ℕ} (a b c : Seen) (n : ℕ) → StraysRise n a b → CountsRise k b c → StraysRise n a c
+strays_on a b c n first risen = λ below.
+    let more = risen.strays in
+    let before = first (omega (arith, below, more)) in
+    omega (arith, more, before)
+
+pub halted_on : {k : ℕ} (halt : Halt) (a b c : Seen) → CountsRise k a b → IsHalted halt b c → IsHalted halt a c
+halted_on PoolClosed a b c risen halted = halted
+halted_on TooManyStrays a b c risen halted = λ below.
+    let more = risen.strays in
+    let last = halted below in
+    omega (arith, more, last)
+
+-- what is said of no answer, and of answers
+pub when_none : {A : Type 0} {P : Type 0} (o : Option A) → (IsSome o → ⊥) → IfNone o P → P
+when_none None not_some h = h
+when_none (Some x) not_some h = absurd (not_some refl)
+
+pub on_both : {A B : Type 0} {P Q R : Type 0} (r : Result A B) → (P → Q → R) → OnOk r P → OnOk r Q → OnOk r R
+on_both (Ok x) f p q = f p q
+on_both (Err e) f p q = tt

@@ -1,0 +1,60 @@
+-- Serving goes on before the next item, and the state that is handed back.
+use Rattle.std.proofs.Common.{◌≡◌, ℕ, ◌+◌, ◌-◌, ◌≤◌, List, [], Option, Some, None, refl, sym, ap, ◌∙◌, subst, arith}
+use Rattle.std.specs.List.{IsDistinct}
+use Rattle.std.specs.Str.{bytes_eq}
+use Rattle.lj_session.specs.declared.command.Command.{Command}
+use Rattle.lj_session.specs.States.{Owned, user_of, rested, names}
+use Rattle.lj_session.specs.Owners.{Owning, entered, user_in}
+use Rattle.lj_wire.specs.declared.reader.phase.Phase.TheVariants.{Open}
+use Rattle.lj_wire.specs.Standings.{Standing}
+use Rattle.lj_pool.specs.Seen.{Seen}
+use Rattle.lj_pool.specs.Gathering.{Gathers, NoneOwed}
+use Rattle.lj_pool.specs.Counting.{CountsRise, tiles_owed}
+use Rattle.lj_pool.specs.Coming.{GoesOn, waiting_tiles_of, tiles_to_come, tiles_coming}
+use Rattle.lj_pool.specs.Serving.{Serving}
+use Rattle.lj_pool.proofs.Dialogues.{serving-start, serving-goes}
+use Rattle.lj_pool.proofs.Ending.{alike_none}
+use Rattle.lj_pool.proofs.Going.{rises_more, rises_none}
+use Rattle.lj_pool.proofs.Rested.{gathers-entered, rested-few, none-owed}
+
+-- an owner that has just been given the state
+module _ (state : Owned) (number : ℕ) (owner : Owning) (is : owner ≡ entered state number) where
+  pub entered_serving : (first : Standing) (was : Option (List ℕ)) (old : Seen) → first.items ≡ 0 → first.phase ≡ Open
+      → Serving state first first was was old old owner.state
+  entered_serving first was old none at_work =
+      subst (λ (o : Owning). Serving state first first was was old old o.state) (sym is)
+      (serving-start state first was old none at_work)
+
+  pub entered_gathers : (seen : Seen) → seen.owed ≡ [] → IsDistinct bytes_eq (names owner.state) → Gathers owner seen.owed
+  entered_gathers seen none distinct =
+      subst (Gathers owner) (sym none)
+      (subst (λ (o : Owning). Gathers o []) (sym is)
+      (gathers-entered state number (subst (λ (o : Owning). IsDistinct bytes_eq (names o.state)) is distinct)))
+
+idle_tiles : (owner : Owning) → owner.waiting ≡ None → tiles_coming owner ≡ tiles_to_come owner.state
+idle_tiles owner idle =
+    let none = ap (waiting_tiles_of owner) idle in omega (arith, none)
+
+-- the work goes on before the next item
+module _ (owner : Owning) (seen : Seen) (idle : owner.waiting ≡ None) (next : Owning) (newer : Seen)
+    (goes : GoesOn owner seen next newer) where
+  pub ahead_idle : next.waiting ≡ None
+  ahead_idle = (alike_none owner next goes.alike idle).0
+
+  pub ahead_serving : (start : Owned) (first now : Standing) (was is : Option (List ℕ)) (old : Seen)
+      → Serving start first now was is old seen owner.state → Serving start first now was is old newer next.state
+  ahead_serving start first now was is old s =
+      let before = idle_tiles owner idle in
+      let after = idle_tiles next ahead_idle in
+      serving-goes start first now was is old seen owner.state s next.state newer (alike_none owner next goes.alike idle).1
+      (rises_more (tiles_coming owner - tiles_coming next) 0 (tiles_to_come owner.state - tiles_to_come next.state) goes.counted
+      (rises_none newer newer 0 refl refl (omega arith)) (omega (arith, before, after)))
+
+-- the state handed back
+module _ (owner : Owning) (seen : Seen) (t : Gathers owner seen.owed) (idle : owner.waiting ≡ None) (back : Owned)
+    (is : back ≡ rested owner.state) where
+  pub back_few : tiles_to_come owner.state ≤ tiles_owed back
+  back_few = subst (λ o. tiles_to_come owner.state ≤ tiles_owed o) (sym is) (rested-few owner seen.owed t idle)
+
+  pub back_none : NoneOwed back → seen.owed ≡ []
+  back_none none = none-owed owner seen.owed t idle (subst NoneOwed is none)

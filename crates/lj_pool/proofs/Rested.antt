@@ -1,0 +1,123 @@
+-- States whose steps are begun anew: what is to come of them, and that nothing is owed then where no step is.
+use Rattle.std.proofs.Common.{◌≡◌, ℕ, zero, suc, ◌+◌, ◌≤◌, Bool, true, false, nat_lt, List, [], ◌∷◌, map, Option, Some, None, refl, sym, ap}
+use Rattle.std.proofs.Common.{◌∙◌, subst, arith}
+use Rattle.std.specs.List.{IsDistinct, filter, sum_by}
+use Rattle.std.specs.Option.{option_map, option_map_or}
+use Rattle.std.specs.Str.{bytes_eq}
+use Rattle.std.proofs.lemmas.List.Sums.{sum_by-cons}
+use Rattle.std.proofs.lemmas.Option.{none-some, same_Some}
+use Rattle.lj_tile.specs.Tasks.{Work}
+use Rattle.lj_step.specs.OpenSteps.{kind_of}
+use Rattle.lj_branch.specs.Named.{named}
+use Rattle.lj_session.specs.States.{Held, Owned, IsAtWork, IsIdle, held_in, owed_in, names, at_rest, rested, kind_owed}
+use Rattle.lj_session.specs.Owners.{Owning, entered, label_of}
+use Rattle.lj_session.proofs.AtWork.{at_work-rested, kind-none}
+use Rattle.lj_session.proofs.Entries.{by_test, named-seen}
+use Rattle.lj_session.proofs.Holding.{owed-of}
+use Rattle.lj_pool.specs.Gathering.{IsGathered, is_of, posted_of, Gathers, NoneOwed}
+use Rattle.lj_pool.specs.Counting.{owed_tiles, tiles_owed, sum_over}
+use Rattle.lj_pool.specs.Coming.{tiles_of_session, tiles_to_come}
+use Rattle.lj_pool.proofs.Sessions.{same_name, sum-below}
+use Rattle.lj_pool.proofs.Tiles.{rest-tiles, rest-owed, rest-more, rest-gathered, rest-posted, closed-part, closed-posted}
+
+-- sums over the sessions of a state begun anew
+rested-sum : (f g : Held → ℕ) → ((held : Held) → f (at_rest held) ≡ g held) → (es : List (List ℕ × Held))
+    → sum_by (λ (e : List ℕ × Held). f e.1) (map (λ (e : List ℕ × Held). (e.0, at_rest e.1)) es)
+    ≡ sum_by (λ (e : List ℕ × Held). g e.1) es
+rested-sum f g same [] = refl
+rested-sum f g same (e ∷ es) =
+    let new = sum_by-cons (λ (e : List ℕ × Held). f e.1) (e.0, at_rest e.1) (map (λ (e : List ℕ × Held). (e.0, at_rest e.1)) es) in
+    let old = sum_by-cons (λ (e : List ℕ × Held). g e.1) e es in
+    let head = same e.1 in
+    let tail = rested-sum f g same es in
+    omega (arith, new, old, head, tail)
+
+pub rested-tiles : (owned : Owned) → tiles_to_come (rested owned) ≡ tiles_owed owned
+rested-tiles owned = rested-sum tiles_of_session owed_tiles rest-tiles owned.sessions
+
+rested-owed : (owned : Owned) → tiles_owed (rested owned) ≡ tiles_owed owned
+rested-owed owned = rested-sum owed_tiles owed_tiles rest-owed owned.sessions
+
+rested-there : (owned : Owned) (name : List ℕ) → held_in (rested owned) name ≡ option_map at_rest (held_in owned name)
+rested-there owned name = named-seen at_rest name owned.sessions
+
+names-rested : (es : List (List ℕ × Held))
+    → map (λ (e : List ℕ × Held). e.0) (map (λ (e : List ℕ × Held). (e.0, at_rest e.1)) es) ≡ map (λ (e : List ℕ × Held). e.0) es
+names-rested [] = refl
+names-rested (e ∷ es) = ap (λ ns. e.0 ∷ ns) (names-rested es)
+
+-- no more is to come of a state than of the same begun anew
+pub rested-few : (owner : Owning) (owed : List Work) → Gathers owner owed → owner.waiting ≡ None
+    → tiles_to_come owner.state ≤ tiles_owed (rested owner.state)
+rested-few owner owed t idle =
+    let below = sum-below tiles_of_session owner.state.sessions (rested owner.state).sessions t.distinct more in
+    let all = rested-tiles owner.state in
+    let same = rested-owed owner.state in
+    omega (arith, below, all, same)
+  where
+    work : IsAtWork None owner.state
+    work = subst (λ w. IsAtWork w owner.state) idle t.at_work
+
+    more : (name : List ℕ) (held : Held) → held_in owner.state name ≡ Some held
+        → tiles_of_session held ≤ option_map_or tiles_of_session (held_in (rested owner.state) name) 0
+    more name held found =
+        let there = ap (λ o. option_map_or tiles_of_session o 0) (rested-there owner.state name ∙ ap (option_map at_rest) found) in
+        let is = rest-tiles held in
+        let few = rest-more held (t.gathered name held found) (work name held found) in
+        omega (arith, there, is, few)
+
+-- an owner that has just been given a state is owed nothing
+pub gathers-entered : (owned : Owned) (number : ℕ) → IsDistinct bytes_eq (names (rested owned)) → Gathers (entered owned number) []
+gathers-entered owned number distinct = record {
+  at_work = at_work-rested owned;
+  waits = tt;
+  distinct = distinct;
+  gathered = λ name held found. by name held found (held_in owned name) refl;
+  each = λ name. sym (posted name (held_in owned name) refl);
+}
+  where
+    by : (name : List ℕ) (held : Held) → held_in (rested owned) name ≡ Some held → (o : Option Held) → held_in owned name ≡ o
+        → IsGathered held
+    by name held found None e = absurd (none-some held (sym (rested-there owned name ∙ ap (option_map at_rest) e) ∙ found))
+    by name held found (Some was) e =
+        subst IsGathered
+        (same_Some (at_rest was) held (sym (rested-there owned name ∙ ap (option_map at_rest) e) ∙ found)) (rest-gathered was)
+
+    posted : (name : List ℕ) (o : Option Held) → held_in owned name ≡ o
+        → posted_of (label_of (entered owned number) name) (held_in (rested owned) name) ≡ []
+    posted name None e = ap (posted_of (label_of (entered owned number) name)) (rested-there owned name ∙ ap (option_map at_rest) e)
+    posted name (Some was) e =
+        ap (posted_of (label_of (entered owned number) name)) (rested-there owned name ∙ ap (option_map at_rest) e)
+        ∙ rest-posted was (label_of (entered owned number) name)
+
+-- where no step is owed to the sessions, the pool owes nothing
+pub none-owed : (owner : Owning) (owed : List Work) → Gathers owner owed → owner.waiting ≡ None
+    → NoneOwed (rested owner.state) → owed ≡ []
+none-owed owner owed t idle none = by owed refl
+  where
+    work : IsAtWork None owner.state
+    work = subst (λ w. IsAtWork w owner.state) idle t.at_work
+
+    rest-count : (held : Held) → (at_rest held).owed ≡ held.owed
+    rest-count held = by_test (nat_lt 0 held.owed) (λ t. rw t refl) (λ t. rw t refl)
+
+    none_posted : (name : List ℕ) (o : Option Held) → held_in owner.state name ≡ o
+        → posted_of (label_of owner name) (held_in owner.state name) ≡ []
+    none_posted name None e = ap (posted_of (label_of owner name)) e
+    none_posted name (Some held) e =
+        let rest : (at_rest held).owed ≡ 0 =
+        sym (ap (λ o. option_map_or (λ (h : Held). h.owed) o 0) (rested-there owner.state name ∙ ap (option_map at_rest) e))
+        ∙ none name in
+        let zero_owed : held.owed ≡ 0 = sym (rest-count held) ∙ rest in
+        ap (posted_of (label_of owner name)) e
+        ∙ closed-posted held (label_of owner name) (closed-part held.live.part
+        (work name held e ∙ kind-none None name held zero_owed refl))
+
+    by : (ws : List Work) → owed ≡ ws → owed ≡ []
+    by [] e = e
+    by (w ∷ ws) e =
+        let name = w.name.label.session in
+        let empty : filter (is_of name) (w ∷ ws) ≡ [] =
+        ap (filter (is_of name)) (sym e) ∙ t.each name ∙ none_posted name (held_in owner.state name) refl in
+        let here = same_name name in
+        absurd (let k = rw here at empty in cc)

@@ -1,0 +1,120 @@
+-- The owner's steps: what is owed where one session changes, and what its whole step is.
+use Rattle.std.proofs.Common.{◌≡◌, ◌≢◌, ℕ, ◌<◌, true, false, nat_lt, List, Option, Some, None, Result, Ok, Err, refl, sym, ◌∙◌, ap, subst, arith}
+use Rattle.std.proofs.Common.{◌+◌}
+use Rattle.std.proofs.lemmas.Bool.{ltb-true, ltb-false, true≢false}
+use Rattle.std.specs.Prelude.{IfSome, OnOk, OnErr}
+use Rattle.std.specs.Option.{option_map_or}
+use Rattle.std.specs.Str.{bytes_eq}
+use Rattle.std.proofs.lemmas.Slice.Eq.{bytes_eq-Decides}
+use Rattle.lj_tile.specs.declared.names.Kind.{Kind}
+use Rattle.lj_session.specs.declared.command.Command.{Command}
+use Rattle.lj_session.specs.Users.{User}
+use Rattle.lj_session.specs.Turns.{turns, waits_for}
+use Rattle.lj_session.specs.States.{Held, Owned, IsAtWork, user_of, held_in, owed_in, with_held, changed, step_passed, is_whole_in, is_measured, steps_before, turns_before}
+use Rattle.lj_session.specs.Owners.{Owning, owes, is_waited_for}
+use Rattle.lj_session.proofs.Entries.{by_test, named-put_any, named-put_other}
+use Rattle.lj_session.proofs.Holding.{changed-none, changed-some}
+use Rattle.lj_session.proofs.Others.{others-changed}
+use Rattle.lj_session.proofs.AtWork.{at_work-changed, kind-none, kind-passed}
+use Rattle.lj_session.proofs.Passing.{Open, opens, energies, measures, owed-held}
+
+-- either way of a result
+pub either-way : {A B P X Y : Type 0} (r : Result A B) → OnOk r X → OnErr r Y → (X → P) → (Y → P) → P
+either-way (Ok a) x y good bad = good x
+either-way (Err b) x y good bad = bad y
+
+-- what is owed to a session that stays
+pub owed-changed : (owned : Owned) (name : List ℕ) (change : Held → Held) → ((held : Held) → (change held).owed ≡ held.owed)
+    → (other : List ℕ) → owed_in (changed name change owned) other ≡ owed_in owned other
+owed-changed owned name change same other = by (held_in owned name) refl
+  where
+    owed : Option Held → ℕ
+    owed o = option_map_or (λ (h : Held). h.owed) o 0
+
+    by : (o : Option Held) → held_in owned name ≡ o → owed_in (changed name change owned) other ≡ owed_in owned other
+    by None e = ap (λ (x : Owned). owed_in x other) (changed-none owned name change e)
+    by (Some held) e = ap (λ (x : Owned). owed_in x other) (changed-some owned name change held e) ∙ by_test (bytes_eq name other)
+        (λ t. let is = (bytes_eq-Decides name other).0 t in
+        ap (λ (n : List ℕ). owed_in (with_held name (change held) owned) n) (sym is)
+        ∙ ap owed (named-put_any name owned.sessions (change held)) ∙ same held ∙ sym (ap owed e) ∙ ap (owed_in owned) is)
+        (λ t. ap owed (named-put_other name other (λ is. true≢false (sym ((bytes_eq-Decides name other).1 is) ∙ t))
+        owned.sessions (change held)))
+
+-- and to another session than the one that changes
+pub owed-apart : (owned : Owned) (name other : List ℕ) (change : Held → Held) → name ≢ other
+    → owed_in (changed name change owned) other ≡ owed_in owned other
+owed-apart owned name other change apart = ap (λ o. option_map_or (λ (h : Held). h.owed) o 0)
+    (others-changed owned name change other (λ e. apart (same_Some name other e)))
+  where
+    same_Some : (a b : List ℕ) → Some a ≡ Some b → a ≡ b
+    same_Some a b e = cc
+
+-- how many turns come before a command where the user, and what is owed to its session, stay
+pub turns-kept : (old new : Owned) (command : Command) → user_of new ≡ user_of old
+    → ((name : List ℕ) → waits_for command ≡ Some name → owed_in new name ≡ owed_in old name)
+    → turns_before new command ≡ turns_before old command
+turns-kept old new command user owed =
+    ap (λ n. n + turns (user_of new) command) (by (waits_for command) refl)
+    ∙ ap (λ (u : User). steps_before old command + turns u command) user
+  where
+    by : (o : Option (List ℕ)) → waits_for command ≡ o → steps_before new command ≡ steps_before old command
+    by None e = ap (λ o. option_map_or (owed_in new) o 0) e ∙ sym (ap (λ o. option_map_or (owed_in old) o 0) e)
+    by (Some name) e =
+        ap (λ o. option_map_or (owed_in new) o 0) e ∙ owed name e ∙ sym (ap (λ o. option_map_or (owed_in old) o 0) e)
+
+pub turns-some : (waiting : Option Command) (old new : Owned)
+    → ((command : Command) → waiting ≡ Some command → turns_before new command ≡ turns_before old command)
+    → IfSome waiting (λ command. 0 < turns_before old command) → IfSome waiting (λ command. 0 < turns_before new command)
+turns-some None old new same some = some
+turns-some (Some command) old new same some = subst (λ n. 0 < n) (sym (same command refl)) some
+
+-- a session with a whole step owes it
+pub whole-owes : (owner : Owning) (name : List ℕ) → is_whole_in owner.state name ≡ true → IsAtWork owner.waiting owner.state
+    → owes owner name ≡ true
+whole-owes owner name whole work = by_test (nat_lt 0 (owed_in owner.state name)) (λ t. rw t refl) measured
+  where
+    o : Open owner.waiting owner.state name
+    o = opens owner.waiting owner.state name whole work
+
+    measured : nat_lt 0 (owed_in owner.state name) ≡ false → owes owner name ≡ true
+    measured t = by_test (is_measured owner.waiting name) (λ m. rw (t, m) refl)
+        (λ m. absurd (none_some o.kind (sym (kind-none owner.waiting name o.held none m) ∙ o.owes)))
+      where
+        none_some : (kind : Kind) → None ≡ Some kind → ⊥
+        none_some kind e = cc
+
+        none : o.held.owed ≡ 0
+        none = sym (owed-held owner.state name o.held o.there)
+            ∙ (let z = ltb-false 0 (owed_in owner.state name) t in let n : owed_in owner.state name ≡ 0 = omega (arith, z) in n)
+
+-- what is measured is waited for
+measured-waited : (waiting : Option Command) (name : List ℕ) → is_measured waiting name ≡ true → is_waited_for waiting name ≡ true
+unfolding waits_for
+measured-waited None name t = absurd (true≢false (sym t))
+measured-waited (Some command) name t =
+    subst (λ (k : Command). is_waited_for (Some k) name ≡ true) (sym (measures command name t)) ((bytes_eq-Decides name name).1 refl)
+
+unwaited-quiet : (waiting : Option Command) (name : List ℕ) → is_waited_for waiting name ≡ false → is_measured waiting name ≡ false
+unwaited-quiet waiting name not = by_test (is_measured waiting name)
+    (λ t. absurd (true≢false (sym (measured-waited waiting name t) ∙ not)))
+    (λ t. t)
+
+-- the whole step of a session that nothing waits for is one that is owed
+pub unwaited-owed : (waiting : Option Command) (owned : Owned) (name : List ℕ) → is_waited_for waiting name ≡ false
+    → is_whole_in owned name ≡ true → IsAtWork waiting owned → 0 < owed_in owned name
+unwaited-owed waiting owned name not whole work = by_test (nat_lt 0 (owed_in owned name))
+    (ltb-true 0 (owed_in owned name))
+    (λ t. let z = ltb-false 0 (owed_in owned name) t in
+    let none : owed_in owned name ≡ 0 = omega (arith, z) in
+    absurd (true≢false (sym (energies waiting owned name whole work none).measured ∙ unwaited-quiet waiting name not)))
+
+pub unwaited-work : (waiting : Option Command) (owned : Owned) (name : List ℕ) → is_waited_for waiting name ≡ false
+    → IsAtWork waiting owned → IsAtWork waiting (changed name step_passed owned)
+unwaited-work waiting owned name not work = at_work-changed waiting owned name step_passed
+    (λ held e. kind-passed waiting name held (unwaited-quiet waiting name not)) work
+
+pub unwaited-apart : (command : Command) (name other : List ℕ) → waits_for command ≡ Some other
+    → is_waited_for (Some command) name ≡ false → name ≢ other
+unwaited-apart command name other waits not is =
+    true≢false (sym (ap (λ o. option_map_or (λ (session : List ℕ). bytes_eq session name) o false) waits
+    ∙ (bytes_eq-Decides other name).1 (sym is)) ∙ not)

@@ -1,0 +1,229 @@
+-- What waits: a command begun, a step passed, and what both leave of what will be answered.
+use Rattle.std.proofs.Common.{◌≡◌, ℕ, ◌+◌, ◌-◌, ◌<◌, true, false, nat_lt, List, [], ◌∷◌, map, Option, Some, None, refl, sym, ◌∙◌, ap, arith}
+use Rattle.std.proofs.lemmas.Bool.{ltb-false, true≢false}
+use Rattle.std.specs.Option.{option_map_or}
+use Rattle.std.specs.Str.{bytes_eq}
+use Rattle.std.proofs.lemmas.Slice.Eq.{bytes_eq-Decides}
+use Rattle.lj_tile.specs.Tasks.{Work}
+use Rattle.lj_tile.specs.declared.names.Kind.TheVariants.{Energy}
+use Rattle.lj_step.specs.OpenSteps.{tile_number_of}
+use Rattle.lj_branch.specs.Named.{named}
+use Rattle.lj_session.specs.declared.command.Command.{Command}
+use Rattle.lj_session.specs.declared.command.Command.TheVariants.{Advance, Measure}
+use Rattle.lj_session.specs.Users.{Session, User}
+use Rattle.lj_session.specs.Answers.{answer, AnswersAlike, can_advance}
+use Rattle.lj_session.specs.Turns.{turns, waits_for, advance_turns}
+use Rattle.lj_session.specs.States.{Held, Owned, user_of, as_entry, session_meant, held_in, changed, with_step, with_posted, with_tile_in, at_rest, rested, owing, step_passed, owed_in, steps_before, turns_before}
+use Rattle.lj_session.specs.Owners.{Owning, user_in, begun_in, left_in, taken_up, rest_of, changed_in, next_session, with_task_posted, with_task_in, with_state, is_waited_for, turned_from, IsLastTurn, WaitsAlike}
+use Rattle.lj_session.specs.Laws.{user_taking, BeginsAlike}
+use Rattle.lj_session.proofs.Advancing.{advanced, alike}
+use Rattle.lj_session.proofs.Entries.{by_test, named-put_any}
+use Rattle.lj_session.proofs.Holding.{named-held, named-absent, user_of-changed, user_of-kept, changed-some}
+use Rattle.lj_session.proofs.Outcomes.{owed-user}
+use Rattle.lj_session.proofs.Owed.{meant-rest, meant-posted, meant-passed, owed-owing}
+use Rattle.lj_session.proofs.Turning.{advance-turns-none, advance-turns-far, advance-turns-near, measure-turns-none}
+
+-- a state whose steps are begun anew means the same user
+rested_entries : (entries : List (List ℕ × Held))
+    → map as_entry (map (λ (e : List ℕ × Held). (e.0, at_rest e.1)) entries) ≡ map as_entry entries
+rested_entries [] = refl
+rested_entries (e ∷ es) =
+    ap (λ (s : Session). (e.0, s) ∷ map as_entry (map (λ (f : List ℕ × Held). (f.0, at_rest f.1)) es)) (meant-rest e.1)
+    ∙ ap (λ (l : List (List ℕ × Session)). as_entry e ∷ l) (rested_entries es)
+
+pub rested_user : (owned : Owned) → user_of (rested owned) ≡ user_of owned
+rested_user owned =
+    ap (λ (l : List (List ℕ × Session)). record { quota = owned.quota; sessions = l }) (rested_entries owned.sessions)
+
+changed_user : (name : Option (List ℕ)) (change : Held → Held) (owned : Owned)
+    → ((held : Held) → session_meant (change held) ≡ session_meant held) → user_of (changed_in name change owned) ≡ user_of owned
+changed_user None change owned same = refl
+changed_user (Some name) change owned same = user_of-changed owned name change same
+
+pub posted_user : (owner : Owning) → user_in (with_task_posted owner) ≡ user_in owner
+posted_user owner = changed_user (next_session owner) with_posted owner.state meant-posted
+
+pub taken_user : (work : Work) (owner : Owning) → user_in (with_task_in work owner) ≡ user_in owner
+taken_user work owner =
+    user_of-changed owner.state work.name.label.session (with_tile_in (tile_number_of work)) (λ held. refl)
+
+-- a step that was owed is passed
+pub passed_user : (owned : Owned) (name : List ℕ) → 0 < owed_in owned name → user_of (changed name step_passed owned) ≡ user_of owned
+passed_user owned name some = by (held_in owned name) refl
+  where
+    by : (o : Option Held) → held_in owned name ≡ o → user_of (changed name step_passed owned) ≡ user_of owned
+    by None e = absurd (let none = rw e at some in omega (arith, none))
+    by (Some held) e =
+        ap user_of (changed-some owned name step_passed held e)
+        ∙ user_of-kept owned name held (step_passed held) e (meant-passed held (rw e at some))
+
+-- and one step less is owed
+pub passed_owed : (owned : Owned) (name : List ℕ) → 0 < owed_in owned name
+    → owed_in (changed name step_passed owned) name + 1 ≡ owed_in owned name
+passed_owed owned name some = by (held_in owned name) refl
+  where
+    less : (held : Held) → (step_passed held).owed + 1 ≡ held.owed - 1 + 1
+    less held = by_test (nat_lt 0 (held.owed - 1)) (λ t. rw t refl) (λ t. rw t refl)
+
+    by : (o : Option Held) → held_in owned name ≡ o → owed_in (changed name step_passed owned) name + 1 ≡ owed_in owned name
+    by None e = absurd (let none = rw e at some in omega (arith, none))
+    by (Some held) e =
+        let there : held_in (changed name step_passed owned) name ≡ Some (step_passed held) =
+        ap (λ (o : Owned). held_in o name) (changed-some owned name step_passed held e) ∙ named-put_any name owned.sessions (step_passed held) in
+        let one = less held in
+        let more : 0 < held.owed = rw e at some in
+        ap (λ o. option_map_or (λ (h : Held). h.owed) o 0 + 1) there
+        ∙ (let n : (step_passed held).owed + 1 ≡ held.owed = omega (arith, one, more) in n)
+        ∙ sym (ap (λ o. option_map_or (λ (h : Held). h.owed) o 0) e)
+
+-- an ADVANCE that takes steps can go on by them
+pub record Goes (owned : Owned) (name : List ℕ) (n : ℕ) : Type 0 where
+  pub held : Held
+  pub there : held_in owned name ≡ Some held
+  pub near : can_advance (session_meant held) n ≡ true
+
+pub goes : (owned : Owned) (name : List ℕ) (n : ℕ) → 0 < turns (user_of owned) (Advance name n) → Goes owned name n
+goes owned name n some = by (held_in owned name) refl
+  where
+    by : (o : Option Held) → held_in owned name ≡ o → Goes owned name n
+    by None e = absurd (let none = advance-turns-none (user_of owned) name n (named-absent owned name e) in omega (arith, none, some))
+    by (Some held) e = by_test (can_advance (session_meant held) n)
+        (λ near. record { held = held; there = e; near = near })
+        (λ far. absurd (let none = advance-turns-far (user_of owned) name n (session_meant held) (named-held owned name held e) far in
+        omega (arith, none, some)))
+
+-- the steps of an ADVANCE that are owed are counted
+pub taken_user_of : (owned : Owned) (name : List ℕ) (n : ℕ) → Goes owned name n
+    → user_of (changed name (owing n) owned) ≡ (answer (user_of owned) (Advance name n) false).1
+taken_user_of owned name n g =
+    ap user_of (changed-some owned name (owing n) g.held g.there) ∙ owed-user owned name g.held g.there n g.near
+
+-- and an ADVANCE by 0 is then answered as the whole
+pub taken_alike : (owned : Owned) (name : List ℕ) (n : ℕ) → Goes owned name n
+    → AnswersAlike (user_of (changed name (owing n) owned)) (Advance name 0) (user_of owned) (Advance name n)
+taken_alike owned name n g mark =
+    let found = named-held owned name g.held g.there in
+    ap (λ u. answer u (Advance name 0) mark) (taken_user_of owned name n g
+    ∙ ap (λ a. a.1) (advanced (user_of owned) name (session_meant g.held) found n g.near false))
+    ∙ alike (user_of owned) name (session_meant g.held) found n g.near mark
+
+-- what a command that takes steps of its own leaves
+takes : (command : Command) (owner : Owning) → 0 < turns (user_in owner) command
+    → (user_of (taken_up command owner.state) ≡ user_taking (user_in owner) command)
+    × AnswersAlike (user_of (taken_up command owner.state)) (rest_of command) (user_in owner) command
+unfolding taken_up rest_of turns
+takes (Advance name n) owner some =
+    let g = goes owner.state name n some in (taken_user_of owner.state name n g, taken_alike owner.state name n g)
+takes (Measure name) owner some =
+    let same = user_of-changed owner.state name (with_step Energy) (λ held. refl) in
+    (same, λ mark. ap (λ u. answer u (Measure name) mark) same)
+takes command owner some = absurd (omega (arith, some))
+
+pub begins_alike : (command : Command) (owner : Owning) → 0 < turns_before owner.state command → BeginsAlike command owner
+begins_alike command owner some = by_test (nat_lt 0 (steps_before owner.state command)) waits goes_on
+  where
+    waits : nat_lt 0 (steps_before owner.state command) ≡ true → BeginsAlike command owner
+    waits t = record { user = rw t refl; left = rw t (λ mark. refl) }
+
+    goes_on : nat_lt 0 (steps_before owner.state command) ≡ false → BeginsAlike command owner
+    goes_on t =
+        let none = ltb-false 0 (steps_before owner.state command) t in
+        let more : 0 < turns (user_in owner) command = omega (arith, some, none) in
+        let made = takes command owner more in
+        record { user = rw t made.0; left = rw t made.1 }
+
+-- the session that a command waits for
+same_name : (command : Command) (name : List ℕ) → is_waited_for (Some command) name ≡ true → waits_for command ≡ Some name
+same_name command name h = by (waits_for command) refl
+  where
+    by : (o : Option (List ℕ)) → waits_for command ≡ o → o ≡ Some name
+    by None e = absurd (true≢false (sym h ∙ ap (λ o. option_map_or (λ session. bytes_eq session name) o false) e))
+    by (Some session) e =
+        let t = sym (ap (λ o. option_map_or (λ session. bytes_eq session name) o false) e) ∙ h in
+        ap (λ n. Some n) ((bytes_eq-Decides session name).0 t)
+
+-- how many turns are left once a step of the session is passed
+pub passed_turns : (owned : Owned) (name : List ℕ) (command : Command) → waits_for command ≡ Some name → 0 < owed_in owned name
+    → turns_before (changed name step_passed owned) command + 1 ≡ turns_before owned command
+passed_turns owned name command waits some =
+    let less = passed_owed owned name some in
+    let same = ap (λ u. turns u command) (passed_user owned name some) in
+    let then = ap (λ o. option_map_or (owed_in (changed name step_passed owned)) o 0) waits in
+    let now = ap (λ o. option_map_or (owed_in owned) o 0) waits in
+    omega (arith, less, same, then, now)
+
+pub turn_alike : (name : List ℕ) (owner : Owning) → 0 < owed_in owner.state name → (IsLastTurn name owner → ⊥)
+    → WaitsAlike owner (turned_from name owner)
+turn_alike name owner some more = by owner.waiting refl
+  where
+    passed : Owning
+    passed = with_state (changed name step_passed owner.state) owner
+
+    same : user_in passed ≡ user_in owner
+    same = passed_user owner.state name some
+
+    by : (waiting : Option Command) → owner.waiting ≡ waiting → WaitsAlike owner (turned_from name owner)
+    by None e = rw e same
+    by (Some command) e = by_test (is_waited_for (Some command) name) waited other
+      where
+        other : is_waited_for (Some command) name ≡ false → WaitsAlike owner (turned_from name owner)
+        other t = rw (e, t) (λ mark. ap (λ u. answer u command mark) same)
+
+        waited : is_waited_for (Some command) name ≡ true → WaitsAlike owner (turned_from name owner)
+        waited t =
+            let fewer = passed_turns owner.state name command (same_name command name t) some in
+            let last : turns_before owner.state command ≡ 1 → ⊥ = λ one. more (record { waited = rw e t; last = rw e one }) in
+            let left : 0 < turns_before passed.state command = omega (arith, fewer, last) in
+            let made = (begins_alike command passed left).left in
+            rw (e, t) (λ mark. made mark ∙ ap (λ u. answer u command mark) same)
+
+-- a command to whose session nothing is owed takes steps of its own
+pub left-taken : (command : Command) (owned : Owned) → steps_before owned command ≡ 0 → left_in command owned ≡ rest_of command
+left-taken command owned none = rw none refl
+
+pub begun-taken : (command : Command) (owned : Owned) → steps_before owned command ≡ 0 → begun_in command owned ≡ taken_up command owned
+begun-taken command owned none = rw none refl
+
+nothing-turns : (user : User) (name : List ℕ) → turns user (Advance name 0) ≡ 0
+unfolding turns
+nothing-turns user name = by (named name user.sessions)
+  where
+    by : (o : Option Session) → advance_turns o 0 ≡ 0
+    by None = refl
+    by (Some session) = by_test (can_advance session 0) (λ t. rw t refl) (λ t. rw t refl)
+
+-- its own turns are then those that are owed
+pub taken_turns : (owned : Owned) (name : List ℕ) (n : ℕ) → Goes owned name n → owed_in owned name ≡ 0
+    → turns_before (changed name (owing n) owned) (Advance name 0) ≡ turns_before owned (Advance name n)
+unfolding waits_for
+taken_turns owned name n g none =
+    let there : held_in (changed name (owing n) owned) name ≡ Some (owing n g.held) =
+    ap (λ (o : Owned). held_in o name) (changed-some owned name (owing n) g.held g.there)
+    ∙ named-put_any name owned.sessions (owing n g.held) in
+    let owed : owed_in (changed name (owing n) owned) name ≡ g.held.owed + n =
+    ap (λ o. option_map_or (λ (h : Held). h.owed) o 0) there ∙ owed-owing n g.held in
+    let was : g.held.owed ≡ 0 = rw g.there at none in
+    let zero_more = nothing-turns (user_of (changed name (owing n) owned)) name in
+    let own = advance-turns-near (user_of owned) name n (session_meant g.held) (named-held owned name g.held g.there) g.near in
+    omega (arith, owed, was, zero_more, own, none)
+
+-- a MEASURE that takes its turn has its session
+pub measured_there : (owned : Owned) (name : List ℕ) → 0 < turns (user_of owned) (Measure name)
+    → (held : Held) × (held_in owned name ≡ Some held)
+measured_there owned name some = by (held_in owned name) refl
+  where
+    by : (o : Option Held) → held_in owned name ≡ o → (held : Held) × (o ≡ Some held)
+    by None e = absurd (let none = measure-turns-none (user_of owned) name (named-absent owned name e) in omega (arith, none, some))
+    by (Some held) e = (held, refl)
+
+pub measured_turns : (owned : Owned) (name : List ℕ) (held : Held) → held_in owned name ≡ Some held
+    → turns_before (changed name (with_step Energy) owned) (Measure name) ≡ turns_before owned (Measure name)
+unfolding waits_for
+measured_turns owned name held found =
+    let there : held_in (changed name (with_step Energy) owned) name ≡ Some (with_step Energy held) =
+    ap (λ (o : Owned). held_in o name) (changed-some owned name (with_step Energy) held found)
+    ∙ named-put_any name owned.sessions (with_step Energy held) in
+    let now = ap (λ o. option_map_or (λ (h : Held). h.owed) o 0) there in
+    let was = ap (λ o. option_map_or (λ (h : Held). h.owed) o 0) found in
+    let same = ap (λ u. turns u (Measure name)) (user_of-changed owned name (with_step Energy) (λ h. refl)) in
+    omega (arith, now, was, same)

@@ -1,0 +1,176 @@
+//! Streams after which steps are owed to sessions: they are done for the next stream, over a pool that may be closed at any
+//! of its calls.
+ghost use Rattle.std.specs.Prelude.{◌≡◌, []};
+
+use arrayvec::ArrayVec;
+use lj_pool::{InlinePool, Pool, Refused, Served, serve};
+use lj_quota::Quota;
+use lj_session::UserState;
+use lj_table::Table;
+use lj_tile::{Done, Task};
+use lj_wire::{Reading, Writing};
+use std::alloc::{AllocGlobal, Global};
+
+/// A pool of no threads that is closed after so many calls. A poll hands out nothing then.
+#[derive(Drop)]
+struct ClosingPool {
+    inner: InlinePool,
+    calls: u64,
+    closed: bool,
+}
+
+impl ClosingPool {
+    fn new(calls: u64) -> ClosingPool
+        ensures { (⟦<ClosingPool as Pool>⟧.seen result).owed ≡ [] }
+    {
+        ClosingPool {
+            inner: InlinePool::new(Table::new()),
+            calls,
+            closed: false,
+        }
+    }
+
+    /// Whether one call more finds the pool open.
+    fn is_open(&mut self) -> bool
+        ensures inner { self.new.inner ≡ self.old.inner }
+        ensures closed { self.new.closed ≡ self.old.closed }
+    {
+        let open = self.calls > 0;
+        self.calls = self.calls.saturating_sub(1);
+        open
+    }
+}
+
+impl Pool for ClosingPool {
+    ghost use Rattle.lj_pool.specs.Inline.{seen_of};
+
+    ghost seen = { λ pool. record (seen_of pool.inner) { closed = pool.closed } };
+
+    ghost for_others = { λ _ _. 0 };
+
+    fn post(&mut self, task: Task, wait: bool) -> Result<(), Refused> {
+        if !self.is_open() {
+            self.closed = true;
+            return Err(Refused::Closed(task));
+        }
+        self.inner.post(task, wait)
+    }
+
+    fn fetch(&mut self, user: u8) -> Option<Done> {
+        if !self.is_open() {
+            self.closed = true;
+            return None;
+        }
+        self.inner.fetch(user)
+    }
+
+    fn poll(&mut self, user: u8) -> Option<Done> {
+        if !self.is_open() {
+            return None;
+        }
+        self.inner.poll(user)
+    }
+
+    fn owed(&self) -> usize {
+        self.inner.owed()
+    }
+
+    fn full(&self) -> bool {
+        self.inner.full()
+    }
+
+    fn closed(&self) -> bool {
+        self.closed
+    }
+}
+
+/// What a stream was told, how it ended, and the state that was handed back.
+#[derive(Drop)]
+struct Told {
+    output: ArrayVec<u8, 256>,
+    served: Served,
+    state: Option<UserState>,
+}
+
+/// Serves a stream over a pool that is closed after so many calls.
+fn serve_until(alloc: Global, state: UserState, input: &str, calls: u64) -> Told {
+    let mut pool = ClosingPool::new(calls);
+    let mut writer = Writing::new(ArrayVec::new());
+    let reader = Reading::new(input.as_bytes());
+    let (state, served, _) = serve(alloc, state, 0, reader, &mut writer, &mut pool);
+    Told {
+        output: writer.into_inner(),
+        served,
+        state,
+    }
+}
+
+/// Serves a stream to a new user.
+fn serve_new(alloc: Global, input: &str, calls: u64) -> Told {
+    serve_until(alloc, UserState::new(alloc, Quota::USUAL), input, calls)
+}
+
+/// A stream after which a step is owed, and one that asks for the session.
+const STARTED: &str =
+    "LOAD a 256 1 131072 rest 28\n2\ndimer\nAr 0 0 0\nAr 1.5 0 0\nSTART a 1\nBYE\n";
+
+const TOLD_STARTED: &str = "OK LOAD a 0 2\nOK START a 1\nOK BYE\n";
+
+const SHOWS: &str = "SHOW a 0\n";
+
+const SHOWN: &str = "OK SHOW a 1 0 589 0 0\n";
+
+/// The first stream needs no result, so it is answered whole over a pool that is closed from the start, too.
+#[test]
+fn what_is_owed_is_done_for_the_next_stream(rt: HostRuntime) {
+    for calls in [0, 1, u64::MAX] {
+        let first = serve_new(rt.alloc(), STARTED, calls);
+        assert_eq!(rt; first.output.as_slice(), TOLD_STARTED.as_bytes());
+        assert_eq!(rt; first.served, Served::Bye);
+        let state = first.state.expect(&rt, "a state");
+        let second = serve_until(rt.alloc(), state, SHOWS, u64::MAX);
+        assert_eq!(rt; second.output.as_slice(), SHOWN.as_bytes());
+        assert_eq!(rt; second.served, Served::End);
+    }
+}
+
+/// Two items wait in this one, for two sessions that go on side by side.
+const SIDE_BY_SIDE: &str = "LOAD a 256 1 131072 rest 28\n2\ndimer\nAr 0 0 0\nAr 1.5 0 0\n\
+    LOAD b 256 1 131072 rest 28\n2\ndimer\nAr 0 0 0\nAr 1.5 0 0\n\
+    START a 2\nSTART b 1\nSHOW b 0\nLIST\nSHOW a 0\nBYE\n";
+
+/// What is told before the first of them waits, before the second one does, and in all.
+const BEFORE_FIRST: &str = "OK LOAD a 0 2\nOK LOAD b 0 2\nOK START a 2\nOK START b 1\n";
+
+const BEFORE_SECOND: &str = "OK LOAD a 0 2\nOK LOAD b 0 2\nOK START a 2\nOK START b 1\n\
+    OK SHOW b 1 0 589 0 0\nOK LIST 2\na 2 2 0\nb 1 2 0\n";
+
+const ALL: &str = "OK LOAD a 0 2\nOK LOAD b 0 2\nOK START a 2\nOK START b 1\n\
+    OK SHOW b 1 0 589 0 0\nOK LIST 2\na 2 2 0\nb 1 2 0\nOK SHOW a 2 0 1774 0 0\nOK BYE\n";
+
+/// More calls than the stream makes.
+const MOST_CALLS: u64 = 100;
+
+/// Where the pool is closed, the replies before an item that waits are told, and there is no state; else all is told.
+fn is_right(told: &Told) -> bool {
+    let output = told.output.as_slice();
+    match told.served {
+        Served::Bye => output == ALL.as_bytes() && told.state.is_some(),
+        Served::PoolClosed => {
+            (output == BEFORE_FIRST.as_bytes() || output == BEFORE_SECOND.as_bytes())
+                && told.state.is_none()
+        }
+        _ => false,
+    }
+}
+
+#[test]
+fn a_pool_may_be_closed_at_any_call(rt: HostRuntime) {
+    let mut whole = 0_u64;
+    for calls in 0..MOST_CALLS {
+        let told = serve_new(rt.alloc(), SIDE_BY_SIDE, calls);
+        assert!(rt; is_right(&told));
+        whole = whole.saturating_add(u64::from(told.served == Served::Bye));
+    }
+    assert!(rt; 0 < whole && whole < MOST_CALLS - 2);
+}

@@ -1,0 +1,161 @@
+//! How far work goes ahead of the next command: fifteen tasks may be under way while it is read, and no more.
+ghost use Rattle.std.specs.Prelude.{◌≡◌};
+
+use super::{Counted, close_late, next, wait_for};
+use arrayvec::{ArrayString, ArrayVec};
+use lj_pool::{Served, serve};
+use lj_queue::{PoolPass, QueueBlank, QueuePool, Room};
+use lj_quota::Quota;
+use lj_session::UserState;
+use lj_wire::{Reading, Writing};
+use std::alloc::{AllocError, AllocGlobal, Global};
+use std::fmt::Write;
+use std::marker::Brand;
+use std::process::Abort;
+use std::rt::Clock;
+use std::sync::Wait;
+use std::sync::atomic::AtomicU64;
+use std::test::Fail;
+use std::thread;
+use std::thread::Threads;
+
+const USER: u8 = 7;
+
+/// What is said.
+type Input = ArrayString<2048>;
+
+/// So many sessions of two atoms, each of which is started; then the end.
+fn input(rt: &impl Abort, sessions: u8) -> Input {
+    let mut input = Input::new();
+    for number in 0..sessions {
+        load(rt, &mut input, number);
+    }
+    for number in 0..sessions {
+        let written = write!(input, "START s{number} 1\n").is_ok();
+        assert!(rt; written);
+    }
+    let written = write!(input, "BYE\n").is_ok();
+    assert!(rt; written);
+    input
+}
+
+/// Loads the session of this number.
+fn load(rt: &impl Abort, input: &mut Input, number: u8) {
+    let written = write!(
+        input,
+        "LOAD s{number} 256 1 131072 rest 28\n2\ndimer\nAr 0 0 0\nAr 1.5 0 0\n"
+    )
+    .is_ok();
+    assert!(rt; written);
+}
+
+/// How many sessions there are, and what is replied when the last one is started.
+#[derive(Clone, Copy)]
+struct Case {
+    sessions: u8,
+    last: &'static [u8],
+}
+
+/// How many lines are told, how that ends, and whether the state is handed back.
+#[derive(Clone, Copy, PartialEq, Eq, Debug)]
+struct Told {
+    lines: usize,
+    served: Served,
+    is_handed_back: bool,
+}
+
+/// Serves these sessions over a pool whose tasks nobody computes. It is counted when the last one is started.
+fn serve_starts<L: Room, R: Wait + Abort>(
+    rt: &R,
+    alloc: Global,
+    pool: &QueuePool<L>,
+    pass: PoolPass<L>,
+    case: Case,
+    count: &AtomicU64,
+) -> Told {
+    let input = input(rt, case.sessions);
+    let mut end = pool.end(rt, pass, USER);
+    let mut writer = Writing::new(Counted {
+        output: ArrayVec::<u8, 1024>::new(),
+        begins: case.last,
+        count,
+    });
+    let quota = Quota {
+        sessions: 16,
+        atoms: 100,
+        branches: 4,
+    };
+    let reader = Reading::new(input.as_str().as_bytes());
+    let state = UserState::new(alloc, quota);
+    let (state, served, _) = serve(alloc, state, USER, reader, &mut writer, &mut end);
+    let output = writer.into_inner().output;
+    Told {
+        lines: output.iter().filter(|byte| **byte == b'\n').count(),
+        served,
+        is_handed_back: state.is_some(),
+    }
+}
+
+/// Serves these sessions over a pool that is closed a while after the last one was started.
+fn serve_until_closed<L: Room + Send + Sync, R: Threads + Wait + Clock + Abort + Sync>(
+    rt: &R,
+    alloc: Global,
+    blank: QueueBlank,
+    case: Case,
+) -> Result<Told, AllocError>
+    requires name { blank.name ≡ L.name }
+    requires parts { blank.parts ≡ L.parts }
+    requires none { blank.parts ≡ 0 }
+    requires table { blank.table ≡ L.table }
+    requires passes { L.passes ≡ 64 }
+{
+    let (pool, mut passes, _) = QueuePool::<L>::new(alloc, blank, 0)?;
+    let pass = next(rt, &mut passes);
+    let started = AtomicU64::new(0);
+    let (queue, count) = (&pool, &started);
+    let ((), told) = thread::join(
+        rt,
+        move || {
+            wait_for(rt, count);
+            close_late(rt, queue);
+        },
+        move || serve_starts(rt, alloc, queue, pass, case, count),
+    );
+    Ok(told)
+}
+
+fn serve_once(
+    rt: &(impl Threads + Wait + Clock + Abort + Sync),
+    alloc: Global,
+    case: Case,
+) -> Result<Told, AllocError> {
+    serve_until_closed::<Brand, _>(rt, alloc, QueueBlank::new(alloc, 0)?, case)
+}
+
+const FIFTEEN: Case = Case {
+    sessions: 15,
+    last: b"OK START s14 1",
+};
+
+const SIXTEEN: Case = Case {
+    sessions: 16,
+    last: b"OK START s15 1",
+};
+
+/// With a task more than fifteen the next command is read only once a result has come, and here none comes.
+#[test]
+fn fifteen_tasks_are_under_way_while_a_command_is_read(rt: HostRuntime) -> Result<(), Fail> {
+    let few = Told {
+        lines: 31,
+        served: Served::Bye,
+        is_handed_back: true,
+    };
+    let many = Told {
+        lines: 32,
+        served: Served::PoolClosed,
+        is_handed_back: false,
+    };
+    assert_eq!(rt; serve_once(&rt, rt.alloc(), FIFTEEN)?, few);
+    assert_eq!(rt; serve_once(&rt, rt.alloc(), SIXTEEN)?, many);
+    Ok(())
+}
