@@ -18,7 +18,7 @@ H = 131072  # the usual step factor: a time step of 0.0055
 CELLS = 4  # of the crystal along each axis, with four atoms in each
 ATOMS = 4 * CELLS**3
 DENSITY = 0.8442  # atoms per cube of sigma, with which argon is liquid just above its triple point
-HEAT = 1.5  # temperature of the crystal when it starts, half of which becomes potential energy
+HEAT = 1.5  # the usual temperature of the crystal when it starts, half of which becomes potential energy
 EDGE = round((ATOMS / DENSITY) ** (1 / 3), 6)  # of the box, in sigma
 FACES = [(0, 0, 0), (0.5, 0.5, 0), (0.5, 0, 0.5), (0, 0.5, 0.5)]
 
@@ -59,11 +59,11 @@ def user_of(options):
 
 
 @contextlib.contextmanager
-def hot_crystal(user, name, h=H):
+def hot_crystal(user, name, h=H, heat=HEAT):
     """A session with a face-centred cubic crystal at rest, whose atoms are then tugged at random; dropped at the end."""
     session = user.load(name, crystal(), edge=EDGE, sigma=1, h=h)
     try:
-        for atom, velocity in enumerate(velocities()):
+        for atom, velocity in enumerate(velocities(heat)):
             unit = math.sqrt(h / RING) / EDGE * RING
             session.tug(atom, tuple(round(part * unit) for part in velocity))
         yield session
@@ -80,10 +80,10 @@ def crystal():
     return f"{ATOMS}\nface-centred cubic\n" + "".join(f"Ar {x:.6f} {y:.6f} {z:.6f}\n" for x, y, z in atoms)
 
 
-def velocities():
-    """Velocities of the temperature HEAT, in reduced units, whose sum is zero; the same in every run."""
+def velocities(heat=HEAT):
+    """Velocities of this temperature, in reduced units, whose sum is zero; the same in every run."""
     random.seed(1)
-    drawn = [[random.gauss(0, math.sqrt(HEAT)) for _ in range(3)] for _ in range(ATOMS)]
+    drawn = [[random.gauss(0, math.sqrt(heat)) for _ in range(3)] for _ in range(ATOMS)]
     mean = [sum(parts) / ATOMS for parts in zip(*drawn)]
     return [[part - middle for part, middle in zip(parts, mean)] for parts in drawn]
 

@@ -11,6 +11,8 @@
         argon.reverse()
         assert (argon.places() == start).all()
 
+`user.advance(sessions, n)` has several sessions go on at the same time, and `session.start(n)` does not wait.
+
 `connect(host, port, name, token)` in place of `run()` speaks to a server. Each refusal is a class of `ljclient.refusals`.
 """
 from . import refusals, units

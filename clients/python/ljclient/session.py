@@ -4,21 +4,18 @@ from __future__ import annotations
 import operator
 import os
 import re
-import time
 from dataclasses import dataclass, field
 from typing import TYPE_CHECKING, Any, List, NamedTuple, Optional, Sequence, Tuple, Union
 
-from . import arrays, ase_bridge, progress as bars
+from . import arrays, ase_bridge, going, progress as bars
 from .errors import BadReply
 from .mixture import Mixture
+from .replies import fields, number_after, of_session, whole_number, whole_numbers
 from .units import POTENTIAL_UNIT, Scale, kelvin
 
 if TYPE_CHECKING:
     from .user import User
 
-MAX_STEPS = 1_000_000
-FIRST_PIECE = 16
-PIECE_SECONDS = 0.2
 NAME = re.compile(r"[A-Za-z0-9_-]{1,16}\Z")
 
 
@@ -113,14 +110,13 @@ class Session:
         user: "User",
         name: str,
         scale: Optional[Scale] = None,
-        seconds_per_step: float = 0.0,
         mixture: Optional[Mixture] = None,
     ):
         self.name = checked_name(name)
         self.mixture = mixture
         self._user = user
         self._given = scale
-        self._seconds_per_step = seconds_per_step
+        self._pace = going.Pace()
         self._symbols: Optional[List[str]] = None
 
     def __repr__(self) -> str:
@@ -133,7 +129,12 @@ class Session:
 
     @property
     def step(self) -> int:
-        """The step number, as the server says it now."""
+        """The step number. Where steps were started, this waits until they are made."""
+        return self._number(f"ADVANCE {self.name} 0", 2)
+
+    @property
+    def target(self) -> int:
+        """The step number that it is going to: that after all steps that were started. This waits for none of them."""
         return self._row().step
 
     @property
@@ -166,34 +167,22 @@ class Session:
         keyboard ends the run after a piece, and the time limit of the connection is one for each piece. Pieces change
         nothing in the result. With `progress=True` a bar is shown on a terminal or in a notebook; a function in its place
         is called with how many steps are done, and of how many.
+
+        `User.advance` has several sessions go on at the same time.
         """
-        total = count_of(n, "a number of steps")
-        if piece is not None and operator.index(piece) < 1:
-            raise ValueError(f"a piece is 1 step at least, not {piece}")
-        report = bars.reporter(progress, self.name)
-        done, step = 0, None
-        while step is None or done < total:
-            if report:
-                report(done, total)
-            size = min(total - done, operator.index(piece) if piece else self._next_piece())
-            step = self._advance_piece(size)
-            done += size
-        if report and total:
-            report(done, total)
-        return step
+        course = going.Course(self.name, count_of(n, "a number of steps"), bars.reporter(progress, self.name))
+        return going.go([course], self._user.ask_all, self._pace, piece)[0]
 
-    def _next_piece(self) -> int:
-        """How many steps take about as long as a piece should."""
-        if not self._seconds_per_step:
-            return FIRST_PIECE
-        return max(1, min(MAX_STEPS, int(PIECE_SECONDS / self._seconds_per_step)))
+    def start(self, n: int) -> int:
+        """Begins to go on by n steps more, and answers at once the step number that it is going to (`target`).
 
-    def _advance_piece(self, size: int) -> int:
-        start = time.monotonic()
-        step = self._number(f"ADVANCE {self.name} {size}", 2)
-        if size:
-            self._seconds_per_step = max((time.monotonic() - start) / size, 1e-9)
-        return step
+        The steps are made while this user asks for something else, such as steps of other sessions. What needs the session
+        as it is then (`step`, `place`, `measure`, `branch`, ..) waits until it is there. That is one reply, which has the
+        time limit of the connection, so a run that takes longer is for `advance`, which goes in pieces.
+        """
+        total, most = count_of(n, "a number of steps"), going.MAX_STEPS
+        lines = [f"START {self.name} {min(most, total - made)}" for made in range(0, max(total, 1), most)]
+        return number_after(lines[-1], self._user.ask_all(lines)[-1].words, 2)
 
     def reverse(self) -> int:
         """Turns the motion back, and answers the new step number: the two frames are exchanged."""
@@ -285,45 +274,17 @@ class Session:
         return self._user.row(self.name)
 
     def _ask(self, line: str) -> List[str]:
-        words = self._user.ask(line).words
-        if words[1:2] != [self.name]:
-            raise BadReply(f"session {self.name} was asked for, and the reply is {' '.join(words)!r}")
-        return words
+        return of_session(line, self._user.ask(line).words)
 
     def _number(self, line: str, index: int) -> int:
-        """The number that stands at this index of the reply's words."""
-        words = self._ask(line)
-        if len(words) != index + 1:
-            raise BadReply(f"{line} was answered {' '.join(words)!r}")
-        return whole_number(words[index])
+        """The number that stands last in the reply, at this index of its words."""
+        return number_after(line, self._user.ask(line).words, index)
 
 
 class Row(NamedTuple):
-    """A line of the list of sessions: its name, its step number, how many atoms it has and how much is saved in it."""
+    """A line of the list of sessions: its name, the step number that it is going to, its atoms and how much is saved in it."""
 
     name: str
     step: int
     atoms: int
     branches: int
-
-
-def fields(line: str, count: int) -> List[str]:
-    """The words of a line of a reply, which are so many."""
-    words = line.split(" ")
-    if len(words) != count:
-        raise BadReply(f"{line!r} is not {count} words")
-    return words
-
-
-def whole_number(word: str) -> int:
-    """The number that a word of a reply is."""
-    if not re.fullmatch(r"-?[0-9]{1,60}", word):
-        raise BadReply(f"{word[:80]!r} is no number")
-    return int(word)
-
-
-def whole_numbers(words: Sequence[str], count: int) -> List[int]:
-    """The numbers that the words of a reply are, which are so many."""
-    if len(words) != count:
-        raise BadReply(f"{' '.join(words)[:80]!r} are not {count} numbers")
-    return [whole_number(word) for word in words]

@@ -8,11 +8,12 @@ import subprocess
 from types import TracebackType
 from typing import Any, Callable, Dict, Iterable, List, Optional, Sequence, Type, Union
 
-from . import units, xyz
+from . import going, progress as bars, units, xyz
 from .ends import ChildEnds, SocketEnds
 from .errors import BadReply, CannotStart, ClientError, ConnectionLost, TimedOut
 from .mixture import Mixture, Pair, RawClass
-from .session import Row, Session, checked_name, fields, whole_number
+from .replies import fields, whole_number
+from .session import Row, Session, checked_name, count_of
 from .wire import Reply, Wire, checked_timeout
 
 MAX_ITEMS = 1_000_000
@@ -170,8 +171,33 @@ class User:
             raise ValueError("a scale is edge and sigma, with h or with epsilon, mass and dt")
         return Session(self, name, self._scales.get(name), mixture=self._mixtures.get(name))
 
+    def advance(
+        self,
+        sessions: Sequence[Session],
+        n: Union[int, List[int]],
+        progress: Union[bool, bars.NamedReport] = False,
+        piece: Optional[int] = None,
+    ) -> List[int]:
+        """Has several sessions go on at the same time, and answers their new step numbers.
+
+        n         how many steps each of them makes: one number for all, or a list of one for each
+        progress  with True a bar for each is shown on a terminal or in a notebook; a function in its place is called with
+                  the name of a session, how many of its steps are done, and of how many
+        piece     as in `Session.advance`: so many steps of each are asked for at a time
+        """
+        totals = n if isinstance(n, list) else [n] * len(sessions)
+        if len(totals) != len(sessions):
+            raise ValueError(f"{len(totals)} numbers of steps for {len(sessions)} sessions")
+        names = [session.name for session in sessions]
+        counts = [count_of(total, "a number of steps") for total in totals]
+        courses = [going.Course(*parts) for parts in zip(names, counts, bars.reporters(progress, names))]
+        return going.go(courses, self.ask_all, going.Pace(), piece)
+
     def sessions(self) -> List[Row]:
-        """The sessions in order of loading: of each its name, its step, its atoms and how much is saved in it."""
+        """The sessions in order of loading: of each its name, its step, its atoms and how much is saved in it.
+
+        The step is that after all steps that were started.
+        """
         rows = []
         for line in self.ask("LIST").lines:
             name, *numbers = fields(line, 4)
@@ -215,7 +241,8 @@ class User:
         return self._wire.closed
 
     def close(self) -> None:
-        """Ends the connection, and the program of `run`. A command that still runs at a server runs on there."""
+        """Ends the connection, and the program of `run`. A command that still runs at a server runs on there, and steps that
+        were started there are made when this user is connected again."""
         self._say_bye()
         self._wire.close()
 

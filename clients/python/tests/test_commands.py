@@ -192,6 +192,62 @@ class ThereAndBack(Alone):
         self.assertEqual(b.advance(1_000_005), 1_000_005)
 
 
+class SideBySide(Alone):
+    def setUp(self):
+        super().setUp()
+        self.a, self.b, self.c = (dimer(self.user, name) for name in "abc")
+
+    def test_a_start_is_answered_at_once(self):
+        self.assertEqual([self.a.start(2), self.b.start(1), self.a.start(1), self.a.start(0)], [2, 1, 3, 3])
+        self.assertEqual([self.a.target, self.b.target, self.c.target], [3, 1, 0])
+        self.assertEqual([row.step for row in self.user.sessions()], [3, 1, 0])
+
+    def test_what_is_of_a_session_waits_until_it_is_there(self):
+        self.assertEqual((self.a.start(2), self.b.start(1)), (2, 1))
+        self.assertEqual((self.b.place(0), self.c.place(0), self.a.place(0)), ((589, 0, 0), (0, 0, 0), (1774, 0, 0)))
+        self.a.start(1)
+        self.assertEqual((self.a.step, self.a.target), (3, 3))
+        self.b.start(1)
+        self.assertEqual(self.b.measure(), Measurement(2, 2, (0, 0, 0), 2808450, -5399727))
+        self.c.start(2)
+        self.assertEqual((self.c.branch("k"), self.c.reverse(), self.c.start(1), self.c.step), (2, 1, 0, 0))
+
+    def test_more_steps_than_one_command_takes(self):
+        self.assertEqual(self.a.start(2_000_005), 2_000_005)
+        self.assertEqual(self.a.start(1_000_000), 3_000_005)
+
+    def test_several_go_on_at_the_same_time(self):
+        self.assertEqual(self.user.advance([self.a, self.b, self.c], [2, 1, 0], piece=1), [2, 1, 0])
+        self.assertEqual([session.place(0)[0] for session in (self.a, self.b, self.c)], [1774, 589, 0])
+        self.assertEqual(self.user.advance([self.c, self.b], 1), [1, 2])
+        self.assertEqual([session.place(0)[0] for session in (self.a, self.b, self.c)], [1774, 1774, 589])
+        self.assertEqual(self.user.advance([self.a], 40), [42])
+        self.assertEqual(self.user.advance([], 40), [])
+
+    def test_several_at_once_are_as_each_alone(self):
+        pair = [self.user.load(name, EXAMPLES / "argon_256.xyz", edge=21.04, sigma=3.4, h=131072) for name in "de"]
+        pair[1].tug(0, (2**20, 0, 0))
+        alone = self.user.load("f", EXAMPLES / "argon_256.xyz", edge=21.04, sigma=3.4, h=131072)
+        self.assertEqual(self.user.advance(pair, [30, 40], piece=7), [30, 40])
+        alone.advance(30)
+        self.assertEqual(listed(pair[0].places()), listed(alone.places()))
+
+    def test_numbers_of_steps(self):
+        with self.assertRaises(ValueError):
+            self.a.start(-1)
+        for steps in (-1, [1, 2]):
+            with self.assertRaises(ValueError):
+                self.user.advance([self.a], steps)
+        with self.assertRaises(TypeError):
+            self.a.start(1.5)
+        self.c.drop()
+        for gone in (lambda: self.c.start(1), lambda: self.c.target, lambda: self.user.advance([self.a, self.c], 1)):
+            with self.assertRaises(refusals.NoSession):
+                gone()
+        # The other session has made its step all the same.
+        self.assertEqual(self.a.step, 1)
+
+
 class Interrupts(Alone):
     def setUp(self):
         super().setUp()

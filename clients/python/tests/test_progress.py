@@ -58,11 +58,53 @@ class Bars(unittest.TestCase):
         self.assertEqual(self.advance(Terminal(), progress=lambda *words: told.append(words)), ("", ""))
         self.assertEqual(told, [(0, 40), (10, 40), (20, 40), (30, 40), (40, 40)])
 
+    def advance_two(self, stream, **words):
+        """What is written while one session makes 40 steps and another one 20 of them, in pieces of 10."""
+        with run(PROGRAM) as user, contextlib.redirect_stderr(stream):
+            steps = user.advance([dimer(user), dimer(user, "bcd")], [40, 20], piece=10, **words)
+        self.assertEqual(steps, [40, 20])
+        return stream.getvalue()
+
+    def test_two_lines_of_a_terminal(self):
+        shown = self.advance_two(Terminal(), progress=True)
+        drawn = shown.split("\033[1A")
+        self.assertEqual(len(drawn), 8)
+        self.assertEqual([one.count("\r\033[K") for one in drawn], [2] * 8)
+        self.assertEqual([one.count("\n") for one in drawn], [1] * 7 + [2])
+        told = [[int(number) for number in re.findall(r"(\d+) of \d+ steps", one)] for one in drawn]
+        self.assertEqual(told, [[0], [0, 0], [10, 0], [10, 10], [20, 10], [20, 20], [30, 20], [40, 20]])
+        first, second = drawn[-1].replace("\r\033[K", "").splitlines()
+        self.assertTrue(first.startswith("a   [" + "#" * 20 + "] 40 of 40 steps, ") and first.endswith(" s"), first)
+        self.assertTrue(second.startswith("bcd [" + "#" * 20 + "] 20 of 20 steps, ") and second.endswith(" s"), second)
+
+    def test_a_function_for_two(self):
+        told = []
+        self.assertEqual(self.advance_two(Terminal(), progress=lambda *words: told.append(words)), "")
+        wanted = [("a", 0, 40), ("bcd", 0, 20), ("a", 10, 40), ("bcd", 10, 20), ("a", 20, 40), ("bcd", 20, 20)]
+        self.assertEqual(told, [*wanted, ("a", 30, 40), ("a", 40, 40)])
+
+    def test_nobody_looks_at_two(self):
+        self.assertEqual((self.advance_two(io.StringIO(), progress=True), self.advance_two(Terminal())), ("", ""))
+
     def test_no_standard_error(self):
         with run(PROGRAM) as user, mock.patch.object(sys, "stderr", None):
             self.assertEqual(dimer(user).advance(3, progress=True), 3)
 
     def test_a_notebook(self):
+        shown, told = self.in_a_notebook(self.advance)
+        self.assertEqual(told, ("", ""))
+        self.assertEqual([kind for kind, _ in shown], ["display"] + ["update"] * 4)
+        self.assertIn("<progress value='20' max='40'>", shown[2][1])
+        self.assertIn("40 of 40 steps", shown[4][1])
+
+    def test_two_bars_in_a_notebook(self):
+        shown, told = self.in_a_notebook(self.advance_two)
+        self.assertEqual(told, "")
+        self.assertEqual([kind for kind, _ in shown], ["display"] * 2 + ["update"] * 6)
+        self.assertEqual([drawn.split(" ")[0] for _, drawn in shown], ["a", "bcd"] * 3 + ["a"] * 2)
+
+    def in_a_notebook(self, advance):
+        """What is displayed in a notebook, and what is written."""
         shown = []
 
         class ZMQInteractiveShell:
@@ -81,10 +123,7 @@ class Bars(unittest.TestCase):
         parts = types.ModuleType("IPython.display")
         parts.HTML, parts.display = str, display
         with mock.patch.dict(sys.modules, {"IPython": notebook, "IPython.display": parts}):
-            self.assertEqual(self.advance(Terminal(), progress=True), ("", ""))
-        self.assertEqual([kind for kind, _ in shown], ["display"] + ["update"] * 4)
-        self.assertIn("<progress value='20' max='40'>", shown[2][1])
-        self.assertIn("40 of 40 steps", shown[4][1])
+            return shown, advance(Terminal(), progress=True)
 
     def test_ipython_on_a_terminal_is_no_notebook(self):
         shell = types.ModuleType("IPython")

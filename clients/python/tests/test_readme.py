@@ -38,9 +38,13 @@ class Examples(unittest.TestCase):
             text = examples()[1].replace("4000", str(server.port)).replace("aliceExampleToken000000000000001", TOKEN)
             self.assertEqual(self.printed(text), ["[Row(name='argon', step=100, atoms=256, branches=1)]", "100"])
 
+    def test_several_sessions(self):
+        with mock.patch.dict(os.environ, {"LJSERVE": PROGRAM}):
+            self.assertEqual(self.printed(examples()[2]), ["[200, 100]", "300", "300 300"])
+
     def test_two_species(self):
         with mock.patch.dict(os.environ, {"LJSERVE": PROGRAM}):
-            *told, energy = self.printed(examples()[2])
+            *told, energy = self.printed(examples()[3])
         self.assertIn("\n".join(["```", *told, "```"]), README.read_text())
         self.assertLess(float(energy), -1)
 
@@ -50,7 +54,7 @@ class Examples(unittest.TestCase):
             self.assertEqual(self.printed(text), ["0.0"])
 
     def test_each_example_is_run(self):
-        self.assertEqual(len(examples()), 3)
+        self.assertEqual(len(examples()), 4)
 
 
 if __name__ == "__main__":

@@ -62,6 +62,15 @@ class Connections(unittest.TestCase):
                 argon.reverse()
             self.assertEqual(([tuple(place) for place in argon.places()], argon.step), (start, 0))
 
+    def test_what_was_started_is_done_for_the_next_connection(self):
+        with self.join() as user:
+            a, b = dimer(user), dimer(user, "b")
+            self.assertEqual((a.start(2), b.start(10**6)), (2, 10**6))
+        with self.join() as user:
+            a, b = user.session("a"), user.session("b")
+            self.assertEqual((a.target, b.target), (2, 10**6))
+            self.assertEqual((a.place(0), b.target), ((1774, 0, 0), 10**6))
+
     def test_thousands_of_commands_under_way(self):
         with self.join() as user:
             dimer(user)

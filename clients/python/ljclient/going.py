@@ -1,0 +1,87 @@
+"""Sessions that go on by many steps, piece by piece: one alone, or several at the same time."""
+from __future__ import annotations
+
+import operator
+import time
+from typing import Callable, Iterable, List, Optional, Sequence, cast
+
+from .progress import Report
+from .replies import number_after
+from .wire import Reply
+
+MAX_STEPS = 1_000_000
+FIRST_PIECE = 16
+PIECE_SECONDS = 0.2
+# The replies to many commands of the protocol.
+Ask = Callable[[Iterable[str]], List[Reply]]
+
+
+class Pace:
+    """How many steps take about as long as a piece should."""
+
+    def __init__(self) -> None:
+        self._seconds_per_step = 0.0
+
+    def steps(self) -> int:
+        if not self._seconds_per_step:
+            return FIRST_PIECE
+        return max(1, min(MAX_STEPS, int(PIECE_SECONDS / self._seconds_per_step)))
+
+    def took(self, steps: int, seconds: float) -> None:
+        if steps:
+            self._seconds_per_step = max(seconds / steps, 1e-9)
+
+
+class Course:
+    """A session on its way, by so many steps in all."""
+
+    def __init__(self, name: str, total: int, report: Optional[Report]):
+        self.name = name
+        self.total = total
+        self.done = 0
+        self.step: Optional[int] = None
+        self._report = report
+
+    @property
+    def is_over(self) -> bool:
+        return self.step is not None and self.done >= self.total
+
+    def next_piece(self, most: int) -> int:
+        return min(self.total - self.done, most)
+
+    def has_made(self, steps: int, step: int) -> None:
+        self.done += steps
+        self.step = step
+
+    def tell(self) -> None:
+        """Tells who looks how far the session is."""
+        if self._report:
+            self._report(self.done, self.total)
+
+
+def go(courses: Sequence[Course], ask: Ask, pace: Pace, piece: Optional[int]) -> List[int]:
+    """Has sessions go on at the same time, in pieces of so many steps or at a pace, and answers where each has come to."""
+    if piece is not None and operator.index(piece) < 1:
+        raise ValueError(f"a piece is 1 step at least, not {piece}")
+    for course in courses:
+        course.tell()
+    while under_way := [course for course in courses if not course.is_over]:
+        start = time.monotonic()
+        steps = go_by(under_way, ask, piece or pace.steps())
+        pace.took(steps, time.monotonic() - start)
+        for course in under_way:
+            if course.total:
+                course.tell()
+    return [cast(int, course.step) for course in courses]
+
+
+def go_by(courses: Sequence[Course], ask: Ask, most: int) -> int:
+    """Has each session make its next steps, at most so many, and waits for all. Answers the greatest number of them."""
+    first, *others = courses
+    sizes = [course.next_piece(most) for course in courses]
+    starts = [f"START {other.name} {size}" for other, size in zip(others, sizes[1:])]
+    waits = [f"ADVANCE {first.name} {sizes[0]}", *(f"ADVANCE {other.name} 0" for other in others)]
+    replies = ask([*starts, *waits])[len(starts) :]
+    for course, size, line, reply in zip(courses, sizes, waits, replies):
+        course.has_made(size, number_after(line, reply.words, 2))
+    return max(sizes)
