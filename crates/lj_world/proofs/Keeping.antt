@@ -105,19 +105,43 @@ pub changes_length : (c : ℕ) (seat x : Seat) (seats new : List Seat) → Chang
 changes_length c seat x seats new (here e) = refl
 changes_length c seat x seats new (there {other} {line = rest} {new = changed} e ch) = ap suc (changes_length c seat x rest changed ch)
 
+-- the seats after that of one connection is changed, and what stays of them
+pub record Renewed (seats : List Seat) (c : ℕ) (seat x : Seat) : Type 0 where
+  pub new : List Seat
+  pub changes : Changes c seat x seats new
+  pub within : c < 65
+  pub lengths : (v : ℕ) → length (line_in v new) ≡ length (line_in v seats)
+
+pub renewed : {rows : List Row} {user : ℕ} {from : User} {s : State} {hs : List Heard} {texts : Texts} (k : Keeps rows user from s hs texts)
+    (c : ℕ) (seat x : Seat) → found c k.seats ≡ Some seat → Same seat x → Renewed k.seats c seat x
+renewed {s} k c seat x is_found same = record { new = changed.0; changes = changed.1; within = place; lengths = lengths_stay }
+  where
+    changed : (new : List Seat) × Changes c seat x k.seats new
+    changed = found_changes c k.seats seat x is_found
+
+    place : c < 65
+    place = let w = within_places s.talks c seat.talk (k.seated c ∙ ap (option_map (λ seat. seat.talk)) is_found) in omega (arith, w, k.places)
+
+    lengths_stay : (v : ℕ) → length (line_in v changed.0) ≡ length (line_in v k.seats)
+    lengths_stay v = by (nat_eq seat.talk.user v) refl
+      where
+        by : (b : Bool) → nat_eq seat.talk.user v ≡ b → length (line_in v changed.0) ≡ length (line_in v k.seats)
+        by true e = changes_length c seat x (line_in v k.seats) (line_in v changed.0) (line_changes v c seat x k.seats changed.0 changed.1 e same.user)
+        by false e = ap length (line_stays v c seat x k.seats changed.0 changed.1 e same.user)
+
 -- a connection goes on, and all rows stay
 pub goes : (rows : List Row) (user : ℕ) (from : User) (s t : State) (hs new_hs : List Heard) (texts : Texts) (k : Keeps rows user from s hs texts)
     (c : ℕ) (seat x : Seat) (reply : Option (List ℕ)) → found c k.seats ≡ Some seat → Goes seat reply x → t.rows ≡ s.rows
     → t.talks ≡ slice_set s.talks c (Some x.talk) → ((new : List Seat) → Changes c seat x k.seats new → new_hs ≡ map heard_of new)
     → Keeps rows user from t new_hs (grown texts (told_if (nat_eq seat.talk.user user) reply))
 goes rows user from s t hs new_hs texts k c seat x reply is_found g rows_stay talks heard_new = record {
-  seats = new;
-  heard_is = heard_new new ch;
+  seats = r.new;
+  heard_is = heard_new r.new r.changes;
   places = ap length talks ∙ length-set {A = Option Talk} s.talks c (Some x.talk) ∙ k.places;
-  seated = seated_changed s t c seat x k.seats new ch same.connection k.places within talks k.seated;
-  distinct = distinct_changed c seat x k.seats new ch same.connection k.distinct;
+  seated = seated_changed s t c seat x k.seats r.new r.changes same.connection k.places r.within talks k.seated;
+  distinct = distinct_changed c seat x k.seats r.new r.changes same.connection k.distinct;
   names = λ name token. ap (λ r. user_with r name token) rows_stay ∙ k.names name token;
-  granted = λ v row e. k.granted v row (sym (ap (λ r. slice_get r v) rows_stay) ∙ e) ∙ sym (lengths v);
+  granted = λ v row e. k.granted v row (sym (ap (λ r. slice_get r v) rows_stay) ∙ e) ∙ sym (r.lengths v);
   row = k.row;
   there_is = ap (λ r. slice_get r user) rows_stay ∙ k.there_is;
   stands = (line_goes (nat_eq seat.talk.user user) refl).0;
@@ -127,32 +151,16 @@ goes rows user from s t hs new_hs texts k c seat x reply is_found g rows_stay ta
     same : Same seat x
     same = goes_same seat reply x g
 
-    changes : (new : List Seat) × Changes c seat x k.seats new
-    changes = found_changes c k.seats seat x is_found
-
-    new : List Seat
-    new = changes.0
-
-    ch : Changes c seat x k.seats new
-    ch = changes.1
-
-    within : c < 65
-    within = let w = within_places s.talks c seat.talk (k.seated c ∙ ap (option_map (λ seat. seat.talk)) is_found) in omega (arith, w, k.places)
-
-    lengths : (v : ℕ) → length (line_in v new) ≡ length (line_in v k.seats)
-    lengths v = by (nat_eq seat.talk.user v) refl
-      where
-        by : (b : Bool) → nat_eq seat.talk.user v ≡ b → length (line_in v new) ≡ length (line_in v k.seats)
-        by true e = changes_length c seat x (line_in v k.seats) (line_in v new) (line_changes v c seat x k.seats new ch e same.user)
-        by false e = ap length (line_stays v c seat x k.seats new ch e same.user)
+    r : Renewed k.seats c seat x
+    r = renewed k c seat x is_found same
 
     line_goes : (b : Bool) → nat_eq seat.talk.user user ≡ b
-        → Stands from k.row.past k.row.home (line_in user new) (grown texts (told_if b reply)) × Numbered 0 (line_in user new)
+        → Stands from k.row.past k.row.home (line_in user r.new) (grown texts (told_if b reply)) × Numbered 0 (line_in user r.new)
     line_goes true e =
-        let line_ch = line_changes user c seat x k.seats new ch e same.user in (
-          stands_goes from k.row.past k.row.home c seat x (line_in user k.seats) (line_in user new) texts reply line_ch g k.stands,
-          numbered_changed c seat x 0 (line_in user k.seats) (line_in user new) line_ch same.number k.numbered,
+        let line_ch = line_changes user c seat x k.seats r.new r.changes e same.user in (
+          stands_goes from k.row.past k.row.home c seat x (line_in user k.seats) (line_in user r.new) texts reply line_ch g k.stands,
+          numbered_changed c seat x 0 (line_in user k.seats) (line_in user r.new) line_ch same.number k.numbered,
         )
     line_goes false e =
-        subst (λ l. Stands from k.row.past k.row.home l texts × Numbered 0 l) (sym (line_stays user c seat x k.seats new ch e same.user))
+        subst (λ l. Stands from k.row.past k.row.home l texts × Numbered 0 l) (sym (line_stays user c seat x k.seats r.new r.changes e same.user))
         (k.stands, k.numbered)

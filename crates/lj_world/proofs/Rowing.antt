@@ -13,9 +13,9 @@ use Rattle.lj_world.specs.Scripts.{Heard}
 use Rattle.lj_world.proofs.Tellings.{Texts}
 use Rattle.lj_world.proofs.Seats.{Seat, heard_of, Waits}
 use Rattle.lj_world.proofs.Lines.{Changes, Stands, Numbered, numbered_changed, stands_hello}
-use Rattle.lj_world.proofs.Finding.{found, line_in, found_changes, found_pushed, line_changes, line_stays, heard_stays}
+use Rattle.lj_world.proofs.Finding.{found, line_in, found_pushed, line_changes, line_stays, heard_stays}
 use Rattle.lj_world.proofs.RowLemmas.{row_changed, row_other, users_stay, WasRead, read_changed}
-use Rattle.lj_world.proofs.Keeping.{Keeps, Distinct, Same, distinct_changed, seated_changed, within_places, changes_length}
+use Rattle.lj_world.proofs.Keeping.{Keeps, Distinct, Same, Renewed, renewed, distinct_changed, seated_changed}
 
 -- a change of a row that leaves its name, its token and its tickets that were granted
 pub record LeavesTickets (change : Row → Row) : Type 0 where
@@ -36,11 +36,11 @@ pub rows_go : (rows : List Row) (user : ℕ) (from : User) (s t : State) (hs : L
     → Stands from (change k.row).past (change k.row).home line texts)
     → Keeps rows user from t hs texts
 rows_go rows user from s t hs texts k c seat x change is_found same unheard leaves rows_are talks line_stands = record {
-  seats = new;
-  heard_is = k.heard_is ∙ sym (heard_stays c seat x k.seats new ch unheard);
+  seats = r.new;
+  heard_is = k.heard_is ∙ sym (heard_stays c seat x k.seats r.new r.changes unheard);
   places = ap length talks ∙ length-set {A = Option Talk} s.talks c (Some x.talk) ∙ k.places;
-  seated = seated_changed s t c seat x k.seats new ch same.connection k.places within talks k.seated;
-  distinct = distinct_changed c seat x k.seats new ch same.connection k.distinct;
+  seated = seated_changed s t c seat x k.seats r.new r.changes same.connection k.places r.within talks k.seated;
+  distinct = distinct_changed c seat x k.seats r.new r.changes same.connection k.distinct;
   names = λ name token. ap (λ r. user_with r name token) rows_are ∙ users_stay s.rows seat.talk.user change name token (leaves.known name token) ∙ k.names name token;
   granted = granted_is;
   row = mine.0;
@@ -49,52 +49,36 @@ rows_go rows user from s t hs texts k c seat x change is_found same unheard leav
   numbered = mine.3;
 }
   where
-    changes : (new : List Seat) × Changes c seat x k.seats new
-    changes = found_changes c k.seats seat x is_found
+    r : Renewed k.seats c seat x
+    r = renewed k c seat x is_found same
 
-    new : List Seat
-    new = changes.0
-
-    ch : Changes c seat x k.seats new
-    ch = changes.1
-
-    within : c < 65
-    within = let w = within_places s.talks c seat.talk (k.seated c ∙ ap (option_map (λ seat. seat.talk)) is_found) in omega (arith, w, k.places)
-
-    lengths : (v : ℕ) → length (line_in v new) ≡ length (line_in v k.seats)
-    lengths v = by (nat_eq seat.talk.user v) refl
-      where
-        by : (b : Bool) → nat_eq seat.talk.user v ≡ b → length (line_in v new) ≡ length (line_in v k.seats)
-        by true e = changes_length c seat x (line_in v k.seats) (line_in v new) (line_changes v c seat x k.seats new ch e same.user)
-        by false e = ap length (line_stays v c seat x k.seats new ch e same.user)
-
-    granted_is : (v : ℕ) (row : Row) → slice_get t.rows v ≡ Some row → row.granted ≡ length (line_in v new)
+    granted_is : (v : ℕ) (row : Row) → slice_get t.rows v ≡ Some row → row.granted ≡ length (line_in v r.new)
     granted_is v row e = by (read_changed s.rows seat.talk.user change v row (sym (ap (λ r. slice_get r v) rows_are) ∙ e))
       where
-        as_was : (was : Row) → slice_get s.rows v ≡ Some was → row.granted ≡ was.granted → row.granted ≡ length (line_in v new)
-        as_was was is g = g ∙ k.granted v was is ∙ sym (lengths v)
+        as_was : (was : Row) → slice_get s.rows v ≡ Some was → row.granted ≡ was.granted → row.granted ≡ length (line_in v r.new)
+        as_was was is g = g ∙ k.granted v was is ∙ sym (r.lengths v)
 
-        by : WasRead s.rows seat.talk.user change v row → row.granted ≡ length (line_in v new)
-        by (was, is, inl (_, r)) = as_was was is (ap (λ z. z.granted) r ∙ leaves.granted was)
-        by (was, is, inr (inl (_, r))) = as_was was is (ap (λ z. z.granted) r)
-        by (was, is, inr (inr (_, r))) = as_was was is (ap (λ z. z.granted) r)
+        by : WasRead s.rows seat.talk.user change v row → row.granted ≡ length (line_in v r.new)
+        by (was, is, inl (_, e)) = as_was was is (ap (λ z. z.granted) e ∙ leaves.granted was)
+        by (was, is, inr (inl (_, e))) = as_was was is (ap (λ z. z.granted) e)
+        by (was, is, inr (inr (_, e))) = as_was was is (ap (λ z. z.granted) e)
 
     mine : (row : Row) × (slice_get (changed seat.talk.user change s.rows) user ≡ Some row)
-        × Stands from row.past row.home (line_in user new) texts × Numbered 0 (line_in user new)
+        × Stands from row.past row.home (line_in user r.new) texts × Numbered 0 (line_in user r.new)
     mine = by (eqb_tells seat.talk.user user)
       where
         by : ((nat_eq seat.talk.user user ≡ true) × (seat.talk.user ≡ user)) ⊎ ((nat_eq seat.talk.user user ≡ false) × (seat.talk.user ≢ user))
             → (row : Row) × (slice_get (changed seat.talk.user change s.rows) user ≡ Some row)
-            × Stands from row.past row.home (line_in user new) texts × Numbered 0 (line_in user new)
+            × Stands from row.past row.home (line_in user r.new) texts × Numbered 0 (line_in user r.new)
         by (inl (e, is)) =
-            let line_ch = line_changes user c seat x k.seats new ch e same.user in (
+            let line_ch = line_changes user c seat x k.seats r.new r.changes e same.user in (
               change k.row,
               ap (λ v. slice_get (changed v change s.rows) user) is ∙ row_changed s.rows user change k.row k.there_is,
-              line_stands is (line_in user new) line_ch,
-              numbered_changed c seat x 0 (line_in user k.seats) (line_in user new) line_ch same.number k.numbered,
+              line_stands is (line_in user r.new) line_ch,
+              numbered_changed c seat x 0 (line_in user k.seats) (line_in user r.new) line_ch same.number k.numbered,
             )
         by (inr (e, differs)) =
-            let stays = line_stays user c seat x k.seats new ch e same.user in (
+            let stays = line_stays user c seat x k.seats r.new r.changes e same.user in (
               k.row,
               row_other s.rows seat.talk.user change user differs ∙ k.there_is,
               subst (λ l. Stands from k.row.past k.row.home l texts) (sym stays) k.stands,
