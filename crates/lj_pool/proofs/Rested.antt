@@ -41,11 +41,6 @@ rested-owed owned = rested-sum owed_tiles owed_tiles rest-owed owned.sessions
 rested-there : (owned : Owned) (name : List ℕ) → held_in (rested owned) name ≡ option_map at_rest (held_in owned name)
 rested-there owned name = named-seen at_rest name owned.sessions
 
-names-rested : (es : List (List ℕ × Held))
-    → map (λ (e : List ℕ × Held). e.0) (map (λ (e : List ℕ × Held). (e.0, at_rest e.1)) es) ≡ map (λ (e : List ℕ × Held). e.0) es
-names-rested [] = refl
-names-rested (e ∷ es) = ap (λ ns. e.0 ∷ ns) (names-rested es)
-
 -- no more is to come of a state than of the same begun anew
 pub rested-few : (owner : Owning) (owed : List Work) → Gathers owner owed → owner.waiting ≡ None
     → tiles_to_come owner.state ≤ tiles_owed (rested owner.state)

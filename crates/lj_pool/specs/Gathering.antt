@@ -6,7 +6,7 @@ use Rattle.std.specs.Str.{bytes_eq}
 use Rattle.lj_tile.specs.declared.names.Label.{Label}
 use Rattle.lj_tile.specs.Tasks.{Work}
 use Rattle.lj_step.specs.Live.{Live, OpenStep}
-use Rattle.lj_step.specs.OpenSteps.{cover, task_of}
+use Rattle.lj_step.specs.OpenSteps.{cover, task_of, left}
 use Rattle.lj_session.specs.declared.command.Command.{Command}
 use Rattle.lj_session.specs.Turns.{waits_for}
 use Rattle.lj_session.specs.States.{Held, Owned, IsAtWork, held_in, owed_in, names}
@@ -38,7 +38,7 @@ posted_of label (Some held) = posted_in label held.live held.passed held.live.pa
 -- how many tiles an open step awaits
 abbrev pub left_in : Option OpenStep → ℕ
 left_in None = 0
-left_in (Some step) = count_by (λ awaited. awaited) step.awaited
+left_in (Some step) = left step
 
 -- Each tile that the open step of a session awaits stands in its cover once, so there are no more than that has.
 pub record IsGathered (held : Held) : Type 0 where
