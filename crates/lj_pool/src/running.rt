@@ -74,14 +74,15 @@ fn run<P: Pool>(owner: &mut Owner, user: u8, pool: &mut P) -> Result<Reply, Halt
             post_next(owner, pool, false)?;
             strays = 0;
         } else if !post_or_wait(owner, pool)? {
-            strays = strays_after(strays, fetch_next(owner, user, pool)?)?;
+            strays = strays_after(strays, fetch_more(owner, user, pool)?)?;
         }
     }
 }
 
-/// Goes on with what is owed, before the next command is read: takes in what is there, turns what is whole, posts what there
-/// is room for, and fetches until few tasks are owed.
-pub(crate) fn work_ahead<P: Pool>(owner: &mut Owner, user: u8, pool: &mut P) -> Result<(), Halt>
+/// Goes on with what is owed, if something may be, before the next command is read: takes in what is there, turns what is
+/// whole, posts what there is room for, and fetches until few tasks are owed. The last look for results tells the workers
+/// of what was posted. Whether something is still owed.
+pub(crate) fn work_ahead<P: Pool>(owner: &mut Owner, user: u8, pool: &mut P, owes: bool) -> Result<bool, Halt>
     requires idle { owner.old.waiting ≡ None }
     requires number { owner.old.number ≡ user }
     requires gathers { Gathers owner.old (P.seen pool.old).owed }
@@ -90,10 +91,15 @@ pub(crate) fn work_ahead<P: Pool>(owner: &mut Owner, user: u8, pool: &mut P) -> 
     ensures halted { IfErr result (λ halt. IsHalted halt (P.seen pool.old) (P.seen pool.new)) }
     ensures own { P.for_others pool.new user ≡ P.for_others pool.old user }
 {
+    if !owes {
+        return Ok(false);
+    }
     poll_all(owner, user, pool);
     turn_whole(owner, user, pool);
     post_all(owner, pool);
-    fetch_down(owner, user, pool)
+    fetch_down(owner, user, pool)?;
+    poll_all(owner, user, pool);
+    Ok(owner.is_busy())
 }
 
 /// Takes in what is there of the results that are owed.
@@ -190,6 +196,24 @@ fn post_next<P: Pool>(owner: &mut Owner, pool: &mut P, wait: bool) -> Result<boo
         Err(Refused::Full(_)) => Ok(false),
         Err(Refused::Closed(_)) => Err(Halt::PoolClosed),
     }
+}
+
+/// Fetches a result, takes in what else is there, and posts what there is room for then, so that many tasks go to the
+/// workers together. False where the result that was fetched is of no tile that is awaited.
+fn fetch_more<P: Pool>(owner: &mut Owner, user: u8, pool: &mut P) -> Result<bool, Halt>
+    requires number { owner.old.number ≡ user }
+    requires gathers { Gathers owner.old (P.seen pool.old).owed }
+    requires owes { 0 < length (P.seen pool.old).owed }
+    ensures goes_on { GoesOn owner.old (P.seen pool.old) owner.new (P.seen pool.new) }
+    ensures fewer { IfOk result (λ taken. taken ≡ true → tiles_coming owner.new < tiles_coming owner.old) }
+    ensures stray { IfOk result (λ taken. taken ≡ false → StraysRise 1 (P.seen pool.old) (P.seen pool.new)) }
+    ensures halted { IfErr result (λ halt. IsHalted halt (P.seen pool.old) (P.seen pool.new)) }
+    ensures own { P.for_others pool.new user ≡ P.for_others pool.old user }
+{
+    let taken = fetch_next(owner, user, pool)?;
+    poll_all(owner, user, pool);
+    post_all(owner, pool);
+    Ok(taken)
 }
 
 /// Fetches a result. False where it is of no tile that is awaited; it is dropped then.

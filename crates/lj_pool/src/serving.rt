@@ -19,7 +19,7 @@ use crate::pool::{MAX_STRAYS, Pool};
 use crate::replies::put_reply;
 use crate::running::{Halt, answer_over, work_ahead};
 use crate::served::{Served, ending_of};
-use lj_session::{Owner, Refusal, Reply, UserState};
+use lj_session::{Command, Owner, Refusal, Reply, UserState};
 use lj_wire::{Item, Line, LineReader, ReadFault, Sink, Source, WriteFault};
 use std::alloc::Global;
 
@@ -77,16 +77,19 @@ pub fn serve_lines<R: Source, W: Sink, P: Pool>(
 {
     let mut owner = Owner::new(state, user);
     let mut line = Line::new();
+    let mut owes = true;
     'items: loop {
-        if let Err(halt) = work_ahead(&mut owner, user, pool) {
-            return given_up(owner, halt);
-        }
+        owes = match work_ahead(&mut owner, user, pool, owes) {
+            Ok(owes) => owes,
+            Err(halt) => return given_up(owner, halt),
+        };
         let item = match lines.next() {
             Ok(Some(item)) => item,
             Ok(None) => return (Some(owner.into_state()), Served::End),
             Err(ReadFault) => return (Some(owner.into_state()), Served::ReadFault),
         };
         let ending = ending_of(&item);
+        owes = owes || matches!(&item, Item::Command(Command::Start { .. }));
         let reply = match answer(&mut owner, user, pool, item) {
             Ok(reply) => reply,
             Err(halt) => return given_up(owner, halt),

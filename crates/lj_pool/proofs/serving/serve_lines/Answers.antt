@@ -112,13 +112,13 @@ returns-in-Err-put_reply-clause-told g c =
     serving-breaks c.args.state c.args.lines.now c.items.lines (g.W.Sink.contents c.args.writer.now)
     (g.W.Sink.contents c.items.writer) (g.P.Pool.seen c.args.pool.now) (g.P.Pool.seen c.work_ahead.new.pool)
     c.work_ahead.new.owner.state s c.next.new.self c.in-Ok-Some.item item
-    c.in-Ok.reply c.answer.new.owner.state c.in-Ok.ensures.answered begun.0 (g.W.Sink.contents c.put_reply.new.writer)
+    c.in-Ok-answer.reply c.answer.new.owner.state c.in-Ok-answer.ensures.answered begun.0 (g.W.Sink.contents c.put_reply.new.writer)
     (g.P.Pool.seen c.answer.new.pool) c.into_state-in-Err-put_reply.result c.into_state-in-Err-put_reply.ensures.user
     begun.1 begun.2
 
 pub returns-in-Err-put_reply-clause-none_owed : goal.returns-in-Err-put_reply-clause-none_owed
 returns-in-Err-put_reply-clause-none_owed g c =
-    back_none c.answer.new.owner (g.P.Pool.seen c.answer.new.pool) c.in-Ok.ensures.gathers c.in-Ok.ensures.idle
+    back_none c.answer.new.owner (g.P.Pool.seen c.answer.new.pool) c.in-Ok-answer.ensures.gathers c.in-Ok-answer.ensures.idle
     c.into_state-in-Err-put_reply.result c.into_state-in-Err-put_reply.ensures.state
 
 pub returns-in-Some-clause-told : goal.returns-in-Some-clause-told
@@ -132,16 +132,16 @@ returns-in-Some-clause-told g c =
     serving-ends c.args.state c.args.lines.now c.items.lines (g.W.Sink.contents c.args.writer.now)
     (g.W.Sink.contents c.items.writer) (g.P.Pool.seen c.args.pool.now) (g.P.Pool.seen c.work_ahead.new.pool)
     c.work_ahead.new.owner.state s c.next.new.self c.in-Ok-Some.item item
-    c.in-Ok.reply c.answer.new.owner.state c.in-Ok.ensures.answered (g.W.Sink.contents c.put_reply.new.writer)
-    written (g.P.Pool.seen c.answer.new.pool) c.in-Ok.ensures.counted
+    c.in-Ok-answer.reply c.answer.new.owner.state c.in-Ok-answer.ensures.answered (g.W.Sink.contents c.put_reply.new.writer)
+    written (g.P.Pool.seen c.answer.new.pool) c.in-Ok-answer.ensures.counted
     c.into_state-in-Some.result c.into_state-in-Some.ensures.user
-    (back_few c.answer.new.owner (g.P.Pool.seen c.answer.new.pool) c.in-Ok.ensures.gathers c.in-Ok.ensures.idle
+    (back_few c.answer.new.owner (g.P.Pool.seen c.answer.new.pool) c.in-Ok-answer.ensures.gathers c.in-Ok-answer.ensures.idle
     c.into_state-in-Some.result c.into_state-in-Some.ensures.state)
     c.in-Some.served (sym c.ending_of-ending.ensures ∙ c.in-Some.is)
 
 pub returns-in-Some-clause-none_owed : goal.returns-in-Some-clause-none_owed
 returns-in-Some-clause-none_owed g c =
-    back_none c.answer.new.owner (g.P.Pool.seen c.answer.new.pool) c.in-Ok.ensures.gathers c.in-Ok.ensures.idle
+    back_none c.answer.new.owner (g.P.Pool.seen c.answer.new.pool) c.in-Ok-answer.ensures.gathers c.in-Ok-answer.ensures.idle
     c.into_state-in-Some.result c.into_state-in-Some.ensures.state
 
 pub items-preserved : goal.items-preserved
@@ -157,11 +157,11 @@ items-preserved g c =
           serving-more c.args.state c.args.lines.now c.items.lines (g.W.Sink.contents c.args.writer.now)
           (g.W.Sink.contents c.items.writer) (g.P.Pool.seen c.args.pool.now) (g.P.Pool.seen c.work_ahead.new.pool)
           c.work_ahead.new.owner.state s c.next.new.self c.in-Ok-Some.item item
-          c.in-Ok.reply c.answer.new.owner.state c.in-Ok.ensures.answered (g.W.Sink.contents c.put_reply.new.writer)
-          written (g.P.Pool.seen c.answer.new.pool) c.in-Ok.ensures.counted
+          c.in-Ok-answer.reply c.answer.new.owner.state c.in-Ok-answer.ensures.answered (g.W.Sink.contents c.put_reply.new.writer)
+          written (g.P.Pool.seen c.answer.new.pool) c.in-Ok-answer.ensures.counted
           (sym c.ending_of-ending.ensures ∙ c.in_default-ending.is);
-      gathers = c.in-Ok.ensures.gathers;
-      idle = c.in-Ok.ensures.idle;
+      gathers = c.in-Ok-answer.ensures.gathers;
+      idle = c.in-Ok-answer.ensures.idle;
       number = c.answer.ensures.number;
       faults = c.in_default-put_reply.ensures.counted ∙ c.items.invariant.faults;
       own = c.answer.ensures.own ∙ c.work_ahead.ensures.own ∙ c.items.invariant.own;
