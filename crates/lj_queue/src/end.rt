@@ -12,7 +12,7 @@ use lj_tile::{Done, Task};
 use std::marker::Model;
 use std::sync::Wait;
 
-/// So many tasks are posted before workers that wait are told of them, unless a result is asked for.
+/// So many tasks are posted before workers that wait are told of them, unless a result is asked for and none is there.
 const TASKS_AT_ONCE: usize = 16;
 
 /// An end of a pool for one user, with a pass. It keeps a copy of each task that it is owed, and takes no memory.
@@ -115,9 +115,11 @@ impl<'p, L: Room, R: Wait> Pool for QueueEnd<'p, L, R> {
         ensures closed { IfNone result (self.new.seen.closed ≡ true) }
         ensures stays_closed { StaysClosed self.old.seen self.new.seen }
     {
-        self.tell();
-        let owed = self.account.owed();
-        let fetched = self.pool.fetch(self.rt, self.user, owed);
+        let mut fetched = self.pool.poll(self.rt, self.user);
+        if fetched.is_none() {
+            self.tell();
+            fetched = self.pool.fetch(self.rt, self.user, self.account.owed());
+        }
         match &fetched {
             Some(done) => self.account.count(done.task()),
             None => self.account.close(),
@@ -134,10 +136,10 @@ impl<'p, L: Room, R: Wait> Pool for QueueEnd<'p, L, R> {
         ensures unchanged { IfNone result (SameOwed self.old.seen self.new.seen) }
         ensures stays_closed { StaysClosed self.old.seen self.new.seen }
     {
-        self.tell();
         let polled = self.pool.poll(self.rt, self.user);
-        if let Some(done) = &polled {
-            self.account.count(done.task());
+        match &polled {
+            Some(done) => self.account.count(done.task()),
+            None => self.tell(),
         }
         polled
     }
