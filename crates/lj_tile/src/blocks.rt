@@ -1,6 +1,6 @@
 //! Blocks of places of atoms.
 ghost use Rattle.std.specs.Prelude.{◌≡◌, ◌≤◌, ◌↔◌, length, IsTrue};
-ghost use Rattle.lj_tile.specs.Blocks.{same_places};
+ghost use Rattle.lj_tile.specs.Blocks.{same_place, same_places};
 
 use arrayvec::ArrayVec;
 use lj_ring::Place;
@@ -69,8 +69,12 @@ impl Block {
     pub fn copy_from(&mut self, other: &Block)
         ensures { self.new ≡ other.now }
     {
-        self.places.clear();
-        let _fits = self.places.try_extend_from_slice(other.places());
+        if self.places.len() == other.places().len() {
+            self.places.as_mut_slice().copy_from_slice(other.places());
+        } else {
+            self.places.clear();
+            let _fits = self.places.try_extend_from_slice(other.places());
+        }
         self.seconds = other.seconds();
     }
 
@@ -94,12 +98,25 @@ impl Block {
 fn are_same(a: &[Place], b: &[Place]) -> bool
     ensures { IsTrue result ↔ (a.now ≡ b.now) }
 {
-    is_same_list(a, b)
+    a.len() == b.len() && is_same_list(a, b)
+}
+
+/// Whether two lists of one length have the same places. It looks at each of them, so that several are compared at once.
+#[inline]
+fn is_same_list(a: &[Place], b: &[Place]) -> bool
+    requires { length a.now ≡ length b.now }
+    ensures { result ≡ same_places a.now b.now }
+{
+    let mut same = true;
+    for i in 0..a.len() {
+        same &= is_same(&a[i], &b[i]);
+    }
+    same
 }
 
 #[inline]
-fn is_same_list(a: &[Place], b: &[Place]) -> bool
-    ensures { result ≡ same_places a.now b.now }
+fn is_same(a: &Place, b: &Place) -> bool
+    ensures { result ≡ same_place a.now b.now }
 {
-    a == b
+    (a.x == b.x) & (a.y == b.y) & (a.z == b.z)
 }
