@@ -13,7 +13,7 @@ use Rattle.lj_pool.specs.declared.served.Served.{Served}
 use Rattle.lj_pool.specs.declared.served.Served.TheVariants.{End, Bye, Ended, ReadFault, WriteFault, PoolClosed}
 use Rattle.lj_pool.specs.declared.served.Served.TheVariants.{TooManyStrays}
 use Rattle.lj_pool.specs.Seen.{Seen}
-use Rattle.lj_pool.specs.Served.{NoneEnds, EndsByBye, EndsByFault, AnswersAll, Reaches, StopsAt, StopsBetween, StopsShort, IsServed}
+use Rattle.lj_pool.specs.Served.{NoneEnds, EndsByBye, EndsByFault, AnswersAll, Reaches, StopsShort, IsServed}
 use Rattle.lj_pool.specs.Served.{Serves}
 use Rattle.lj_pool.proofs.Dialogues.{Takes-on}
 
@@ -81,7 +81,8 @@ module _ (state : Owned) (read written : List ℕ) (old new : Seen) (held : List
     counted = a.counted;
   }
 
-  stops-on : StopsShort user read written new → StopsShort user (read ++ held) written new
+  stops-on : StopsShort state read written new → StopsShort state (read ++ held) written new
+  unfolding reaches-on
   stops-on (inl s) = inl (record {
     between = s.between;
     item = s.item;

@@ -1,11 +1,12 @@
 -- Commands that are answered, at once or at a turn: what the pool owes stays, and what is to come grows by the steps of START.
-use Rattle.std.proofs.Common.{◌≡◌, ◌≢◌, ◌⊎◌, inl, inr, ℕ, ◌+◌, ◌-◌, ◌<◌, ◌≤◌, Bool, true, false, nat_lt, List, [], Option, Some, None}
+use Rattle.std.proofs.Common.{◌≡◌, ◌⊎◌, inl, inr, ℕ, ◌+◌, ◌-◌, ◌<◌, ◌≤◌, Bool, true, false, nat_lt, List, [], ◌∷◌, Option, Some, None}
 use Rattle.std.proofs.Common.{Result, Ok, Err, refl, sym, ap, ◌∙◌, subst, arith}
-use Rattle.std.specs.Prelude.{if◌then◌else◌, IfOk, IfSome, IsSome, IsSomeAnd, is_some}
-use Rattle.std.specs.List.{IsDistinct, filter}
+use Rattle.std.specs.Prelude.{IfOk, IfSome, IsSome, IsSomeAnd, is_some}
+use Rattle.std.specs.List.{IsDistinct, Contains}
 use Rattle.std.specs.Option.{option_map_or}
 use Rattle.std.specs.Str.{bytes_eq}
 use Rattle.std.proofs.lemmas.Bool.{ltb-true, true≢false}
+use Rattle.std.proofs.lemmas.List.Elements.{Contains-push}
 use Rattle.std.proofs.lemmas.Option.{none-some, same_Some}
 use Rattle.std.proofs.lemmas.Slice.Eq.{bytes_eq-Decides}
 use Rattle.lj_tile.specs.declared.names.Label.{Label}
@@ -14,7 +15,7 @@ use Rattle.lj_step.specs.Motion.{stepped}
 use Rattle.lj_step.specs.OpenSteps.{kind_of}
 use Rattle.lj_ring.specs.Mixes.{Mixture}
 use Rattle.lj_xyz.specs.Atoms.{◌>>=◌}
-use Rattle.lj_branch.specs.Named.{named, put, taken_out}
+use Rattle.lj_branch.specs.Named.{named, put}
 use Rattle.lj_session.specs.declared.command.Load.{Load as LoadParts}
 use Rattle.lj_session.specs.declared.command.Command.{Command}
 use Rattle.lj_session.specs.declared.command.Command.TheVariants.{Load, Advance, Start, Reverse, Branch, Restore, Forget, Tug}
@@ -32,15 +33,17 @@ use Rattle.lj_session.specs.Begins.{OnRefusal}
 use Rattle.lj_session.specs.States.{Held, Owned, IsAtWork, IsIdle, IsIdleIn, SameSteps, StepsAfter, StepsFollow, OthersKept, user_of}
 use Rattle.lj_session.specs.States.{OtherSessionsKept, session_meant, held_in, owed_in, names, changed, started, steps_before, turns_before}
 use Rattle.lj_session.specs.States.{is_whole_in, is_measured, kind_owed}
-use Rattle.lj_session.specs.Owners.{Owning, IsAnswered, user_in, label_of, turns_left, IsLastTurn}
+use Rattle.lj_session.specs.Owners.{Owning, IsAnswered, user_in, label_of, is_waited_for, IsLastTurn}
 use Rattle.lj_session.proofs.AtWork.{at_work-follows, kind-none}
 use Rattle.lj_session.proofs.Entries.{by_test, named-put_any}
 use Rattle.lj_session.proofs.Holding.{named-held, named-absent, owed-of, none-before}
 use Rattle.lj_session.proofs.Loading.{new-admitted}
 use Rattle.lj_session.proofs.Passing.{unmeasured}
-use Rattle.lj_pool.specs.Gathering.{is_of, posted_of, IsGathered, IsOpenFor, Gathers}
-use Rattle.lj_pool.specs.Counting.{steps_tiles, advance_tiles, measure_tiles, command_tiles, sum_over}
-use Rattle.lj_pool.specs.Coming.{tiles_of_session, tiles_after, waiting_tiles_of, tiles_to_come, tiles_coming}
+use Rattle.lj_wire.specs.declared.item.Item.TheVariants.{Command as Ordered}
+use Rattle.lj_pool.specs.Gathering.{posted_of, IsGathered, IsOpenFor, Gathers}
+use Rattle.lj_pool.specs.Counting.{steps_tiles, advance_tiles, measure_tiles, command_tiles}
+use Rattle.lj_pool.specs.Coming.{tiles_of_session, tiles_after, waiting_tiles_of, tiles_to_come, tiles_coming, OwesNoMore, OwesNoneWhereWaited}
+use Rattle.lj_pool.specs.Owing.{MayOwe, OwesAfter}
 use Rattle.lj_pool.proofs.Sessions.{there-changed, other-changed, names-changed, sum-changed, sum-below, distinct-answered}
 use Rattle.lj_pool.proofs.Tiles.{idle-tiles, idle-gathered, closed-part, closed-posted, same-posted, same-tiles, same-gathered}
 use Rattle.lj_pool.proofs.Tiles.{started-tiles, started-posted, started-gathered}
@@ -344,6 +347,14 @@ idle_posted owned name label idle = by (held_in owned name) refl
 abbrev number_in : (Held → ℕ) → Owned → List ℕ → ℕ
 number_in f owned name = option_map_or f (held_in owned name) 0
 
+-- none is owed to an idle session
+idle_owed : (owned : Owned) (name : List ℕ) → IsIdleIn owned name → owed_in owned name ≡ 0
+idle_owed owned name idle = by (held_in owned name) refl
+  where
+    by : (o : Option Held) → held_in owned name ≡ o → owed_in owned name ≡ 0
+    by None e = ap (λ o. option_map_or (λ (h : Held). h.owed) o 0) e
+    by (Some held) e = ap (λ o. option_map_or (λ (h : Held). h.owed) o 0) e ∙ (idle held e).owed
+
 -- a command that is answered at once
 module _ (owner : Owning) (owed : List Work) (t : Gathers owner owed) (idle : owner.waiting ≡ None)
     (command : Command) (reply : Reply) (next : Owning) (number : next.number ≡ owner.number) (done : next.waiting ≡ None)
@@ -410,6 +421,25 @@ module _ (owner : Owning) (owed : List Work) (t : Gathers owner owed) (idle : ow
       (at_work-follows command owner.state next.state others steps work)
       (distinct-answered owner.state next.state command answered.mark reply answered.answers t.distinct)
       settles
+
+  -- steps are owed where some were, and after a START
+  pub answered_owes : OwesAfter owner.state (Ordered command ∷ []) next.state
+  answered_owes name = of_each {P = λ name. 0 < owed_in next.state name → MayOwe owner.state (Ordered command ∷ []) name}
+      (λ name same more. inl (subst (λ o. 0 < option_map_or (λ (h : Held). h.owed) o 0) same more))
+      (λ name is. by name (outcome_of name is)) name
+    where
+      by : (name : List ℕ) → Outcome owner.state next.state command name → 0 < owed_in next.state name
+          → MayOwe owner.state (Ordered command ∷ []) name
+      by name (inl rests) more = let none = idle_owed next.state name rests.after in absurd (omega (arith, none, more))
+      by name (inr (inl s)) more =
+          let before = ap (λ o. option_map_or (λ (h : Held). h.owed) o 0) s.was in
+          let after = ap (λ o. option_map_or (λ (h : Held). h.owed) o 0) s.is in
+          let same = s.same.owed in
+          inl (omega (arith, before, after, same, more))
+      by name (inr (inr s)) more = inr (
+        s.n,
+        subst (λ (k : Command). Contains (Ordered k ∷ []) (Ordered (Start name s.n))) (sym s.start) (Contains-push [] (Ordered (Start name s.n))),
+      )
 
   -- the tiles of each session
   tiles_below : ((name : List ℕ) (n : ℕ) → command ≡ Start name n → ⊥) → (name : List ℕ) (held : Held)
@@ -561,6 +591,19 @@ module _ (owner : Owning) (owed : List Work) (t : Gathers owner owed) (name : Li
         gathered = λ held found. idle-gathered held (rests held found);
       })
       (λ other apart. settles_same owner owed t next number other (others other apart)))
+
+  -- no more steps are owed than were, and none to the session
+  pub ended_owes : OwesNoMore owner next.state
+  ended_owes other quiet = of_each_session {P = λ other. owed_in next.state other ≤ owed_in owner.state other}
+      (let none = idle_owed next.state name rests in omega (arith, none))
+      (λ other apart. let same = ap (λ o. option_map_or (λ (h : Held). h.owed) o 0) (others other apart) in omega (arith, same))
+      other
+
+  pub ended_rests : OwesNoneWhereWaited owner next.state
+  ended_rests other for_it =
+      subst (λ n. owed_in next.state n ≡ 0)
+      (same_name_of name other (sym waited.waits ∙ waited_name waited.command other (sym (ap (λ w. is_waited_for w other) waited.is) ∙ for_it)))
+      (idle_owed next.state name rests)
 
   -- no tile of the session was to come
   none_here : (held : Held) → held_in owner.state name ≡ Some held → tiles_of_session held ≡ 0

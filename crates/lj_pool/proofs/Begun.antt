@@ -1,12 +1,12 @@
 -- What begins to wait, and what a turn leaves waiting: the steps that are open, and what is to come.
-use Rattle.std.proofs.Common.{◌≡◌, ℕ, zero, suc, ◌+◌, ◌-◌, ◌<◌, ◌≤◌, Bool, true, false, nat_lt, List, [], Option, Some, None}
+use Rattle.std.proofs.Common.{◌≡◌, ℕ, ◌+◌, ◌<◌, ◌≤◌, Bool, true, false, nat_lt, List, [], Option, Some, None}
 use Rattle.std.proofs.Common.{refl, sym, ap, ◌∙◌, subst, arith}
-use Rattle.std.specs.Prelude.{if◌then◌else◌, IfSome, IsSome, IsSomeAnd, is_some}
+use Rattle.std.specs.Prelude.{if◌then◌else◌, IfSome, IsSome, IsSomeAnd}
 use Rattle.std.specs.List.{filter}
-use Rattle.std.specs.Option.{option_map_or, option_and_then}
+use Rattle.std.specs.Option.{option_map_or}
 use Rattle.std.specs.Str.{bytes_eq}
 use Rattle.std.proofs.lemmas.Bool.{ltb-true, ltb-false, lt-ltb, true≢false}
-use Rattle.std.proofs.lemmas.Option.{none-some, same_Some}
+use Rattle.std.proofs.lemmas.Option.{none-some}
 use Rattle.std.proofs.lemmas.Slice.Eq.{bytes_eq-Decides}
 use Rattle.lj_tile.specs.declared.names.Kind.{Kind}
 use Rattle.lj_tile.specs.declared.names.Kind.TheVariants.{Force, Energy}
@@ -15,30 +15,29 @@ use Rattle.lj_step.specs.Live.{OpenStep}
 use Rattle.lj_step.specs.OpenSteps.{kind_of}
 use Rattle.lj_branch.specs.Named.{named}
 use Rattle.lj_session.specs.declared.command.Command.{Command}
-use Rattle.lj_session.specs.declared.command.Command.TheVariants.{Load, Advance, Start, Reverse, Branch, Restore, Forget, Tug}
-use Rattle.lj_session.specs.declared.command.Command.TheVariants.{Measure, Show, Dump, List as ListSessions}
-use Rattle.lj_session.specs.declared.command.Command.TheVariants.{ListBranches, Unload, Bye}
+use Rattle.lj_session.specs.declared.command.Command.TheVariants.{Advance, Start}
+use Rattle.lj_session.specs.declared.command.Command.TheVariants.{Measure}
 use Rattle.lj_session.specs.Users.{Session, User}
 use Rattle.lj_session.specs.Answers.{can_advance}
 use Rattle.lj_session.specs.Turns.{turns, waits_for, advance_turns}
 use Rattle.lj_session.specs.States.{Held, Owned, IsAtWork, IsIdle, user_of, session_meant, held_in, owed_in, changed, owing, with_step}
-use Rattle.lj_session.specs.States.{step_passed, steps_before, turns_before, is_whole_in, is_measured, kind_owed}
+use Rattle.lj_session.specs.States.{step_passed, steps_before, turns_before, is_whole_in, is_measured}
 use Rattle.lj_session.specs.Owners.{Owning, user_in, begun, taken_up, rest_of, label_of, with_state, is_waited_for, turned_from}
-use Rattle.lj_session.specs.Owners.{turns_left, IsLastTurn}
+use Rattle.lj_session.specs.Owners.{IsLastTurn}
 use Rattle.lj_session.proofs.AtWork.{at_work-changed, at_work-waits, at_work-measured, kind-owing, kind-some, kind-none, kind-passed}
 use Rattle.lj_session.proofs.Entries.{by_test}
-use Rattle.lj_session.proofs.Holding.{named-held, named-absent, owed-of}
+use Rattle.lj_session.proofs.Holding.{named-held, owed-of}
 use Rattle.lj_session.proofs.Owed.{owed-owing}
 use Rattle.lj_session.proofs.Passing.{Open, opens, energies, measured_last, measures, at_work-passed}
 use Rattle.lj_session.proofs.Turning.{advance-turns-near, measure-turns-one, no-turns}
 use Rattle.lj_session.proofs.Waiting.{Goes, goes, measured_there, passed_user, passed_turns}
-use Rattle.lj_pool.specs.Gathering.{is_of, left_in, posted_of, IsGathered, IsOpenFor, Gathers}
+use Rattle.lj_pool.specs.Gathering.{is_of, left_in, posted_of, IsOpenFor, Gathers}
 use Rattle.lj_pool.specs.Counting.{steps_tiles, advance_tiles, measure_tiles, frame_tiles, command_tiles, sum_over}
 use Rattle.lj_pool.specs.Coming.{tiles_of_session, posts_of_session, tiles_after, waiting_tiles, waiting_tiles_of, turns_coming}
-use Rattle.lj_pool.specs.Coming.{tiles_to_come, tiles_coming, posts_coming}
+use Rattle.lj_pool.specs.Coming.{tiles_to_come, tiles_coming, posts_coming, OwesNoMore}
 use Rattle.lj_pool.proofs.Gathering.{gathered_opened, whole_none, whole_posted}
 use Rattle.lj_pool.proofs.Gathered.{gathers_changed}
-use Rattle.lj_pool.proofs.Sessions.{there-changed, other-changed, sum-changed}
+use Rattle.lj_pool.proofs.Sessions.{there-changed, other-changed, owed-changed, owed-lowered, sum-changed}
 use Rattle.lj_pool.proofs.Tiles.{idle-tiles, idle-posts, opened-tiles, opened-posts, owing-tiles, owing-posts, owing-gathered}
 use Rattle.lj_pool.proofs.Tiles.{owing-posted, owing-open, passed-tiles, passed-posts, passed-owed, passed-posted, passed-gathered}
 use Rattle.lj_pool.proofs.Tiles.{closed-part, closed-posted}
@@ -267,6 +266,72 @@ waited_name command name h = by (waits_for command) refl
         let t = sym (ap (λ o. option_map_or (λ session. bytes_eq session name) o false) e) ∙ h in
         ap (λ (n : List ℕ). Some n) ((bytes_eq-Decides session name).0 t)
 
+-- what is left of a command waits for the same session
+rest-waits : (command : Command) (name : List ℕ) → is_waited_for (Some (rest_of command)) name ≡ is_waited_for (Some command) name
+unfolding rest_of waits_for
+rest-waits (Advance session n) name = refl
+rest-waits command name = refl
+
+pub begun-waits : (command : Command) (owner : Owning) (name : List ℕ)
+    → is_waited_for (begun command owner).waiting name ≡ is_waited_for (Some command) name
+begun-waits command owner name = by_test (nat_lt 0 (steps_before owner.state command))
+    (λ t. rw t refl)
+    (λ t. rw t (rest-waits command name))
+
+-- as many steps are owed to every other session
+taken-owes : (command : Command) (owned : Owned) (name : List ℕ) → is_waited_for (Some command) name ≡ false
+    → owed_in (taken_up command owned) name ≡ owed_in owned name
+unfolding taken_up waits_for
+taken-owes (Advance session n) owned name apart =
+    ap (λ o. option_map_or (λ (h : Held). h.owed) o 0)
+    (other-changed owned session (owing n) name (λ is. true≢false (sym ((bytes_eq-Decides session name).1 is) ∙ apart)))
+taken-owes (Measure session) owned name apart = owed-changed owned session (with_step Energy) (λ held. refl) name
+taken-owes command owned name apart = refl
+
+pub begun-owes : (command : Command) (owner : Owning) (name : List ℕ) → is_waited_for (Some command) name ≡ false
+    → owed_in (begun command owner).state name ≡ owed_in owner.state name
+begun-owes command owner name apart = by_test (nat_lt 0 (steps_before owner.state command))
+    (λ t. rw t refl)
+    (λ t. rw t (taken-owes command owner.state name apart))
+
+-- a turn: the step of its session is passed, and what waits for the session begins again
+abbrev passed_in : List ℕ → Owning → Owning
+passed_in name owner = with_state (changed name step_passed owner.state) owner
+
+turned-passed : (name : List ℕ) (owner : Owning) → is_waited_for owner.waiting name ≡ false → turned_from name owner ≡ passed_in name owner
+turned-passed name owner other = rw other refl
+
+turned-begun : (name : List ℕ) (owner : Owning) (command : Command) → owner.waiting ≡ Some command
+    → is_waited_for (Some command) name ≡ true → turned_from name owner ≡ begun command (passed_in name owner)
+turned-begun name owner command is waited = rw (is, waited) refl
+
+turned-either : (P : Owning → Type 0) (name : List ℕ) (owner : Owning) → P (passed_in name owner)
+    → ((command : Command) → owner.waiting ≡ Some command → P (begun command (passed_in name owner))) → P (turned_from name owner)
+turned-either P name owner passes begins_again = by owner.waiting refl
+  where
+    by : (w : Option Command) → owner.waiting ≡ w → P (turned_from name owner)
+    by None e = subst P (sym (turned-passed name owner (ap (λ w. is_waited_for w name) e))) passes
+    by (Some command) e = by_test (is_waited_for (Some command) name)
+        (λ t. subst P (sym (turned-begun name owner command e t)) (begins_again command e))
+        (λ t. subst P (sym (turned-passed name owner (ap (λ w. is_waited_for w name) e ∙ t))) passes)
+
+pub turned-waits : (name : List ℕ) (owner : Owning) (other : List ℕ)
+    → is_waited_for (turned_from name owner).waiting other ≡ is_waited_for owner.waiting other
+turned-waits name owner other = turned-either (λ (o : Owning). is_waited_for o.waiting other ≡ is_waited_for owner.waiting other)
+    name owner refl
+    (λ command is. begun-waits command (passed_in name owner) other ∙ sym (ap (λ w. is_waited_for w other) is))
+
+pub turned-owes : (name : List ℕ) (owner : Owning) → OwesNoMore owner (turned_from name owner).state
+turned-owes name owner other apart = turned-either (λ (o : Owning). owed_in o.state other ≤ owed_in owner.state other)
+    name owner passes
+    (λ command is.
+    let same = begun-owes command (passed_in name owner) other (sym (ap (λ w. is_waited_for w other) is) ∙ apart) in
+    let fewer = passes in
+    omega (arith, same, fewer))
+  where
+    passes : owed_in (passed_in name owner).state other ≤ owed_in owner.state other
+    passes = owed-lowered owner.state name step_passed (λ held. let one_less = passed-owed held in omega (arith, one_less)) other
+
 -- a session that is whole, over a pool
 module _ (owner : Owning) (owed : List Work) (t : Gathers owner owed) (name : List ℕ)
     (whole : is_whole_in owner.state name ≡ true) where
@@ -470,12 +535,7 @@ module _ (owner : Owning) (owed : List Work) (t : Gathers owner owed) (name : Li
               let fewer = passed_turns owner.state name command waits some in
               let left : 0 < turns_before (changed name step_passed owner.state) command =
               omega (arith, fewer, last) in
-              subst (λ (o : Owning). Turns owner owed o) (sym (turned_is e y)) (turns-waited command e waits some left)
+              subst (λ (o : Owning). Turns owner owed o) (sym (turned-begun name owner command e y)) (turns-waited command e waits some left)
             where
-              turned_is : owner.waiting ≡ Some command → is_waited_for (Some command) name ≡ true
-                  → turned_from name owner
-                  ≡ begun command (record { state = changed name step_passed owner.state; number = owner.number; waiting = None })
-              turned_is e y = rw (e, y) refl
-
               last : turns_before owner.state command ≡ 1 → ⊥
               last one = more (record { waited = rw e y; last = rw e one })

@@ -1,17 +1,18 @@
 -- From item to item of a stream that is served, and to each of its ends.
-use Rattle.std.proofs.Common.{◌≡◌, ℕ, ◌+◌, ◌-◌, ◌<◌, ◌≤◌, Bool, true, false, List, [], ◌∷◌, ◌++◌, length, take, cond, Option}
+use Rattle.std.proofs.Common.{◌≡◌, ℕ, ◌+◌, ◌-◌, ◌<◌, ◌≤◌, Bool, true, false, List, [], ◌∷◌, ◌++◌, ◌⊎◌, length, take, cond, Option}
 use Rattle.std.proofs.Common.{Some, None, inl, inr, refl, sym, ap, ◌∙◌, subst, arith}
 use Rattle.std.specs.Prelude.{IsSome, IsSomeAnd, is_some, nat_lt}
 use Rattle.std.specs.Option.{option_map_or}
-use Rattle.std.specs.List.{concat}
+use Rattle.std.specs.List.{concat, Contains}
 use Rattle.std.proofs.lemmas.Bool.{ltb-true, ltb-false}
 use Rattle.std.specs.Io.KnownBytes.{Consumes, Appends}
 use Rattle.std.proofs.KnownBytes.{Consumes-nil, Consumes-trans, Appends-nil, Appends-trans}
 use Rattle.std.proofs.lemmas.List.{append_assoc, append-nil, length-append}
+use Rattle.std.proofs.lemmas.List.Elements.{Contains-append_left, Contains-push, Contains-push_cases}
 use Rattle.lj_session.specs.declared.command.Command.TheVariants.{Bye as ByeCommand}
 use Rattle.lj_session.specs.declared.reply.Reply.{Reply}
 use Rattle.lj_session.specs.declared.command.Command.{Command as Order}
-use Rattle.lj_session.specs.declared.command.Command.TheVariants.{Advance, Measure}
+use Rattle.lj_session.specs.declared.command.Command.TheVariants.{Advance, Start, Measure}
 use Rattle.lj_branch.specs.Named.{named}
 use Rattle.lj_session.specs.Turns.{turns, waits_for, advance_turns, measure_turns}
 use Rattle.lj_session.specs.Users.{Session, User}
@@ -39,12 +40,13 @@ use Rattle.lj_pool.specs.declared.running.Halt.TheVariants as halts
 use Rattle.lj_pool.specs.Seen.{Seen}
 use Rattle.lj_pool.specs.declared.pool.TheConstants.{MAX_AHEAD}
 use Rattle.lj_pool.specs.Counting.{command_tiles, item_tiles, tiles, tiles_owed, CountsRise}
+use Rattle.lj_pool.specs.Owing.{MayOwe, OwesAfter}
 use Rattle.lj_pool.specs.Coming.{tiles_to_come}
 use Rattle.lj_pool.specs.Endings.{served_of, ending_of}
-use Rattle.lj_pool.specs.Served.{NoneEnds, EndsByBye, EndsByFault, AnswersAll, IsServed, Reaches, MayWait, StopsAt, StopsShort, Serves}
+use Rattle.lj_pool.specs.Served.{NoneEnds, EndsByBye, EndsByFault, AnswersAll, IsServed, Reaches, MayWait, StopsShort, Serves}
 use Rattle.lj_pool.specs.Serving.{AnswersItem, Serving}
 use Rattle.lj_pool.proofs.Going.{rises_more, rises_none}
-use Rattle.lj_pool.proofs.Rested.{rested-tiles}
+use Rattle.lj_pool.proofs.Rested.{rested-tiles, rested-owes}
 
 -- bytes that begin with items do so too where more bytes come after
 pub Takes-on : (n : ℕ) (bytes : List ℕ) (items : List Item) (left more : List ℕ) → Takes n bytes items left
@@ -86,46 +88,79 @@ measures : (o : Option Session) → 0 < measure_turns o → IsSome o
 measures None h = absurd (omega (arith, h))
 measures (Some session) h = refl
 
-own_there : (owned : Owned) (command : Order) → 0 < turns (user_of owned) command
-    → IsSomeAnd (waits_for command) (λ name. IsSome (named name (user_of owned).sessions))
-unfolding turns waits_for
-own_there owned (Advance name n) more = advances n (named name (user_of owned).sessions) more
-own_there owned (Measure name) more = measures (named name (user_of owned).sessions) more
-own_there owned command more = absurd (omega (arith, more))
+-- A command waits for a session of the user, and takes turns of its own or may wait for others.
+abbrev Waits : Owned → (List ℕ → Type 0) → Order → Type 0
+Waits owned Others command = IsSomeAnd (waits_for command)
+    (λ name. IsSome (named name (user_of owned).sessions) × ((0 < turns (user_of owned) command) ⊎ Others name))
 
--- a command before which turns come waits for a session of the user
-waits_there : (owned : Owned) (command : Order) → 0 < turns_before owned command
-    → IsSomeAnd (waits_for command) (λ name. IsSome (named name (user_of owned).sessions))
-waits_there owned command some = by_test (nat_lt 0 (steps_before owned command))
+own_there : (owned : Owned) (Others : List ℕ → Type 0) (command : Order) → 0 < turns (user_of owned) command → Waits owned Others command
+unfolding turns waits_for
+own_there owned Others (Advance name n) more = (advances n (named name (user_of owned).sessions) more, inl more)
+own_there owned Others (Measure name) more = (measures (named name (user_of owned).sessions) more, inl more)
+own_there owned Others command more = absurd (omega (arith, more))
+
+-- so does one before which turns come
+waits_there : (owned : Owned) (Others : List ℕ → Type 0) → ((name : List ℕ) → 0 < owed_in owned name → Others name)
+    → (command : Order) → 0 < turns_before owned command → Waits owned Others command
+waits_there owned Others may command some = by_test (nat_lt 0 (steps_before owned command))
     (λ t. for_steps (waits_for command) refl (ltb-true 0 (steps_before owned command) t))
-    (λ t. let none = ltb-false 0 (steps_before owned command) t in own_there owned command (omega (arith, some, none)))
+    (λ t. let none = ltb-false 0 (steps_before owned command) t in own_there owned Others command (omega (arith, some, none)))
   where
     there : (name : List ℕ) → 0 < owed_in owned name → (o : Option Held) → held_in owned name ≡ o
         → IsSome (named name (user_of owned).sessions)
     there name more None e = absurd (let none = rw e at more in omega (arith, none))
     there name more (Some held) e = ap is_some (named-held owned name held e)
 
-    for_steps : (o : Option (List ℕ)) → waits_for command ≡ o → 0 < steps_before owned command
-        → IsSomeAnd (waits_for command) (λ name. IsSome (named name (user_of owned).sessions))
+    for_steps : (o : Option (List ℕ)) → waits_for command ≡ o → 0 < steps_before owned command → Waits owned Others command
     for_steps None e more = absurd (let none = ap (λ o. option_map_or (owed_in owned) o 0) e in omega (arith, none, more))
     for_steps (Some name) e more =
-        subst (λ o. IsSomeAnd o (λ name. IsSome (named name (user_of owned).sessions))) (sym e)
-        (there name (subst (λ o. 0 < option_map_or (owed_in owned) o 0) e more) (held_in owned name) refl)
+        let owed : 0 < owed_in owned name = subst (λ o. 0 < option_map_or (owed_in owned) o 0) e more in
+        subst (λ o. IsSomeAnd o (λ name. IsSome (named name (user_of owned).sessions)
+        × ((0 < turns (user_of owned) command) ⊎ Others name))) (sym e)
+        (there name owed (held_in owned name) refl, inr (may name owed))
 
 -- a load takes no turns, and none come before it
 lost_before : (owned : Owned) (found item : Item) → IsLost found item → item_before owned item ≡ 0
 unfolding turns waits_for
 lost_before owned found item l = ap (item_before owned) l.item_is
 
-may_wait : (owned : Owned) (found item : Item) → IsHandedOut found item → 0 < item_before owned item
-    → MayWait (user_of owned) found
-may_wait owned found item (inl same) some = of found (subst (λ i. 0 < item_before owned i) same some)
+may_wait : (start : Owned) (before : List Item) (owned : Owned) (found item : Item) → OwesAfter start before owned
+    → IsHandedOut found item → 0 < item_before owned item → MayWait start before (user_of owned) found
+may_wait start before owned found item owes (inl same) some = of found (subst (λ i. 0 < item_before owned i) same some)
   where
-    of : (item : Item) → 0 < item_before owned item → MayWait (user_of owned) item
-    of (Command command) more = waits_there owned command more
+    of : (item : Item) → 0 < item_before owned item → MayWait start before (user_of owned) item
+    of (Command command) more = waits_there owned (MayOwe start before) owes command more
     of (Bad fault) more = absurd (omega (arith, more))
     of (Last fault) more = absurd (omega (arith, more))
-may_wait owned found item (inr l) some = let none = lost_before owned found item l in absurd (omega (arith, none, some))
+may_wait start before owned found item owes (inr l) some =
+    let none = lost_before owned found item l in absurd (omega (arith, none, some))
+
+-- a START that is handed out stands in the stream
+start_found : (found item : Item) (name : List ℕ) (n : ℕ) → IsHandedOut found item → Contains (item ∷ []) (Command (Start name n))
+    → found ≡ Command (Start name n)
+start_found found item name n handed there = by handed (Contains-push_cases [] item (Command (Start name n)) there)
+  where
+    by : IsHandedOut found item → Contains [] (Command (Start name n)) ⊎ (item ≡ Command (Start name n))
+        → found ≡ Command (Start name n)
+    by handed (inl none) = absurd (let few = none.1 in omega (arith, few))
+    by (inl same) (inr is) = sym same ∙ is
+    by (inr l) (inr is) = absurd (let differ = sym l.item_is ∙ is in cc)
+
+-- steps may be owed after one item more where they are owed after it
+owes-more : (start : Owned) (items : List Item) (owned : Owned) (found item : Item) (last : Owned) → OwesAfter start items owned
+    → IsHandedOut found item → OwesAfter owned (item ∷ []) last → OwesAfter start (items ++ found ∷ []) last
+owes-more start items owned found item last before handed after name more = by (after name more)
+  where
+    earlier : MayOwe start items name → MayOwe start (items ++ found ∷ []) name
+    earlier (inl some) = inl some
+    earlier (inr (n, there)) = inr (n, Contains-append_left items (found ∷ []) (Command (Start name n)) there)
+
+    by : MayOwe owned (item ∷ []) name → MayOwe start (items ++ found ∷ []) name
+    by (inl some) = earlier (before name some)
+    by (inr (n, there)) = inr (
+      n,
+      subst (Contains (items ++ found ∷ [])) (start_found found item name n handed there) (Contains-push items found),
+    )
 
 -- what is handed out for an item takes the same tiles
 lost_tiles : (user : User) (found item : Item) → IsLost found item → (item_tiles user item ≡ 0)
@@ -191,6 +226,7 @@ serving-start start first was old none is_open = record {
   next_is = rested_user start;
   counted = rises_none old old (0 + tiles_owed start - tiles_to_come (rested start)) refl refl
       (let all = rested-tiles start in omega (arith, all));
+  owes = λ name more. inl (let same = rested-owes start name in omega (arith, same, more));
   phase = is_open;
   errors = refl;
 }
@@ -202,9 +238,9 @@ module _ (start : Owned) (first now : Standing) (was is : Option (List ℕ)) (ol
 
   -- the work goes on
   pub serving-goes : (next : Owned) (newer : Seen) → user_of next ≡ user_of owned
-      → CountsRise (tiles_to_come owned - tiles_to_come next) new newer
+      → CountsRise (tiles_to_come owned - tiles_to_come next) new newer → ((name : List ℕ) → owed_in next name ≤ owed_in owned name)
       → Serving start first now was is old newer next
-  serving-goes next newer same risen = record {
+  serving-goes next newer same risen fewer = record {
     read = s.read;
     written = s.written;
     items = s.items;
@@ -219,6 +255,7 @@ module _ (start : Owned) (first now : Standing) (was is : Option (List ℕ)) (ol
     counted = rises_more (tiles user s.items s.marks + tiles_owed start - tiles_to_come owned)
         (tiles_to_come owned - tiles_to_come next)
         (tiles user s.items s.marks + tiles_owed start - tiles_to_come next) s.counted risen (omega arith);
+    owes = λ name more. s.owes name (let few = fewer name in omega (arith, few, more));
     phase = s.phase;
     errors = s.errors;
   }
@@ -244,7 +281,7 @@ module _ (start : Owned) (first now : Standing) (was is : Option (List ℕ)) (ol
       → Serves (served_of halt) start first.left now.left was is old newer None
   serving-stops halt newer many = by halt
     where
-      short : StopsShort user s.read s.written newer
+      short : StopsShort start s.read s.written newer
       short = inr (record {
         count = now.items;
         left = [];
@@ -329,12 +366,13 @@ module _ (start : Owned) (first now : Standing) (was is : Option (List ℕ)) (ol
     }
 
     -- it waits, and the pool is given up
-    stops : (newer : Seen) → 0 < item_before owned item → StopsShort user (s.read ++ h.front) s.written newer
+    stops : (newer : Seen) → 0 < item_before owned item → StopsShort start (s.read ++ h.front) s.written newer
+    unfolding reaches
     stops newer waits = inl (record {
       between = user_of owned;
       item = h.found;
       reaches = reaches;
-      waits = may_wait owned h.found item h.is_found waits;
+      waits = may_wait start s.items owned h.found item s.owes h.is_found waits;
     })
 
     pub serving-halts : (halt : Halt) (newer : Seen) → 0 < item_before owned item
@@ -422,8 +460,8 @@ module _ (start : Owned) (first now : Standing) (was is : Option (List ℕ)) (ol
             (tiles user items_more marks_more + tiles_owed start - tiles_to_come last)
             s.counted risen (omega (arith, sum, same, from))
 
-        pub serving-more : ending_of item ≡ None → Serving start first after was now_is old newer last
-        serving-more none =
+        pub serving-more : ending_of item ≡ None → OwesAfter owned (item ∷ []) last → Serving start first after was now_is old newer last
+        serving-more none owes =
             let goes : ends item ≡ false = goes_on item none in
             record {
               read = s.read ++ h.front;
@@ -439,6 +477,7 @@ module _ (start : Owned) (first now : Standing) (was is : Option (List ℕ)) (ol
               written_is = written_more;
               next_is = next_more;
               counted = counted_more;
+              owes = owes-more start s.items owned h.found item last s.owes h.is_found owes;
               phase = h.phase_is ∙ ap (λ end. cond end Over Open) goes;
               errors = h.errors_is ∙ s.errors;
             }

@@ -1,5 +1,5 @@
 -- What waited is answered at a turn, after work that went on; and a command that is answered once its work is done.
-use Rattle.std.proofs.Common.{◌≡◌, ℕ, ◌+◌, ◌-◌, ◌<◌, ◌≤◌, Bool, true, false, List, Option, Some, None, Result, Ok, Err, refl, sym, ap, ◌∙◌, subst, arith}
+use Rattle.std.proofs.Common.{◌≡◌, ℕ, ◌+◌, ◌-◌, ◌<◌, ◌≤◌, true, List, [], ◌∷◌, Option, Some, None, Result, Ok, Err, inl, refl, sym, ap, ◌∙◌, subst, arith}
 use Rattle.std.specs.Prelude.{IfSome, IfNone, IsSome, OnOk, is_some}
 use Rattle.std.specs.List.{IsDistinct}
 use Rattle.std.specs.Str.{bytes_eq}
@@ -9,19 +9,21 @@ use Rattle.lj_session.specs.declared.reply.Reply.{Reply}
 use Rattle.lj_session.specs.Users.{User}
 use Rattle.lj_session.specs.Answers.{AnswersAlike}
 use Rattle.lj_session.specs.Begins.{OnRefusal}
-use Rattle.lj_session.specs.States.{IsIdleIn, OthersKept, OtherSessionsKept, StepsFollow, is_whole_in, names, turns_before}
-use Rattle.lj_session.specs.Owners.{Owning, IsAnswered, IsReplied, IsLastTurn, WaitsAlike, WaitsAlikeFor, begun, user_in}
+use Rattle.lj_session.specs.States.{Owned, IsIdleIn, OthersKept, OtherSessionsKept, StepsFollow, is_whole_in, names, owed_in, turns_before}
+use Rattle.lj_session.specs.Owners.{Owning, IsAnswered, IsReplied, IsLastTurn, WaitsAlike, WaitsAlikeFor, begun, is_waited_for, user_in}
+use Rattle.lj_session.proofs.Entries.{by_test}
+use Rattle.lj_wire.specs.declared.item.Item.TheVariants.{Command as Ordered}
 use Rattle.lj_pool.specs.declared.running.Halt.{Halt}
 use Rattle.lj_pool.specs.declared.running.Halt.TheVariants.{PoolClosed, TooManyStrays}
-use Rattle.lj_pool.specs.declared.pool.TheConstants.{MAX_STRAYS}
 use Rattle.lj_pool.specs.Seen.{Seen}
 use Rattle.lj_pool.specs.Gathering.{Gathers}
 use Rattle.lj_pool.specs.Counting.{CountsRise, StraysRise, command_tiles}
-use Rattle.lj_pool.specs.Coming.{GoesOn, tiles_to_come, tiles_coming, waiting_tiles_of}
+use Rattle.lj_pool.specs.Coming.{GoesOn, OwesNoMore, OwesNoneWhereWaited, tiles_to_come, tiles_coming, waiting_tiles_of}
+use Rattle.lj_pool.specs.Owing.{OwesAfter}
 use Rattle.lj_pool.specs.Running.{IsHalted}
 use Rattle.lj_pool.proofs.Sessions.{distinct-answered}
-use Rattle.lj_pool.proofs.Begun.{Begins, begins}
-use Rattle.lj_pool.proofs.Answered.{answered_gathers, answered_tiles, ended_gathers, ended_tiles}
+use Rattle.lj_pool.proofs.Begun.{Begins, begins, begun-waits, begun-owes}
+use Rattle.lj_pool.proofs.Answered.{answered_gathers, answered_owes, answered_tiles, ended_gathers, ended_owes, ended_rests, ended_tiles}
 use Rattle.lj_pool.proofs.Going.{rises_more, rises_none, replied_alike}
 
 -- what waits goes on waiting, and where nothing waits nothing does
@@ -75,6 +77,18 @@ module _ (start : Owning) (before : Seen) (now : Owning) (after : Seen) (goes : 
       rises_more (tiles_coming start - tiles_coming now) 0 (tiles_coming start - tiles_coming next) goes.counted
       (rises_none after after 0 refl refl (omega arith)) (omega (arith, more))
 
+  -- no step is owed to the session that was waited for, and no more than before to the others
+  pub ends_owes : OwesNoMore start next.state
+  ends_owes other quiet =
+      let went = goes.owes other quiet in
+      let ended = ended_owes now after.owed goes.gathers name whole last next number done others rests distinct other
+      (goes.waits other ∙ quiet) in
+      omega (arith, went, ended)
+
+  pub ends_rests : OwesNoneWhereWaited start next.state
+  ends_rests other for_it =
+      ended_rests now after.owed goes.gathers name whole last next number done others rests distinct other (goes.waits other ∙ for_it)
+
 -- a command that begins
 module _ (owner : Owning) (seen : Seen) (t : Gathers owner seen.owed) (idle : owner.waiting ≡ None) (command : Command)
     (next : Owning) where
@@ -114,6 +128,16 @@ module _ (owner : Owning) (seen : Seen) (t : Gathers owner seen.owed) (idle : ow
         (command_tiles (user_in owner) command + tiles_to_come owner.state - tiles_to_come last.state) counted
         (rises_none after after 0 refl refl (omega arith)) (omega (arith, first, none))
 
+    -- and steps are owed after it only where some were
+    pub begun_owes : (last : Owned) → OwesNoMore next last → OwesNoneWhereWaited next last → OwesAfter owner.state (Ordered command ∷ []) last
+    begun_owes last no_more rests name more = by_test (is_waited_for next.waiting name)
+        (λ t. let none = rests name t in absurd (omega (arith, none, more)))
+        (λ t.
+        let waits = ap (λ (o : Owning). is_waited_for o.waiting name) is ∙ begun-waits command owner name in
+        let begins_with = ap (λ (o : Owning). owed_in o.state name) is ∙ begun-owes command owner name (sym waits ∙ t) in
+        let few = no_more name t in
+        inl (omega (arith, begins_with, few, more)))
+
   -- and is answered at once
   module _ (reply : Reply) (number : next.number ≡ owner.number) (done : next.waiting ≡ None)
       (at_once : turns_before owner.state command ≡ 0) (answered : IsAnswered (user_in owner) command reply (user_in next))
@@ -128,6 +152,9 @@ module _ (owner : Owning) (seen : Seen) (t : Gathers owner seen.owed) (idle : ow
         let more = answered_tiles owner seen.owed t idle command reply next number done at_once answered unchanged others steps in
         rises_none seen seen (command_tiles (user_in owner) command + tiles_to_come owner.state - tiles_to_come next.state)
         refl refl (omega (arith, more))
+
+    pub at_once_owes : OwesAfter owner.state (Ordered command ∷ []) next.state
+    at_once_owes = answered_owes owner seen.owed t idle command reply next number done at_once answered unchanged others steps
 
 -- strays in a row, and what halts
 pub strays_then : (a b c : Seen) (n : ℕ) → StraysRise n a b → StraysRise 1 b c → b.strays ≤ c.strays → StraysRise (n + 1) a c

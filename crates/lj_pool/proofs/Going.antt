@@ -1,33 +1,31 @@
 -- The work goes on: by nothing, by a post, by a result, by a turn, and by one after the other.
-use Rattle.std.proofs.Common.{◌≡◌, ℕ, suc, ◌+◌, ◌-◌, ◌<◌, ◌≤◌, Bool, true, false, nat_lt, List, [], ◌∷◌, ◌++◌, length, Option, Some, None}
+use Rattle.std.proofs.Common.{◌≡◌, ℕ, ◌+◌, ◌-◌, ◌<◌, ◌≤◌, true, false, nat_lt, List, Option, Some, None}
 use Rattle.std.proofs.Common.{Result, Ok, Err, inl, inr, refl, sym, ap, ◌∙◌, subst, arith}
 use Rattle.std.specs.Prelude.{if◌then◌else◌, ◌↔◌, IfSome, IsOk, OnOk, OnErr, is_ok}
 use Rattle.std.specs.Option.{option_map_or}
 use Rattle.std.proofs.lemmas.Bool.{true≢false, false≢true}
 use Rattle.lj_tile.specs.Tasks.{Work}
-use Rattle.lj_step.specs.Live.{Live}
 use Rattle.lj_step.specs.OpenSteps.{tile_number_of, tiles_of, IsAwaitedTaskIn}
 use Rattle.lj_session.specs.declared.command.Command.{Command}
 use Rattle.lj_session.specs.declared.reply.Reply.{Reply}
 use Rattle.lj_session.specs.Users.{User}
 use Rattle.lj_session.specs.Answers.{answer}
 use Rattle.lj_session.specs.Turns.{turns, waits_for}
-use Rattle.lj_session.specs.States.{Held, Owned, held_in, owed_in, user_of, changed, with_posted, with_tile_in, next_tile, passed_to, steps_before}
+use Rattle.lj_session.specs.States.{Held, held_in, owed_in, user_of, changed, with_posted, with_tile_in, next_tile, passed_to, steps_before}
 use Rattle.lj_session.specs.States.{is_whole_in}
 use Rattle.lj_session.specs.Owners.{Owning, user_in, label_of, task_in, with_task_posted, with_task_in, IsAwaitedIn, IsAnswered, IsReplied}
-use Rattle.lj_session.specs.Owners.{WaitsAlike, WaitsAlikeFor, IsLastTurn, turned_from}
+use Rattle.lj_session.specs.Owners.{WaitsAlike, WaitsAlikeFor, IsLastTurn, is_waited_for, turned_from}
 use Rattle.lj_session.proofs.Holding.{changed-quota}
-use Rattle.lj_session.proofs.Tiles.{posted-live}
 use Rattle.lj_session.proofs.Waiting.{posted_user, taken_user}
 use Rattle.lj_pool.specs.Seen.{Seen, SameOwed, IsPosted, IsHandedOut, IsStray}
 use Rattle.lj_pool.specs.Gathering.{Gathers, left_in}
-use Rattle.lj_pool.specs.Counting.{CountsRise, command_tiles, steps_tiles, sum_over}
-use Rattle.lj_pool.specs.Coming.{GoesOn, tiles_after, tiles_of_session, posts_of_session, waiting_tiles, waiting_tiles_of, turns_coming}
-use Rattle.lj_pool.specs.Coming.{tiles_to_come, tiles_coming, posts_coming}
+use Rattle.lj_pool.specs.Counting.{CountsRise, command_tiles}
+use Rattle.lj_pool.specs.Coming.{GoesOn, tiles_of_session, posts_of_session, waiting_tiles, waiting_tiles_of, turns_coming}
+use Rattle.lj_pool.specs.Coming.{tiles_coming, posts_coming}
 use Rattle.lj_pool.proofs.Gathering.{posted_fewer, taken_left, taken_tiles}
 use Rattle.lj_pool.proofs.Gathered.{Opened, Posting, posting, gathers_posted, with_task_posted_is, gathers_taken, taken_open, taken_wanted, wanted_off}
 use Rattle.lj_pool.proofs.Sessions.{owed-changed, sum-changed}
-use Rattle.lj_pool.proofs.Begun.{Turns, turned}
+use Rattle.lj_pool.proofs.Begun.{turned, turned-owes, turned-waits}
 
 -- counts that rise, and rise on
 pub rises_more : {a b c : Seen} (n m k : ℕ) → CountsRise n a b → CountsRise m b c → k ≤ n + m → CountsRise k a c
@@ -99,6 +97,11 @@ goes_then {a} {b} {c} first second =
       turns = omega (arith, first.turns, second.turns);
       tiles = omega (arith, t1, t2);
       posts = omega (arith, first.posts, second.posts);
+      owes = λ name quiet.
+          let before = first.owes name quiet in
+          let after = second.owes name (first.waits name ∙ quiet) in
+          omega (arith, before, after);
+      waits = λ name. second.waits name ∙ first.waits name;
     }
 
 pub goes_unchanged : (owner : Owning) (before after : Seen) → Gathers owner before.owed → SameOwed before after
@@ -112,6 +115,8 @@ goes_unchanged owner before after t same = record {
   turns = omega arith;
   tiles = omega arith;
   posts = omega arith;
+  owes = λ name quiet. omega arith;
+  waits = λ name. refl;
 }
 
 pub goes_nothing : (owner : Owning) (seen : Seen) → Gathers owner seen.owed → GoesOn owner seen owner seen
@@ -220,6 +225,11 @@ module _ (owner : Owning) (before after : Seen) (t : Gathers owner before.owed) 
         turns = omega (arith, turns_same);
         tiles = omega (arith, tiles);
         posts = omega (arith, less);
+        owes = λ name quiet.
+            let is = ap (λ (o : Owning). owed_in o.state name) there_is in
+            let same = owed-changed owner.state p.name with_posted owed_posted name in
+            omega (arith, is, same);
+        waits = λ name. ap (λ (o : Owning). is_waited_for o.waiting name) there_is;
       }
 
 -- a result that comes
@@ -269,6 +279,10 @@ module _ (owner : Owning) (before after : Seen) (t : Gathers owner before.owed) 
           turns = omega (arith, turns_same);
           tiles = omega (arith, less);
           posts = omega (arith, posts, same);
+          owes = λ name quiet.
+              let owed = owed-changed owner.state work.name.label.session (with_tile_in (tile_number_of work)) (λ held. refl) name in
+              omega (arith, owed);
+          waits = λ name. refl;
         }
 
   -- one that is of no tile that is awaited was not owed
@@ -291,6 +305,8 @@ module _ (owner : Owning) (before after : Seen) (t : Gathers owner before.owed) 
         turns = omega arith;
         tiles = omega arith;
         posts = omega arith;
+        owes = λ name quiet. omega arith;
+        waits = λ name. refl;
       }
 
   module _ {A B : Type 0} (next : Owning) where
@@ -335,6 +351,11 @@ goes_turned owner next seen t name whole more is alike number quota =
       turns = omega (arith, turns_less, turns_is);
       tiles = omega (arith, tiles);
       posts = omega (arith, posts_less, posts_is);
+      owes = λ other quiet.
+          let few = turned-owes name owner other quiet in
+          let same = ap (λ (o : Owning). owed_in o.state other) is in
+          omega (arith, few, same);
+      waits = λ other. ap (λ (o : Owning). is_waited_for o.waiting other) is ∙ turned-waits name owner other;
     }
 
 pub turned_fewer : (owner next : Owning) (seen : Seen) (t : Gathers owner seen.owed) (name : List ℕ)

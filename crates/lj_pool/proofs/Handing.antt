@@ -1,15 +1,14 @@
 -- Serving goes on before the next item, and the state that is handed back.
-use Rattle.std.proofs.Common.{◌≡◌, ℕ, ◌+◌, ◌-◌, ◌≤◌, List, [], Option, Some, None, refl, sym, ap, ◌∙◌, subst, arith}
+use Rattle.std.proofs.Common.{◌≡◌, ℕ, ◌-◌, ◌≤◌, List, [], Option, None, refl, sym, ap, subst, arith}
 use Rattle.std.specs.List.{IsDistinct}
 use Rattle.std.specs.Str.{bytes_eq}
-use Rattle.lj_session.specs.declared.command.Command.{Command}
-use Rattle.lj_session.specs.States.{Owned, user_of, rested, names}
-use Rattle.lj_session.specs.Owners.{Owning, entered, user_in}
+use Rattle.lj_session.specs.States.{Owned, rested, names}
+use Rattle.lj_session.specs.Owners.{Owning, entered, is_waited_for}
 use Rattle.lj_wire.specs.declared.reader.phase.Phase.TheVariants.{Open}
 use Rattle.lj_wire.specs.Standings.{Standing}
 use Rattle.lj_pool.specs.Seen.{Seen}
 use Rattle.lj_pool.specs.Gathering.{Gathers, NoneOwed}
-use Rattle.lj_pool.specs.Counting.{CountsRise, tiles_owed}
+use Rattle.lj_pool.specs.Counting.{tiles_owed}
 use Rattle.lj_pool.specs.Coming.{GoesOn, waiting_tiles_of, tiles_to_come, tiles_coming}
 use Rattle.lj_pool.specs.Serving.{Serving}
 use Rattle.lj_pool.proofs.Dialogues.{serving-start, serving-goes}
@@ -49,6 +48,7 @@ module _ (owner : Owning) (seen : Seen) (idle : owner.waiting ≡ None) (next : 
       serving-goes start first now was is old seen owner.state s next.state newer (alike_none owner next goes.alike idle).1
       (rises_more (tiles_coming owner - tiles_coming next) 0 (tiles_to_come owner.state - tiles_to_come next.state) goes.counted
       (rises_none newer newer 0 refl refl (omega arith)) (omega (arith, before, after)))
+      (λ name. goes.owes name (ap (λ w. is_waited_for w name) idle))
 
 -- the state handed back
 module _ (owner : Owning) (seen : Seen) (t : Gathers owner seen.owed) (idle : owner.waiting ≡ None) (back : Owned)

@@ -1,5 +1,5 @@
 -- States whose steps are begun anew: what is to come of them, and that nothing is owed then where no step is.
-use Rattle.std.proofs.Common.{◌≡◌, ℕ, zero, suc, ◌+◌, ◌≤◌, Bool, true, false, nat_lt, List, [], ◌∷◌, map, Option, Some, None, refl, sym, ap}
+use Rattle.std.proofs.Common.{◌≡◌, ℕ, ◌≤◌, nat_lt, List, [], ◌∷◌, map, Option, Some, None, refl, sym, ap}
 use Rattle.std.proofs.Common.{◌∙◌, subst, arith}
 use Rattle.std.specs.List.{IsDistinct, filter, sum_by}
 use Rattle.std.specs.Option.{option_map, option_map_or}
@@ -7,15 +7,13 @@ use Rattle.std.specs.Str.{bytes_eq}
 use Rattle.std.proofs.lemmas.List.Sums.{sum_by-cons}
 use Rattle.std.proofs.lemmas.Option.{none-some, same_Some}
 use Rattle.lj_tile.specs.Tasks.{Work}
-use Rattle.lj_step.specs.OpenSteps.{kind_of}
-use Rattle.lj_branch.specs.Named.{named}
-use Rattle.lj_session.specs.States.{Held, Owned, IsAtWork, IsIdle, held_in, owed_in, names, at_rest, rested, kind_owed}
+use Rattle.lj_session.specs.States.{Held, Owned, IsAtWork, held_in, owed_in, names, at_rest, rested}
 use Rattle.lj_session.specs.Owners.{Owning, entered, label_of}
 use Rattle.lj_session.proofs.AtWork.{at_work-rested, kind-none}
 use Rattle.lj_session.proofs.Entries.{by_test, named-seen}
 use Rattle.lj_session.proofs.Holding.{owed-of}
 use Rattle.lj_pool.specs.Gathering.{IsGathered, is_of, posted_of, Gathers, NoneOwed}
-use Rattle.lj_pool.specs.Counting.{owed_tiles, tiles_owed, sum_over}
+use Rattle.lj_pool.specs.Counting.{owed_tiles, tiles_owed}
 use Rattle.lj_pool.specs.Coming.{tiles_of_session, tiles_to_come}
 use Rattle.lj_pool.proofs.Sessions.{same_name, sum-below}
 use Rattle.lj_pool.proofs.Tiles.{rest-tiles, rest-owed, rest-more, rest-gathered, rest-posted, closed-part, closed-posted}
@@ -40,6 +38,17 @@ rested-owed owned = rested-sum owed_tiles owed_tiles rest-owed owned.sessions
 
 rested-there : (owned : Owned) (name : List ℕ) → held_in (rested owned) name ≡ option_map at_rest (held_in owned name)
 rested-there owned name = named-seen at_rest name owned.sessions
+
+-- as many steps are owed to each session
+rest-count : (held : Held) → (at_rest held).owed ≡ held.owed
+rest-count held = by_test (nat_lt 0 held.owed) (λ t. rw t refl) (λ t. rw t refl)
+
+pub rested-owes : (owned : Owned) (name : List ℕ) → owed_in (rested owned) name ≡ owed_in owned name
+rested-owes owned name = ap (λ o. option_map_or (λ (h : Held). h.owed) o 0) (rested-there owned name) ∙ by (held_in owned name)
+  where
+    by : (o : Option Held) → option_map_or (λ (h : Held). h.owed) (option_map at_rest o) 0 ≡ option_map_or (λ (h : Held). h.owed) o 0
+    by None = refl
+    by (Some held) = rest-count held
 
 -- no more is to come of a state than of the same begun anew
 pub rested-few : (owner : Owning) (owed : List Work) → Gathers owner owed → owner.waiting ≡ None
@@ -93,17 +102,11 @@ none-owed owner owed t idle none = by owed refl
     work : IsAtWork None owner.state
     work = subst (λ w. IsAtWork w owner.state) idle t.at_work
 
-    rest-count : (held : Held) → (at_rest held).owed ≡ held.owed
-    rest-count held = by_test (nat_lt 0 held.owed) (λ t. rw t refl) (λ t. rw t refl)
-
     none_posted : (name : List ℕ) (o : Option Held) → held_in owner.state name ≡ o
         → posted_of (label_of owner name) (held_in owner.state name) ≡ []
     none_posted name None e = ap (posted_of (label_of owner name)) e
     none_posted name (Some held) e =
-        let rest : (at_rest held).owed ≡ 0 =
-        sym (ap (λ o. option_map_or (λ (h : Held). h.owed) o 0) (rested-there owner.state name ∙ ap (option_map at_rest) e))
-        ∙ none name in
-        let zero_owed : held.owed ≡ 0 = sym (rest-count held) ∙ rest in
+        let zero_owed = owed-of owner.state name held e (sym (rested-owes owner.state name) ∙ none name) in
         ap (posted_of (label_of owner name)) e
         ∙ closed-posted held (label_of owner name) (closed-part held.live.part
         (work name held e ∙ kind-none None name held zero_owed refl))

@@ -1,5 +1,5 @@
 -- Sessions under their names: one changed, sums over them, and that their names stay distinct.
-use Rattle.std.proofs.Common.{◌≡◌, ◌≢◌, ℕ, ◌+◌, ◌≤◌, Bool, true, false, cond, List, [], ◌∷◌, ◌++◌, map, Option, Some, None}
+use Rattle.std.proofs.Common.{◌≡◌, ℕ, ◌+◌, ◌≤◌, Bool, true, false, List, [], ◌∷◌, map, Option, Some, None}
 use Rattle.std.proofs.Common.{Result, Ok, Err, refl, sym, ap, ◌∙◌, subst, arith}
 use Rattle.std.specs.Prelude.{IfOk, not, nat_lt, is_some}
 use Rattle.std.specs.List.{IsDistinct, AllByRecursion, find, sum_by, list_any}
@@ -24,7 +24,7 @@ use Rattle.lj_session.specs.Users.{Session, User, branches_used}
 use Rattle.lj_session.specs.declared.refusal.Refusal.TheVariants.{BranchExists, QuotaBranches, StepRange, Memory}
 use Rattle.lj_session.specs.Loads.{admitted, body_held, session_read, unless}
 use Rattle.lj_session.specs.Answers.{session_of, saved_in, has_atom, can_advance, performed, settled, answer}
-use Rattle.lj_session.specs.States.{Held, Owned, as_entry, user_of, held_in, owed_in, names, changed, at_rest, rested}
+use Rattle.lj_session.specs.States.{Held, Owned, as_entry, user_of, held_in, owed_in, names, changed}
 use Rattle.lj_session.proofs.Entries.{by_test, named-put_any, named-taken_other, put-new, sum-put, sum-taken}
 use Rattle.lj_session.proofs.Holding.{changed-some, changed-none}
 use Rattle.lj_session.proofs.Others.{others-changed}
@@ -42,24 +42,36 @@ module _ (owned : Owned) (name : List ℕ) (change : Held → Held) where
   pub other-changed : (other : List ℕ) → (name ≡ other → ⊥) → held_in (changed name change owned) other ≡ held_in owned other
   other-changed other apart = others-changed owned name change other (λ same. apart (same_Some name other same))
 
-  -- what is owed stays, where the change leaves it
-  pub owed-changed : ((held : Held) → (change held).owed ≡ held.owed) → (other : List ℕ)
-      → owed_in (changed name change owned) other ≡ owed_in owned other
-  owed-changed same other = by_test (bytes_eq name other)
-      (λ t. let is = (bytes_eq-Decides name other).0 t in
-      ap (owed_in (changed name change owned)) (sym is) ∙ here ∙ ap (owed_in owned) is)
-      (λ t. ap (λ o. option_map_or (λ (h : Held). h.owed) o 0)
-      (other-changed other (λ is. true≢false (sym ((bytes_eq-Decides name other).1 is) ∙ t))))
+  -- what is owed before and after is related, where each change relates it
+  owed-related : (R : ℕ → ℕ → Type 0) → ((n : ℕ) → R n n) → ((held : Held) → R (change held).owed held.owed) → (other : List ℕ)
+      → R (owed_in (changed name change owned) other) (owed_in owned other)
+  owed-related R same each other = by_test (bytes_eq name other)
+      (λ t. subst (λ n. R (owed_in (changed name change owned) n) (owed_in owned n)) ((bytes_eq-Decides name other).0 t) here)
+      (λ t. subst (λ n. R n (owed_in owned other))
+      (sym (ap owed_of (other-changed other (λ is. true≢false (sym ((bytes_eq-Decides name other).1 is) ∙ t)))))
+      (same (owed_in owned other)))
     where
-      here : owed_in (changed name change owned) name ≡ owed_in owned name
+      owed_of : Option Held → ℕ
+      owed_of o = option_map_or (λ (h : Held). h.owed) o 0
+
+      here : R (owed_in (changed name change owned) name) (owed_in owned name)
       here = by (held_in owned name) refl
         where
-          by : (o : Option Held) → held_in owned name ≡ o → owed_in (changed name change owned) name ≡ owed_in owned name
-          by None e = ap (λ (o : Owned). owed_in o name) (changed-none owned name change e)
+          by : (o : Option Held) → held_in owned name ≡ o → R (owed_in (changed name change owned) name) (owed_in owned name)
+          by None e = subst (λ (o : Owned). R (owed_in o name) (owed_in owned name)) (sym (changed-none owned name change e))
+              (same (owed_in owned name))
           by (Some held) e =
-              ap (λ o. option_map_or (λ (h : Held). h.owed) o 0) (there-changed held e)
-              ∙ same held
-              ∙ sym (ap (λ o. option_map_or (λ (h : Held). h.owed) o 0) e)
+              subst (λ n. R n (owed_in owned name)) (sym (ap owed_of (there-changed held e)))
+              (subst (R (change held).owed) (sym (ap owed_of e)) (each held))
+
+  -- what is owed stays, where the change leaves it, and falls, where the change lowers it
+  pub owed-changed : ((held : Held) → (change held).owed ≡ held.owed) → (other : List ℕ)
+      → owed_in (changed name change owned) other ≡ owed_in owned other
+  owed-changed = owed-related (λ n m. n ≡ m) (λ n. refl)
+
+  pub owed-lowered : ((held : Held) → (change held).owed ≤ held.owed) → (other : List ℕ)
+      → owed_in (changed name change owned) other ≤ owed_in owned other
+  owed-lowered = owed-related (λ n m. n ≤ m) (λ n. omega arith)
 
   pub sum-changed : (f : Held → ℕ) (held : Held) → held_in owned name ≡ Some held
       → sum_over f (changed name change owned) + f held ≡ sum_over f owned + f (change held)

@@ -1,12 +1,12 @@
 -- What is still to come of what is owed to the sessions and of what waits: turns, tiles, and posts.
-use Rattle.std.specs.Prelude.{◌≡◌, ◌≤◌, ℕ, ◌+◌, ◌-◌, nat_lt, Option, Some, None, if◌then◌else◌}
+use Rattle.std.specs.Prelude.{◌≡◌, ◌≤◌, ℕ, ◌+◌, ◌-◌, true, false, nat_lt, List, Option, Some, None, if◌then◌else◌}
 use Rattle.std.specs.Option.{option_map_or}
 use Rattle.lj_step.specs.Motion.{stepped}
 use Rattle.lj_step.specs.OpenSteps.{tiles_of}
 use Rattle.lj_session.specs.declared.command.Command.{Command}
 use Rattle.lj_session.specs.Turns.{turns}
-use Rattle.lj_session.specs.States.{Held, Owned, steps_before}
-use Rattle.lj_session.specs.Owners.{Owning, user_in, WaitsAlike}
+use Rattle.lj_session.specs.States.{Held, Owned, owed_in, steps_before}
+use Rattle.lj_session.specs.Owners.{Owning, user_in, is_waited_for, WaitsAlike}
 use Rattle.lj_pool.specs.Seen.{Seen}
 use Rattle.lj_pool.specs.Gathering.{Gathers, left_in}
 use Rattle.lj_pool.specs.Counting.{steps_tiles, command_tiles, sum_over, CountsRise}
@@ -50,7 +50,16 @@ tiles_coming owner = tiles_to_come owner.state + waiting_tiles owner
 abbrev pub posts_coming : Owning → ℕ
 posts_coming owner = sum_over posts_of_session owner.state + waiting_tiles owner
 
--- The work goes on: what will be answered stays, and each tile that came in was counted.
+-- No session is owed more steps than before, but the one that is waited for.
+abbrev pub OwesNoMore : Owning → Owned → Type 0
+OwesNoMore old new = (name : List ℕ) → is_waited_for old.waiting name ≡ false → owed_in new name ≤ owed_in old.state name
+
+-- No step is owed to the session that was waited for.
+abbrev pub OwesNoneWhereWaited : Owning → Owned → Type 0
+OwesNoneWhereWaited old new = (name : List ℕ) → is_waited_for old.waiting name ≡ true → owed_in new name ≡ 0
+
+-- The work goes on: what will be answered stays, each tile that came in was counted, and no session is owed more steps but
+-- the one that is waited for, which stays the same.
 pub record GoesOn (old : Owning) (before : Seen) (new : Owning) (after : Seen) : Type 0 where
   pub gathers : Gathers new after.owed
   pub alike : WaitsAlike old new
@@ -60,3 +69,5 @@ pub record GoesOn (old : Owning) (before : Seen) (new : Owning) (after : Seen) :
   pub turns : turns_coming new ≤ turns_coming old
   pub tiles : tiles_coming new ≤ tiles_coming old
   pub posts : posts_coming new ≤ posts_coming old
+  pub owes : OwesNoMore old new.state
+  pub waits : (name : List ℕ) → is_waited_for new.waiting name ≡ is_waited_for old.waiting name

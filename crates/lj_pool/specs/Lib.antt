@@ -3,6 +3,7 @@ pub mod Refusals
 pub mod Inline
 pub mod Gathering
 pub mod Counting
+pub mod Owing
 pub mod Coming
 pub mod Running
 pub mod Endings

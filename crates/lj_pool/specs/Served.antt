@@ -6,7 +6,7 @@ use Rattle.std.specs.Io.KnownBytes.{Consumes, Appends}
 use Rattle.lj_session.specs.declared.command.Command.TheVariants.{Bye as ByeCommand}
 use Rattle.lj_branch.specs.Named.{named}
 use Rattle.lj_session.specs.Users.{User}
-use Rattle.lj_session.specs.Turns.{waits_for}
+use Rattle.lj_session.specs.Turns.{turns, waits_for}
 use Rattle.lj_session.specs.States.{Owned, user_of}
 use Rattle.lj_wire.specs.declared.item.Fault.{Fault}
 use Rattle.lj_wire.specs.declared.item.Item.{Item}
@@ -22,6 +22,7 @@ use Rattle.lj_pool.specs.declared.served.Served.TheVariants.{TooManyStrays}
 use Rattle.lj_pool.specs.Seen.{Seen}
 use Rattle.lj_pool.specs.declared.pool.TheConstants.{MAX_AHEAD}
 use Rattle.lj_pool.specs.Counting.{tiles, tiles_owed, CountsRise}
+use Rattle.lj_pool.specs.Owing.{MayOwe}
 
 -- no item ends the connection
 abbrev pub NoneEnds : List Item → Type 0
@@ -67,18 +68,19 @@ pub record BreaksOff (user : User) (read written : List ℕ) (next : User) : Typ
   pub written_is : written ≡ before ++ take bytes (told between item mark).0
   pub next_is : next ≡ (told between item mark).1
 
--- the item waits for a session of the user
-abbrev pub MayWait : User → Item → Type 0
-MayWait user (Command command) = IsSomeAnd (waits_for command) (λ name. IsSome (named name user.sessions))
-MayWait user (Bad fault) = ⊥
-MayWait user (Last fault) = ⊥
+-- the item waits for a session of the user: it takes steps of its own, or steps may be owed there after the items before it
+abbrev pub MayWait : Owned → List Item → User → Item → Type 0
+MayWait state before user (Command command) = IsSomeAnd (waits_for command)
+    (λ name. IsSome (named name user.sessions) × ((0 < turns user command) ⊎ MayOwe state before name))
+MayWait state before user (Bad fault) = ⊥
+MayWait state before user (Last fault) = ⊥
 
 -- The items before one that waits are answered, and nothing is written for that.
-pub record StopsAt (user : User) (read written : List ℕ) : Type 0 where
+pub record StopsAt (state : Owned) (read written : List ℕ) : Type 0 where
   pub between : User
   pub item : Item
-  pub reaches : Reaches user read written between item
-  pub waits : MayWait between item
+  pub reaches : Reaches (user_of state) read written between item
+  pub waits : MayWait state reaches.progress.items between item
 
 -- So many items of what was read are answered, and the pool owes more than it may before the next one is.
 pub record StopsBetween (user : User) (read written : List ℕ) (new : Seen) : Type 0 where
@@ -89,8 +91,8 @@ pub record StopsBetween (user : User) (read written : List ℕ) (new : Seen) : T
   pub many : MAX_AHEAD < length new.owed
 
 -- What is written where the pool was given up.
-abbrev pub StopsShort : User → List ℕ → List ℕ → Seen → Type 0
-StopsShort user read written new = StopsAt user read written ⊎ StopsBetween user read written new
+abbrev pub StopsShort : Owned → List ℕ → List ℕ → Seen → Type 0
+StopsShort state read written new = StopsAt state read written ⊎ StopsBetween (user_of state) read written new
 
 -- What is written for what was read, and the state that is handed back.
 abbrev pub IsServed : Served → Owned → List ℕ → List ℕ → Seen → Seen → Option Owned → Type 0
@@ -99,8 +101,8 @@ IsServed Bye state read written old new (Some next) = AnswersAll EndsByBye state
 IsServed Ended state read written old new (Some next) = AnswersAll EndsByFault state read written old new next
 IsServed ReadFault state read written old new (Some next) = AnswersAll NoneEnds state read written old new next
 IsServed WriteFault state read written old new (Some next) = BreaksOff (user_of state) read written (user_of next)
-IsServed PoolClosed state read written old new None = StopsShort (user_of state) read written new
-IsServed TooManyStrays state read written old new None = StopsShort (user_of state) read written new
+IsServed PoolClosed state read written old new None = StopsShort state read written new
+IsServed TooManyStrays state read written old new None = StopsShort state read written new
 -- a state is handed back exactly where the pool was not given up
 IsServed End state read written old new None = ⊥
 IsServed Bye state read written old new None = ⊥

@@ -14,6 +14,7 @@ use Rattle.lj_wire.specs.Told.{answered, texts, last_user}
 use Rattle.lj_pool.specs.Seen.{Seen}
 use Rattle.lj_pool.specs.Counting.{tiles, tiles_owed, CountsRise}
 use Rattle.lj_pool.specs.Coming.{tiles_to_come}
+use Rattle.lj_pool.specs.Owing.{OwesAfter}
 
 -- an item is answered by a reply, which leaves the next user, under some mark
 abbrev pub AnswersItem : User → Item → Reply → User → Type 0
@@ -34,5 +35,6 @@ pub record Serving (start : Owned) (first now : Standing) (was is : Option (List
   pub written_is : written ≡ concat (texts (user_of start) items marks)
   pub next_is : user_of owned ≡ last_user (user_of start) items marks
   pub counted : CountsRise (tiles (user_of start) items marks + tiles_owed start - tiles_to_come owned) old new
+  pub owes : OwesAfter start items owned
   pub phase : now.phase ≡ Open
   pub errors : now.errors ≡ first.errors

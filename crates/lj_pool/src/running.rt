@@ -1,12 +1,14 @@
 //! The work that is owed to sessions, done over a pool: while a command waits for it, and before the next one is read.
-ghost use Rattle.std.specs.Prelude.{◌≡◌, ◌+◌, ◌-◌, ◌<◌, ◌≤◌, length, Bool, true, false, [], Some, None, Ok, IsSome, IfOk, IfErr, OnErr, OnOk};
+ghost use Rattle.std.specs.Prelude.{◌≡◌, ◌+◌, ◌-◌, ◌<◌, ◌≤◌, length, Bool, true, false, [], ◌∷◌, Some, None, Ok, IsSome, IfOk, IfErr, OnErr, OnOk};
 ghost use Rattle.lj_session.specs.States.{turns_before};
 ghost use Rattle.lj_session.specs.Owners.{IsAnswered, IsReplied, IsSettled, user_in, ready_session};
+ghost use Rattle.lj_wire.specs.declared.item.Item.TheVariants.{Command as Ordered};
 ghost use Rattle.lj_pool.specs.declared.running.Halt.TheVariants.{TooManyStrays};
 ghost use Rattle.lj_pool.specs.Seen.{SameOwed};
 ghost use Rattle.lj_pool.specs.Gathering.{Gathers};
 ghost use Rattle.lj_pool.specs.Counting.{CountsRise, StraysRise, command_tiles};
-ghost use Rattle.lj_pool.specs.Coming.{GoesOn, posts_coming, tiles_coming, tiles_to_come};
+ghost use Rattle.lj_pool.specs.Coming.{GoesOn, OwesNoMore, OwesNoneWhereWaited, posts_coming, tiles_coming, tiles_to_come};
+ghost use Rattle.lj_pool.specs.Owing.{OwesAfter};
 ghost use Rattle.lj_pool.specs.Running.{IsHalted};
 
 use crate::pool::{MAX_AHEAD, MAX_STRAYS, Pool, Refused};
@@ -36,6 +38,7 @@ pub(crate) fn answer_over<P: Pool>(
     ensures counted { OnOk result (CountsRise
         (command_tiles (user_in owner.old) command + tiles_to_come owner.old.state - tiles_to_come owner.new.state)
         (P.seen pool.old) (P.seen pool.new)) }
+    ensures owes { OnOk result (OwesAfter owner.old.state (Ordered command ∷ []) owner.new.state) }
     ensures waits { OnErr result (0 < turns_before owner.old.state command) }
     ensures halted { IfErr result (λ halt. IsHalted halt (P.seen pool.old) (P.seen pool.new)) }
     ensures number { owner.new.number ≡ user }
@@ -59,6 +62,8 @@ fn run<P: Pool>(owner: &mut Owner, user: u8, pool: &mut P) -> Result<Reply, Halt
     ensures gathers { OnOk result (Gathers owner.new (P.seen pool.new).owed) }
     ensures counted { OnOk result
         (CountsRise (tiles_coming owner.old - tiles_coming owner.new) (P.seen pool.old) (P.seen pool.new)) }
+    ensures no_more { OnOk result (OwesNoMore owner.old owner.new.state) }
+    ensures rests { OnOk result (OwesNoneWhereWaited owner.old owner.new.state) }
     ensures halted { IfErr result (λ halt. IsHalted halt (P.seen pool.old) (P.seen pool.new)) }
     ensures number { owner.new.number ≡ user }
     ensures quota { owner.new.state.quota ≡ owner.old.state.quota }
@@ -82,7 +87,12 @@ fn run<P: Pool>(owner: &mut Owner, user: u8, pool: &mut P) -> Result<Reply, Halt
 /// Goes on with what is owed, if something may be, before the next command is read: takes in what is there, turns what is
 /// whole, posts what there is room for, and fetches until few tasks are owed. The last look for results tells the workers
 /// of what was posted. Whether something is still owed.
-pub(crate) fn work_ahead<P: Pool>(owner: &mut Owner, user: u8, pool: &mut P, owes: bool) -> Result<bool, Halt>
+pub(crate) fn work_ahead<P: Pool>(
+    owner: &mut Owner,
+    user: u8,
+    pool: &mut P,
+    owes: bool,
+) -> Result<bool, Halt>
     requires idle { owner.old.waiting ≡ None }
     requires number { owner.old.number ≡ user }
     requires gathers { Gathers owner.old (P.seen pool.old).owed }

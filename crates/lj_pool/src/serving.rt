@@ -1,5 +1,5 @@
 //! A stream of commands served over a pool.
-ghost use Rattle.std.specs.Prelude.{◌≡◌, ◌+◌, ◌-◌, ◌<◌, ℕ, List, Option, [], None, IfOk, IfErr, IfSome, OnErr, OnOk};
+ghost use Rattle.std.specs.Prelude.{◌≡◌, ◌+◌, ◌-◌, ◌<◌, ℕ, List, Option, [], ◌∷◌, None, IfOk, IfErr, IfSome, OnErr, OnOk};
 ghost use Rattle.std.specs.Prelude.{true};
 ghost use Rattle.std.specs.Io.KnownBytes.{IsAtEnd};
 ghost use Rattle.lj_session.specs.Owners.{IsSettled, user_in};
@@ -10,6 +10,7 @@ ghost use Rattle.lj_pool.specs.declared.served.Served.TheVariants as served;
 ghost use Rattle.lj_pool.specs.Gathering.{Gathers, NoneOwed};
 ghost use Rattle.lj_pool.specs.Counting.{CountsRise, StraysRise, item_tiles};
 ghost use Rattle.lj_pool.specs.Coming.{tiles_to_come};
+ghost use Rattle.lj_pool.specs.Owing.{OwesAfter};
 ghost use Rattle.lj_pool.specs.Endings.{served_of};
 ghost use Rattle.lj_pool.specs.Running.{IsHalted};
 ghost use Rattle.lj_pool.specs.Serving.{AnswersItem};
@@ -124,6 +125,7 @@ fn answer<P: Pool>(owner: &mut Owner, user: u8, pool: &mut P, item: Item) -> Res
     ensures counted { OnOk result (CountsRise
         (item_tiles (user_in owner.old) item + tiles_to_come owner.old.state - tiles_to_come owner.new.state)
         (P.seen pool.old) (P.seen pool.new)) }
+    ensures owes { OnOk result (OwesAfter owner.old.state (item ∷ []) owner.new.state) }
     ensures waits { OnErr result (0 < item_before owner.old.state item) }
     ensures halted { IfErr result (λ halt. IsHalted halt (P.seen pool.old) (P.seen pool.new)) }
     ensures number { owner.new.number ≡ user }

@@ -1,4 +1,4 @@
-use Rattle.std.proofs.Common.{None, refl, sym, ap, ◌∙◌, subst}
+use Rattle.std.proofs.Common.{refl, sym, ap, ◌∙◌, subst}
 use Rattle.lj_session.specs.Owners.{Owning}
 use Rattle.lj_pool.specs.Endings.{served_of}
 use Rattle.lj_pool.specs.Served.{Serves}
@@ -159,7 +159,7 @@ items-preserved g c =
           c.work_ahead.new.owner.state s c.next.new.self c.in-Ok-Some.item item
           c.in-Ok-answer.reply c.answer.new.owner.state c.in-Ok-answer.ensures.answered (g.W.Sink.contents c.put_reply.new.writer)
           written (g.P.Pool.seen c.answer.new.pool) c.in-Ok-answer.ensures.counted
-          (sym c.ending_of-ending.ensures ∙ c.in_default-ending.is);
+          (sym c.ending_of-ending.ensures ∙ c.in_default-ending.is) c.in-Ok-answer.ensures.owes;
       gathers = c.in-Ok-answer.ensures.gathers;
       idle = c.in-Ok-answer.ensures.idle;
       number = c.answer.ensures.number;
