@@ -3,11 +3,16 @@ use Rattle.std.proofs.Common.{◌≡◌, ℕ, List, Option, Some, None, refl, sy
 use Rattle.std.proofs.Common.{Bor}
 use Rattle.std.specs.Prelude.{is_some}
 use Rattle.std.specs.Option.{option_map, option_map_or, option_copied}
+use Rattle.std.specs.List.{IsDistinct, slice_get}
+use Rattle.std.specs.Str.{bytes_eq}
+use Rattle.std.proofs.lemmas.Cmp.{nat_list_eq_equiv}
+use Rattle.std.proofs.lemmas.Map.Entries.{lookup_from_place}
+use Rattle.std.proofs.lemmas.Option.{none-some, same_Some, slice_get-map}
 use Rattle.lj_branch.specs.Named.{named, put, taken_out}
 use Rattle.lj_session.specs.declared.command.Command.{Command}
 use Rattle.lj_session.specs.Turns.{waits_for}
 use Rattle.lj_session.specs.Users.{Session, with_session}
-use Rattle.lj_session.specs.States.{Held, Owned, as_session, session_meant, user_of, held_in, owed_in, turns_before, with_held, changed}
+use Rattle.lj_session.specs.States.{Held, Owned, as_session, session_meant, user_of, names, held_in, held_at, owed_in, turns_before, with_held, changed}
 use Rattle.lj_session.specs.declared.sessions.Sessions.TheInside.{Inside}
 use Rattle.lj_session.specs.Totals.{owned_of}
 use Rattle.lj_session.proofs.Entries.{named-seen, put-seen, taken-seen, put-same}
@@ -32,6 +37,20 @@ owed-of owned name held h none = rw h at none
 pub named-absent : (owned : Owned) (name : List ℕ) → held_in owned name ≡ None
     → named name (user_of owned).sessions ≡ None
 named-absent owned name h = named-seen session_meant name owned.sessions ∙ ap (option_map session_meant) h
+
+-- the i-th session stands under the i-th name
+pub held-there : (owned : Owned) → IsDistinct bytes_eq (names owned) → (i : ℕ) (name : List ℕ) (held : Held)
+    → slice_get (names owned) i ≡ Some name → held_at owned i ≡ Some held → held_in owned name ≡ Some held
+held-there owned distinct i name held named_is held_is = by (slice_get owned.sessions i) refl
+  where
+    by : (o : Option (List ℕ × Held)) → slice_get owned.sessions i ≡ o → held_in owned name ≡ Some held
+    by None e = absurd (none-some held (sym (ap (option_map (λ entry. entry.1)) e) ∙ held_is))
+    by (Some (key, value)) e =
+        let key_is : key ≡ name = same_Some key name
+        (sym (slice_get-map (λ entry. entry.0) owned.sessions i ∙ ap (option_map (λ entry. entry.0)) e) ∙ named_is) in
+        let value_is : value ≡ held = same_Some value held (sym (ap (option_map (λ entry. entry.1)) e) ∙ held_is) in
+        lookup_from_place nat_list_eq_equiv owned.sessions i name held distinct
+        (e ∙ ap (λ k. Some (k, value)) key_is ∙ ap (λ v. Some (name, v)) value_is)
 
 -- a session put among those that are held is put among those of the user
 pub user_of-put : (owned : Owned) (name : List ℕ) (held : Held)

@@ -1,5 +1,5 @@
 //! The open steps of sessions.
-ghost use Rattle.std.specs.Prelude.{◌≡◌, ◌↔◌, ◌<◌, ℕ, IsOk, IsSome, OnOk, OnErr, is_some};
+ghost use Rattle.std.specs.Prelude.{◌≡◌, ◌↔◌, ◌<◌, ℕ, List, Some, IsOk, IsSome, OnOk, OnErr, is_some, length, slice_get};
 ghost use Rattle.std.specs.List.{IsDistinct, find};
 ghost use Rattle.std.specs.Option.{ForSome, option_copied};
 ghost use Rattle.std.specs.Str.{bytes_eq};
@@ -58,14 +58,14 @@ impl Sessions {
         self.find(&label.session)?.next_task(label)
     }
 
-    /// Whether there is such a tile.
-    fn has_task(&self, name: &Name) -> bool
-        ensures { (user : ℕ) → result ≡ is_some (states.next_task self.now (record { user = user; session = name.now })) }
+    /// Whether the i-th session has such a tile.
+    fn has_task_at(&self, i: usize) -> bool
+        requires within { i < length self.now.sessions }
+        requires distinct { IsDistinct bytes_eq (names self.now) }
+        ensures { (user : ℕ) (name : List ℕ) → slice_get (names self.now) i ≡ Some name
+            → result ≡ is_some (states.next_task self.now (record { user = user; session = name })) }
     {
-        match self.find(name) {
-            Some(session) => session.has_task(),
-            None => false,
-        }
+        self.at(i).has_task()
     }
 
     /// The first session, in order of loading, that has such a tile. The tasks are of the user of this number.
@@ -75,7 +75,7 @@ impl Sessions {
     {
         for i in 0..self.len() {
             let name = self.name_at(i);
-            if self.has_task(name) {
+            if self.has_task_at(i) {
                 return Some(name);
             }
         }
@@ -117,13 +117,22 @@ impl Sessions {
         }
     }
 
+    /// Whether a step is open in the i-th session and all its tiles are in.
+    fn is_whole_at(&self, i: usize) -> bool
+        requires within { i < length self.now.sessions }
+        requires distinct { IsDistinct bytes_eq (names self.now) }
+        ensures { (name : List ℕ) → slice_get (names self.now) i ≡ Some name → result ≡ is_whole_in self.now name }
+    {
+        self.at(i).sim().is_whole()
+    }
+
     /// The first session, in order of loading, of which a step is open and all its tiles are in.
     pub fn first_whole(&self) -> Option<&Name>
         ensures { option_copied result ≡ find (is_whole_in self.now) (names self.now) }
     {
         for i in 0..self.len() {
             let name = self.name_at(i);
-            if self.is_whole(name) {
+            if self.is_whole_at(i) {
                 return Some(name);
             }
         }

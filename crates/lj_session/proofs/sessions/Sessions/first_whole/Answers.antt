@@ -7,15 +7,15 @@ use Rattle.lj_session.proofs.sessions.Sessions.first_whole.Goals as goal
 pub loop-i-init : goal.loop-i-init
 loop-i-init c = none-first (is_whole_in c.args.self.now) (names c.args.self.now)
 
-pub returns-then-is_whole : goal.returns-then-is_whole
-returns-then-is_whole c =
+pub returns-then-is_whole_at : goal.returns-then-is_whole_at
+returns-then-is_whole_at c =
     sym (find-at (is_whole_in c.args.self.now) (names c.args.self.now) c.loop-i.i c.name_at-name.result.now
-    c.name_at-name.ensures (sym c.is_whole.ensures ∙ c.if-is_whole.true) c.loop-i.invariant)
+    c.name_at-name.ensures (sym (c.is_whole_at.ensures c.name_at-name.result.now c.name_at-name.ensures) ∙ c.if-is_whole_at.true) c.loop-i.invariant)
 
 pub loop-i-preserved : goal.loop-i-preserved
 loop-i-preserved c =
     none-next (is_whole_in c.args.self.now) (names c.args.self.now) c.loop-i.i c.name_at-name.result.now
-    c.name_at-name.ensures (sym c.is_whole.ensures ∙ c.if-is_whole.false) c.loop-i.invariant
+    c.name_at-name.ensures (sym (c.is_whole_at.ensures c.name_at-name.result.now c.name_at-name.ensures) ∙ c.if-is_whole_at.false) c.loop-i.invariant
 
 pub returns : goal.returns
 returns c =

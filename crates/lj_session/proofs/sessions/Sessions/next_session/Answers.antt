@@ -8,15 +8,15 @@ use Rattle.lj_session.proofs.sessions.Sessions.next_session.Goals as goal
 pub loop-i-init : goal.loop-i-init
 loop-i-init c = none-first (λ name. is_some (next_task c.args.self.now (record { user = c.args.user; session = name }))) (names c.args.self.now)
 
-pub returns-then-has_task : goal.returns-then-has_task
-returns-then-has_task c =
+pub returns-then-has_task_at : goal.returns-then-has_task_at
+returns-then-has_task_at c =
     sym (find-at (λ name. is_some (next_task c.args.self.now (record { user = c.args.user; session = name }))) (names c.args.self.now) c.loop-i.i c.name_at-name.result.now
-    c.name_at-name.ensures (sym (c.has_task.ensures c.args.user) ∙ c.if-has_task.true) c.loop-i.invariant)
+    c.name_at-name.ensures (sym (c.has_task_at.ensures c.args.user c.name_at-name.result.now c.name_at-name.ensures) ∙ c.if-has_task_at.true) c.loop-i.invariant)
 
 pub loop-i-preserved : goal.loop-i-preserved
 loop-i-preserved c =
     none-next (λ name. is_some (next_task c.args.self.now (record { user = c.args.user; session = name }))) (names c.args.self.now) c.loop-i.i c.name_at-name.result.now
-    c.name_at-name.ensures (sym (c.has_task.ensures c.args.user) ∙ c.if-has_task.false) c.loop-i.invariant
+    c.name_at-name.ensures (sym (c.has_task_at.ensures c.args.user c.name_at-name.result.now c.name_at-name.ensures) ∙ c.if-has_task_at.false) c.loop-i.invariant
 
 pub returns : goal.returns
 returns c =
