@@ -3,6 +3,7 @@ pub mod Acting
 pub mod Places
 pub mod RowsKept
 pub mod Greeting
+pub mod Picking
 pub mod Lifting
 pub mod Moves
 pub mod PlacesKept

@@ -11,6 +11,8 @@ use Rattle.lj_world.specs.Workers.{Bench, bench}
 use Rattle.lj_world.specs.Attempts.{Acts, Tries}
 use Rattle.lj_world.specs.Happenings.{Happens, entry, with_here, with_bench}
 use Rattle.lj_world.specs.Runs.{Step}
+use Rattle.lj_world.specs.Picked.{ActHeeds, DeedHeeds, PickedStep}
+use Rattle.lj_world.proofs.Picking.{still_heeds}
 
 -- what a known connection does happens
 pub does_happens : (act : Act) (s : State) (c : ℕ) (talk : Talk) (text : Option (List ℕ)) (h : Here) → talk_at s c ≡ Some talk
@@ -19,8 +21,8 @@ unfolding Happens
 does_happens act s c talk text h known does =
     record { talk = talk; known = known; text = text; after = h; does = does; replies = refl; next = refl }
 
--- what it does, or cannot do, is a step
-pub acts_step : (act : Act) (s : State) (c : ℕ) (talk : Talk) (text : Option (List ℕ)) (h : Here) → talk_at s c ≡ Some talk
+-- what it does, or cannot do, happens or is not possible
+acts_step : (act : Act) (s : State) (c : ℕ) (talk : Talk) (text : Option (List ℕ)) (h : Here) → talk_at s c ≡ Some talk
     → Acts act (here talk s.rows s.book) text h → Step s (At c act) (option_map (entry c talk) text) (with_here c h s)
 unfolding Happens
 acts_step act s c talk text h known (inl does) = inl (does_happens act s c talk text h known does)
@@ -33,13 +35,24 @@ acts_step act s c talk text h known (inr cannot) =
       ap (λ (x : Here). with_here c x s) cannot.2 ∙ ap (λ (ts : List (Option Talk)). record s { talks = ts }) talks,
     )
 
--- a connection that is not known does nothing
-pub absent : (act : Act) (s : State) (c : ℕ) → talk_at s c ≡ None → Step s (At c act) None s
-unfolding Happens
-absent act s c none = inr (λ p. let k = p.2.known in cc, refl, refl)
+-- so it is a step, in which the pick decides where it does for the connection
+pub acts_by_pick : (act : Act) (s : State) (c : ℕ) (talk : Talk) (text : Option (List ℕ)) (h : Here) → talk_at s c ≡ Some talk
+    → Acts act (here talk s.rows s.book) text h → ActHeeds act talk.user s.book h.book
+    → PickedStep s (At c act) (option_map (entry c talk) text) (with_here c h s)
+acts_by_pick act s c talk text h known acts heeds = (
+  acts_step act s c talk text h known acts,
+  λ other also.
+      let same : talk ≡ other = cc (known, also) in
+      subst (λ (t : Talk). ActHeeds act t.user s.book h.book) same heeds,
+)
 
--- what a worker does, or cannot do, is a step
-pub tries_step : (deed : Deed) (s : State) (worker : ℕ) (b : Bench) → IsWorker worker
+-- a connection that is not known does nothing
+pub absent : (act : Act) (s : State) (c : ℕ) → talk_at s c ≡ None → PickedStep s (At c act) None s
+unfolding Happens
+absent act s c none = (inr (λ p. let k = p.2.known in cc, refl, refl), λ talk known. absurd (cc (none, known)))
+
+-- what a worker does, or cannot do, happens or is not possible
+tries_step : (deed : Deed) (s : State) (worker : ℕ) (b : Bench) → IsWorker worker
     → Tries deed (bench (hand_at s worker) s.book) b → Step s (By worker deed) None (with_bench worker b s)
 unfolding Happens
 tries_step deed s worker b within (inl works) = inl (refl, record { within = within; after = b; works = works; next = refl })
@@ -50,7 +63,13 @@ tries_step deed s worker b within (inr cannot) = inr (
       ∙ ap (λ (hs : List (Option Hand)). record s { hands = hs }) (set-get_or s.hands worker None),
 )
 
+-- so it is a step, in which the pick decides where it does for the worker
+pub tries_by_pick : (deed : Deed) (s : State) (worker : ℕ) (b : Bench) → IsWorker worker
+    → Tries deed (bench (hand_at s worker) s.book) b → DeedHeeds deed s.book b.book
+    → PickedStep s (By worker deed) None (with_bench worker b s)
+tries_by_pick deed s worker b within tries heeds = (tries_step deed s worker b within tries, heeds)
+
 -- no worker has a number out of range
-pub nobody : (deed : Deed) (s : State) (worker : ℕ) → (IsWorker worker → ⊥) → Step s (By worker deed) None s
+pub nobody : (deed : Deed) (s : State) (worker : ℕ) → (IsWorker worker → ⊥) → PickedStep s (By worker deed) None s
 unfolding Happens
-nobody deed s worker out = inr (λ p. out p.2.1.within, refl, refl)
+nobody deed s worker out = (inr (λ p. out p.2.1.within, refl, refl), still_heeds deed s.book)

@@ -3,18 +3,26 @@ use Rattle.std.proofs.Common.{List, [], ◌∷◌, ◌++◌, Option, option_to_l
 use Rattle.lj_world.specs.declared.event.Event.{Event}
 use Rattle.lj_world.specs.declared.transcript.Entry.{Entry}
 use Rattle.lj_world.specs.States.{State}
-use Rattle.lj_world.specs.Runs.{Step, Run}
+use Rattle.lj_world.specs.Runs.{Run, RunBy}
+use Rattle.lj_world.specs.Picked.{PickedStep}
 
 -- one event more, with what it replies
-pub run_push : (old : State) (events : List Event) (entries : List Entry) (last new : State) (event : Event) (reply : Option Entry) → Run old events entries last
-    → Step last event reply new → Run old (events ++ event ∷ []) (entries ++ option_to_list reply) new
-run_push old [] entries last new event reply (none, same) step =
-    (reply, new, [], subst (λ z. Step z event reply new) same step, (refl, refl), ap (λ es. es ++ option_to_list reply) none ∙ sym (append-nil (option_to_list reply)))
-run_push old (first ∷ events) entries last new event reply (told, between, later, taken, more, whole) step = (
+pub run_push : (IsStep : State → Event → Option Entry → State → Type 0) (old : State) (events : List Event) (entries : List Entry) (last new : State) (event : Event) (reply : Option Entry) → RunBy IsStep old events entries last
+    → IsStep last event reply new → RunBy IsStep old (events ++ event ∷ []) (entries ++ option_to_list reply) new
+run_push IsStep old [] entries last new event reply (none, same) step =
+    (reply, new, [], subst (λ z. IsStep z event reply new) same step, (refl, refl), ap (λ es. es ++ option_to_list reply) none ∙ sym (append-nil (option_to_list reply)))
+run_push IsStep old (first ∷ events) entries last new event reply (told, between, later, taken, more, whole) step = (
   told,
   between,
   later ++ option_to_list reply,
   taken,
-  run_push between events later last new event reply more step,
+  run_push IsStep between events later last new event reply more step,
   ap (λ es. es ++ option_to_list reply) whole ∙ append_assoc (option_to_list told) later (option_to_list reply),
 )
+
+-- a run in which each pick decides is a run
+pub run_of : (old : State) (events : List Event) (entries : List Entry) (last : State) → RunBy PickedStep old events entries last
+    → Run old events entries last
+run_of old [] entries last same = same
+run_of old (event ∷ events) entries last (reply, between, later, step, more, whole) =
+    (reply, between, later, step.0, run_of between events later last more, whole)

@@ -3,6 +3,7 @@ pub mod Connections
 pub mod Workers
 pub mod Happenings
 pub mod Runs
+pub mod Picked
 pub mod Scripts
 pub mod Laws
 pub mod Attempts

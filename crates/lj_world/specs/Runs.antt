@@ -15,12 +15,17 @@ abbrev pub Step : State → Event → Option Entry → State → Type 0
 Step old event reply new =
     Happens old event reply new ⊎ (¬ IsPossible old event) × (reply ≡ None) × (new ≡ old)
 
+-- Steps of one kind over these events, one after the other, which tell these replies.
+abbrev pub RunBy : (State → Event → Option Entry → State → Type 0) → State → List Event → List Entry → State → Type 0
+RunBy IsStep old [] replies new = (replies ≡ []) × (new ≡ old)
+RunBy IsStep old (event ∷ events) replies new =
+    (reply : Option Entry) × (between : State) × (later : List Entry)
+    × IsStep old event reply between × RunBy IsStep between events later new
+    × (replies ≡ option_to_list reply ++ later)
+
 -- Steps over these events, one after the other, which tell these replies.
 abbrev pub Run : State → List Event → List Entry → State → Type 0
-Run old [] replies new = (replies ≡ []) × (new ≡ old)
-Run old (event ∷ events) replies new =
-    (reply : Option Entry) × (between : State) × (later : List Entry)
-    × Step old event reply between × Run between events later new × (replies ≡ option_to_list reply ++ later)
+Run old events replies new = RunBy Step old events replies new
 
 -- These replies are the whole transcript of a run from these users over just these events, in their order.
 abbrev pub IsTranscript : List User → List Event → List Entry → Type 0

@@ -1,11 +1,12 @@
 //! Connections, and what each of them does.
 ghost use Rattle.std.specs.Prelude.{◌≡◌, ◌↔◌, None, IfOk, IsTrue, OnErr, List};
 ghost use Rattle.lj_access.specs.Rows.{Row};
-ghost use Rattle.lj_book.specs.Held.{Held};
+ghost use Rattle.lj_book.specs.Held.{Held, IsDoneAt};
 ghost use Rattle.lj_world.specs.declared.event.Act.TheVariants.{Arrive, End, Enter, Next, Post, Fetch, Turn, Leave};
 ghost use Rattle.lj_world.specs.States.{greeted};
 ghost use Rattle.lj_world.specs.Connections.{IsDone, here};
 ghost use Rattle.lj_world.specs.Attempts.{Acts};
+ghost use Rattle.lj_world.specs.Picked.{ChangesPicked, ActHeeds};
 ghost use Rattle.lj_world.specs.Kept.{HasRow, Stays};
 
 use crate::answers;
@@ -95,6 +96,7 @@ impl Connection {
         requires { HasRow directory.old self.old }
         ensures acts { IfOk result (λ text.
             Acts act (here self.old directory.old book.old) text (here self.new directory.new book.new)) }
+        ensures picked { ActHeeds act self.old.user book.old book.new }
         ensures stays { OnErr result (Stays self.old self.new) }
         ensures rows { OnErr result (directory.new ≡ directory.old) }
     {
@@ -190,8 +192,9 @@ impl Connection {
 
     /// Fetches a result of its user. One that no session awaits is dropped.
     fn fetch(&mut self, book: &mut Book, pick: usize)
-        ensures { (rows : List Row)
+        ensures acts { (rows : List Row)
             → Acts (Fetch pick) (here self.old rows book.old) None (here self.new rows book.new) }
+        ensures picked { ChangesPicked (IsDoneAt self.old.user book.old) pick book.old book.new }
     {
         let Position::Inside(owner) = &mut self.position else {
             return;

@@ -6,6 +6,7 @@ ghost use Rattle.lj_access.specs.Users.{names};
 ghost use Rattle.lj_world.specs.declared.event.Event.TheVariants.{Hello, At, By};
 ghost use Rattle.lj_world.specs.States.{start};
 ghost use Rattle.lj_world.specs.Runs.{Step};
+ghost use Rattle.lj_world.specs.Picked.{PickedStep};
 
 use crate::connection::Connection;
 use crate::event::{Act, Deed, Event};
@@ -72,7 +73,7 @@ impl Machine {
     /// # Errors
     /// Out of memory. The state is then not said.
     pub(crate) fn step(&mut self, event: Event) -> Result<Option<Entry>, AllocError>
-        ensures { IfOk result (λ reply. Step self.old event reply self.new) }
+        ensures { IfOk result (λ reply. PickedStep self.old event reply self.new) }
     {
         match event {
             Event::Hello {
@@ -114,7 +115,7 @@ impl Machine {
 
     /// A connection that is known does something.
     fn act(&mut self, connection: u8, act: Act) -> Result<Option<Entry>, AllocError>
-        ensures { IfOk result (λ reply. Step self.old (At connection act) reply self.new) }
+        ensures { IfOk result (λ reply. PickedStep self.old (At connection act) reply self.new) }
     {
         let place = usize::from(connection);
         if place >= self.connections.len() {
@@ -136,7 +137,7 @@ impl Machine {
 
     /// A worker does something.
     fn work(&mut self, worker: u8, deed: Deed)
-        ensures { Step self.old (By worker deed) None self.new }
+        ensures { PickedStep self.old (By worker deed) None self.new }
     {
         let place = usize::from(worker);
         if place == 0 || place >= self.workers.len() {

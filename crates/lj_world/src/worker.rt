@@ -1,9 +1,10 @@
 //! The hands of workers, and what each worker does.
 ghost use Rattle.std.specs.Prelude.{◌≡◌, Some, false};
-ghost use Rattle.lj_book.specs.Held.{Held};
+ghost use Rattle.lj_book.specs.Held.{Held, IsOpenAt};
 ghost use Rattle.lj_world.specs.declared.event.Deed.TheVariants.{Take, Compute, Give, HandBack};
 ghost use Rattle.lj_world.specs.Workers.{bench};
 ghost use Rattle.lj_world.specs.Attempts.{Tries};
+ghost use Rattle.lj_world.specs.Picked.{ChangesPicked, DeedHeeds};
 
 use crate::event::Deed;
 use crate::holding::Holding;
@@ -31,7 +32,8 @@ impl Model for Worker {
 
 /// Does what a worker is asked for, or nothing where it cannot.
 pub(crate) fn work(hand: &mut Option<Worker>, deed: Deed, book: &mut Book, table: &Table)
-    ensures { Tries deed (bench hand.old book.old) (bench hand.new book.new) }
+    ensures tries { Tries deed (bench hand.old book.old) (bench hand.new book.new) }
+    ensures picked { DeedHeeds deed book.old book.new }
 {
     match deed {
         Deed::Take { pick } => take(hand, book, pick),
@@ -55,7 +57,8 @@ pub(crate) fn work(hand: &mut Option<Worker>, deed: Deed, book: &mut Book, table
 
 /// Takes a task, in place of what was held.
 fn take(hand: &mut Option<Worker>, book: &mut Book, pick: usize)
-    ensures { Tries (Take pick) (bench hand.old book.old) (bench hand.new book.new) }
+    ensures tries { Tries (Take pick) (bench hand.old book.old) (bench hand.new book.new) }
+    ensures picked { ChangesPicked (IsOpenAt book.old) pick book.old book.new }
 {
     if let Some((key, task)) = book.take(pick) {
         *hand = Some(Worker::new(key, task));

@@ -5,6 +5,7 @@ ghost use Rattle.std.specs.Str.{bytes_eq};
 ghost use Rattle.lj_access.specs.Users.{names};
 ghost use Rattle.lj_world.specs.States.{start};
 ghost use Rattle.lj_world.specs.Runs.{Step, IsTranscript};
+ghost use Rattle.lj_world.specs.Picked.{HeedsPick, IsPickedTranscript};
 ghost use Rattle.lj_world.specs.Laws.{TellsAsAnyOther};
 
 use crate::event::Event;
@@ -67,12 +68,14 @@ impl World {
         })
     }
 
-    /// An event happens, or it is not possible and nothing changes. What is replied is answered.
+    /// An event happens, or it is not possible and nothing changes. What is replied is answered. Its pick decides which
+    /// task is taken, and which result is fetched.
     ///
     /// # Errors
     /// Out of memory, now or at an earlier step: a world that has once lost memory takes no step more.
     pub fn step(&mut self, event: Event) -> Result<Option<Entry>, OutOfMemory>
         ensures step { IfOk result (λ reply. Step self.old.state event reply self.new.state) }
+        ensures picked { IfOk result (λ _. HeedsPick self.old.state event self.new.state) }
         ensures lost { IsTrue self.new.lost ↔ IsErr result }
         ensures no_more { IsTrue self.old.lost → IsErr result }
         ensures unchanged { IsTrue self.old.lost → self.new ≡ self.old }
@@ -111,6 +114,7 @@ impl World {
         requires most { length users.items ≤ MAX_USERS }
         requires distinct { IsDistinct bytes_eq (names users.items) }
         ensures run { IfOk result (λ transcript. IsTranscript users.items events.items transcript) }
+        ensures picked { IfOk result (λ transcript. IsPickedTranscript users.items events.items transcript) }
         ensures headline { IfOk result (λ transcript. TellsAsAnyOther users.items events.items transcript) }
     {
         let mut world = World::new(alloc, users)?;

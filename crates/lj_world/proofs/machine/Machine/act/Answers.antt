@@ -5,9 +5,9 @@ use Rattle.lj_world.specs.States.{Talk}
 use Rattle.lj_world.specs.declared.event.Event.TheVariants.{At}
 use Rattle.lj_world.specs.Connections.{here}
 use Rattle.lj_world.specs.Happenings.{entry, with_here}
-use Rattle.lj_world.specs.Runs.{Step}
+use Rattle.lj_world.specs.Picked.{PickedStep}
 use Rattle.lj_world.proofs.Places.{read_at, written_back, none_past}
-use Rattle.lj_world.proofs.Lifting.{acts_step, absent}
+use Rattle.lj_world.proofs.Lifting.{acts_by_pick, absent}
 use Rattle.lj_world.proofs.PlacesKept.{acts_keeps}
 use Rattle.lj_world.proofs.machine.Machine.act.Goals as goal
 
@@ -24,7 +24,7 @@ returns-in_default c =
     c.index_mut.ensures.value c.in_default.is in
     let same = written_back items c.from-place.result c.index_mut.result.now c.index_mut.ensures.value in
     rw (← c.self.view_is)
-    (subst (λ (talks : List (Option Talk)). Step s (At c.args.connection c.args.act) None (record s { talks = talks })) (sym same)
+    (subst (λ (talks : List (Option Talk)). PickedStep s (At c.args.connection c.args.act) None (record s { talks = talks })) (sym same)
     (absent c.args.act s c.args.connection none))
 
 pub act-requires : goal.act-requires
@@ -48,9 +48,10 @@ returns-in_default-2 c =
     let h = here c.act.new.self c.act.new.directory c.act.new.book in
     let known = read_at c.self.inside.connections.items c.from-place.result c.args.connection c.index_mut.result.now (Some c.in-Some.known)
     c.from-place.ensures (omega arith) c.index_mut.ensures.value c.in-Some.is in
-    let step = acts_step c.args.act s c.args.connection c.in-Some.known c.in_ok-text.field-0 h known c.in_ok-text.ensures.acts in
+    let step = acts_by_pick c.args.act s c.args.connection c.in-Some.known c.in_ok-text.field-0 h known c.in_ok-text.ensures.acts
+    c.act.ensures.picked in
     rw (← c.self.view_is, c.from-place.ensures)
-    (subst (λ (t : Option (List ℕ)). Step s (At c.args.connection c.args.act) (option_map (entry c.args.connection c.in-Some.known) t)
+    (subst (λ (t : Option (List ℕ)). PickedStep s (At c.args.connection c.args.act) (option_map (entry c.args.connection c.in-Some.known) t)
     (with_here c.args.connection h s)) c.in_default-2.is step)
 
 pub invariant_of-self-2 : goal.invariant_of-self-2
@@ -68,7 +69,8 @@ returns c =
     let h = here c.act.new.self c.act.new.directory c.act.new.book in
     let known = read_at c.self.inside.connections.items c.from-place.result c.args.connection c.index_mut.result.now (Some c.in-Some.known)
     c.from-place.ensures (omega arith) c.index_mut.ensures.value c.in-Some.is in
-    let step = acts_step c.args.act s c.args.connection c.in-Some.known c.in_ok-text.field-0 h known c.in_ok-text.ensures.acts in
+    let step = acts_by_pick c.args.act s c.args.connection c.in-Some.known c.in_ok-text.field-0 h known c.in_ok-text.ensures.acts
+    c.act.ensures.picked in
     rw (← c.self.view_is, c.from-place.ensures, c.user-user.ensures)
-    (subst (λ (t : Option (List ℕ)). Step s (At c.args.connection c.args.act) (option_map (entry c.args.connection c.in-Some.known) t)
+    (subst (λ (t : Option (List ℕ)). PickedStep s (At c.args.connection c.args.act) (option_map (entry c.args.connection c.in-Some.known) t)
     (with_here c.args.connection h s)) c.in-Some-2.is step)

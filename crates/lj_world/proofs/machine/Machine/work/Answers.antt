@@ -4,7 +4,7 @@ use Rattle.lj_world.specs.States.{Hand, IsWorker}
 use Rattle.lj_world.specs.Workers.{bench}
 use Rattle.lj_world.specs.Attempts.{Tries}
 use Rattle.lj_world.proofs.Places.{read_at}
-use Rattle.lj_world.proofs.Lifting.{tries_step, nobody}
+use Rattle.lj_world.proofs.Lifting.{tries_by_pick, nobody}
 use Rattle.lj_world.proofs.machine.Machine.work.Goals.{then-place-eq0-via-then-place-eq0, then-place-eq0-via-else-place-eq0+then-place-len}
 use Rattle.lj_world.proofs.machine.Machine.work.Goals as goal
 
@@ -25,5 +25,6 @@ returns c =
     let within : IsWorker c.args.worker =
     record { first = omega (arith, c.if-place-eq0.false); last = omega (arith, c.self.invariant.workers) } in
     rw (← c.self.view_is, c.from-place.ensures)
-    (tries_step c.args.deed s c.args.worker b within
-    (subst (λ (hand : Option Hand). Tries c.args.deed (bench hand s.book) b) (sym reads) c.work.ensures))
+    (tries_by_pick c.args.deed s c.args.worker b within
+    (subst (λ (hand : Option Hand). Tries c.args.deed (bench hand s.book) b) (sym reads) c.work.ensures.tries)
+    c.work.ensures.picked)
