@@ -5,3 +5,4 @@ pub mod Millionths
 pub mod Reading
 pub mod StandsFor
 pub mod Worked
+pub mod Limits

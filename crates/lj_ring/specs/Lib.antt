@@ -7,3 +7,4 @@ pub mod Mixes
 pub mod Kept
 pub mod FaultTexts
 pub mod Worked
+pub mod Limits

@@ -9,3 +9,4 @@ pub mod Saved
 pub mod Laws
 pub mod InOrder
 pub mod Worked
+pub mod Limits

@@ -8,3 +8,4 @@ pub mod Rows
 pub mod Results
 pub mod Near
 pub mod Worked
+pub mod Limits

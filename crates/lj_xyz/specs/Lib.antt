@@ -8,3 +8,4 @@ pub mod Reading
 pub mod Cursor
 pub mod Texts
 pub mod Worked
+pub mod Limits

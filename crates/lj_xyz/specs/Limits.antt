@@ -1,0 +1,12 @@
+-- How large a frame of XYZ text and a symbol may be.
+use Rattle.std.specs.Prelude.{◌≡◌, refl}
+use Rattle.lj_xyz.specs.declared.reader.TheConstants.{MAX_ATOMS}
+use Rattle.lj_xyz.specs.declared.symbol.TheConstants.{MAX_SYMBOL_BYTES}
+
+-- a frame has at most 4,096 atoms
+most_atoms : MAX_ATOMS ≡ 4096
+most_atoms = refl
+
+-- a symbol has at most 16 bytes
+most_symbol_bytes : MAX_SYMBOL_BYTES ≡ 16
+most_symbol_bytes = refl
