@@ -1,3 +1,4 @@
 pub mod Picks
 pub mod Marks
 pub mod Held
+pub mod Limits
