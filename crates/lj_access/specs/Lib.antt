@@ -2,3 +2,4 @@ pub mod Tokens
 pub mod Users
 pub mod Rows
 pub mod Directories
+pub mod Limits

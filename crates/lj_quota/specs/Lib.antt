@@ -1,2 +1,2 @@
 pub mod OverTexts
-pub mod Worked
+pub mod Limits

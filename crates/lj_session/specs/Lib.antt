@@ -14,4 +14,4 @@ pub mod Settling
 pub mod Begins
 pub mod KeptOwners
 pub mod Laws
-pub mod Worked
+pub mod Limits

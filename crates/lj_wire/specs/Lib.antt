@@ -17,3 +17,4 @@ pub mod Progress
 pub mod Played
 pub mod Worked
 pub mod WorkedLimits
+pub mod Limits

@@ -1,0 +1,29 @@
+-- The sizes of lines, bodies and tokens, and how many items a connection may bring.
+use Rattle.std.specs.Prelude.{◌≡◌, ◌^◌, refl}
+use Rattle.lj_wire.specs.declared.command.TheConstants.{MAX_COUNT_DIGITS}
+use Rattle.lj_wire.specs.declared.hello.TheConstants.{TOKEN_WORD_BYTES}
+use Rattle.lj_wire.specs.declared.limits.TheConstants.{MAX_LINE_BYTES, LONG_LINE_BYTES, MAX_BODY_BYTES, MAX_ITEMS}
+
+-- the line of a command has at most 256 bytes before its LF
+most_line_bytes : MAX_LINE_BYTES ≡ 256
+most_line_bytes = refl
+
+-- 65,536 bytes without an LF end the connection
+long_line_bytes : LONG_LINE_BYTES ≡ 65536
+long_line_bytes = refl
+
+-- the count of a load has at most seven digits
+most_count_digits : MAX_COUNT_DIGITS ≡ 7
+most_count_digits = refl
+
+-- a body has at most 2^20 bytes
+most_body_bytes : MAX_BODY_BYTES ≡ 2 ^ 20
+most_body_bytes = refl
+
+-- at most a million items of a connection are answered before it ends
+most_items : MAX_ITEMS ≡ 10 ^ 6
+most_items = refl
+
+-- the word of a token has 32 bytes
+token_word_bytes : TOKEN_WORD_BYTES ≡ 32
+token_word_bytes = refl
