@@ -11,3 +11,4 @@ pub mod Serving
 pub mod Served
 pub mod Accounts
 pub mod Desks
+pub mod Limits
