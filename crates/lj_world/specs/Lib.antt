@@ -14,3 +14,4 @@ pub mod Kept
 pub mod Machines
 pub mod Worlds
 pub mod Worked
+pub mod Limits

@@ -1,0 +1,31 @@
+-- How many tasks are open in the pool with a queue, how many results it keeps, and how many ends it has.
+use Rattle.std.specs.Prelude.{◌≡◌, refl}
+use Rattle.lj_book.specs.declared.entries.TheConstants.{MAX_ENTRIES}
+use Rattle.lj_pool.specs.declared.pool.TheConstants.{MAX_OWED}
+use Rattle.lj_queue.specs.declared.hall.TheConstants.{USERS}
+use Rattle.lj_queue.specs.declared.list.TheConstants.{MAX_RESULTS}
+use Rattle.lj_queue.specs.declared.pool.TheConstants.{CONNECTIONS, MAX_OPEN}
+
+-- at most 1,024 tasks are open
+most_open : MAX_OPEN ≡ 1024
+most_open = refl
+
+-- they are as many as a book has entries
+most_open_of_book : MAX_OPEN ≡ MAX_ENTRIES
+most_open_of_book = refl
+
+-- at most 64 results of a user are kept
+most_results : MAX_RESULTS ≡ 64
+most_results = refl
+
+-- they are as many as tasks may be owed to its end
+most_results_owed : MAX_RESULTS ≡ MAX_OWED
+most_results_owed = refl
+
+-- 64 connections have an end at once
+connections : CONNECTIONS ≡ 64
+connections = refl
+
+-- the results of 64 users are kept apart
+users_apart : USERS ≡ 64
+users_apart = refl
