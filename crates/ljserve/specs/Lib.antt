@@ -2,3 +2,4 @@ pub mod Outcomes
 pub mod Conversations
 pub mod Named
 pub mod Printed
+pub mod Limits
