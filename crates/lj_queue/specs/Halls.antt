@@ -1,16 +1,24 @@
--- What lies under the lock of a pool: a list of results for each user.
-use Rattle.std.specs.Prelude.{ℕ, ◌%◌, List, [], slice_index_or, Option, None}
-use Rattle.lj_tile.specs.Tasks.{Work}
+-- What lies under the lock of a pool: for each user a list of results, the number of its present end, and a bell.
+use Rattle.std.specs.Prelude.{ℕ, ◌%◌, List, slice_index_or, slice_set, Option, None}
+use Rattle.lj_queue.specs.Lists.{Kept, none_of}
 use Rattle.lj_queue.specs.declared.hall.TheConstants.{USERS}
 
 -- the place of a user
 abbrev pub place_of : ℕ → ℕ
 place_of user = user % USERS
 
--- the tasks of a user's results, in the order in which they are fetched
-abbrev pub results_of : List (List Work) → ℕ → List Work
-results_of lists user = slice_index_or lists (place_of user) []
+-- another at the place of a user, and at every other place what was there
+abbrev pub with_own : {X : Type 0} → List X → ℕ → X → List X
+with_own places user own = slice_set places (place_of user) own
 
--- the number of a user's present end, if it has one
+-- the list at a user's place
+abbrev pub list_of : List Kept → ℕ → Kept
+list_of lists user = slice_index_or lists (place_of user) (none_of user)
+
+-- the number of the present end at a user's place, if there is one
 abbrev pub present_of : List (Option ℕ) → ℕ → Option ℕ
 present_of present user = slice_index_or present (place_of user) None
+
+-- after how many more results at a user's place the bell is rung; 0 where nobody waits for it
+abbrev pub due_of : List ℕ → ℕ → ℕ
+due_of due user = slice_index_or due (place_of user) 0

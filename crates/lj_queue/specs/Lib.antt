@@ -1,5 +1,6 @@
 pub mod Balance
 pub mod Passes
+pub mod Lists
 pub mod Halls
 pub mod Settling
 pub mod Limits

@@ -15,7 +15,8 @@ use std::sync::Wait;
 /// So many tasks are posted before workers that wait are told of them, unless a result is asked for and none is there.
 const TASKS_AT_ONCE: usize = 16;
 
-/// An end of a pool for one user, with a pass. It keeps a copy of each task that it is owed, and takes no memory.
+/// An end of a pool for one user, with a pass. It keeps a copy of each task that it is owed, and takes no memory. It hands
+/// out results of its user's tasks: what comes of another's that is posted by it is dropped.
 #[derive(Drop)]
 pub struct QueueEnd<'p, L: Room, R: Wait> {
     rt: &'p R,
@@ -110,6 +111,7 @@ impl<'p, L: Room, R: Wait> Pool for QueueEnd<'p, L, R> {
         ensures pass { self.new.pass ≡ self.old.pass }
         ensures number { self.new.number ≡ self.old.number }
         ensures user { self.new.user ≡ self.old.user }
+        ensures whose { IfSome result (λ done. done.name.label.user ≡ self.old.user) }
         ensures handed_out { IfSome result (λ done. IsHandedOut done self.old.seen self.new.seen) }
         ensures unchanged { IfNone result (SameOwed self.old.seen self.new.seen) }
         ensures closed { IfNone result (self.new.seen.closed ≡ true) }
@@ -132,6 +134,7 @@ impl<'p, L: Room, R: Wait> Pool for QueueEnd<'p, L, R> {
         ensures number { self.new.number ≡ self.old.number }
         ensures user { self.new.user ≡ self.old.user }
         ensures open { self.new.seen.closed ≡ self.old.seen.closed }
+        ensures whose { IfSome result (λ done. done.name.label.user ≡ self.old.user) }
         ensures handed_out { IfSome result (λ done. IsHandedOut done self.old.seen self.new.seen) }
         ensures unchanged { IfNone result (SameOwed self.old.seen self.new.seen) }
         ensures stays_closed { StaysClosed self.old.seen self.new.seen }

@@ -1,7 +1,8 @@
 //! What lies under the lock of a pool: results for its users, and the ledger of them all.
-ghost use Rattle.std.specs.Prelude.{◌≡◌, ◌≢◌, ◌+◌, ◌-◌, ◌<◌, ◌^◌, ◌↔◌, ◌∷◌, ◌++◌, ℕ, [], Some, None, cond, max, nat_eq, true, false, length, vec_len, IfOk, IsTrue};
-ghost use Rattle.std.specs.Option.{option_to_list};
-ghost use Rattle.lj_queue.specs.Halls.{place_of, results_of, present_of};
+ghost use Rattle.std.specs.Prelude.{◌≡◌, ◌+◌, ◌-◌, ◌<◌, ◌^◌, ◌↔◌, [], None, Some, cond, length, max, nat_eq, replicate, true, false, vec_len, IfNone, IfOk, IfSome, IsTrue};
+ghost use Rattle.std.specs.List.{All};
+ghost use Rattle.lj_queue.specs.Lists.{none_of, with_first, with_last};
+ghost use Rattle.lj_queue.specs.Halls.{place_of, list_of, present_of, due_of, with_own};
 
 use crate::list::{List, MAX_RESULTS};
 use lj_pool::Share;
@@ -26,7 +27,7 @@ pub(crate) struct Hall<L: Ledger> {
     lists: Vec<List>,
     /// The number of each user's present end.
     present: [Option<u64>; USERS],
-    /// The number of the end that came last.
+    /// The number of the end that came last, from 1; 0 before one came.
     last: u64,
     /// How many results were given.
     given: u64,
@@ -42,7 +43,11 @@ impl<L: Ledger> Hall<L> {
     /// An open hall of no results, where no user has an end.
     pub(crate) fn new(alloc: Global, results: ledger::Book<L>) -> Result<Hall<L>, AllocError>
         requires { results.total ≡ 0 }
-        ensures { IfOk result (λ hall. hall.closed ≡ false) }
+        ensures lists { IfOk result (λ hall. All (λ list. list.results ≡ []) hall.lists.items) }
+        ensures present { IfOk result (λ hall. hall.present ≡ replicate USERS None) }
+        ensures last { IfOk result (λ hall. hall.last ≡ 0) }
+        ensures due { IfOk result (λ hall. hall.due ≡ replicate USERS 0) }
+        ensures open { IfOk result (λ hall. hall.closed ≡ false) }
     {
         Ok(Hall {
             lists: empty_lists(alloc)?,
@@ -55,52 +60,73 @@ impl<L: Ledger> Hall<L> {
         })
     }
 
-    /// A new end of the user comes in place of the present one, whose results are dropped. Its number.
-    pub(crate) fn enter(&mut self, user: u8) -> u64
-        ensures present { present_of self.new.present user ≡ Some result }
-        ensures results { results_of self.new.lists.items user ≡ [] }
+    /// A new end of the user comes in place of the present one, whose results are dropped. Its number, which no end had
+    /// before. None where 2^64 - 1 ends came: then no end is present.
+    pub(crate) fn enter(&mut self, user: u8) -> Option<u64>
+        ensures number { IfSome result (λ number. number ≡ self.old.last + 1) }
+        ensures last { IfSome result (λ number. self.new.last ≡ number) }
+        ensures none { IfNone result (self.old.last ≡ 2 ^ 64 - 1) }
+        ensures stays_last { IfNone result (self.new.last ≡ self.old.last) }
+        ensures present { self.new.present ≡ with_own self.old.present user result }
+        ensures lists { self.new.lists.items ≡ with_own self.old.lists.items user (none_of user) }
+        ensures due { self.new.due ≡ self.old.due }
         ensures given { self.new.given ≡ self.old.given }
         ensures stays { self.new.closed ≡ self.old.closed }
     {
-        self.last = self.last.wrapping_add(1);
-        self.lists[place_of(user)].clear();
-        self.present[place_of(user)] = Some(self.last);
-        self.last
+        let number = self.last.checked_add(1);
+        self.last = self.last.saturating_add(1);
+        self.lists[place_of(user)].clear_for(user);
+        self.present[place_of(user)] = number;
+        number
     }
 
     /// Drops the user's results. Its present end is gone.
     pub(crate) fn withdraw(&mut self, user: u8)
-        ensures gone { present_of self.new.present user ≡ None }
-        ensures results { results_of self.new.lists.items user ≡ [] }
+        ensures present { self.new.present ≡ with_own self.old.present user None }
+        ensures lists { self.new.lists.items ≡ with_own self.old.lists.items user (none_of user) }
+        ensures last { self.new.last ≡ self.old.last }
+        ensures due { self.new.due ≡ self.old.due }
         ensures given { self.new.given ≡ self.old.given }
         ensures stays { self.new.closed ≡ self.old.closed }
     {
-        self.lists[place_of(user)].clear();
+        self.lists[place_of(user)].clear_for(user);
         self.present[place_of(user)] = None;
     }
 
-    /// Keeps a result of a task that an end posted for its user, where that end is present and there is room. It is
-    /// credited to the share then. Whether it was kept.
+    /// Whether this end is the user's present one.
+    fn is_present(&self, end: u64, user: u8) -> bool
+        ensures { IsTrue result ↔ (present_of self.now.present user ≡ Some end) }
+    {
+        self.present[place_of(user)] == Some(end)
+    }
+
+    /// Keeps a result of a task that an end posted for its user, where that end is present, the task is of the list's
+    /// user, and there is room. It is credited to the share then. Whether it was kept.
     pub(crate) fn keep(&mut self, end: u64, user: u8, done: Done, share: &mut Share<L>) -> bool
-        ensures kept { IsTrue result ↔ ((present_of self.old.present user ≡ Some end)
-            × (length (results_of self.old.lists.items user) < MAX_RESULTS) × (self.old.given < 2 ^ 64 - 1)) }
-        ensures results { result ≡ true → results_of self.new.lists.items user ≡ results_of self.old.lists.items user ++ done ∷ [] }
+        ensures kept { let list = list_of self.old.lists.items user in
+            IsTrue result ↔ ((present_of self.old.present user ≡ Some end) × ((length list.results < MAX_RESULTS)
+            × (done.name.label.user ≡ list.user)) × (self.old.given < 2 ^ 64 - 1)) }
+        ensures lists { result ≡ true →
+            self.new.lists.items ≡ with_own self.old.lists.items user (with_last (list_of self.old.lists.items user) done) }
         ensures given { result ≡ true → self.new.given ≡ self.old.given + 1 }
         ensures credited { result ≡ true → share.new ≡ share.old + 1 }
         ensures dropped { result ≡ false → self.new.lists.items ≡ self.old.lists.items }
         ensures not_given { result ≡ false → self.new.given ≡ self.old.given }
         ensures not_credited { result ≡ false → share.new ≡ share.old }
+        ensures present { self.new.present ≡ self.old.present }
+        ensures last { self.new.last ≡ self.old.last }
+        ensures due { self.new.due ≡ self.old.due }
         ensures stays { self.new.closed ≡ self.old.closed }
     {
+        let is_present = self.is_present(end, user);
         let Hall {
             lists,
-            present,
             given,
             results,
             ..
         } = self;
         let list = &mut lists[place_of(user)];
-        if present[place_of(user)] != Some(end) || list.len() == MAX_RESULTS || *given == u64::MAX {
+        if !is_present || !list.takes(&done) || *given == u64::MAX {
             return false;
         }
         list.push(done);
@@ -111,23 +137,34 @@ impl<L: Ledger> Hall<L> {
 
     /// The next result of the user. None where there is none, or the pool is closed.
     pub(crate) fn fetch(&mut self, user: u8) -> Option<Done>
-        ensures open { self.old.closed ≡ false →
-            results_of self.old.lists.items user ≡ option_to_list result ++ results_of self.new.lists.items user }
+        ensures lists { self.old.lists.items
+            ≡ with_own self.new.lists.items user (with_first result (list_of self.new.lists.items user)) }
+        ensures none { let list = list_of self.old.lists.items user in
+            IfNone result (self.old.closed ≡ false → list.user ≡ user → list.results ≡ []) }
         ensures closed { self.old.closed ≡ true → result ≡ None }
+        ensures whose { IfSome result (λ done. done.name.label.user ≡ user) }
+        ensures present { self.new.present ≡ self.old.present }
+        ensures last { self.new.last ≡ self.old.last }
+        ensures due { self.new.due ≡ self.old.due }
         ensures given { self.new.given ≡ self.old.given }
         ensures stays { self.new.closed ≡ self.old.closed }
     {
         if self.closed {
             return None;
         }
-        self.lists[place_of(user)].pop()
+        self.lists[place_of(user)].pop(user)
     }
 
     /// Notes that an end waits at the user's bell, which is to be rung after so many results, or earlier where another
     /// waits at it.
     pub(crate) fn awaits(&mut self, user: u8, results: usize)
-        ensures stays { self.new.closed ≡ self.old.closed }
+        ensures due { let old = due_of self.old.due user in
+            self.new.due ≡ with_own self.old.due user (cond (nat_eq old 0) (max results 1) 1) }
+        ensures lists { self.new.lists.items ≡ self.old.lists.items }
+        ensures present { self.new.present ≡ self.old.present }
+        ensures last { self.new.last ≡ self.old.last }
         ensures given { self.new.given ≡ self.old.given }
+        ensures stays { self.new.closed ≡ self.old.closed }
     {
         let due = &mut self.due[place_of(user)];
         *due = if *due == 0 { results.max(1) } else { 1 };
@@ -135,8 +172,13 @@ impl<L: Ledger> Hall<L> {
 
     /// Counts a result of the user that was kept. Whether the user's bell is to be rung for it.
     pub(crate) fn rings(&mut self, user: u8) -> bool
-        ensures stays { self.new.closed ≡ self.old.closed }
+        ensures rings { IsTrue result ↔ (due_of self.old.due user ≡ 1) }
+        ensures due { self.new.due ≡ with_own self.old.due user (due_of self.old.due user - 1) }
+        ensures lists { self.new.lists.items ≡ self.old.lists.items }
+        ensures present { self.new.present ≡ self.old.present }
+        ensures last { self.new.last ≡ self.old.last }
         ensures given { self.new.given ≡ self.old.given }
+        ensures stays { self.new.closed ≡ self.old.closed }
     {
         let due = &mut self.due[place_of(user)];
         let rings = *due == 1;
@@ -147,6 +189,10 @@ impl<L: Ledger> Hall<L> {
     /// Closes the pool.
     pub(crate) fn close(&mut self)
         ensures closed { self.new.closed ≡ true }
+        ensures lists { self.new.lists.items ≡ self.old.lists.items }
+        ensures present { self.new.present ≡ self.old.present }
+        ensures last { self.new.last ≡ self.old.last }
+        ensures due { self.new.due ≡ self.old.due }
         ensures given { self.new.given ≡ self.old.given }
     {
         self.closed = true;
@@ -162,8 +208,14 @@ impl<L: Ledger> Hall<L> {
     /// How many results were given, which is what all parts of the ledger have together.
     pub(crate) fn audited(&mut self, all: &mut ledger::Share<L>) -> u64
         requires { all.old.parts ≡ L.parts }
-        ensures given { result ≡ self.old.given }
+        ensures result { result ≡ self.old.given }
         ensures amount { result ≡ all.old.amount }
+        ensures lists { self.new.lists.items ≡ self.old.lists.items }
+        ensures present { self.new.present ≡ self.old.present }
+        ensures last { self.new.last ≡ self.old.last }
+        ensures due { self.new.due ≡ self.old.due }
+        ensures given { self.new.given ≡ self.old.given }
+        ensures stays { self.new.closed ≡ self.old.closed }
     {
         self.results.audit(all);
         self.given
@@ -172,11 +224,12 @@ impl<L: Ledger> Hall<L> {
 
 /// A list of no results for each user.
 fn empty_lists(alloc: Global) -> Result<Vec<List>, AllocError>
-    ensures { IfOk result (λ lists. vec_len lists ≡ USERS) }
+    ensures count { IfOk result (λ lists. vec_len lists ≡ USERS) }
+    ensures empty { IfOk result (λ lists. All (λ list. list.results ≡ []) lists.items) }
 {
     let mut lists = Vec::with_capacity(alloc, USERS)?;
-    for _ in 0..USERS {
-        lists.push(List::new(alloc)?)?;
+    for user in 0..USERS as u8 {
+        lists.push(List::new(alloc, user)?)?;
     }
     Ok(lists)
 }

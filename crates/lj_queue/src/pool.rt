@@ -136,14 +136,18 @@ impl<L: Room> QueuePool<L> {
         Ok((pool, passes, shares))
     }
 
-    /// An end of the pool for a user, to which nothing is owed. It comes in place of the user's present one.
+    /// An end of the pool for a user, to which nothing is owed. It comes in place of the user's present one. Once 2^64 - 1
+    /// ends came the pool is closed, and an end has the number 0, which no present one has.
     pub fn end<'p, R: Wait>(&'p self, rt: &'p R, pass: PoolPass<L>, user: u8) -> QueueEnd<'p, L, R>
         ensures seen { result.seen ≡ unseen }
         ensures pass { result.pass ≡ pass }
         ensures user { result.user ≡ user }
     {
-        let number = self.hall.lock(rt).enter(user);
-        QueueEnd::new(rt, self, pass, number, user)
+        let entered = self.hall.lock(rt).enter(user);
+        if entered.is_none() {
+            self.close(rt);
+        }
+        QueueEnd::new(rt, self, pass, entered.unwrap_or(0), user)
     }
 
     /// Closes the pool: from now on no task is posted or taken and no result fetched.
@@ -307,7 +311,9 @@ impl<L: Room> QueuePool<L> {
 
     /// Fetches a result of the user, and waits for one. None where the pool is closed. So many are owed to the end that
     /// asks.
-    pub(crate) fn fetch<R: Wait>(&self, rt: &R, user: u8, owed: usize) -> Option<Done> {
+    pub(crate) fn fetch<R: Wait>(&self, rt: &R, user: u8, owed: usize) -> Option<Done>
+        ensures whose { IfSome result (λ done. done.name.label.user ≡ user) }
+    {
         let mut hall = self.hall.lock(rt);
         for _ in rt.forever() {
             let fetched = hall.fetch(user);
@@ -321,7 +327,9 @@ impl<L: Room> QueuePool<L> {
     }
 
     /// Fetches a result of the user that is there now. None where there is none, or the pool is closed.
-    pub(crate) fn poll<R: Wait>(&self, rt: &R, user: u8) -> Option<Done> {
+    pub(crate) fn poll<R: Wait>(&self, rt: &R, user: u8) -> Option<Done>
+        ensures whose { IfSome result (λ done. done.name.label.user ≡ user) }
+    {
         self.hall.lock(rt).fetch(user)
     }
 

@@ -1,5 +1,9 @@
-use Rattle.std.specs.Prelude.{◌≡◌, vec_len}
+use Rattle.std.specs.Prelude.{◌≡◌, [], vec_len}
+use Rattle.std.specs.List.{All}
 use Rattle.lj_queue.proofs.hall.empty_lists.Given as goal
 
-abbrev pub invariant-loop : goal.invariant-loop
-invariant-loop l = vec_len l.lists ≡ l.counter
+abbrev pub invariant-loop-user : goal.invariant-loop-user
+invariant-loop-user l = record {
+  count : vec_len l.lists ≡ l.user;
+  empty : All (λ list. list.results ≡ []) l.lists.items;
+}

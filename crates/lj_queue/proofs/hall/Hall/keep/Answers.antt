@@ -1,23 +1,22 @@
-use Rattle.std.proofs.Common.{◌≡◌, ℕ, List, get_or, slice_set, sym, ap, ◌∙◌}
+use Rattle.std.proofs.Common.{◌≡◌, ℕ, List, get_or, slice_set, ap, ◌∙◌}
 use Rattle.std.proofs.lemmas.List.{set-get_or}
-use Rattle.lj_tile.specs.Tasks.{Work}
+use Rattle.lj_queue.specs.Lists.{Kept}
 use Rattle.lj_queue.proofs.hall.Hall.keep.Goals as goal
-use Rattle.lj_queue.proofs.hall.Hall.keep.Goals.{then-ne-via-then-ne, then-ne-via-else-ne+then-len-eq-MAX_RESULTS, then-ne-via-else-ne+else-len-eq-MAX_RESULTS+then-given}
+use Rattle.lj_queue.proofs.hall.Hall.keep.Goals.{then-not-is_present-via-then-not-is_present, then-not-is_present-via-else-not-is_present+then-not-takes, then-not-is_present-via-else-not-is_present+else-not-takes+then-given}
 
 -- a list of results written back as it was
-own_list : (lists : List (List Work)) (i : ℕ) (list : List Work) → list ≡ get_or lists i list → slice_set lists i list ≡ lists
+own_list : (lists : List Kept) (i : ℕ) (list : Kept) → list ≡ get_or lists i list → slice_set lists i list ≡ lists
 own_list lists i list read = ap (slice_set lists i) read ∙ set-get_or lists i list
 
-pub returns-then-ne-clause-dropped : goal.returns-then-ne-clause-dropped
-returns-then-ne-clause-dropped g c e =
-    elim c.then-ne.branch [
-      | then-ne-via-then-ne w ↦
-          rw w.self-is
-          (own_list c.args.self.now.lists.items c.place_of.result c.index_mut-list.result.now c.index_mut-list.ensures.value)
-      | then-ne-via-else-ne+then-len-eq-MAX_RESULTS w ↦
-          rw w.self-is
-          (own_list c.args.self.now.lists.items c.place_of.result c.index_mut-list.result.now c.index_mut-list.ensures.value)
-      | then-ne-via-else-ne+else-len-eq-MAX_RESULTS+then-given w ↦
-          rw w.self-is
-          (own_list c.args.self.now.lists.items c.place_of.result c.index_mut-list.result.now c.index_mut-list.ensures.value)
+pub returns-then-not-is_present-clause-dropped : goal.returns-then-not-is_present-clause-dropped
+returns-then-not-is_present-clause-dropped g c e =
+    let lists = c.args.self.now.lists.items in
+    let read = c.index_mut-list.ensures.value in
+    elim c.then-not-is_present.branch [
+      | then-not-is_present-via-then-not-is_present w ↦
+          rw w.self-is (own_list lists c.place_of.result c.index_mut-list.result.now read)
+      | then-not-is_present-via-else-not-is_present+then-not-takes w ↦
+          rw w.self-is (own_list lists c.place_of.result c.index_mut-list.result.now read)
+      | then-not-is_present-via-else-not-is_present+else-not-takes+then-given w ↦
+          rw w.self-is (own_list lists c.place_of.result c.index_mut-list.result.now read)
     ]
