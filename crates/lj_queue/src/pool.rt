@@ -296,7 +296,7 @@ impl<L: Room> QueuePool<L> {
     }
 
     /// Gives the result of a task that an end posted for its user. It is kept and credited to the share where that end
-    /// is present and there is room for it, and is dropped elsewhere.
+    /// is present, the task is of its user and there is room for it, and is dropped elsewhere.
     pub(crate) fn give<R: Wait>(&self, rt: &R, end: u64, user: u8, done: Done, share: &mut Share<L>)
         ensures never_falls { share.old ≤ share.new }
         ensures one_at_most { share.new ≤ share.old + 1 }
