@@ -1,5 +1,5 @@
-//! Tests of the pools: a full queue, a closed pool, ends that are gone, ends that poll, tasks that a gate sends back, work
-//! that goes ahead of the next command, and sessions that are worked on at once.
+//! Tests of the pools: a full queue, a closed pool, ends that are gone, a user that is withdrawn, ends that poll, tasks that
+//! a gate sends back, work that goes ahead of the next command, and sessions that are worked on at once.
 
 mod ahead;
 mod closing;
@@ -8,6 +8,7 @@ mod handed_back;
 mod polling;
 mod room;
 mod side_by_side;
+mod withdrawn;
 
 use crate::tasks::task;
 use lj_pool::{Gate, Pool, Share};
@@ -53,7 +54,7 @@ fn post_one<P: Pool, R: Abort>(rt: &R, end: &mut P, task: Task) {
 }
 
 /// Posts so many tasks, where the end has room for them.
-fn post_some<L: Room, R: Wait + Abort>(rt: &R, end: &mut QueueEnd<L, R>, user: u8, tasks: i64) {
+fn post_some<P: Pool, R: Abort>(rt: &R, end: &mut P, user: u8, tasks: i64) {
     for step in 0..tasks {
         post_one(rt, end, task(rt, user, step));
     }
