@@ -110,7 +110,7 @@ impl Account {
     /// Whether no more can be owed.
     pub fn is_full(&self) -> bool
         ensures room { result ≡ false → length self.now.owed < MAX_OWED }
-        ensures full { result ≡ true → length self.now.owed ≡ MAX_OWED }
+        ensures full { result ≡ true ↔ (length self.now.owed ≡ MAX_OWED) }
     {
         self.owed == MAX_OWED
     }

@@ -44,6 +44,8 @@ impl Pool for InlinePool {
 
     ghost for_others = { λ _ _. 0 };
 
+    ghost most = { 1 };
+
     fn post(&mut self, task: Task, _wait: bool) -> Result<(), Refused>
         ensures free { IsOk result ↔ (self.old.held ≡ None) }
         ensures posted { OnOk result (self.new ≡ record self.old { held = Some task }) }

@@ -40,9 +40,13 @@ impl<'p, L: Ledger, R: Wait> LockEnd<'p, L, R> {
 }
 
 impl<'p, L: Ledger, R: Wait> Pool for LockEnd<'p, L, R> {
+    ghost use Rattle.lj_pool.specs.declared.pool.TheConstants.{MAX_OWED};
+
     ghost seen = { λ end. end };
 
     ghost for_others = { λ _ _. 0 };
+
+    ghost most = { MAX_OWED };
 
     fn post(&mut self, task: Task, wait: bool) -> Result<(), Refused> {
         self.account.post(&task);

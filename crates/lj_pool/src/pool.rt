@@ -1,5 +1,5 @@
 //! What a pool is to the one who posts tasks: an end that takes tasks and hands out results.
-ghost use Rattle.std.specs.Prelude.{◌≡◌, ◌<◌, ℕ, length, true, false, [], IfErr, IfNone, IfSome, OnErr, OnOk};
+ghost use Rattle.std.specs.Prelude.{◌≡◌, ◌<◌, ◌↔◌, ℕ, length, true, false, [], IfErr, IfNone, IfSome, OnErr, OnOk};
 ghost use Rattle.lj_pool.specs.Seen.{Seen, SameOwed, IsPosted, IsHandedOut, StaysClosed};
 ghost use Rattle.lj_pool.specs.Refusals.{task_of, IsClosed};
 
@@ -33,6 +33,9 @@ pub trait Pool {
     // another, where that is counted.
     ghost for_others: { Self → ℕ → ℕ };
 
+    // How many tasks are owed to it where it is full.
+    ghost most: { ℕ };
+
     /// Posts a task. With `wait` it is never refused as `Full`.
     fn post(&mut self, task: Task, wait: bool) -> Result<(), Refused>
         requires room { length (seen self.old).owed < MAX_OWED }
@@ -65,8 +68,9 @@ pub trait Pool {
     fn owed(&self) -> usize
         ensures { result ≡ length (seen self.now).owed };
 
-    /// Whether there is no room now. Something is owed then.
+    /// Whether there is no room now: as many tasks are owed as may be, and at least one.
     fn full(&self) -> bool
+        ensures most { result ≡ true ↔ (length (seen self.now).owed ≡ most) }
         ensures room { result ≡ false → length (seen self.now).owed < MAX_OWED }
         ensures owes { result ≡ true → 0 < length (seen self.now).owed };
 

@@ -72,9 +72,13 @@ impl<'p, L: Room, R: Wait> QueueEnd<'p, L, R> {
 }
 
 impl<'p, L: Room, R: Wait> Pool for QueueEnd<'p, L, R> {
+    ghost use Rattle.lj_pool.specs.declared.pool.TheConstants.{MAX_OWED};
+
     ghost seen = { λ end. end.seen };
 
     ghost for_others = { λ _ _. 0 };
+
+    ghost most = { MAX_OWED };
 
     fn post(&mut self, task: Task, wait: bool) -> Result<(), Refused>
         requires room { length self.old.seen.owed < MAX_OWED }

@@ -48,6 +48,8 @@ impl Pool for ClosingPool {
 
     ghost for_others = { λ _ _. 0 };
 
+    ghost most = { 1 };
+
     fn post(&mut self, task: Task, wait: bool) -> Result<(), Refused> {
         if !self.is_open() {
             self.closed = true;

@@ -1,9 +1,10 @@
-//! Tests of the pools: a full queue, a closed pool, ends that are gone, a user that is withdrawn, ends that poll, tasks that
-//! a gate sends back, work that goes ahead of the next command, and sessions that are worked on at once.
+//! Tests of the pools: ends that are full, a full queue, a closed pool, ends that are gone, a user that is withdrawn, ends that
+//! poll, tasks that a gate sends back, work that goes ahead of the next command, and sessions that are worked on at once.
 
 mod ahead;
 mod closing;
 mod ends;
+mod filled;
 mod handed_back;
 mod polling;
 mod room;

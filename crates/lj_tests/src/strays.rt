@@ -69,6 +69,8 @@ impl Pool for OddPool {
 
     ghost for_others = { λ _ _. 0 };
 
+    ghost most = { 1 };
+
     fn post(&mut self, task: Task, _wait: bool) -> Result<(), Refused> {
         if self.posts == 0 {
             self.closed = true;
