@@ -1,5 +1,5 @@
 //! The work that is owed to sessions, done over a pool: while a command waits for it, and before the next one is read.
-ghost use Rattle.std.specs.Prelude.{◌≡◌, ◌+◌, ◌-◌, ◌<◌, ◌≤◌, length, Bool, true, false, [], ◌∷◌, Some, None, Ok, IsSome, IfOk, IfErr, OnErr, OnOk};
+ghost use Rattle.std.specs.Prelude.{◌≡◌, ◌+◌, ◌-◌, ◌<◌, ◌≤◌, length, Bool, true, false, [], ◌∷◌, Some, None, Ok, IsSome, IfOk, IfErr, IfSome, OnErr, OnOk};
 ghost use Rattle.lj_session.specs.States.{turns_before};
 ghost use Rattle.lj_session.specs.Owners.{IsAnswered, IsReplied, IsSettled, user_in, ready_session};
 ghost use Rattle.lj_wire.specs.declared.item.Item.TheVariants.{Command as Ordered};
@@ -79,7 +79,10 @@ fn run<P: Pool>(owner: &mut Owner, user: u8, pool: &mut P) -> Result<Reply, Halt
             post_next(owner, pool, false)?;
             strays = 0;
         } else if !post_or_wait(owner, pool)? {
-            strays = strays_after(strays, fetch_more(owner, user, pool)?)?;
+            strays = strays_after(strays, fetch_next(owner, user, pool)?)?;
+            if poll_and_post(owner, user, pool) {
+                strays = 0;
+            }
         }
     }
 }
@@ -112,17 +115,21 @@ pub(crate) fn work_ahead<P: Pool>(
     Ok(owner.is_busy())
 }
 
-/// Takes in what is there of the results that are owed.
-fn poll_all<P: Pool>(owner: &mut Owner, user: u8, pool: &mut P)
+/// Takes in what is there of the results that are owed. Whether one of them was of a tile that is awaited.
+fn poll_all<P: Pool>(owner: &mut Owner, user: u8, pool: &mut P) -> bool
     requires gathers { Gathers owner.old (P.seen pool.old).owed }
     ensures goes_on { GoesOn owner.old (P.seen pool.old) owner.new (P.seen pool.new) }
+    ensures fewer { result ≡ true → tiles_coming owner.new < tiles_coming owner.old }
     ensures own { P.for_others pool.new user ≡ P.for_others pool.old user }
 {
+    let mut some = false;
     for _ in 0..pool.owed() {
-        if !poll_next(owner, user, pool) {
+        let Some(taken) = poll_next(owner, user, pool) else {
             break;
-        }
+        };
+        some = some || taken;
     }
+    some
 }
 
 /// Turns sessions until none is whole. Between two turns a result is taken in and a task posted, so that a session whose
@@ -208,22 +215,18 @@ fn post_next<P: Pool>(owner: &mut Owner, pool: &mut P, wait: bool) -> Result<boo
     }
 }
 
-/// Fetches a result, takes in what else is there, and posts what there is room for then, so that many tasks go to the
-/// workers together. False where the result that was fetched is of no tile that is awaited.
-fn fetch_more<P: Pool>(owner: &mut Owner, user: u8, pool: &mut P) -> Result<bool, Halt>
+/// Takes in what is there of the results that are owed, and posts what there is room for then, so that many tasks go to the
+/// workers together. Whether one of the results was of a tile that is awaited.
+fn poll_and_post<P: Pool>(owner: &mut Owner, user: u8, pool: &mut P) -> bool
     requires number { owner.old.number ≡ user }
     requires gathers { Gathers owner.old (P.seen pool.old).owed }
-    requires owes { 0 < length (P.seen pool.old).owed }
     ensures goes_on { GoesOn owner.old (P.seen pool.old) owner.new (P.seen pool.new) }
-    ensures fewer { IfOk result (λ taken. taken ≡ true → tiles_coming owner.new < tiles_coming owner.old) }
-    ensures stray { IfOk result (λ taken. taken ≡ false → StraysRise 1 (P.seen pool.old) (P.seen pool.new)) }
-    ensures halted { IfErr result (λ halt. IsHalted halt (P.seen pool.old) (P.seen pool.new)) }
+    ensures fewer { result ≡ true → tiles_coming owner.new < tiles_coming owner.old }
     ensures own { P.for_others pool.new user ≡ P.for_others pool.old user }
 {
-    let taken = fetch_next(owner, user, pool)?;
-    poll_all(owner, user, pool);
+    let taken = poll_all(owner, user, pool);
     post_all(owner, pool);
-    Ok(taken)
+    taken
 }
 
 /// Fetches a result. False where it is of no tile that is awaited; it is dropped then.
@@ -245,18 +248,19 @@ fn fetch_next<P: Pool>(owner: &mut Owner, user: u8, pool: &mut P) -> Result<bool
     Ok(owner.take_in(done).is_ok())
 }
 
-/// Takes in a result that is there now, where it is of a tile that is awaited. False where there is no result.
-fn poll_next<P: Pool>(owner: &mut Owner, user: u8, pool: &mut P) -> bool
+/// Takes in a result that is there now. False where it is of no tile that is awaited; it is dropped then. None where there
+/// is no result.
+fn poll_next<P: Pool>(owner: &mut Owner, user: u8, pool: &mut P) -> Option<bool>
     requires gathers { Gathers owner.old (P.seen pool.old).owed }
     ensures goes_on { GoesOn owner.old (P.seen pool.old) owner.new (P.seen pool.new) }
+    ensures fewer { IfSome result (λ taken. taken ≡ true → tiles_coming owner.new < tiles_coming owner.old) }
     ensures own { P.for_others pool.new user ≡ P.for_others pool.old user }
 {
     let polled = pool.poll(user);
     let Some(done) = &polled else {
-        return false;
+        return None;
     };
-    let _taken = owner.take_in(done);
-    true
+    Some(owner.take_in(done).is_ok())
 }
 
 /// How many results in a row were of no tile that is awaited, after one more that was taken in or was not.

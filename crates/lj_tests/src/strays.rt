@@ -10,16 +10,18 @@ use lj_tile::{Done, Task, compute};
 use lj_wire::{LineReader, Reading, Writing};
 use std::alloc::Global;
 
-/// A pool that computes a task as it is posted. It may hand out copies of an earlier result before each result, and may
-/// be closed at a post, or at a fetch or poll.
+/// A pool that computes a task as it is posted. A fetch may hand out copies of an earlier result before each result, and
+/// the pool may be closed at a post, or at a fetch or poll.
 #[derive(Drop)]
 struct OddPool {
     table: Table,
     held: Option<Done>,
     /// The result before the one that is held.
     earlier: Option<Done>,
-    /// How many copies of it are handed out before the next result.
+    /// How many copies of it are handed out before each result.
     copies: u64,
+    /// How many of them are still to come before the next one.
+    left: u64,
     posts: u64,
     fetches: u64,
     good: u64,
@@ -36,6 +38,7 @@ impl OddPool {
             held: None,
             earlier: None,
             copies,
+            left: copies,
             posts,
             fetches,
             good: 0,
@@ -44,13 +47,13 @@ impl OddPool {
         }
     }
 
-    /// A copy of the earlier result, if it is of another task than the one that is held.
+    /// A copy of the earlier result, if one is to come and it is of another task than the one that is held.
     fn stray(&self) -> Option<Done>
         ensures { IfSome result (λ done. IfSome self.now.held (λ held. (done ≡ held) → ⊥)) }
     {
         let earlier = self.earlier.as_ref()?;
         let held = self.held.as_ref()?;
-        if self.copies == 0 || earlier.task().is(held.task()) {
+        if self.left == 0 || earlier.task().is(held.task()) {
             return None;
         }
         Some(earlier.copy())
@@ -90,11 +93,12 @@ impl Pool for OddPool {
             return None;
         }
         if let Some(stray) = self.stray() {
-            self.copies = self.copies.saturating_sub(1);
+            self.left = self.left.saturating_sub(1);
             self.strays = self.strays.saturating_add(1);
             return Some(stray);
         }
         self.fetches -= 1;
+        self.left = self.copies;
         let done = self.held.take()?;
         self.earlier = Some(done.copy());
         self.good = self.good.saturating_add(1);
@@ -102,7 +106,7 @@ impl Pool for OddPool {
     }
 
     fn poll(&mut self, user: u8) -> Option<Done> {
-        if self.held.is_none() {
+        if self.held.is_none() || self.stray().is_some() {
             return None;
         }
         self.fetch(user)
@@ -135,10 +139,22 @@ const STEP: &str = "LOAD a 256 1 131072 rest 28\n2\ndimer\nAr 0 0 0\nAr 1.5 0 0\
 const ALONE: &str = "LOAD b 256 1 1 pair 44\n1\np\nH -0.0000003 0 0\n1\nc\nH -0.000000001 0 0\n\
     SHOW b 0\nADVANCE b 1\nSHOW b 0\n";
 
+/// Two steps of 65 atoms in one place, which have two tiles each: that of a full block, and that of it and the last atom.
+const CROWD: &str = "LOAD a 256 1 131072 rest 529\n65\ncrowd\n\
+    H 0 0 0\nH 0 0 0\nH 0 0 0\nH 0 0 0\nH 0 0 0\nH 0 0 0\nH 0 0 0\nH 0 0 0\nH 0 0 0\nH 0 0 0\nH 0 0 0\nH 0 0 0\nH 0 0 0\n\
+    H 0 0 0\nH 0 0 0\nH 0 0 0\nH 0 0 0\nH 0 0 0\nH 0 0 0\nH 0 0 0\nH 0 0 0\nH 0 0 0\nH 0 0 0\nH 0 0 0\nH 0 0 0\nH 0 0 0\n\
+    H 0 0 0\nH 0 0 0\nH 0 0 0\nH 0 0 0\nH 0 0 0\nH 0 0 0\nH 0 0 0\nH 0 0 0\nH 0 0 0\nH 0 0 0\nH 0 0 0\nH 0 0 0\nH 0 0 0\n\
+    H 0 0 0\nH 0 0 0\nH 0 0 0\nH 0 0 0\nH 0 0 0\nH 0 0 0\nH 0 0 0\nH 0 0 0\nH 0 0 0\nH 0 0 0\nH 0 0 0\nH 0 0 0\nH 0 0 0\n\
+    H 0 0 0\nH 0 0 0\nH 0 0 0\nH 0 0 0\nH 0 0 0\nH 0 0 0\nH 0 0 0\nH 0 0 0\nH 0 0 0\nH 0 0 0\nH 0 0 0\nH 0 0 0\nH 0 0 0\n\
+    ADVANCE a 2\nSHOW a 64\n";
+
 /// A connection over an odd pool.
 struct Case {
     /// Whether another user was served before, so that results of theirs come before the first one.
     is_second: bool,
+    /// How many strays come before each result but the first of all.
+    copies: u64,
+    /// How many come in all.
     strays: u64,
     posts: u64,
     fetches: u64,
@@ -154,9 +170,10 @@ const ONE_STEP: &str = "OK LOAD a 0 2\nOK ADVANCE a 1\n";
 
 const NO_STEP: &str = "OK LOAD a 0 2\n";
 
-const CASES: [Case; 10] = [
+const CASES: [Case; 11] = [
     Case {
         is_second: false,
+        copies: 1,
         strays: 1,
         posts: u64::MAX,
         fetches: u64::MAX,
@@ -166,6 +183,7 @@ const CASES: [Case; 10] = [
     },
     Case {
         is_second: false,
+        copies: 4095,
         strays: 4095,
         posts: u64::MAX,
         fetches: u64::MAX,
@@ -175,6 +193,7 @@ const CASES: [Case; 10] = [
     },
     Case {
         is_second: false,
+        copies: 4096,
         strays: 4096,
         posts: u64::MAX,
         fetches: u64::MAX,
@@ -184,6 +203,7 @@ const CASES: [Case; 10] = [
     },
     Case {
         is_second: true,
+        copies: 4095,
         strays: 4095,
         posts: u64::MAX,
         fetches: u64::MAX,
@@ -193,6 +213,7 @@ const CASES: [Case; 10] = [
     },
     Case {
         is_second: true,
+        copies: 4096,
         strays: 4096,
         posts: u64::MAX,
         fetches: u64::MAX,
@@ -202,6 +223,7 @@ const CASES: [Case; 10] = [
     },
     Case {
         is_second: false,
+        copies: 0,
         strays: 0,
         posts: 0,
         fetches: 9,
@@ -211,6 +233,7 @@ const CASES: [Case; 10] = [
     },
     Case {
         is_second: false,
+        copies: 0,
         strays: 0,
         posts: 9,
         fetches: 0,
@@ -220,6 +243,7 @@ const CASES: [Case; 10] = [
     },
     Case {
         is_second: false,
+        copies: 0,
         strays: 0,
         posts: 1,
         fetches: 9,
@@ -229,6 +253,7 @@ const CASES: [Case; 10] = [
     },
     Case {
         is_second: false,
+        copies: 0,
         strays: 0,
         posts: 9,
         fetches: 1,
@@ -238,12 +263,23 @@ const CASES: [Case; 10] = [
     },
     Case {
         is_second: false,
+        copies: 0,
         strays: 0,
         posts: 0,
         fetches: 9,
         input: ALONE,
         served: Served::End,
         told: "OK LOAD b 0 1\nOK SHOW b 0 0 4294967295 0 0\nOK ADVANCE b 1\nOK SHOW b 1 0 4 0 0\n",
+    },
+    Case {
+        is_second: false,
+        copies: 4000,
+        strays: 12_000,
+        posts: u64::MAX,
+        fetches: u64::MAX,
+        input: CROWD,
+        served: Served::End,
+        told: "OK LOAD a 0 65\nOK ADVANCE a 2\nOK SHOW a 2 64 0 0 0\n",
     },
 ];
 
@@ -273,7 +309,7 @@ fn serve_over(alloc: Global, user: u8, input: &str, pool: &mut OddPool) -> Told 
 #[test]
 fn strays_are_dropped_and_a_closed_pool_ends_the_connection(rt: HostRuntime) {
     for case in &CASES {
-        let mut pool = OddPool::new(case.strays, case.posts, case.fetches);
+        let mut pool = OddPool::new(case.copies, case.posts, case.fetches);
         if case.is_second {
             serve_over(rt.alloc(), 4, STEP, &mut pool);
         }
