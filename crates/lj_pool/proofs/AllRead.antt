@@ -102,6 +102,7 @@ module _ (state : Owned) (read written : List ℕ) (old new : Seen) (held : List
       written_is = s.progress.written_is;
       next_is = s.progress.next_is;
     };
+    owes = s.owes;
     many = s.many;
   })
 

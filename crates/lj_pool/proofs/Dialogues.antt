@@ -278,8 +278,8 @@ module _ (start : Owned) (first now : Standing) (was is : Option (List ℕ)) (ol
 
   -- before the next item the pool is given up
   pub serving-stops : (halt : Halt) (newer : Seen) → MAX_AHEAD < length newer.owed
-      → Serves (served_of halt) start first.left now.left was is old newer None
-  serving-stops halt newer many = by halt
+      → (name : List ℕ) × (0 < owed_in owned name) → Serves (served_of halt) start first.left now.left was is old newer None
+  serving-stops halt newer many owed = by halt
     where
       short : StopsShort start s.read s.written newer
       short = inr (record {
@@ -295,6 +295,7 @@ module _ (start : Owned) (first now : Standing) (was is : Option (List ℕ)) (ol
           written_is = s.written_is;
           next_is = s.next_is;
         };
+        owes = (owed.0, s.owes owed.0 owed.1);
         many = many;
       })
 

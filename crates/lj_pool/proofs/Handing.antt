@@ -1,11 +1,12 @@
 -- Serving goes on before the next item, and the state that is handed back.
-use Rattle.std.proofs.Common.{◌≡◌, ℕ, ◌-◌, ◌≤◌, List, [], Option, None, refl, sym, ap, subst, arith}
+use Rattle.std.proofs.Common.{◌≡◌, ℕ, ◌-◌, ◌<◌, ◌≤◌, List, [], length, Option, None, refl, sym, ap, subst, arith}
 use Rattle.std.specs.List.{IsDistinct}
 use Rattle.std.specs.Str.{bytes_eq}
-use Rattle.lj_session.specs.States.{Owned, rested, names}
+use Rattle.lj_session.specs.States.{Owned, owed_in, rested, names}
 use Rattle.lj_session.specs.Owners.{Owning, entered, is_waited_for}
 use Rattle.lj_wire.specs.declared.reader.phase.Phase.TheVariants.{Open}
 use Rattle.lj_wire.specs.Standings.{Standing}
+use Rattle.lj_pool.specs.declared.pool.TheConstants.{MAX_AHEAD}
 use Rattle.lj_pool.specs.Seen.{Seen}
 use Rattle.lj_pool.specs.Gathering.{Gathers, NoneOwed}
 use Rattle.lj_pool.specs.Counting.{tiles_owed}
@@ -14,7 +15,7 @@ use Rattle.lj_pool.specs.Serving.{Serving}
 use Rattle.lj_pool.proofs.Dialogues.{serving-start, serving-goes}
 use Rattle.lj_pool.proofs.Ending.{alike_none}
 use Rattle.lj_pool.proofs.Going.{rises_more, rises_none}
-use Rattle.lj_pool.proofs.Rested.{gathers-entered, rested-few, none-owed}
+use Rattle.lj_pool.proofs.Rested.{gathers-entered, rested-few, none-owed, some-owed}
 
 -- an owner that has just been given the state
 module _ (state : Owned) (number : ℕ) (owner : Owning) (is : owner ≡ entered state number) where
@@ -49,6 +50,10 @@ module _ (owner : Owning) (seen : Seen) (idle : owner.waiting ≡ None) (next : 
       (rises_more (tiles_coming owner - tiles_coming next) 0 (tiles_to_come owner.state - tiles_to_come next.state) goes.counted
       (rises_none newer newer 0 refl refl (omega arith)) (omega (arith, before, after)))
       (λ name. goes.owes name (ap (λ w. is_waited_for w name) idle))
+
+  -- where many tasks are owed then, a step is owed to a session
+  pub ahead_owes : MAX_AHEAD < length newer.owed → (name : List ℕ) × (0 < owed_in next.state name)
+  ahead_owes many = some-owed next newer.owed goes.gathers ahead_idle (omega (arith, many))
 
 -- the state handed back
 module _ (owner : Owning) (seen : Seen) (t : Gathers owner seen.owed) (idle : owner.waiting ≡ None) (back : Owned)

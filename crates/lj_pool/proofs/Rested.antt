@@ -1,9 +1,10 @@
 -- States whose steps are begun anew: what is to come of them, and that nothing is owed then where no step is.
-use Rattle.std.proofs.Common.{◌≡◌, ℕ, ◌≤◌, nat_lt, List, [], ◌∷◌, map, Option, Some, None, refl, sym, ap}
+use Rattle.std.proofs.Common.{◌≡◌, ℕ, ◌<◌, ◌≤◌, nat_lt, List, [], ◌∷◌, length, map, Option, Some, None, refl, sym, ap}
 use Rattle.std.proofs.Common.{◌∙◌, subst, arith}
 use Rattle.std.specs.List.{IsDistinct, filter, sum_by}
 use Rattle.std.specs.Option.{option_map, option_map_or}
 use Rattle.std.specs.Str.{bytes_eq}
+use Rattle.std.proofs.lemmas.Bool.{ltb-true, ltb-false}
 use Rattle.std.proofs.lemmas.List.Sums.{sum_by-cons}
 use Rattle.std.proofs.lemmas.Option.{none-some, same_Some}
 use Rattle.lj_tile.specs.Tasks.{Work}
@@ -94,28 +95,46 @@ gathers-entered owned number distinct = record {
         ap (posted_of (label_of (entered owned number) name)) (rested-there owned name ∙ ap (option_map at_rest) e)
         ∙ rest-posted was (label_of (entered owned number) name)
 
--- where no step is owed to the sessions, the pool owes nothing
-pub none-owed : (owner : Owning) (owed : List Work) → Gathers owner owed → owner.waiting ≡ None
-    → NoneOwed (rested owner.state) → owed ≡ []
-none-owed owner owed t idle none = by owed refl
-  where
-    work : IsAtWork None owner.state
-    work = subst (λ w. IsAtWork w owner.state) idle t.at_work
+-- nothing waits, and these tasks are owed
+module _ (owner : Owning) (owed : List Work) (t : Gathers owner owed) (idle : owner.waiting ≡ None) where
+  work : IsAtWork None owner.state
+  work = subst (λ w. IsAtWork w owner.state) idle t.at_work
 
-    none_posted : (name : List ℕ) (o : Option Held) → held_in owner.state name ≡ o
-        → posted_of (label_of owner name) (held_in owner.state name) ≡ []
-    none_posted name None e = ap (posted_of (label_of owner name)) e
-    none_posted name (Some held) e =
-        let zero_owed = owed-of owner.state name held e (sym (rested-owes owner.state name) ∙ none name) in
-        ap (posted_of (label_of owner name)) e
-        ∙ closed-posted held (label_of owner name) (closed-part held.live.part
-        (work name held e ∙ kind-none None name held zero_owed refl))
+  none_posted : (name : List ℕ) → owed_in owner.state name ≡ 0 → (o : Option Held) → held_in owner.state name ≡ o
+      → posted_of (label_of owner name) (held_in owner.state name) ≡ []
+  none_posted name none None e = ap (posted_of (label_of owner name)) e
+  none_posted name none (Some held) e =
+      ap (posted_of (label_of owner name)) e
+      ∙ closed-posted held (label_of owner name) (closed-part held.live.part
+      (work name held e ∙ kind-none None name held (owed-of owner.state name held e none) refl))
 
-    by : (ws : List Work) → owed ≡ ws → owed ≡ []
-    by [] e = e
-    by (w ∷ ws) e =
-        let name = w.name.label.session in
-        let empty : filter (is_of name) (w ∷ ws) ≡ [] =
-        ap (filter (is_of name)) (sym e) ∙ t.each name ∙ none_posted name (held_in owner.state name) refl in
-        let here = same_name name in
-        absurd (let k = rw here at empty in cc)
+  -- the session of a task owes a step
+  not_none : (w : Work) (ws : List Work) → owed ≡ w ∷ ws → owed_in owner.state w.name.label.session ≡ 0 → ⊥
+  not_none w ws e none =
+      let name = w.name.label.session in
+      let empty : filter (is_of name) (w ∷ ws) ≡ [] =
+      ap (filter (is_of name)) (sym e) ∙ t.each name ∙ none_posted name none (held_in owner.state name) refl in
+      let here = same_name name in
+      absurd (let k = rw here at empty in cc)
+
+  -- where no step is owed to the sessions, the pool owes nothing
+  pub none-owed : NoneOwed (rested owner.state) → owed ≡ []
+  none-owed none = by owed refl
+    where
+      by : (ws : List Work) → owed ≡ ws → owed ≡ []
+      by [] e = e
+      by (w ∷ ws) e =
+          absurd (not_none w ws e (sym (rested-owes owner.state w.name.label.session) ∙ none w.name.label.session))
+
+  -- where it owes a task, a step is owed to a session
+  pub some-owed : 0 < length owed → (name : List ℕ) × (0 < owed_in owner.state name)
+  some-owed some = by owed refl
+    where
+      by : (ws : List Work) → owed ≡ ws → (name : List ℕ) × (0 < owed_in owner.state name)
+      by [] e = absurd (let none = ap length e in omega (arith, none, some))
+      by (w ∷ ws) e =
+          let name = w.name.label.session in (
+            name,
+            by_test (nat_lt 0 (owed_in owner.state name)) (λ yes. ltb-true 0 (owed_in owner.state name) yes)
+                (λ no. absurd (not_none w ws e (let none = ltb-false 0 (owed_in owner.state name) no in omega (arith, none)))),
+          )

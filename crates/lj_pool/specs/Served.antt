@@ -82,17 +82,19 @@ pub record StopsAt (state : Owned) (read written : List ℕ) : Type 0 where
   pub reaches : Reaches (user_of state) read written between item
   pub waits : MayWait state reaches.progress.items between item
 
--- So many items of what was read are answered, and the pool owes more than it may before the next one is.
-pub record StopsBetween (user : User) (read written : List ℕ) (new : Seen) : Type 0 where
+-- So many items of what was read are answered, steps may be owed to some session then, and the pool owes more than it may
+-- before the next item is.
+pub record StopsBetween (state : Owned) (read written : List ℕ) (new : Seen) : Type 0 where
   pub count : ℕ
   pub left : List ℕ
   pub between : User
-  pub progress : Progress user read count written left between
+  pub progress : Progress (user_of state) read count written left between
+  pub owes : (name : List ℕ) × MayOwe state progress.items name
   pub many : MAX_AHEAD < length new.owed
 
 -- What is written where the pool was given up.
 abbrev pub StopsShort : Owned → List ℕ → List ℕ → Seen → Type 0
-StopsShort state read written new = StopsAt state read written ⊎ StopsBetween (user_of state) read written new
+StopsShort state read written new = StopsAt state read written ⊎ StopsBetween state read written new
 
 -- What is written for what was read, and the state that is handed back.
 abbrev pub IsServed : Served → Owned → List ℕ → List ℕ → Seen → Seen → Option Owned → Type 0

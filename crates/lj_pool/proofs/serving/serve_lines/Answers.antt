@@ -4,7 +4,7 @@ use Rattle.lj_pool.specs.Endings.{served_of}
 use Rattle.lj_pool.specs.Served.{Serves}
 use Rattle.lj_pool.proofs.Dialogues.{serving-ceases, serving-fails, serving-stops, serving-halts, serving-breaks}
 use Rattle.lj_pool.proofs.Dialogues.{serving-more, serving-ends, ceases_open, fails_open}
-use Rattle.lj_pool.proofs.Handing.{entered_serving, entered_gathers, ahead_idle, ahead_serving, back_few, back_none}
+use Rattle.lj_pool.proofs.Handing.{entered_serving, entered_gathers, ahead_idle, ahead_serving, ahead_owes, back_few, back_none}
 use Rattle.lj_pool.proofs.serving.serve_lines.Goals as goal
 
 pub items-init : goal.items-init
@@ -30,7 +30,9 @@ returns-in-Err-clause-told g c =
     c.items.invariant.serving in
     let stops = serving-stops c.args.state c.args.lines.now c.items.lines (g.W.Sink.contents c.args.writer.now)
     (g.W.Sink.contents c.items.writer) (g.P.Pool.seen c.args.pool.now) (g.P.Pool.seen c.work_ahead.new.pool)
-    c.work_ahead.new.owner.state s c.in-Err.halt (g.P.Pool.seen c.work_ahead.new.pool) c.in-Err.ensures.many in
+    c.work_ahead.new.owner.state s c.in-Err.halt (g.P.Pool.seen c.work_ahead.new.pool) c.in-Err.ensures.many
+    (ahead_owes c.items.owner (g.P.Pool.seen c.items.pool) c.items.invariant.idle c.work_ahead.new.owner
+    (g.P.Pool.seen c.work_ahead.new.pool) c.work_ahead.ensures.goes_on c.in-Err.ensures.many) in
     subst (λ kind. Serves kind c.args.state c.args.lines.now.left c.items.lines.left (g.W.Sink.contents c.args.writer.now)
     (g.W.Sink.contents c.items.writer) (g.P.Pool.seen c.args.pool.now) (g.P.Pool.seen c.work_ahead.new.pool) c.given_up.result.0)
     (sym c.given_up.ensures.served)
