@@ -1,6 +1,10 @@
 //! A pool of workers as a server has it.
-ghost use Rattle.std.specs.Prelude.{◌≡◌};
+ghost use Rattle.std.specs.Prelude.{◌≡◌, [], IfSome};
+ghost use Rattle.std.specs.Io.KnownBytes.{IsAtEnd};
 ghost use Rattle.lj_wire.specs.declared.reader.phase.Phase.TheVariants.{Open};
+ghost use Rattle.lj_wire.specs.Ends.{Rises};
+ghost use Rattle.lj_pool.specs.declared.served.Served.TheVariants.{End, ReadFault, WriteFault};
+ghost use Rattle.ljserve.specs.Conversations.{Attends};
 
 use lj_pool::Served;
 use lj_session::UserState;
@@ -32,7 +36,14 @@ pub trait Hub: Drop {
         writer: &mut W,
     ) -> (Option<UserState>, Served)
         requires fresh { lines.old.items ≡ 0 }
-        requires at_work { lines.old.phase ≡ Open };
+        requires at_work { lines.old.phase ≡ Open }
+        ensures told { Attends result.1 state lines.old.left lines.new.left
+            (W.contents writer.old) (W.contents writer.new) result.0 }
+        ensures end { result.1 ≡ End → IsAtEnd lines.new.left }
+        ensures all_read { result.1 ≡ ReadFault → lines.new.held ≡ [] }
+        ensures read_fault { result.1 ≡ ReadFault → Rises lines.old.errors lines.new.errors }
+        ensures write_fault { result.1 ≡ WriteFault → Rises (W.faults writer.old) (W.faults writer.new) }
+        ensures quota { IfSome result.0 (λ owned. owned.quota ≡ state.quota) };
 
     /// Computes tasks until the pool is closed.
     fn work<R: Wait>(&self, rt: &R, tools: Self::Tools, table: &Table) -> Self::Tools;
