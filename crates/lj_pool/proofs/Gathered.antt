@@ -1,11 +1,11 @@
 -- What a pool owes a user's sessions: what posts, results, turns and commands leave of it.
-use Rattle.std.proofs.Common.{◌≡◌, ℕ, zero, suc, ◌+◌, ◌<◌, Bool, true, false, cond, List, [], ◌∷◌, ◌++◌, length, map, Option}
-use Rattle.std.proofs.Common.{Some, None, Result, Ok, Err, inl, inr, refl, sym, ap, ◌∙◌, subst, arith}
-use Rattle.std.specs.Prelude.{◌↔◌, IfSome, IsSome, IsSomeAnd, IsOk, OnOk, OnErr, is_some, is_ok}
-use Rattle.std.specs.List.{filter, find, Contains, IsDistinct}
-use Rattle.std.specs.Option.{option_map, option_and_then}
+use Rattle.std.proofs.Common.{◌≡◌, ℕ, zero, suc, ◌<◌, Bool, true, false, cond, List, [], ◌∷◌, ◌++◌, length, Option}
+use Rattle.std.proofs.Common.{Some, None, inl, inr, refl, sym, ap, ◌∙◌, subst, arith}
+use Rattle.std.specs.Prelude.{IfSome, IsSome, IsSomeAnd, is_some}
+use Rattle.std.specs.List.{filter, Contains, IsDistinct}
+use Rattle.std.specs.Option.{option_and_then}
 use Rattle.std.specs.Str.{bytes_eq}
-use Rattle.std.proofs.lemmas.Bool.{true≢false, false≢true}
+use Rattle.std.proofs.lemmas.Bool.{true≢false}
 use Rattle.std.proofs.lemmas.List.Elements.{filter-append, Contains-append_right}
 use Rattle.std.proofs.lemmas.Option.{none-some, same_Some}
 use Rattle.std.proofs.lemmas.Slice.Eq.{bytes_eq-Decides}
@@ -22,7 +22,7 @@ use Rattle.lj_session.specs.Owners.{IsAwaitedIn, ready_session}
 use Rattle.lj_session.proofs.AtWork.{at_work-posted, at_work-taken}
 use Rattle.lj_session.proofs.Entries.{by_test}
 use Rattle.lj_session.proofs.Tiles.{find-passes, found-task, posted-live}
-use Rattle.lj_pool.specs.Seen.{Seen, TakesOff, IsStray, IsHandedOut, one_more}
+use Rattle.lj_pool.specs.Seen.{Seen, TakesOff, IsHandedOut}
 use Rattle.lj_pool.specs.Gathering.{posted_in, posted_of, is_of, IsGathered, IsOpenFor, Gathers}
 use Rattle.lj_pool.proofs.Gathering.{posted_some, posted_more, next_label, gathered_posted, posted_wanted, gathered_taken}
 use Rattle.lj_pool.proofs.Gathering.{taken_off, taken_stray}

@@ -1,7 +1,7 @@
 -- The open step of a session over a pool: the next task is that of the first tile that is awaited and not posted; what is
 -- posted and not in is awaited; and whatever result comes, what is posted stays the tasks of the tiles that are not in.
 use Rattle.std.proofs.Common.{◌≡◌, ℕ, zero, suc, ◌+◌, ◌-◌, ◌*◌, ◌<◌, ◌≤◌, Bool, true, false, nat_le, List, [], ◌∷◌, ◌++◌}
-use Rattle.std.proofs.Common.{length, map, take, get_or, slice_index_or, slice_set, count_by, cond, Option, Some, None}
+use Rattle.std.proofs.Common.{length, map, take, get_or, slice_index_or, slice_set, count_by, cond, Some, None}
 use Rattle.std.proofs.Common.{inl, inr, refl, sym, ap, ◌∙◌, subst, arith, get_or-set_same, get_or-set_other}
 use Rattle.std.specs.List.{filter, find, range_with_len, Contains}
 use Rattle.std.specs.Option.{option_map, option_map_or, option_and_then}
@@ -21,7 +21,6 @@ use Rattle.lj_step.specs.OpenSteps.{task_in as task_in_step, task_at, tile_numbe
 use Rattle.lj_step.proofs.Flags.{none_left, count_flags}
 use Rattle.lj_step.proofs.TilesTaken.{number_is}
 use Rattle.lj_session.specs.States.{Held, next_tile, next_of, passed_to, with_tile_in, with_step}
-use Rattle.lj_pool.specs.Seen.{Seen, TakesOff, IsStray}
 use Rattle.lj_pool.specs.Gathering.{times, is_awaited, posted_tiles, posted_in, posted_of, left_in, IsGathered}
 use Rattle.lj_pool.proofs.Numbers.{times-filter, times-none, times-take, times-range, none_set, images-kept}
 use Rattle.lj_pool.proofs.Numbers.{images-taken, found_next, found_none}

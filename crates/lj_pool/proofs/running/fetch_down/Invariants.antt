@@ -1,7 +1,7 @@
 use Rattle.std.proofs.Common.{◌≡◌, ◌+◌, ◌-◌, ◌*◌, ◌<◌}
 use Rattle.lj_pool.specs.declared.pool.TheConstants.{MAX_STRAYS}
 use Rattle.lj_pool.specs.Counting.{StraysRise}
-use Rattle.lj_pool.specs.Coming.{GoesOn, turns_coming, tiles_coming, posts_coming}
+use Rattle.lj_pool.specs.Coming.{GoesOn, tiles_coming}
 use Rattle.lj_pool.proofs.running.fetch_down.Given as goal
 
 abbrev pub invariant-loop-owner : goal.invariant-loop-owner

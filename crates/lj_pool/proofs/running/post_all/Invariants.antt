@@ -1,5 +1,5 @@
 use Rattle.std.proofs.Common.{◌≡◌}
-use Rattle.lj_pool.specs.Coming.{GoesOn, turns_coming, posts_coming}
+use Rattle.lj_pool.specs.Coming.{GoesOn, posts_coming}
 use Rattle.lj_pool.proofs.running.post_all.Given as goal
 
 abbrev pub invariant-loop : goal.invariant-loop

@@ -2,7 +2,7 @@ use Rattle.std.proofs.Common.{◌<◌, sym, ◌∙◌, subst}
 use Rattle.lj_session.specs.Owners.{Owning}
 use Rattle.lj_pool.specs.Coming.{GoesOn, posts_coming}
 use Rattle.lj_pool.proofs.Gathered.{owes_some}
-use Rattle.lj_pool.proofs.Going.{goes_nothing, goes_unchanged, goes_posted, fewer_posts}
+use Rattle.lj_pool.proofs.Going.{goes_nothing, goes_posted, fewer_posts}
 use Rattle.lj_pool.proofs.running.post_next.Goals as goal
 
 pub returns-then-full-clause-goes_on : goal.returns-then-full-clause-goes_on

@@ -1,4 +1,4 @@
-use Rattle.std.proofs.Common.{◌≡◌, None, ap, sym, ◌∙◌, refl}
+use Rattle.std.proofs.Common.{ap, sym, ◌∙◌}
 use Rattle.std.specs.Option.{option_map}
 use Rattle.lj_wire.specs.Commands.{◌>>=◌, count_of}
 use Rattle.lj_wire.proofs.Counts.{last_word}

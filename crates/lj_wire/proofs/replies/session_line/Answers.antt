@@ -1,4 +1,4 @@
-use Rattle.std.proofs.Common.{◌≡◌, Some, [], ◌∷◌, length, ap, ◌∙◌, w64, arith, refl}
+use Rattle.std.proofs.Common.{◌≡◌, Some, [], ◌∷◌, length, ap, ◌∙◌, w64, refl}
 use Rattle.std.specs.Fmt.{decimal, signed_decimal}
 use Rattle.std.proofs.lemmas.Int.{to_z-of_z}
 use Rattle.lj_wire.specs.Texts.{line_of}
