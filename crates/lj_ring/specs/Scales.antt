@@ -13,6 +13,10 @@ pub record Units : Type 0 where
   pub sigma : ℕ
   pub strength : ℕ
 
+-- the scale of the greatest box, with the least sigma and the least step factor
+abbrev pub least : Units
+least = record { edge = MAX_EDGE; sigma = MIN_SIGMA; strength = 1 }
+
 -- an edge is 10^6 to 10^15 nano
 abbrev pub edge_fits : ℤ → Bool
 edge_fits edge = int_le (pos MIN_EDGE) edge && int_le edge (pos MAX_EDGE)

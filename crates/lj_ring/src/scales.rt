@@ -2,7 +2,7 @@
 ghost use Rattle.std.specs.Prelude.{ℕ, ◌≡◌, ◌≤◌, ◌<◌, ◌+◌, ◌*◌, ◌/◌, ◌^◌, ◌⊎◌, IsTrue, IsFalse, IfSome, MatchOption};
 ghost use Rattle.std.specs.Prelude.{SomeIff, unsigned_abs, nat_lt, true, false};
 ghost use Rattle.lj_ring.specs.Places.{units_of};
-ghost use Rattle.lj_ring.specs.Scales.{edge_fits, sigma_fits, strength_fits, scale_of, bin, interacts, IsScale};
+ghost use Rattle.lj_ring.specs.Scales.{edge_fits, sigma_fits, strength_fits, scale_of, bin, interacts, least, IsScale};
 
 use lj_fixed::{MAX_NANO, Nano};
 use std::fmt;
@@ -148,6 +148,13 @@ impl Scale {
             return Err(ScaleFault::StepFactor);
         };
         Ok(Scale::of(edge, sigma, strength))
+    }
+
+    /// The scale of the greatest box, with the least sigma and the least step factor.
+    pub fn least() -> Scale
+        ensures { result ≡ least }
+    {
+        Scale::of(Edge { nano: MAX_EDGE }, MIN_SIGMA, 1)
     }
 
     /// The edge of the box.
