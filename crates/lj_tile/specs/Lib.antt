@@ -4,6 +4,7 @@ pub mod Names
 pub mod Blocks
 pub mod Tiles
 pub mod Tasks
+pub mod Blank
 pub mod Rows
 pub mod Results
 pub mod Near

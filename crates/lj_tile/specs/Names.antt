@@ -1,5 +1,5 @@
 -- Names of sessions, and of tasks.
-use Rattle.std.specs.Prelude.{ℕ, ◌≡◌, Bool, true, ◌==◌, ◌&&◌, ◌||◌, nat_le, List, length, Option, Some, None}
+use Rattle.std.specs.Prelude.{ℕ, ◌≡◌, Bool, true, ◌==◌, ◌&&◌, ◌||◌, nat_le, List, [], ◌∷◌, length, Option, Some, None}
 use Rattle.std.specs.Prelude.{if◌then◌else◌}
 use Rattle.std.specs.List.{list_all}
 use Rattle.std.specs.Char.{is_ascii_alphanumeric}
@@ -16,6 +16,10 @@ is_name word = nat_le 1 (length word) && nat_le (length word) MAX_NAME_BYTES && 
 -- these bytes are a name
 abbrev pub IsName : List ℕ → Type 0
 IsName word = is_name word ≡ true
+
+-- the name `_`
+abbrev pub blank_name : List ℕ
+blank_name = 95 ∷ []
 
 -- the name that a word is
 unfoldable pub name_of : List ℕ → Option (List ℕ)

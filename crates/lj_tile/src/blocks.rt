@@ -69,13 +69,21 @@ impl Block {
     pub fn copy_from(&mut self, other: &Block)
         ensures { self.new ≡ other.now }
     {
-        if self.places.len() == other.places().len() {
-            self.places.as_mut_slice().copy_from_slice(other.places());
+        self.remake(other.places(), other.seconds());
+    }
+
+    /// Makes this the block of these places, of which those of the second species are told by their bits.
+    pub fn remake(&mut self, places: &[Place], seconds: u64)
+        requires { length places.now ≤ BLOCK }
+        ensures { self.new ≡ record { places = places.now; seconds = seconds } }
+    {
+        if self.places.len() == places.len() {
+            self.places.as_mut_slice().copy_from_slice(places);
         } else {
             self.places.clear();
-            let _fits = self.places.try_extend_from_slice(other.places());
+            let _fits = self.places.try_extend_from_slice(places);
         }
-        self.seconds = other.seconds();
+        self.seconds = seconds;
     }
 
     /// Whether it is the block of these places and species.

@@ -5,7 +5,8 @@ ghost use Rattle.std.specs.Cmp.{partial_equiv_from_equiv};
 ghost use Rattle.std.specs.Cmp.Lexicographic.{pointwise, nat_list_eq_equiv, bytes_decides};
 ghost use Rattle.std.specs.Hash as fed;
 ghost use Rattle.std.specs.Hash.{same_Alike};
-ghost use Rattle.lj_tile.specs.Names.{is_name_byte, is_name, IsName, name_of};
+ghost use Rattle.lj_tile.specs.Names.{blank_name, is_name_byte, is_name, IsName, name_of};
+ghost use Rattle.lj_tile.specs.Blank.{blank};
 
 use arrayvec::ArrayString;
 use std::hash::{Hash, Hasher};
@@ -43,6 +44,15 @@ impl Name {
         let text = str::from_utf8(word).unwrap();
         let text = ArrayString::from(text).unwrap();
         Some(Name { text })
+    }
+
+    /// The name `_`.
+    fn blank() -> Name
+        ensures { result ≡ blank_name }
+    {
+        Name {
+            text: ArrayString::from("_").unwrap(),
+        }
     }
 
     /// Its bytes.
@@ -160,6 +170,22 @@ pub struct TaskName {
 }
 
 impl TaskName {
+    /// The name of an energy task of block 0 with itself.
+    pub(crate) fn blank() -> TaskName
+        ensures { result ≡ blank.name }
+    {
+        TaskName {
+            label: Label {
+                user: 0,
+                session: Name::blank(),
+            },
+            step: 0,
+            kind: Kind::Energy,
+            bi: 0,
+            bj: 0,
+        }
+    }
+
     /// The same name once more.
     pub fn copy(&self) -> TaskName
         ensures { result ≡ self.now }

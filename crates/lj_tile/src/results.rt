@@ -1,60 +1,22 @@
 //! Results of tasks.
 ghost use Rattle.std.specs.Prelude.{◌≡◌, ◌<◌, length, ◌∷◌, []};
 ghost use Rattle.lj_tile.specs.declared.names.Kind.TheVariants.{Force, Energy};
+ghost use Rattle.lj_tile.specs.Blank.{blank};
 ghost use Rattle.lj_tile.specs.Tasks.{task_force, task_second, task_energy};
-ghost use Rattle.lj_tile.specs.Results.{kept_push, kept_second, kept_energy};
 
-use crate::blocks::BLOCK;
 use crate::names::Kind;
-use crate::pairs::Push;
-use crate::sums::{ForceSums, energy_sum, force_sums};
+use crate::sums::{ForceSums, energy_sum, sum_forces};
 use crate::tasks::Task;
 use lj_table::Table;
 use std::marker::Model;
 
-/// The sums of a task: of pushes for each place of its blocks, or of energies.
-#[derive(Clone, Copy, Debug)]
-enum Sums {
-    Pushes(ForceSums),
-    Energies(i64),
-}
-
-impl Sums {
-    fn push_at(&self, t: usize) -> Push
-        requires { t < BLOCK }
-        ensures { result ≡ kept_push self.now t }
-    {
-        match self {
-            Sums::Pushes(sums) => sums.first[t],
-            Sums::Energies(_) => Push::NONE,
-        }
-    }
-
-    fn second_at(&self, s: usize) -> Push
-        requires { s < BLOCK }
-        ensures { result ≡ kept_second self.now s }
-    {
-        match self {
-            Sums::Pushes(sums) => sums.second[s],
-            Sums::Energies(_) => Push::NONE,
-        }
-    }
-
-    fn energy(&self) -> i64
-        ensures { result ≡ kept_energy self.now }
-    {
-        match self {
-            Sums::Pushes(_) => 0,
-            Sums::Energies(sum) => *sum,
-        }
-    }
-}
-
-/// The result of a task: the task itself with its sums. Only `compute` makes one.
+/// The result of a task: the task itself with its sums, of pushes or of an energy. What it keeps of the other kind says
+/// nothing. Only `compute` and `compute_in` make one of a task that is given.
 #[derive(Debug, Drop)]
 pub struct Done {
     task: Task,
-    sums: Sums,
+    pushes: ForceSums,
+    energy: i64,
 }
 
 impl Model for Done {
@@ -66,7 +28,7 @@ impl Model for Done {
 
     ghost use Rattle.lj_tile.specs.Results.{AreSums};
 
-    ghost invariant = { λ d. AreSums d.task d.sums };
+    ghost invariant = { λ d. AreSums d.task d.pushes d.energy };
 }
 
 impl Done {
@@ -83,7 +45,7 @@ impl Done {
         requires within { t < length self.now.a.places }
         ensures { let sum = task_force self.now t in result ≡ sum.x ∷ sum.y ∷ sum.z ∷ [] }
     {
-        let sum = self.sums.push_at(t);
+        let sum = self.pushes.first_at(t);
         [sum.x, sum.y, sum.z]
     }
 
@@ -95,7 +57,7 @@ impl Done {
         requires within { s < length self.now.b.places }
         ensures { let sum = task_second self.now s in result ≡ sum.x ∷ sum.y ∷ sum.z ∷ [] }
     {
-        let other = self.sums.second_at(s);
+        let other = self.pushes.second_at(s);
         [other.x, other.y, other.z]
     }
 
@@ -104,7 +66,18 @@ impl Done {
         requires { self.now.name.kind ≡ Energy }
         ensures { result ≡ task_energy self.now }
     {
-        self.sums.energy()
+        self.energy
+    }
+
+    /// The result of a task of one atom: room for others.
+    pub fn blank() -> Done
+        ensures { result ≡ blank }
+    {
+        Done {
+            task: Task::blank(),
+            pushes: ForceSums::none(),
+            energy: 0,
+        }
     }
 
     /// An equal result.
@@ -113,8 +86,18 @@ impl Done {
     {
         Done {
             task: self.task.copy(),
-            sums: self.sums,
+            pushes: self.pushes,
+            energy: self.energy,
         }
+    }
+
+    /// Makes this result equal to the other.
+    pub fn copy_from(&mut self, other: &Done)
+        ensures { self.new ≡ other.now }
+    {
+        self.task.copy_from(&other.task);
+        self.pushes = other.pushes;
+        self.energy = other.energy;
     }
 }
 
@@ -122,20 +105,18 @@ impl Done {
 pub fn compute(task: Task, table: &Table) -> Done
     ensures { result ≡ task }
 {
+    let mut room = Done::blank();
+    compute_in(&task, table, &mut room);
+    room
+}
+
+/// Computes a task in the room of an older result. The result is of that very task.
+pub fn compute_in(task: &Task, table: &Table, room: &mut Done)
+    ensures { room.new ≡ task.now }
+{
     match task.name().kind {
-        Kind::Force => {
-            let sums = force_sums(&task, table);
-            Done {
-                task,
-                sums: Sums::Pushes(sums),
-            }
-        }
-        Kind::Energy => {
-            let sum = energy_sum(&task, table);
-            Done {
-                task,
-                sums: Sums::Energies(sum),
-            }
-        }
+        Kind::Force => sum_forces(task, table, &mut room.pushes),
+        Kind::Energy => room.energy = energy_sum(task, table),
     }
+    room.task.copy_from(task);
 }

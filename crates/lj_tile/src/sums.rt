@@ -26,17 +26,42 @@ pub(crate) struct ForceSums {
     pub(crate) second: [Push; BLOCK],
 }
 
-/// The sums of the pushes on the places of both blocks. Where the two are one, its sums are the first.
-pub(crate) fn force_sums(task: &Task, table: &Table) -> ForceSums
-    ensures first { (t : ℕ) → t < length task.now.a.places → slice_index_or result.first t no_push ≡ task_force task.now t }
-    ensures second { task.now.name.bi < task.now.name.bj → (s : ℕ) → s < length task.now.b.places →
-        slice_index_or result.second s no_push ≡ task_second task.now s }
-{
-    let mut sums = pair_sums(task, table);
-    if task.name().bi == task.name().bj {
-        join(&mut sums);
+impl ForceSums {
+    /// No push on any place.
+    pub(crate) fn none() -> ForceSums {
+        ForceSums {
+            first: [Push::NONE; BLOCK],
+            second: [Push::NONE; BLOCK],
+        }
     }
-    sums
+
+    /// The sum of the pushes on place `t` of the first block.
+    pub(crate) fn first_at(&self, t: usize) -> Push
+        requires { t < BLOCK }
+        ensures { result ≡ slice_index_or self.now.first t no_push }
+    {
+        self.first[t]
+    }
+
+    /// The sum of the pushes on place `s` of the second block.
+    pub(crate) fn second_at(&self, s: usize) -> Push
+        requires { s < BLOCK }
+        ensures { result ≡ slice_index_or self.now.second s no_push }
+    {
+        self.second[s]
+    }
+}
+
+/// Sums the pushes on the places of both blocks, in the room of older sums. Where the two are one, its sums are the first.
+pub(crate) fn sum_forces(task: &Task, table: &Table, sums: &mut ForceSums)
+    ensures first { (t : ℕ) → t < length task.now.a.places → slice_index_or sums.new.first t no_push ≡ task_force task.now t }
+    ensures second { task.now.name.bi < task.now.name.bj → (s : ℕ) → s < length task.now.b.places →
+        slice_index_or sums.new.second s no_push ≡ task_second task.now s }
+{
+    sum_pairs(task, table, sums);
+    if task.name().bi == task.name().bj {
+        join(sums);
+    }
 }
 
 /// Makes the first sums those of one block: each atom is pushed by the later ones, as of the first block, and by the
@@ -51,24 +76,20 @@ fn join(sums: &mut ForceSums)
     }
 }
 
-/// The sums over the pairs of atoms i < j, i in the first block and j in the second: each pair is looked at once.
-fn pair_sums(task: &Task, table: &Table) -> ForceSums
+/// Sums over the pairs of atoms i < j, i in the first block and j in the second: each pair is looked at once.
+fn sum_pairs(task: &Task, table: &Table, sums: &mut ForceSums)
     ensures first { (t : ℕ) → t < length task.now.a.places →
-        slice_index_or result.first t no_push ≡ on_first task.now t (length task.now.b.places) }
+        slice_index_or sums.new.first t no_push ≡ on_first task.now t (length task.now.b.places) }
     ensures second { (s : ℕ) → s < length task.now.b.places →
-        slice_index_or result.second s no_push ≡ on_second task.now s (length task.now.a.places) }
+        slice_index_or sums.new.second s no_push ≡ on_second task.now s (length task.now.a.places) }
 {
     let places = task.second().places();
     read_each(places);
     let columns = Columns::new(places, task.mix());
-    let mut sums = ForceSums {
-        first: [Push::NONE; BLOCK],
-        second: [Push::NONE; BLOCK],
-    };
+    sums.second = [Push::NONE; BLOCK];
     for t in 0..task.first().places().len() {
         sums.first[t] = row(t, task, &columns, table, &mut sums.second);
     }
-    sums
 }
 
 /// Reads each place, and does nothing with it: of what is read it is known that it lies on the ring.

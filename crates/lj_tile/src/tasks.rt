@@ -2,10 +2,11 @@
 ghost use Rattle.std.specs.Prelude.{◌≡◌, ◌≤◌, ◌<◌, ◌↔◌, length, IsTrue};
 ghost use Rattle.lj_tile.specs.declared.names.Kind.TheVariants.{Energy};
 ghost use Rattle.lj_tile.specs.Tasks.{IsTask};
+ghost use Rattle.lj_tile.specs.Blank.{blank};
 
-use crate::blocks::Block;
+use crate::blocks::{BLOCK, Block};
 use crate::names::TaskName;
-use lj_ring::{Mix, Place};
+use lj_ring::{Mix, Place, Scale};
 use std::marker::Model;
 
 /// A task: one tile of a step, with all that it takes to compute it. A force task gives the sums of the atoms of both
@@ -47,6 +48,20 @@ impl Task {
             first: a,
             second: b,
         }
+    }
+
+    /// The energy task of one atom in the greatest box: room for others.
+    pub fn blank() -> Task
+        ensures { result ≡ blank }
+    {
+        let place = [Place { x: 0, y: 0, z: 0 }];
+        let block = Block::new(&place, 0);
+        Task::new(
+            TaskName::blank(),
+            Mix::one(Scale::least()),
+            block.copy(),
+            block,
+        )
     }
 
     /// The name of the task.
@@ -97,6 +112,30 @@ impl Task {
         self.mix = other.mix;
         self.first.copy_from(&other.first);
         self.second.copy_from(&other.second);
+    }
+
+    /// Makes this the task of this name over two blocks, of places and of bits that tell which are of the second species:
+    /// the same block twice where the name has one index twice.
+    pub fn remake(&mut self, name: TaskName, mix: &Mix, a: (&[Place], u64), b: (&[Place], u64))
+        requires some_first { 1 ≤ length a.0.now }
+        requires some_second { 1 ≤ length b.0.now }
+        requires most_first { length a.0.now ≤ BLOCK }
+        requires most_second { length b.0.now ≤ BLOCK }
+        requires first_index { name.bi < 64 }
+        requires second_index { name.bj < 64 }
+        requires diagonal { name.bi ≡ name.bj → (a.0.now ≡ b.0.now) × (a.1 ≡ b.1) }
+        requires in_order { name.bi ≤ name.bj }
+        ensures { self.new ≡ record {
+          name = name;
+          mix = mix.now;
+          a = record { places = a.entry.0.now; seconds = a.entry.1 };
+          b = record { places = b.entry.0.now; seconds = b.entry.1 };
+        } }
+    {
+        self.name = name;
+        self.mix = *mix;
+        self.first.remake(a.0, a.1);
+        self.second.remake(b.0, b.1);
     }
 
     /// Whether the other task is equal: its name, its mixture and its two blocks.

@@ -3,17 +3,17 @@ use Rattle.lj_tile.specs.Blocks.{Sites}
 use Rattle.lj_tile.specs.Pushes.{no_push, plus}
 use Rattle.lj_tile.specs.Rows.{on_first}
 use Rattle.lj_tile.proofs.RowLemmas.{first_is, second_is, joined_is}
-use Rattle.lj_tile.proofs.sums.force_sums.Goals as goal
+use Rattle.lj_tile.proofs.sums.sum_forces.Goals as goal
 
 pub returns-else-name-clause-first : goal.returns-else-name-clause-first
 returns-else-name-clause-first c t within =
     let other = rw (c.name.ensures.value, c.name-2.ensures.value) at c.if-name.false in
     let less : c.args.task.now.name.bi < c.args.task.now.name.bj = omega (arith, other, c.name.ensures.sound.in_order) in
-    c.pair_sums-sums.ensures.first t within ∙ first_is c.args.task.now t c.name.ensures.sound less within
+    c.sum_pairs.ensures.first t within ∙ first_is c.args.task.now t c.name.ensures.sound less within
 
 pub returns-else-name-clause-second : goal.returns-else-name-clause-second
 returns-else-name-clause-second c less s within =
-    c.pair_sums-sums.ensures.second s within ∙ second_is c.args.task.now s c.name.ensures.sound less
+    c.sum_pairs.ensures.second s within ∙ second_is c.args.task.now s c.name.ensures.sound less
 
 pub returns-then-name-clause-first : goal.returns-then-name-clause-first
 returns-then-name-clause-first c t within =
@@ -23,8 +23,8 @@ returns-then-name-clause-first c t within =
     let also : t < length w.b.places =
     omega (arith, within, ap (λ (block : Sites). length block.places) (sound.diagonal same)) in
     c.join.ensures.first t (omega (arith, within, sound.most_first))
-    ∙ ap (λ p. plus p (slice_index_or c.pair_sums-sums.result.second t no_push)) (c.pair_sums-sums.ensures.first t within)
-    ∙ ap (plus (on_first w t (length w.b.places))) (c.pair_sums-sums.ensures.second t also)
+    ∙ ap (λ p. plus p (slice_index_or c.sum_pairs.new.sums.second t no_push)) (c.sum_pairs.ensures.first t within)
+    ∙ ap (plus (on_first w t (length w.b.places))) (c.sum_pairs.ensures.second t also)
     ∙ joined_is w t sound same
 
 pub returns-then-name-clause-second : goal.returns-then-name-clause-second

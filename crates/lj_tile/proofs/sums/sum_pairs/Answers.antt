@@ -1,6 +1,6 @@
 use Rattle.std.proofs.Common.{refl, arith}
 use Rattle.lj_tile.proofs.RowLemmas.{rows_start}
-use Rattle.lj_tile.proofs.sums.pair_sums.Goals as goal
+use Rattle.lj_tile.proofs.sums.sum_pairs.Goals as goal
 
 pub loop-t-init : goal.loop-t-init
 loop-t-init c = record {
