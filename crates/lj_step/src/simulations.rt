@@ -1,6 +1,6 @@
 //! Simulations: the two frames, the step that is open, and what is measured.
 ghost use Rattle.std.specs.Prelude.{◌≡◌, ◌≤◌, ◌<◌, ◌+◌, ◌^◌, ◌↔◌, pos, ◌+ℤ◌, ◌-ℤ◌, length, unsigned_abs, IfOk, IfErr};
-ghost use Rattle.std.specs.Prelude.{IfSome, IsOk, IsTrue, OnOk, OnErr, Some, None, true, ℕ, ◌*◌, slice_index_or, []};
+ghost use Rattle.std.specs.Prelude.{IfSome, IsOk, IsTrue, OnOk, OnErr, Some, None, true, false, ℕ, ◌*◌, slice_index_or, []};
 ghost use Rattle.std.specs.Prelude.{◌∷◌};
 ghost use Rattle.lj_tile.specs.declared.names.Kind.TheVariants.{Force, Energy};
 ghost use Rattle.lj_ring.specs.Ring.{in_ring};
@@ -21,7 +21,7 @@ use crate::measures::{self, Momentum};
 use crate::partial::Partial;
 use crate::snapshots::Snapshot;
 use lj_ring::{Edge, Mix, Place};
-use lj_tile::{BLOCK, Block, Done, Kind, Label, Push, Task, TaskName};
+use lj_tile::{BLOCK, Done, Kind, Label, Push, Task, TaskName};
 use std::alloc::{AllocError, Global};
 use std::marker::Model;
 use std::mem;
@@ -237,9 +237,30 @@ impl Sim {
         ensures value { result ≡ steps.task_at self.now label.now i }
         ensures tile { IfSome result (HasTileValue self.now i) }
     {
-        let kind = self.partial.kind?;
-        let number = *self.partial.tiles.as_slice().get(i)?;
-        Some(self.task_of(label, kind, usize::from(number)))
+        let mut room = Task::blank();
+        if self.task_in(i, label, &mut room) {
+            Some(room)
+        } else {
+            None
+        }
+    }
+
+    /// Makes `room` the task of the i-th tile of the open step's cover. False past the last one, and where no step is open;
+    /// the room is as before then.
+    pub fn task_in(&self, i: usize, label: &Label, room: &mut Task) -> bool
+        ensures some { result ≡ true → steps.task_at self.now label.now i ≡ Some room.new }
+        ensures none { result ≡ false → steps.task_at self.now label.now i ≡ None }
+        ensures unchanged { result ≡ false → room.new ≡ room.old }
+        ensures tile { result ≡ true → HasTileValue self.now i room.new }
+    {
+        let Some(kind) = self.partial.kind else {
+            return false;
+        };
+        let Some(number) = self.partial.tiles.as_slice().get(i) else {
+            return false;
+        };
+        self.write_task(label, kind, usize::from(*number), room);
+        true
     }
 
     /// Whether the open step still awaits the i-th tile of its cover.
@@ -350,17 +371,20 @@ impl Sim {
         task.is_of(&name, self.atoms.mix(), a, b)
     }
 
-    /// The task of a tile of the present step.
-    fn task_of(&self, label: &Label, kind: Kind, number: usize) -> Task
+    /// Makes `room` the task of a tile of the present step.
+    fn write_task(&self, label: &Label, kind: Kind, number: usize, room: &mut Task)
         requires tile { steps.is_tile self.now.composition self.now.sim.cur number ≡ true }
         requires within { number < 64 * steps.blocks (length self.now.sim.cur) }
-        ensures { result ≡ steps.task_of self.now label.now kind number }
+        ensures { room.new ≡ steps.task_of self.now label.now kind number }
     {
         let name = self.name_of(label, kind, number);
         let (first, second) = (number / BLOCK, number % BLOCK);
-        let a = Block::new(self.block(first), self.atoms.seconds(first));
-        let b = Block::new(self.block(second), self.atoms.seconds(second));
-        Task::new(name, *self.atoms.mix(), a, b)
+        room.remake(
+            name,
+            self.atoms.mix(),
+            (self.block(first), self.atoms.seconds(first)),
+            (self.block(second), self.atoms.seconds(second)),
+        );
     }
 
     /// The name of that task.
