@@ -1,5 +1,5 @@
 //! The owner of a user's state: a command is begun, and what takes time goes out as tasks that anyone may compute.
-ghost use Rattle.std.specs.Prelude.{◌≡◌, ◌↔◌, ◌<◌, ◌+◌, ℕ, Bool, true, Some, None, IsOk, IsSome, IfSome, IfErr, OnOk, OnErr, OnSome, IfNone, is_some};
+ghost use Rattle.std.specs.Prelude.{◌≡◌, ◌↔◌, ◌<◌, ◌+◌, ℕ, Bool, true, false, Some, None, IsOk, IsSome, IfSome, IfErr, OnOk, OnErr, OnSome, IfNone, is_some};
 ghost use Rattle.std.specs.List.{IsDistinct};
 ghost use Rattle.std.specs.Str.{bytes_eq};
 ghost use Rattle.lj_session.specs.Answers.{AnswersAlike};
@@ -98,8 +98,24 @@ impl Owner {
     pub fn next_task(&self) -> Option<Task>
         ensures { result ≡ task_in self.now }
     {
-        let name = self.next_session()?;
-        self.state.next_task(&self.label(name))
+        let mut room = Task::blank();
+        if self.next_task_in(&mut room) {
+            Some(room)
+        } else {
+            None
+        }
+    }
+
+    /// Makes `room` that task. False where there is none; the room is as before then.
+    pub fn next_task_in(&self, room: &mut Task) -> bool
+        ensures some { result ≡ true → task_in self.now ≡ Some room.new }
+        ensures none { result ≡ false → task_in self.now ≡ None }
+        ensures unchanged { result ≡ false → room.new ≡ room.old }
+    {
+        match self.next_session() {
+            Some(name) => self.state.next_task_in(&self.label(name), room),
+            None => false,
+        }
     }
 
     /// Notes that tile as posted.

@@ -1,6 +1,6 @@
 //! A session as it is held.
-ghost use Rattle.std.specs.Prelude.{◌≡◌, ◌↔◌, ◌<◌, ◌+◌, ◌^◌, [], length, slice_get, Some, IsOk, IsSome, IsErrOf};
-ghost use Rattle.std.specs.Prelude.{IfSome, OnOk, OnErr, ◌≤◌, unsigned_abs, IfOk, true, is_some, nat_le, pos, ◌&&◌, ◌+ℤ◌, ◌*ℤ◌};
+ghost use Rattle.std.specs.Prelude.{◌≡◌, ◌↔◌, ◌<◌, ◌+◌, ◌^◌, [], length, slice_get, Some, None, IsOk, IsSome, IsErrOf};
+ghost use Rattle.std.specs.Prelude.{IfSome, OnOk, OnErr, ◌≤◌, unsigned_abs, IfOk, true, false, is_some, nat_le, pos, ◌&&◌, ◌+ℤ◌, ◌*ℤ◌};
 ghost use Rattle.lj_tile.specs.declared.names.Label.{Label as Labelled};
 ghost use Rattle.lj_tile.specs.declared.names.Kind.TheVariants.{Force};
 ghost use Rattle.lj_branch.specs.declared.faults.SaveFault.TheVariants.{Exists};
@@ -224,11 +224,16 @@ impl Session {
         None
     }
 
-    /// The task of that tile.
-    pub fn next_task(&self, label: &Label) -> Option<Task>
-        ensures { result ≡ states.next_of label.now (Some self.now) }
+    /// Makes `room` the task of that tile. False where there is none; the room is as before then.
+    pub fn next_task_in(&self, label: &Label, room: &mut Task) -> bool
+        ensures some { result ≡ true → states.next_of label.now (Some self.now) ≡ Some room.new }
+        ensures none { result ≡ false → states.next_of label.now (Some self.now) ≡ None }
+        ensures unchanged { result ≡ false → room.new ≡ room.old }
     {
-        self.sim.task(self.next_tile()?, label)
+        match self.next_tile() {
+            Some(i) => self.sim.task_in(i, label, room),
+            None => false,
+        }
     }
 
     /// Whether there is such a tile.

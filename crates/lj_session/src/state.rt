@@ -1,5 +1,5 @@
 //! The state of a user, which every command goes through.
-ghost use Rattle.std.specs.Prelude.{◌≡◌, ◌↔◌, ◌<◌, Bool, IsTrue, true, false, Some, Ok, length, slice_get, position};
+ghost use Rattle.std.specs.Prelude.{◌≡◌, ◌↔◌, ◌<◌, Bool, IsTrue, true, false, Some, None, Ok, length, slice_get, position};
 ghost use Rattle.std.specs.Prelude.{option_map, IsOk, IsSome, IfSome, OnOk, OnErr, is_some};
 ghost use Rattle.std.specs.List.{IsDistinct, find};
 ghost use Rattle.std.specs.Option.{ForSome, option_copied};
@@ -204,11 +204,14 @@ impl UserState {
         self.sessions.rest();
     }
 
-    /// The task of the first tile of a session's open step that is neither posted nor in.
-    pub(crate) fn next_task(&self, label: &Label) -> Option<Task>
-        ensures { result ≡ states.next_task self.now label.now }
+    /// Makes `room` the task of the first tile of a session's open step that is neither posted nor in. False where there is
+    /// none; the room is as before then.
+    pub(crate) fn next_task_in(&self, label: &Label, room: &mut Task) -> bool
+        ensures some { result ≡ true → states.next_task self.now label.now ≡ Some room.new }
+        ensures none { result ≡ false → states.next_task self.now label.now ≡ None }
+        ensures unchanged { result ≡ false → room.new ≡ room.old }
     {
-        self.sessions.next_task(label)
+        self.sessions.next_task_in(label, room)
     }
 
     /// The first session, in order of loading, that has such a tile. The tasks are of the user of this number.

@@ -1,5 +1,5 @@
 //! The open steps of sessions.
-ghost use Rattle.std.specs.Prelude.{◌≡◌, ◌↔◌, ◌<◌, ℕ, List, Some, IsOk, IsSome, OnOk, OnErr, is_some, length, slice_get};
+ghost use Rattle.std.specs.Prelude.{◌≡◌, ◌↔◌, ◌<◌, ℕ, List, Some, None, true, false, IsOk, IsSome, OnOk, OnErr, is_some, length, slice_get};
 ghost use Rattle.std.specs.List.{IsDistinct, find};
 ghost use Rattle.std.specs.Option.{ForSome, option_copied};
 ghost use Rattle.std.specs.Str.{bytes_eq};
@@ -51,11 +51,17 @@ impl Sessions {
         }
     }
 
-    /// The task of the first tile of a session's open step that is neither posted nor in.
-    pub fn next_task(&self, label: &Label) -> Option<Task>
-        ensures { result ≡ states.next_task self.now label.now }
+    /// Makes `room` the task of the first tile of a session's open step that is neither posted nor in. False where there is
+    /// none; the room is as before then.
+    pub fn next_task_in(&self, label: &Label, room: &mut Task) -> bool
+        ensures some { result ≡ true → states.next_task self.now label.now ≡ Some room.new }
+        ensures none { result ≡ false → states.next_task self.now label.now ≡ None }
+        ensures unchanged { result ≡ false → room.new ≡ room.old }
     {
-        self.find(&label.session)?.next_task(label)
+        match self.find(&label.session) {
+            Some(session) => session.next_task_in(label, room),
+            None => false,
+        }
     }
 
     /// Whether the i-th session has such a tile.
