@@ -232,6 +232,10 @@ module _ (owner : Owning) (before after : Seen) (t : Gathers owner before.owed) 
         waits = λ name. ap (λ (o : Owning). is_waited_for o.waiting name) there_is;
       }
 
+-- a result that is shown is the one that was handed out
+pub shown : (old new : Seen) {last work : Work} → work ≡ last → IsHandedOut last old new → IsHandedOut work old new
+shown old new is handed = subst (λ work. IsHandedOut work old new) (sym is) handed
+
 -- a result that comes
 module _ (owner : Owning) (before after : Seen) (t : Gathers owner before.owed) (work : Work)
     (handed : IsHandedOut work before after) where

@@ -5,6 +5,7 @@ pub mod Sessions
 pub mod Gathered
 pub mod Tiles
 pub mod Begun
+pub mod Outcomes
 pub mod Answered
 pub mod Going
 pub mod Ending

@@ -1,17 +1,19 @@
 -- A pool of no threads: what it holds and has counted, and what its end has seen.
 use Rattle.std.specs.Prelude.{ℕ, false, List, [], ◌∷◌, Option, Some, None}
+use Rattle.lj_tile.specs.Blank.{blank}
 use Rattle.lj_tile.specs.Tasks.{Work}
 use Rattle.lj_pool.specs.Seen.{Seen}
 
--- the task of the result that is held, if there is one, and how many results it has handed out, as far as they are
--- counted
+-- the task of the result that is held, if there is one; how many results it has handed out, as far as they are counted;
+-- and the task of the result that lies in its room, held or handed out
 pub record Inline : Type 0 where
   pub held : Option Work
   pub good : ℕ
+  pub last : Work
 
--- nothing is held, and nothing is counted
+-- nothing is held, nothing is counted, and its room is as it was made
 abbrev pub empty : Inline
-empty = record { held = None; good = 0 }
+empty = record { held = None; good = 0; last = blank }
 
 -- the task of a result that is held, if there is one
 abbrev pub held_task : Option Work → List Work

@@ -10,5 +10,6 @@ pub mod Endings
 pub mod Serving
 pub mod Served
 pub mod Accounts
+pub mod Ends
 pub mod Desks
 pub mod Limits

@@ -1,29 +1,37 @@
 //! A pool of no threads: each task is computed by the one who posts it.
 ghost use Rattle.std.specs.Prelude.{◌≡◌, ◌↔◌, Some, None, true, false};
-ghost use Rattle.std.specs.Prelude.{IsOk, IsSome, IfErr, IfSome, IfNone, OnOk, OnErr};
+ghost use Rattle.std.specs.Prelude.{IsOk, IsSome, IfErr, OnOk, OnErr};
 ghost use Rattle.lj_pool.specs.Seen.{one_more};
 ghost use Rattle.lj_pool.specs.Inline.{empty, seen_of};
-ghost use Rattle.lj_pool.specs.declared.pool.Refused.TheVariants.{Full};
+ghost use Rattle.lj_pool.specs.declared.pool.NotPosted.TheVariants.{Full};
 
-use crate::pool::{Pool, Refused};
+use crate::pool::{NotPosted, Pool};
 use lj_table::Table;
-use lj_tile::{Done, Task, compute};
+use lj_tile::{Done, Task, compute_in};
 use std::marker::Model;
+use std::mem;
 
-/// Computes each task as it is posted, and holds one result. It is never closed, and takes no memory.
+/// Computes each task as it is posted, in the room of its one result. It is never closed, and takes no memory.
 #[derive(Drop)]
 pub struct InlinePool {
     table: Table,
-    held: Option<Done>,
+    room: Done,
+    /// Whether the result in the room was not handed out yet.
+    is_held: bool,
     good: u64,
 }
 
 impl Model for InlinePool {
+    ghost use Rattle.std.specs.Prelude.{Some, None, if◌then◌else◌};
     ghost use Rattle.lj_pool.specs.Inline.{Inline};
 
     ghost Value = { Inline };
 
-    ghost view = { λ pool. record { held = pool.held; good = pool.good } };
+    ghost view = { λ pool. record {
+      held = if pool.is_held then Some pool.room else None;
+      good = pool.good;
+      last = pool.room;
+    } };
 }
 
 impl InlinePool {
@@ -33,7 +41,8 @@ impl InlinePool {
     {
         InlinePool {
             table,
-            held: None,
+            room: Done::blank(),
+            is_held: false,
             good: 0,
         }
     }
@@ -42,48 +51,58 @@ impl InlinePool {
 impl Pool for InlinePool {
     ghost seen = { seen_of };
 
+    ghost last = { λ pool. pool.last };
+
     ghost for_others = { λ _ _. 0 };
 
     ghost most = { 1 };
 
-    fn post(&mut self, task: Task, _wait: bool) -> Result<(), Refused>
+    fn post_from(&mut self, task: &Task, _wait: bool) -> Result<(), NotPosted>
         ensures free { IsOk result ↔ (self.old.held ≡ None) }
-        ensures posted { OnOk result (self.new ≡ record self.old { held = Some task }) }
-        ensures full { IfErr result (λ refused. refused ≡ Full task) }
+        ensures posted { OnOk result (self.new ≡ record self.old { held = Some task.now; last = task.now }) }
+        ensures full { IfErr result (λ why. why ≡ Full) }
         ensures unchanged { OnErr result (self.new ≡ self.old) }
     {
-        if self.held.is_some() {
-            return Err(Refused::Full(task));
+        if self.is_held {
+            return Err(NotPosted::Full);
         }
-        self.held = Some(compute(task, &self.table));
+        compute_in(task, &self.table, &mut self.room);
+        self.is_held = true;
         Ok(())
     }
 
-    fn fetch(&mut self, _user: u8) -> Option<Done>
-        ensures held { result ≡ self.old.held }
-        ensures taken_off { IfSome result (λ _. self.new ≡ record { held = None; good = one_more self.old.good }) }
-        ensures unchanged { IfNone result (self.new ≡ self.old) }
+    fn fetch_in(&mut self, _user: u8) -> bool
+        ensures some { result ≡ true ↔ IsSome self.old.held }
+        ensures held { result ≡ true → self.old.held ≡ Some self.new.last }
+        ensures taken_off { result ≡ true → self.new ≡ record self.old { held = None; good = one_more self.old.good } }
+        ensures unchanged { result ≡ false → self.new ≡ self.old }
     {
-        self.good = self.good.saturating_add(u64::from(self.held.is_some()));
-        self.held.take()
+        let is_held = mem::take(&mut self.is_held);
+        self.good = self.good.saturating_add(u64::from(is_held));
+        is_held
     }
 
-    fn poll(&mut self, user: u8) -> Option<Done>
-        ensures held { result ≡ self.old.held }
-        ensures taken_off { IfSome result (λ _. self.new ≡ record { held = None; good = one_more self.old.good }) }
-        ensures unchanged { IfNone result (self.new ≡ self.old) }
+    fn poll_in(&mut self, user: u8) -> bool
+        ensures some { result ≡ true ↔ IsSome self.old.held }
+        ensures held { result ≡ true → self.old.held ≡ Some self.new.last }
+        ensures taken_off { result ≡ true → self.new ≡ record self.old { held = None; good = one_more self.old.good } }
+        ensures unchanged { result ≡ false → self.new ≡ self.old }
     {
-        self.fetch(user)
+        self.fetch_in(user)
+    }
+
+    fn fetched(&self) -> &Done {
+        &self.room
     }
 
     fn owed(&self) -> usize {
-        usize::from(self.held.is_some())
+        usize::from(self.is_held)
     }
 
     fn full(&self) -> bool
         ensures { result ≡ true ↔ IsSome self.now.held }
     {
-        self.held.is_some()
+        self.owed() == 1
     }
 
     fn closed(&self) -> bool

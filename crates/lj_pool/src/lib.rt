@@ -18,7 +18,7 @@ pub use account::Account;
 pub use inline::InlinePool;
 pub use lock_end::LockEnd;
 pub use locked::LockPool;
-pub use pool::{MAX_AHEAD, MAX_OWED, MAX_STRAYS, Pool, Refused};
+pub use pool::{MAX_AHEAD, MAX_OWED, MAX_STRAYS, NotPosted, Pool, Refused};
 pub use served::Served;
 pub use serving::{serve, serve_lines};
 pub use share::Share;

@@ -1,40 +1,46 @@
 //! One connection's end of a pool behind a lock.
-ghost use Rattle.std.specs.Prelude.{◌≡◌, true, IfNone, IfSome};
-ghost use Rattle.lj_pool.specs.Seen.{IsHandedOut, SameOwed, StaysClosed, unseen};
+ghost use Rattle.std.specs.Prelude.{◌≡◌, ◌<◌, true, false, length, IfErr, OnErr, OnOk};
+ghost use Rattle.lj_tile.specs.Blank.{blank};
+ghost use Rattle.lj_pool.specs.declared.pool.NotPosted.TheVariants.{Closed};
+ghost use Rattle.lj_pool.specs.Seen.{IsHandedOut, IsPosted, SameOwed, StaysClosed, unseen};
 
 use crate::account::Account;
 use crate::locked::LockPool;
-use crate::pool::{Pool, Refused};
+use crate::pool::{NotPosted, Pool, Refused};
 use lj_tile::{Done, Task};
 use std::marker::Model;
 use std::sync::Wait;
 use std::sync::ledger::Ledger;
 
-/// An end of a pool behind a lock. It keeps a copy of each task that it is owed, and takes no memory.
+/// An end of a pool behind a lock. It keeps a copy of each task that it is owed, and has room for one result. It takes no
+/// memory.
 #[derive(Drop)]
 pub struct LockEnd<'p, L: Ledger, R: Wait> {
     rt: &'p R,
     pool: &'p LockPool<L>,
     account: Account,
+    room: Done,
 }
 
 impl<'p, L: Ledger, R: Wait> Model for LockEnd<'p, L, R> {
-    ghost use Rattle.lj_pool.specs.Seen.{Seen};
+    ghost use Rattle.lj_pool.specs.Ends.{End};
 
-    ghost Value = { Seen };
+    ghost Value = { End };
 
-    ghost view = { λ end. end.account };
+    ghost view = { λ end. record { seen = end.account; last = end.room } };
 }
 
 impl<'p, L: Ledger, R: Wait> LockEnd<'p, L, R> {
     /// An end to which nothing is owed.
     pub(crate) fn new(rt: &'p R, pool: &'p LockPool<L>) -> LockEnd<'p, L, R>
-        ensures { result ≡ unseen }
+        ensures seen { result.seen ≡ unseen }
+        ensures last { result.last ≡ blank }
     {
         LockEnd {
             rt,
             pool,
             account: Account::new(),
+            room: Done::blank(),
         }
     }
 }
@@ -42,54 +48,72 @@ impl<'p, L: Ledger, R: Wait> LockEnd<'p, L, R> {
 impl<'p, L: Ledger, R: Wait> Pool for LockEnd<'p, L, R> {
     ghost use Rattle.lj_pool.specs.declared.pool.TheConstants.{MAX_OWED};
 
-    ghost seen = { λ end. end };
+    ghost seen = { λ end. end.seen };
+
+    ghost last = { λ end. end.last };
 
     ghost for_others = { λ _ _. 0 };
 
     ghost most = { MAX_OWED };
 
-    fn post(&mut self, task: Task, wait: bool) -> Result<(), Refused> {
-        self.account.post(&task);
-        let posted = self.pool.post(self.rt, task, wait);
-        match &posted {
-            Ok(()) => {}
-            Err(Refused::Full(_)) => self.account.take_back(),
+    fn post_from(&mut self, task: &Task, wait: bool) -> Result<(), NotPosted>
+        requires room { length self.old.seen.owed < MAX_OWED }
+        ensures last { self.new.last ≡ self.old.last }
+        ensures posted { OnOk result (IsPosted task.now self.old.seen self.new.seen) }
+        ensures unchanged { OnErr result (SameOwed self.old.seen self.new.seen) }
+        ensures full { wait ≡ true → IfErr result (λ why. why ≡ Closed) }
+        ensures closed { IfErr result (λ why. why ≡ Closed → self.new.seen.closed ≡ true) }
+        ensures stays_closed { StaysClosed self.old.seen self.new.seen }
+    {
+        self.account.post(task);
+        match self.pool.post(self.rt, task.copy(), wait) {
+            Ok(()) => Ok(()),
+            Err(Refused::Full(_)) => {
+                self.account.take_back();
+                Err(NotPosted::Full)
+            }
             Err(Refused::Closed(_)) => {
                 self.account.take_back();
                 self.account.close();
+                Err(NotPosted::Closed)
             }
         }
-        posted
     }
 
-    fn fetch(&mut self, user: u8) -> Option<Done>
-        ensures whose { IfSome result (λ done. done.name.label.user ≡ user) }
-        ensures handed_out { IfSome result (λ done. IsHandedOut done self.old self.new) }
-        ensures unchanged { IfNone result (SameOwed self.old self.new) }
-        ensures closed { IfNone result (self.new.closed ≡ true) }
-        ensures stays_closed { StaysClosed self.old self.new }
+    fn fetch_in(&mut self, user: u8) -> bool
+        ensures whose { result ≡ true → self.new.last.name.label.user ≡ user }
+        ensures handed_out { result ≡ true → IsHandedOut self.new.last self.old.seen self.new.seen }
+        ensures unchanged { result ≡ false → SameOwed self.old.seen self.new.seen }
+        ensures closed { result ≡ false → self.new.seen.closed ≡ true }
+        ensures stays_closed { StaysClosed self.old.seen self.new.seen }
     {
         let owed = self.account.owed();
-        let fetched = self.pool.fetch(self.rt, user, owed);
-        match &fetched {
-            Some(done) => self.account.count(done.task()),
-            None => self.account.close(),
-        }
-        fetched
+        let Some(done) = self.pool.fetch(self.rt, user, owed) else {
+            self.account.close();
+            return false;
+        };
+        self.account.count(done.task());
+        self.room = done;
+        true
     }
 
-    fn poll(&mut self, user: u8) -> Option<Done>
-        ensures whose { IfSome result (λ done. done.name.label.user ≡ user) }
-        ensures open { self.new.closed ≡ self.old.closed }
-        ensures handed_out { IfSome result (λ done. IsHandedOut done self.old self.new) }
-        ensures unchanged { IfNone result (SameOwed self.old self.new) }
-        ensures stays_closed { StaysClosed self.old self.new }
+    fn poll_in(&mut self, user: u8) -> bool
+        ensures whose { result ≡ true → self.new.last.name.label.user ≡ user }
+        ensures open { self.new.seen.closed ≡ self.old.seen.closed }
+        ensures handed_out { result ≡ true → IsHandedOut self.new.last self.old.seen self.new.seen }
+        ensures unchanged { result ≡ false → SameOwed self.old.seen self.new.seen }
+        ensures stays_closed { StaysClosed self.old.seen self.new.seen }
     {
-        let polled = self.pool.poll(self.rt, user);
-        if let Some(done) = &polled {
-            self.account.count(done.task());
-        }
-        polled
+        let Some(done) = self.pool.poll(self.rt, user) else {
+            return false;
+        };
+        self.account.count(done.task());
+        self.room = done;
+        true
+    }
+
+    fn fetched(&self) -> &Done {
+        &self.room
     }
 
     fn owed(&self) -> usize {

@@ -3,6 +3,7 @@ ghost use Rattle.std.specs.Prelude.{◌≡◌, ◌+◌, ◌≤◌, true, vec_len
 ghost use Rattle.std.specs.List.{All};
 ghost use Rattle.lj_pool.specs.Refusals.{task_of, IsClosed};
 ghost use Rattle.lj_pool.specs.Seen.{unseen};
+ghost use Rattle.lj_tile.specs.Blank.{blank};
 
 use crate::desk::{BELLS, Desk, bell_of};
 use crate::lock_end::LockEnd;
@@ -64,7 +65,8 @@ impl<L: Ledger> LockPool<L> {
 
     /// An end of the pool, to which nothing is owed.
     pub fn end<'p, R: Wait>(&'p self, rt: &'p R) -> LockEnd<'p, L, R>
-        ensures { result ≡ unseen }
+        ensures seen { result.seen ≡ unseen }
+        ensures last { result.last ≡ blank }
     {
         LockEnd::new(rt, self)
     }

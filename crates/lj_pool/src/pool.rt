@@ -1,9 +1,12 @@
 //! What a pool is to the one who posts tasks: an end that takes tasks and hands out results.
 ghost use Rattle.std.specs.Prelude.{◌≡◌, ◌<◌, ◌↔◌, ℕ, length, true, false, [], IfErr, IfNone, IfSome, OnErr, OnOk};
+ghost use Rattle.lj_tile.specs.Tasks.{Work};
+ghost use Rattle.lj_pool.specs.declared.pool.NotPosted.TheVariants.{Closed};
 ghost use Rattle.lj_pool.specs.Seen.{Seen, SameOwed, IsPosted, IsHandedOut, StaysClosed};
 ghost use Rattle.lj_pool.specs.Refusals.{task_of, IsClosed};
 
 use lj_tile::{Done, Task};
+use thiserror::Error;
 
 /// How many tasks may be owed to an end at once.
 pub const MAX_OWED: usize = 64;
@@ -14,6 +17,17 @@ pub const MAX_STRAYS: u64 = 4096;
 /// How many tasks may be owed while the next command is awaited. So 63 connections that wait leave the last one room among
 /// the 1,024 entries of a book.
 pub const MAX_AHEAD: usize = 15;
+
+/// Why a task was not posted.
+#[derive(Clone, Copy, PartialEq, Eq, Debug, Error)]
+pub enum NotPosted {
+    /// There is no room for it now.
+    #[error("there is no room for the task now")]
+    Full,
+    /// The pool is closed.
+    #[error("the pool is closed")]
+    Closed,
+}
 
 /// Why a task was not posted. It is handed back.
 #[derive(Debug, Drop)]
@@ -26,8 +40,13 @@ pub enum Refused {
 
 /// An end of a pool. A task that was posted is owed until its result is fetched. Results that are not owed may come at
 /// any time; those that are and those that are not are counted, each count up to 2^64 - 1, where it stays.
+///
+/// Tasks and results are large, so they pass by reference; `post`, `fetch` and `poll` copy them.
 pub trait Pool {
     ghost seen: { Self → Seen };
+
+    // The result that `fetched` shows.
+    ghost last: { Self → Work };
 
     // How often it was asked for others than the user of this number, by a task of another, or a fetch or poll for
     // another, where that is counted.
@@ -37,6 +56,38 @@ pub trait Pool {
     ghost most: { ℕ };
 
     /// Posts a task. With `wait` it is never refused as `Full`.
+    fn post_from(&mut self, task: &Task, wait: bool) -> Result<(), NotPosted>
+        requires room { length (seen self.old).owed < MAX_OWED }
+        requires alone { wait ≡ true → (seen self.old).owed ≡ [] }
+        ensures posted { OnOk result (IsPosted task.now (seen self.old) (seen self.new)) }
+        ensures unchanged { OnErr result (SameOwed (seen self.old) (seen self.new)) }
+        ensures full { wait ≡ true → IfErr result (λ why. why ≡ Closed) }
+        ensures closed { IfErr result (λ why. why ≡ Closed → (seen self.new).closed ≡ true) }
+        ensures stays_closed { StaysClosed (seen self.old) (seen self.new) }
+        ensures own { let user = task.now.name.label.user in for_others self.new user ≡ for_others self.old user };
+
+    /// Fetches the next result for a user, which `fetched` then shows. False only where the pool is closed.
+    fn fetch_in(&mut self, user: u8) -> bool
+        requires { 0 < length (seen self.old).owed }
+        ensures handed_out { result ≡ true → IsHandedOut (last self.new) (seen self.old) (seen self.new) }
+        ensures unchanged { result ≡ false → SameOwed (seen self.old) (seen self.new) }
+        ensures closed { result ≡ false → (seen self.new).closed ≡ true }
+        ensures stays_closed { StaysClosed (seen self.old) (seen self.new) }
+        ensures own { for_others self.new user ≡ for_others self.old user };
+
+    /// Fetches a result for a user that is there now, which `fetched` then shows. It never waits for a worker. False may
+    /// come at any time.
+    fn poll_in(&mut self, user: u8) -> bool
+        ensures handed_out { result ≡ true → IsHandedOut (last self.new) (seen self.old) (seen self.new) }
+        ensures unchanged { result ≡ false → SameOwed (seen self.old) (seen self.new) }
+        ensures stays_closed { StaysClosed (seen self.old) (seen self.new) }
+        ensures own { for_others self.new user ≡ for_others self.old user };
+
+    /// The result that was handed out last, in the end's own room. It stays there until the next post, fetch or poll.
+    fn fetched(&self) -> &Done
+        ensures { result.now ≡ last self.now };
+
+    /// Posts a task by value. With `wait` it is never refused as `Full`.
     fn post(&mut self, task: Task, wait: bool) -> Result<(), Refused>
         requires room { length (seen self.old).owed < MAX_OWED }
         requires alone { wait ≡ true → (seen self.old).owed ≡ [] }
@@ -46,23 +97,42 @@ pub trait Pool {
         ensures full { wait ≡ true → IfErr result IsClosed }
         ensures closed { IfErr result (λ refused. IsClosed refused → (seen self.new).closed ≡ true) }
         ensures stays_closed { StaysClosed (seen self.old) (seen self.new) }
-        ensures own { let user = task.name.label.user in for_others self.new user ≡ for_others self.old user };
+        ensures own { let user = task.name.label.user in for_others self.new user ≡ for_others self.old user }
+    {
+        match self.post_from(&task, wait) {
+            Ok(()) => Ok(()),
+            Err(NotPosted::Full) => Err(Refused::Full(task)),
+            Err(NotPosted::Closed) => Err(Refused::Closed(task)),
+        }
+    }
 
-    /// The next result for a user. None only where the pool is closed.
+    /// The next result for a user, by value. None only where the pool is closed.
     fn fetch(&mut self, user: u8) -> Option<Done>
         requires { 0 < length (seen self.old).owed }
         ensures handed_out { IfSome result (λ done. IsHandedOut done (seen self.old) (seen self.new)) }
         ensures unchanged { IfNone result (SameOwed (seen self.old) (seen self.new)) }
         ensures closed { IfNone result ((seen self.new).closed ≡ true) }
         ensures stays_closed { StaysClosed (seen self.old) (seen self.new) }
-        ensures own { for_others self.new user ≡ for_others self.old user };
+        ensures own { for_others self.new user ≡ for_others self.old user }
+    {
+        if !self.fetch_in(user) {
+            return None;
+        }
+        Some(self.fetched().copy())
+    }
 
-    /// A result for a user that is there now. It never waits for a worker. None may come at any time.
+    /// A result for a user that is there now, by value. It never waits for a worker. None may come at any time.
     fn poll(&mut self, user: u8) -> Option<Done>
         ensures handed_out { IfSome result (λ done. IsHandedOut done (seen self.old) (seen self.new)) }
         ensures unchanged { IfNone result (SameOwed (seen self.old) (seen self.new)) }
         ensures stays_closed { StaysClosed (seen self.old) (seen self.new) }
-        ensures own { for_others self.new user ≡ for_others self.old user };
+        ensures own { for_others self.new user ≡ for_others self.old user }
+    {
+        if !self.poll_in(user) {
+            return None;
+        }
+        Some(self.fetched().copy())
+    }
 
     /// How many tasks are owed.
     fn owed(&self) -> usize

@@ -1,4 +1,5 @@
-//! The work that is owed to sessions, done over a pool: while a command waits for it, and before the next one is read.
+//! The work that is owed to sessions, done over a pool: while a command waits for it, and before the next one is read. Tasks
+//! are written in one room, which is handed down.
 ghost use Rattle.std.specs.Prelude.{◌≡◌, ◌+◌, ◌-◌, ◌<◌, ◌≤◌, length, Bool, true, false, [], ◌∷◌, Some, None, Ok, IsSome, IfOk, IfErr, IfSome, OnErr, OnOk};
 ghost use Rattle.lj_session.specs.States.{turns_before};
 ghost use Rattle.lj_session.specs.Owners.{IsAnswered, IsReplied, IsSettled, user_in, ready_session};
@@ -11,8 +12,9 @@ ghost use Rattle.lj_pool.specs.Coming.{GoesOn, OwesNoMore, OwesNoneWhereWaited, 
 ghost use Rattle.lj_pool.specs.Owing.{OwesAfter};
 ghost use Rattle.lj_pool.specs.Running.{IsHalted};
 
-use crate::pool::{MAX_AHEAD, MAX_STRAYS, Pool, Refused};
+use crate::pool::{MAX_AHEAD, MAX_STRAYS, NotPosted, Pool};
 use lj_session::{Begin, Command, Owner, Reply};
+use lj_tile::Task;
 
 /// Why the work was given up.
 #[derive(Clone, Copy, PartialEq, Eq, Debug)]
@@ -27,6 +29,7 @@ pub(crate) fn answer_over<P: Pool>(
     user: u8,
     pool: &mut P,
     command: Command,
+    room: &mut Task,
 ) -> Result<Reply, Halt>
     requires idle { owner.old.waiting ≡ None }
     requires number { owner.old.number ≡ user }
@@ -47,12 +50,12 @@ pub(crate) fn answer_over<P: Pool>(
 {
     match owner.begin(command) {
         Begin::Answered(reply) => Ok(reply),
-        Begin::Running => run(owner, user, pool),
+        Begin::Running => run(owner, user, pool, room),
     }
 }
 
 /// Goes on with the steps of all sessions, until what waits is answered.
-fn run<P: Pool>(owner: &mut Owner, user: u8, pool: &mut P) -> Result<Reply, Halt>
+fn run<P: Pool>(owner: &mut Owner, user: u8, pool: &mut P, room: &mut Task) -> Result<Reply, Halt>
     requires waits { IsSome owner.old.waiting }
     requires number { owner.old.number ≡ user }
     requires gathers { Gathers owner.old (P.seen pool.old).owed }
@@ -76,11 +79,11 @@ fn run<P: Pool>(owner: &mut Owner, user: u8, pool: &mut P) -> Result<Reply, Halt
                 return Ok(reply);
             }
             poll_next(owner, user, pool);
-            post_next(owner, pool, false)?;
+            post_next(owner, pool, room, false)?;
             strays = 0;
-        } else if !post_or_wait(owner, pool)? {
+        } else if !post_or_wait(owner, pool, room)? {
             strays = strays_after(strays, fetch_next(owner, user, pool)?)?;
-            if poll_and_post(owner, user, pool) {
+            if poll_and_post(owner, user, pool, room) {
                 strays = 0;
             }
         }
@@ -95,6 +98,7 @@ pub(crate) fn work_ahead<P: Pool>(
     user: u8,
     pool: &mut P,
     owes: bool,
+    room: &mut Task,
 ) -> Result<bool, Halt>
     requires idle { owner.old.waiting ≡ None }
     requires number { owner.old.number ≡ user }
@@ -108,8 +112,8 @@ pub(crate) fn work_ahead<P: Pool>(
         return Ok(false);
     }
     poll_all(owner, user, pool);
-    turn_whole(owner, user, pool);
-    post_all(owner, pool);
+    turn_whole(owner, user, pool, room);
+    post_all(owner, pool, room);
     fetch_down(owner, user, pool)?;
     poll_all(owner, user, pool);
     Ok(owner.is_busy())
@@ -134,7 +138,7 @@ fn poll_all<P: Pool>(owner: &mut Owner, user: u8, pool: &mut P) -> bool
 
 /// Turns sessions until none is whole. Between two turns a result is taken in and a task posted, so that a session whose
 /// steps have no tiles does not keep the others waiting.
-fn turn_whole<P: Pool>(owner: &mut Owner, user: u8, pool: &mut P)
+fn turn_whole<P: Pool>(owner: &mut Owner, user: u8, pool: &mut P, room: &mut Task)
     requires idle { owner.old.waiting ≡ None }
     requires number { owner.old.number ≡ user }
     requires gathers { Gathers owner.old (P.seen pool.old).owed }
@@ -144,17 +148,17 @@ fn turn_whole<P: Pool>(owner: &mut Owner, user: u8, pool: &mut P)
     while let Some(name) = owner.ready_session() {
         let _none = owner.turn_session(&name);
         poll_next(owner, user, pool);
-        let _posted = post_next(owner, pool, false);
+        let _posted = post_next(owner, pool, room, false);
     }
 }
 
 /// Posts tasks while there is room for them.
-fn post_all<P: Pool>(owner: &mut Owner, pool: &mut P)
+fn post_all<P: Pool>(owner: &mut Owner, pool: &mut P, room: &mut Task)
     requires gathers { Gathers owner.old (P.seen pool.old).owed }
     ensures goes_on { GoesOn owner.old (P.seen pool.old) owner.new (P.seen pool.new) }
     ensures own { let user = owner.old.number in P.for_others pool.new user ≡ P.for_others pool.old user }
 {
-    while let Ok(true) = post_next(owner, pool, false) {}
+    while let Ok(true) = post_next(owner, pool, room, false) {}
 }
 
 /// Fetches results until few tasks are owed.
@@ -174,7 +178,7 @@ fn fetch_down<P: Pool>(owner: &mut Owner, user: u8, pool: &mut P) -> Result<(), 
 
 /// Posts the next task, and waits for room for it only where nothing is owed. False where there is no task, or no room; then
 /// something is owed.
-fn post_or_wait<P: Pool>(owner: &mut Owner, pool: &mut P) -> Result<bool, Halt>
+fn post_or_wait<P: Pool>(owner: &mut Owner, pool: &mut P, room: &mut Task) -> Result<bool, Halt>
     requires waits { IsSome owner.old.waiting }
     requires none_ready { ready_session owner.old ≡ None }
     requires gathers { Gathers owner.old (P.seen pool.old).owed }
@@ -185,11 +189,16 @@ fn post_or_wait<P: Pool>(owner: &mut Owner, pool: &mut P) -> Result<bool, Halt>
     ensures own { let user = owner.old.number in P.for_others pool.new user ≡ P.for_others pool.old user }
 {
     let wait = pool.owed() == 0;
-    post_next(owner, pool, wait)
+    post_next(owner, pool, room, wait)
 }
 
-/// Posts the next task. False where there is none, or no room for it now.
-fn post_next<P: Pool>(owner: &mut Owner, pool: &mut P, wait: bool) -> Result<bool, Halt>
+/// Posts the next task, written in `room`. False where there is none, or the pool has no place for it now.
+fn post_next<P: Pool>(
+    owner: &mut Owner,
+    pool: &mut P,
+    room: &mut Task,
+    wait: bool,
+) -> Result<bool, Halt>
     requires gathers { Gathers owner.old (P.seen pool.old).owed }
     requires alone { wait ≡ true → (P.seen pool.old).owed ≡ [] }
     ensures goes_on { GoesOn owner.old (P.seen pool.old) owner.new (P.seen pool.new) }
@@ -202,22 +211,22 @@ fn post_next<P: Pool>(owner: &mut Owner, pool: &mut P, wait: bool) -> Result<boo
     if pool.full() {
         return Ok(false);
     }
-    let Some(task) = owner.next_task() else {
+    if !owner.next_task_in(room) {
         return Ok(false);
-    };
-    match pool.post(task, wait) {
+    }
+    match pool.post_from(room, wait) {
         Ok(()) => {
             owner.posted();
             Ok(true)
         }
-        Err(Refused::Full(_)) => Ok(false),
-        Err(Refused::Closed(_)) => Err(Halt::PoolClosed),
+        Err(NotPosted::Full) => Ok(false),
+        Err(NotPosted::Closed) => Err(Halt::PoolClosed),
     }
 }
 
 /// Takes in what is there of the results that are owed, and posts what there is room for then, so that many tasks go to the
 /// workers together. Whether one of the results was of a tile that is awaited.
-fn poll_and_post<P: Pool>(owner: &mut Owner, user: u8, pool: &mut P) -> bool
+fn poll_and_post<P: Pool>(owner: &mut Owner, user: u8, pool: &mut P, room: &mut Task) -> bool
     requires number { owner.old.number ≡ user }
     requires gathers { Gathers owner.old (P.seen pool.old).owed }
     ensures goes_on { GoesOn owner.old (P.seen pool.old) owner.new (P.seen pool.new) }
@@ -225,7 +234,7 @@ fn poll_and_post<P: Pool>(owner: &mut Owner, user: u8, pool: &mut P) -> bool
     ensures own { P.for_others pool.new user ≡ P.for_others pool.old user }
 {
     let taken = poll_all(owner, user, pool);
-    post_all(owner, pool);
+    post_all(owner, pool, room);
     taken
 }
 
@@ -241,11 +250,10 @@ fn fetch_next<P: Pool>(owner: &mut Owner, user: u8, pool: &mut P) -> Result<bool
     ensures halted { IfErr result (λ halt. IsHalted halt (P.seen pool.old) (P.seen pool.new)) }
     ensures own { P.for_others pool.new user ≡ P.for_others pool.old user }
 {
-    let fetched = pool.fetch(user);
-    let Some(done) = &fetched else {
+    if !pool.fetch_in(user) {
         return Err(Halt::PoolClosed);
-    };
-    Ok(owner.take_in(done).is_ok())
+    }
+    Ok(owner.take_in(pool.fetched()).is_ok())
 }
 
 /// Takes in a result that is there now. False where it is of no tile that is awaited; it is dropped then. None where there
@@ -256,11 +264,10 @@ fn poll_next<P: Pool>(owner: &mut Owner, user: u8, pool: &mut P) -> Option<bool>
     ensures fewer { IfSome result (λ taken. taken ≡ true → tiles_coming owner.new < tiles_coming owner.old) }
     ensures own { P.for_others pool.new user ≡ P.for_others pool.old user }
 {
-    let polled = pool.poll(user);
-    let Some(done) = &polled else {
+    if !pool.poll_in(user) {
         return None;
-    };
-    Some(owner.take_in(done).is_ok())
+    }
+    Some(owner.take_in(pool.fetched()).is_ok())
 }
 
 /// How many results in a row were of no tile that is awaited, after one more that was taken in or was not.

@@ -21,6 +21,7 @@ use crate::replies::put_reply;
 use crate::running::{Halt, answer_over, work_ahead};
 use crate::served::{Served, ending_of};
 use lj_session::{Command, Owner, Refusal, Reply, UserState};
+use lj_tile::Task;
 use lj_wire::{Item, Line, LineReader, ReadFault, Sink, Source, WriteFault};
 use std::alloc::Global;
 
@@ -78,9 +79,10 @@ pub fn serve_lines<R: Source, W: Sink, P: Pool>(
 {
     let mut owner = Owner::new(state, user);
     let mut line = Line::new();
+    let mut room = Task::blank();
     let mut owes = true;
     'items: loop {
-        owes = match work_ahead(&mut owner, user, pool, owes) {
+        owes = match work_ahead(&mut owner, user, pool, owes, &mut room) {
             Ok(owes) => owes,
             Err(halt) => return given_up(owner, halt),
         };
@@ -91,7 +93,7 @@ pub fn serve_lines<R: Source, W: Sink, P: Pool>(
         };
         let ending = ending_of(&item);
         owes = owes || matches!(&item, Item::Command(Command::Start { .. }));
-        let reply = match answer(&mut owner, user, pool, item) {
+        let reply = match answer(&mut owner, user, pool, item, &mut room) {
             Ok(reply) => reply,
             Err(halt) => return given_up(owner, halt),
         };
@@ -114,7 +116,13 @@ fn given_up(owner: Owner, halt: Halt) -> (Option<UserState>, Served)
 }
 
 /// Answers an item.
-fn answer<P: Pool>(owner: &mut Owner, user: u8, pool: &mut P, item: Item) -> Result<Reply, Halt>
+fn answer<P: Pool>(
+    owner: &mut Owner,
+    user: u8,
+    pool: &mut P,
+    item: Item,
+    room: &mut Task,
+) -> Result<Reply, Halt>
     requires idle { owner.old.waiting ≡ None }
     requires number { owner.old.number ≡ user }
     requires gathers { Gathers owner.old (P.seen pool.old).owed }
@@ -133,7 +141,7 @@ fn answer<P: Pool>(owner: &mut Owner, user: u8, pool: &mut P, item: Item) -> Res
     ensures own { P.for_others pool.new user ≡ P.for_others pool.old user }
 {
     match item {
-        Item::Command(command) => answer_over(owner, user, pool, command),
+        Item::Command(command) => answer_over(owner, user, pool, command, room),
         Item::Bad(fault) | Item::Last(fault) => Ok(Reply::Refused(Refusal::from(fault))),
     }
 }

@@ -1,4 +1,4 @@
+pub mod Boxes
 pub mod Moves
 pub mod Pops
-pub mod Refusals
 pub mod Settling

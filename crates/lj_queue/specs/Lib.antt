@@ -1,3 +1,4 @@
+pub mod Tickets
 pub mod Balance
 pub mod Passes
 pub mod Lists

@@ -1,7 +1,13 @@
 -- The list of a user's results.
-use Rattle.std.specs.Prelude.{ℕ, List, [], ◌∷◌, ◌++◌, Option}
-use Rattle.std.specs.Option.{option_to_list}
+use Rattle.std.specs.Prelude.{◌≡◌, ℕ, ◌+◌, ◌≤◌, List, [], ◌∷◌, ◌++◌}
+use Rattle.std.specs.List.{All}
+use Rattle.std.specs.Prelude.{Box, Vec, vec_len}
+use Rattle.std.specs.Global.{Global}
+use Rattle.std.specs.Vec.{vec_capacity}
+use Rattle.std.specs.VecDeque.{deque_len, deque_capacity}
+use Rattle.std.specs.declared.collections.VecDeque.{VecDeque}
 use Rattle.lj_tile.specs.Tasks.{Work}
+use Rattle.lj_queue.specs.declared.list.TheConstants.{MAX_RESULTS}
 
 -- whose results are kept, and their tasks, in the order in which they are fetched
 pub record Kept : Type 0 where
@@ -16,6 +22,15 @@ none_of user = record { user = user; results = [] }
 abbrev pub with_last : Kept → Work → Kept
 with_last kept done = record { user = kept.user; results = kept.results ++ done ∷ [] }
 
--- what was handed out, if anything, in front of the others
-abbrev pub with_first : Option Work → Kept → Kept
-with_first result kept = record { user = kept.user; results = option_to_list result ++ kept.results }
+-- what was handed out, in front of the others
+abbrev pub with_first : Work → Kept → Kept
+with_first done kept = record { user = kept.user; results = done ∷ kept.results }
+
+-- The results are all of one user. They lie in 64 boxes together with what is spare, and there is a place for each box
+-- among the results and among the spare ones.
+pub record HasBoxes (user : ℕ) (results : VecDeque (Box Work Global) Global) (spare : Vec (Box Work Global) Global)
+    : Type 0 where
+  pub boxes : deque_len results + vec_len spare ≡ MAX_RESULTS
+  pub places : MAX_RESULTS ≤ deque_capacity results
+  pub spare_places : MAX_RESULTS ≤ vec_capacity spare
+  pub whose : All (λ box. box.value.name.label.user ≡ user) results.items

@@ -61,12 +61,13 @@ pub record Names : Type 0 where
   pub parts : ℕ
   pub table : TableId
 
--- an end of a pool: what it has seen, its pass, its number and its user
+-- an end of a pool: what it has seen, its pass, its number, its user and the task of the result in its room
 pub record Ending : Type 0 where
   pub seen : Seen
   pub pass : Trace
   pub number : ℕ
   pub user : ℕ
+  pub last : Work
 
 -- the name of no queue
 abbrev pub no_table : TableId

@@ -1,13 +1,12 @@
 //! One connection's end of a pool with a queue.
-ghost use Rattle.std.specs.Prelude.{◌≡◌, ◌<◌, true, length, IfErr, IfNone, IfSome, OnErr, OnOk};
-ghost use Rattle.lj_pool.specs.Refusals.{task_of, IsClosed};
+ghost use Rattle.std.specs.Prelude.{◌≡◌, ◌<◌, true, false, length, IfErr, OnErr, OnOk};
+ghost use Rattle.lj_pool.specs.declared.pool.NotPosted.TheVariants.{Closed};
 ghost use Rattle.lj_pool.specs.Seen.{IsHandedOut, IsPosted, SameOwed, StaysClosed, unseen};
 ghost use Rattle.lj_queue.specs.Passes.{pushing, ticket_of};
 
-use crate::pass::{PoolPass, Room};
+use crate::pass::{CountedPass, PoolPass, Room};
 use crate::pool::QueuePool;
-use crate::ticket::Ticket;
-use lj_pool::{Account, MAX_OWED, Pool, Refused};
+use lj_pool::{Account, MAX_OWED, NotPosted, Pool};
 use lj_tile::{Done, Task};
 use std::marker::Model;
 use std::sync::Wait;
@@ -15,14 +14,16 @@ use std::sync::Wait;
 /// So many tasks are posted before workers that wait are told of them, unless a result is asked for and none is there.
 const TASKS_AT_ONCE: usize = 16;
 
-/// An end of a pool for one user, with a pass. It keeps a copy of each task that it is owed, and takes no memory. It hands
-/// out results of its user's tasks: what comes of another's that is posted by it is dropped.
+/// An end of a pool for one user, with a pass. It keeps a copy of each task that it is owed, and takes no memory. It
+/// hands out results of its user's tasks: what comes of another's that is posted by it is dropped.
 #[derive(Drop)]
 pub struct QueueEnd<'p, L: Room, R: Wait> {
     rt: &'p R,
     pool: &'p QueuePool<L>,
     account: Account,
-    pass: PoolPass<L>,
+    counted: CountedPass<L>,
+    /// The result that was handed out last.
+    room: Box<Done>,
     number: u64,
     user: u8,
     /// How many tasks were posted since the workers were told of any.
@@ -34,7 +35,13 @@ impl<'p, L: Room, R: Wait> Model for QueueEnd<'p, L, R> {
 
     ghost Value = { Ending };
 
-    ghost view = { λ end. record { seen = end.account; pass = end.pass; number = end.number; user = end.user } };
+    ghost view = { λ end. record {
+      seen = end.account;
+      pass = end.counted;
+      number = end.number;
+      user = end.user;
+      last = end.room.value;
+    } };
 }
 
 impl<'p, L: Room, R: Wait> QueueEnd<'p, L, R> {
@@ -51,11 +58,13 @@ impl<'p, L: Room, R: Wait> QueueEnd<'p, L, R> {
         ensures number { result.number ≡ number }
         ensures user { result.user ≡ user }
     {
+        let (counted, room) = pass.into_parts();
         QueueEnd {
             rt,
             pool,
             account: Account::new(),
-            pass,
+            counted,
+            room,
             number,
             user,
             untold: 0,
@@ -67,7 +76,7 @@ impl<'p, L: Room, R: Wait> QueueEnd<'p, L, R> {
         ensures { result ≡ self.entry.pass }
     {
         self.pool.tell(self.rt, self.untold);
-        self.pass
+        PoolPass::new(self.counted, self.room)
     }
 }
 
@@ -80,75 +89,82 @@ impl<'p, L: Room, R: Wait> Pool for QueueEnd<'p, L, R> {
 
     ghost most = { MAX_OWED };
 
-    fn post(&mut self, task: Task, wait: bool) -> Result<(), Refused>
+    ghost last = { λ end. end.last };
+
+    fn post_from(&mut self, task: &Task, wait: bool) -> Result<(), NotPosted>
         requires room { length self.old.seen.owed < MAX_OWED }
-        ensures pushed { OnOk result (self.new.pass ≡ pushing self.old.pass (ticket_of self.old.number self.old.user task)) }
+        ensures pushed { let ticket = ticket_of self.old.number self.old.user task.now in
+            OnOk result (self.new.pass ≡ pushing self.old.pass ticket) }
         ensures nothing { OnErr result (self.new.pass ≡ self.old.pass) }
         ensures number { self.new.number ≡ self.old.number }
         ensures user { self.new.user ≡ self.old.user }
-        ensures posted { OnOk result (IsPosted task self.old.seen self.new.seen) }
-        ensures handed_back { IfErr result (λ refused. task_of refused ≡ task) }
+        ensures posted { OnOk result (IsPosted task.now self.old.seen self.new.seen) }
         ensures unchanged { OnErr result (SameOwed self.old.seen self.new.seen) }
-        ensures full { wait ≡ true → IfErr result IsClosed }
-        ensures closed { IfErr result (λ refused. IsClosed refused → self.new.seen.closed ≡ true) }
+        ensures full { wait ≡ true → IfErr result (λ why. why ≡ Closed) }
+        ensures closed { IfErr result (λ why. why ≡ Closed → self.new.seen.closed ≡ true) }
         ensures stays_closed { StaysClosed self.old.seen self.new.seen }
     {
-        self.account.post(&task);
-        let ticket = Ticket {
-            end: self.number,
-            user: self.user,
-            task,
-        };
-        let posted = self.pool.post(self.rt, &mut self.pass, ticket, wait);
-        match &posted {
-            Ok(()) => self.count(),
-            Err(Refused::Full(_)) => self.account.take_back(),
-            Err(Refused::Closed(_)) => {
-                self.account.take_back();
-                self.account.close();
+        let (end, user) = (self.number, self.user);
+        let posted = self
+            .pool
+            .post(self.rt, &mut self.counted, end, user, task, wait);
+        match posted {
+            Ok(()) => {
+                self.account.post(task);
+                self.count();
             }
+            Err(NotPosted::Full) => {}
+            Err(NotPosted::Closed) => self.account.close(),
         }
         posted
     }
 
-    fn fetch(&mut self, _user: u8) -> Option<Done>
+    fn fetch_in(&mut self, _user: u8) -> bool
         ensures pass { self.new.pass ≡ self.old.pass }
         ensures number { self.new.number ≡ self.old.number }
         ensures user { self.new.user ≡ self.old.user }
-        ensures whose { IfSome result (λ done. done.name.label.user ≡ self.old.user) }
-        ensures handed_out { IfSome result (λ done. IsHandedOut done self.old.seen self.new.seen) }
-        ensures unchanged { IfNone result (SameOwed self.old.seen self.new.seen) }
-        ensures closed { IfNone result (self.new.seen.closed ≡ true) }
+        ensures whose { result ≡ true → self.new.last.name.label.user ≡ self.old.user }
+        ensures handed_out { result ≡ true → IsHandedOut self.new.last self.old.seen self.new.seen }
+        ensures unchanged { result ≡ false → SameOwed self.old.seen self.new.seen }
+        ensures closed { result ≡ false → self.new.seen.closed ≡ true }
         ensures stays_closed { StaysClosed self.old.seen self.new.seen }
     {
-        let mut fetched = self.pool.poll(self.rt, self.user);
-        if fetched.is_none() {
+        let mut fetched = self.pool.poll(self.rt, self.user, &mut self.room);
+        if !fetched {
             self.tell();
-            fetched = self.pool.fetch(self.rt, self.user, self.account.owed());
+            fetched = self
+                .pool
+                .fetch(self.rt, self.user, self.account.owed(), &mut self.room);
         }
-        match &fetched {
-            Some(done) => self.account.count(done.task()),
-            None => self.account.close(),
+        if fetched {
+            self.account.count(self.room.task());
+        } else {
+            self.account.close();
         }
         fetched
     }
 
-    fn poll(&mut self, _user: u8) -> Option<Done>
+    fn poll_in(&mut self, _user: u8) -> bool
         ensures pass { self.new.pass ≡ self.old.pass }
         ensures number { self.new.number ≡ self.old.number }
         ensures user { self.new.user ≡ self.old.user }
         ensures open { self.new.seen.closed ≡ self.old.seen.closed }
-        ensures whose { IfSome result (λ done. done.name.label.user ≡ self.old.user) }
-        ensures handed_out { IfSome result (λ done. IsHandedOut done self.old.seen self.new.seen) }
-        ensures unchanged { IfNone result (SameOwed self.old.seen self.new.seen) }
+        ensures whose { result ≡ true → self.new.last.name.label.user ≡ self.old.user }
+        ensures handed_out { result ≡ true → IsHandedOut self.new.last self.old.seen self.new.seen }
+        ensures unchanged { result ≡ false → SameOwed self.old.seen self.new.seen }
         ensures stays_closed { StaysClosed self.old.seen self.new.seen }
     {
-        let polled = self.pool.poll(self.rt, self.user);
-        match &polled {
-            Some(done) => self.account.count(done.task()),
-            None => self.tell(),
+        let polled = self.pool.poll(self.rt, self.user, &mut self.room);
+        if polled {
+            self.account.count(self.room.task());
+        } else {
+            self.tell();
         }
         polled
+    }
+
+    fn fetched(&self) -> &Done {
+        &self.room
     }
 
     fn owed(&self) -> usize {

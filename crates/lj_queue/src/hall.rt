@@ -101,13 +101,20 @@ impl<L: Ledger> Hall<L> {
     }
 
     /// Keeps a result of a task that an end posted for its user, where that end is present, the task is of the list's
-    /// user, and there is room. It is credited to the share then. Whether it was kept.
-    pub(crate) fn keep(&mut self, end: u64, user: u8, done: Done, share: &mut Share<L>) -> bool
+    /// user, and there is room. Its box is exchanged for another then, and it is credited to the share. Whether it was
+    /// kept.
+    pub(crate) fn keep(
+        &mut self,
+        end: u64,
+        user: u8,
+        done: &mut Box<Done>,
+        share: &mut Share<L>,
+    ) -> bool
         ensures kept { let list = list_of self.old.lists.items user in
             IsTrue result ↔ ((present_of self.old.present user ≡ Some end) × ((length list.results < MAX_RESULTS)
-            × (done.name.label.user ≡ list.user)) × (self.old.given < 2 ^ 64 - 1)) }
-        ensures lists { result ≡ true →
-            self.new.lists.items ≡ with_own self.old.lists.items user (with_last (list_of self.old.lists.items user) done) }
+            × (done.old.value.name.label.user ≡ list.user)) × (self.old.given < 2 ^ 64 - 1)) }
+        ensures lists { result ≡ true → self.new.lists.items
+            ≡ with_own self.old.lists.items user (with_last (list_of self.old.lists.items user) done.old.value) }
         ensures given { result ≡ true → self.new.given ≡ self.old.given + 1 }
         ensures credited { result ≡ true → share.new ≡ share.old + 1 }
         ensures dropped { result ≡ false → self.new.lists.items ≡ self.old.lists.items }
@@ -126,7 +133,7 @@ impl<L: Ledger> Hall<L> {
             ..
         } = self;
         let list = &mut lists[place_of(user)];
-        if !is_present || !list.takes(&done) || *given == u64::MAX {
+        if !is_present || !list.takes(done) || *given == u64::MAX {
             return false;
         }
         list.push(done);
@@ -135,14 +142,17 @@ impl<L: Ledger> Hall<L> {
         true
     }
 
-    /// The next result of the user. None where there is none, or the pool is closed.
-    pub(crate) fn fetch(&mut self, user: u8) -> Option<Done>
-        ensures lists { self.old.lists.items
-            ≡ with_own self.new.lists.items user (with_first result (list_of self.new.lists.items user)) }
+    /// Fetches the next result of the user, in exchange for the box of another. False where there is none, or the pool
+    /// is closed.
+    pub(crate) fn fetch(&mut self, user: u8, room: &mut Box<Done>) -> bool
+        ensures lists { result ≡ true → self.old.lists.items
+            ≡ with_own self.new.lists.items user (with_first room.new.value (list_of self.new.lists.items user)) }
+        ensures whose { result ≡ true → room.new.value.name.label.user ≡ user }
         ensures none { let list = list_of self.old.lists.items user in
-            IfNone result (self.old.closed ≡ false → list.user ≡ user → list.results ≡ []) }
-        ensures closed { self.old.closed ≡ true → result ≡ None }
-        ensures whose { IfSome result (λ done. done.name.label.user ≡ user) }
+            result ≡ false → self.old.closed ≡ false → list.user ≡ user → list.results ≡ [] }
+        ensures unchanged { result ≡ false → self.new.lists.items ≡ self.old.lists.items }
+        ensures same_room { result ≡ false → room.new.value ≡ room.old.value }
+        ensures closed { self.old.closed ≡ true → result ≡ false }
         ensures present { self.new.present ≡ self.old.present }
         ensures last { self.new.last ≡ self.old.last }
         ensures due { self.new.due ≡ self.old.due }
@@ -150,9 +160,9 @@ impl<L: Ledger> Hall<L> {
         ensures stays { self.new.closed ≡ self.old.closed }
     {
         if self.closed {
-            return None;
+            return false;
         }
-        self.lists[place_of(user)].pop(user)
+        self.lists[place_of(user)].pop(user, room)
     }
 
     /// Notes that an end waits at the user's bell, which is to be rung after so many results, or earlier where another

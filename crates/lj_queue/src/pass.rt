@@ -5,6 +5,7 @@ ghost use Rattle.lj_queue.specs.Passes.{IsCounted, pushing, popping, trace_of};
 
 use crate::rule::{OpenTasks, Popped, Pushed, TaskPass};
 use crate::ticket::Ticket;
+use lj_tile::Done;
 use std::marker::{Brand, Model, PhantomData};
 use std::sync::Wait;
 use std::sync::ledger::Ledger;
@@ -25,9 +26,9 @@ impl Room for Brand {
     ghost passes = { 0 };
 }
 
-/// What one thread at a time may push and pop by. It counts up to 2^64 - 1 tasks each.
+/// A pass of the queue that counts what it pushes and pops, up to 2^64 - 1 tasks each.
 #[derive(Drop)]
-pub struct PoolPass<L: Room> {
+pub(crate) struct CountedPass<L: Room> {
     pass: TaskPass,
     number: usize,
     pushed: u64,
@@ -35,7 +36,7 @@ pub struct PoolPass<L: Room> {
     of: PhantomData<L>,
 }
 
-impl<L: Room> Model for PoolPass<L> {
+impl<L: Room> Model for CountedPass<L> {
     ghost use Rattle.lj_queue.specs.Passes.{IsCounted, Trace, trace_of};
 
     ghost Value = { Trace };
@@ -45,40 +46,19 @@ impl<L: Room> Model for PoolPass<L> {
     ghost invariant = { λ p. IsCounted L.table p.pass p.pushed p.popped };
 }
 
-impl<L: Room> PoolPass<L> {
+impl<L: Room> CountedPass<L> {
     /// A pass that has pushed and popped nothing.
-    pub(crate) fn new(pass: TaskPass, number: usize) -> PoolPass<L>
+    pub(crate) fn new(pass: TaskPass, number: usize) -> CountedPass<L>
         requires { IsCounted L.table pass 0 0 }
         ensures { result ≡ trace_of number pass }
     {
-        PoolPass {
+        CountedPass {
             pass,
             number,
             pushed: 0,
             popped: 0,
             of: PhantomData,
         }
-    }
-
-    /// Its number: which of its pool's passes it is, from 0.
-    pub fn number(&self) -> usize
-        ensures { result ≡ self.now.number }
-    {
-        self.number
-    }
-
-    /// How many tasks it has pushed.
-    pub fn pushed(&self) -> u64
-        ensures { result ≡ length self.now.pushed }
-    {
-        self.pushed
-    }
-
-    /// How many tasks it has popped.
-    pub fn popped(&self) -> u64
-        ensures { result ≡ length self.now.popped }
-    {
-        self.popped
     }
 
     /// Pushes a ticket, unless there is no room or it has pushed 2^64 - 1.
@@ -114,12 +94,64 @@ impl<L: Room> PoolPass<L> {
         self.popped += 1;
         Some(ticket)
     }
+}
+
+/// What one thread at a time may push and pop by. It counts up to 2^64 - 1 tasks each, and has room for one result.
+#[derive(Drop)]
+pub struct PoolPass<L: Room> {
+    counted: CountedPass<L>,
+    room: Box<Done>,
+}
+
+impl<L: Room> Model for PoolPass<L> {
+    ghost use Rattle.lj_queue.specs.Passes.{Trace};
+
+    ghost Value = { Trace };
+
+    ghost view = { λ p. p.counted };
+}
+
+impl<L: Room> PoolPass<L> {
+    /// The pass that counts so, with this room.
+    pub(crate) fn new(counted: CountedPass<L>, room: Box<Done>) -> PoolPass<L>
+        ensures { result ≡ counted }
+    {
+        PoolPass { counted, room }
+    }
+
+    /// Its number: which of its pool's passes it is, from 0.
+    pub fn number(&self) -> usize
+        ensures { result ≡ self.now.number }
+    {
+        self.counted.number
+    }
+
+    /// How many tasks it has pushed.
+    pub fn pushed(&self) -> u64
+        ensures { result ≡ length self.now.pushed }
+    {
+        self.counted.pushed
+    }
+
+    /// How many tasks it has popped.
+    pub fn popped(&self) -> u64
+        ensures { result ≡ length self.now.popped }
+    {
+        self.counted.popped
+    }
+
+    /// What it counts by, and its room.
+    pub(crate) fn into_parts(self) -> (CountedPass<L>, Box<Done>)
+        ensures { result.0 ≡ self }
+    {
+        (self.counted, self.room)
+    }
 
     /// The pass of the queue.
     pub(crate) fn into_pass(self) -> TaskPass
         ensures pass { trace_of self.number result ≡ self }
         ensures counted { IsCounted L.table result (length self.pushed) (length self.popped) }
     {
-        self.pass
+        self.counted.pass
     }
 }

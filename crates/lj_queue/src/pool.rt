@@ -1,18 +1,19 @@
 //! A pool whose open tasks lie in a queue that no lock guards, and whose results lie under a lock.
-ghost use Rattle.std.specs.Prelude.{◌≡◌, ◌+◌, ◌≤◌, ◌<◌, true, ℕ, length, vec_len, slice_index_or, IfErr, IfNone, IfOk, IfSome, OnErr, OnOk};
+ghost use Rattle.std.specs.Prelude.{◌≡◌, ◌+◌, ◌≤◌, ◌<◌, true, false, ℕ, length, vec_len, slice_index_or, IfErr, IfNone, IfOk, IfSome, OnErr, OnOk};
 ghost use Rattle.std.specs.List.{All};
 ghost use Rattle.lj_pool.specs.Seen.{unseen};
-ghost use Rattle.lj_pool.specs.Refusals.{task_of, IsClosed};
-ghost use Rattle.lj_queue.specs.Passes.{IsRest, pushing, popping, untouched};
+ghost use Rattle.lj_pool.specs.declared.pool.NotPosted.TheVariants.{Closed};
+ghost use Rattle.lj_queue.specs.Passes.{IsRest, pushing, popping, ticket_of, untouched};
 
 use crate::end::QueueEnd;
 use crate::hall::{Hall, USERS, place_of};
-use crate::pass::{PoolPass, Room};
+use crate::pass::{CountedPass, PoolPass, Room};
 use crate::rest::{Rest, passes_of};
 use crate::rule::{OpenTasks, TaskPass};
 use crate::ticket::Ticket;
-use lj_pool::{Refused, Share};
-use lj_tile::Done;
+use crossbeam_queue::ArrayQueue;
+use lj_pool::{NotPosted, Share};
+use lj_tile::{Done, Task};
 use std::alloc::{AllocError, Global};
 use std::array;
 use std::marker::Model;
@@ -72,6 +73,8 @@ impl QueueBlank {
 #[derive(Drop)]
 pub struct QueuePool<L: Room> {
     pub(crate) queue: OpenTasks,
+    /// The boxes of no ticket. With those of tickets they are as many as may be open, and one for each pass.
+    spare: ArrayQueue<Box<Task>>,
     /// What the passes were cut from.
     pub(crate) rest: Mutex<Rest<L>>,
     hall: Mutex<Hall<L>>,
@@ -119,11 +122,13 @@ impl<L: Room> QueuePool<L> {
         let Some(count) = workers.checked_add(CONNECTIONS) else {
             return Err(AllocError);
         };
+        let spare = spare_boxes(alloc, count)?;
         let (results, all) = ledger.open::<L>();
         let shares = shares_of(alloc, all, workers)?;
         let (passes, rest) = passes_of(alloc, &queue, first, count)?;
         let pool = QueuePool {
             queue,
+            spare,
             rest: Mutex::new(rest),
             hall: Mutex::new(Hall::new(alloc, results)?),
             posted: Condvar::new(),
@@ -166,60 +171,93 @@ impl<L: Room> QueuePool<L> {
         self.hall.lock(rt).withdraw(user);
     }
 
-    /// Posts a task by a pass. With `wait` it waits while there is no room.
+    /// Posts a task of an end for its user by a pass. With `wait` it waits while there is no room.
     pub(crate) fn post<R: Wait>(
         &self,
         rt: &R,
-        pass: &mut PoolPass<L>,
-        ticket: Ticket,
+        pass: &mut CountedPass<L>,
+        end: u64,
+        user: u8,
+        task: &Task,
         wait: bool,
-    ) -> Result<(), Refused>
-        ensures pushed { OnOk result (pass.new ≡ pushing pass.old ticket) }
+    ) -> Result<(), NotPosted>
+        ensures pushed { OnOk result (pass.new ≡ pushing pass.old (ticket_of end user task.now)) }
         ensures nothing { OnErr result (pass.new ≡ pass.old) }
-        ensures handed_back { IfErr result (λ refused. task_of refused ≡ ticket.task) }
-        ensures full { wait ≡ true → IfErr result IsClosed }
+        ensures full { wait ≡ true → IfErr result (λ why. why ≡ Closed) }
     {
         if self.shut.load(Ordering::SeqCst) {
-            return Err(Refused::Closed(ticket.task));
+            return Err(NotPosted::Closed);
         }
-        match pass.push(rt, &self.queue, ticket) {
-            Ok(()) => Ok(()),
-            Err(refused) if wait => self.post_later(rt, pass, refused),
-            Err(refused) => Err(Refused::Full(refused.task)),
+        if self.try_post(rt, pass, end, user, task) {
+            Ok(())
+        } else if wait {
+            self.post_later(rt, pass, end, user, task)
+        } else {
+            Err(NotPosted::Full)
         }
+    }
+
+    /// Posts a task of an end for its user by a pass, in a box of no ticket. Whether there was room.
+    fn try_post<R: Wait>(
+        &self,
+        rt: &R,
+        pass: &mut CountedPass<L>,
+        end: u64,
+        user: u8,
+        task: &Task,
+    ) -> bool
+        ensures pushed { result ≡ true → pass.new ≡ pushing pass.old (ticket_of end user task.now) }
+        ensures nothing { result ≡ false → pass.new ≡ pass.old }
+    {
+        let Some(mut room) = self.spare.pop(rt) else {
+            return false;
+        };
+        room.copy_from(task);
+        let ticket = Ticket {
+            end,
+            user,
+            task: room,
+        };
+        let Err(refused) = pass.push(rt, &self.queue, ticket) else {
+            return true;
+        };
+        self.put_by(rt, refused.task);
+        false
     }
 
     /// Waits for room, and posts a task then.
     fn post_later<R: Wait>(
         &self,
         rt: &R,
-        pass: &mut PoolPass<L>,
-        ticket: Ticket,
-    ) -> Result<(), Refused>
-        ensures pushed { OnOk result (pass.new ≡ pushing pass.old ticket) }
+        pass: &mut CountedPass<L>,
+        end: u64,
+        user: u8,
+        task: &Task,
+    ) -> Result<(), NotPosted>
+        ensures pushed { OnOk result (pass.new ≡ pushing pass.old (ticket_of end user task.now)) }
         ensures nothing { OnErr result (pass.new ≡ pass.old) }
-        ensures handed_back { IfErr result (λ refused. task_of refused ≡ ticket.task) }
-        ensures closed { IfErr result IsClosed }
+        ensures closed { IfErr result (λ why. why ≡ Closed) }
     {
-        let mut ticket = ticket;
         let mut hall = self.hall.lock(rt);
         self.crowded.fetch_add(1, Ordering::SeqCst);
         for _ in rt.forever() {
             if hall.is_closed() {
                 self.crowded.fetch_sub(1, Ordering::SeqCst);
-                return Err(Refused::Closed(ticket.task));
+                return Err(NotPosted::Closed);
             }
-            match pass.push(rt, &self.queue, ticket) {
-                Ok(()) => {
-                    self.crowded.fetch_sub(1, Ordering::SeqCst);
-                    return Ok(());
-                }
-                Err(refused) => ticket = refused,
+            if self.try_post(rt, pass, end, user, task) {
+                self.crowded.fetch_sub(1, Ordering::SeqCst);
+                return Ok(());
             }
             self.posted.notify_all();
             hall = self.room.wait(rt, hall);
         }
         unreachable!()
+    }
+
+    /// Puts by the box of a ticket that is no more, for another.
+    pub(crate) fn put_by<R: Wait>(&self, rt: &R, room: Box<Task>) {
+        let _spare = self.spare.push(rt, room);
     }
 
     /// Tells workers that wait that so many tasks were posted.
@@ -236,7 +274,7 @@ impl<L: Room> QueuePool<L> {
     }
 
     /// Takes an open task by a pass, and waits for one. None where the pool is closed.
-    pub(crate) fn take<R: Wait>(&self, rt: &R, pass: &mut PoolPass<L>) -> Option<Ticket>
+    pub(crate) fn take<R: Wait>(&self, rt: &R, pass: &mut CountedPass<L>) -> Option<Ticket>
         ensures popped { IfSome result (λ ticket. pass.new ≡ popping pass.old ticket) }
         ensures nothing { IfNone result (pass.new ≡ pass.old) }
     {
@@ -255,7 +293,7 @@ impl<L: Room> QueuePool<L> {
     }
 
     /// Waits for an open task, and takes it. None where the pool is closed.
-    fn take_later<R: Wait>(&self, rt: &R, pass: &mut PoolPass<L>) -> Option<Ticket>
+    fn take_later<R: Wait>(&self, rt: &R, pass: &mut CountedPass<L>) -> Option<Ticket>
         ensures popped { IfSome result (λ ticket. pass.new ≡ popping pass.old ticket) }
         ensures nothing { IfNone result (pass.new ≡ pass.old) }
     {
@@ -283,7 +321,7 @@ impl<L: Room> QueuePool<L> {
     pub(crate) fn hand_back<R: Wait>(
         &self,
         rt: &R,
-        pass: &mut PoolPass<L>,
+        pass: &mut CountedPass<L>,
         ticket: Ticket,
     ) -> Result<(), Ticket>
         ensures pushed { OnOk result (pass.new ≡ pushing pass.old ticket) }
@@ -295,9 +333,17 @@ impl<L: Room> QueuePool<L> {
         Ok(())
     }
 
-    /// Gives the result of a task that an end posted for its user. It is kept and credited to the share where that end
-    /// is present, the task is of its user and there is room for it, and is dropped elsewhere.
-    pub(crate) fn give<R: Wait>(&self, rt: &R, end: u64, user: u8, done: Done, share: &mut Share<L>)
+    /// Gives the result of a task that an end posted for its user. It is kept, its box exchanged for another, and
+    /// credited to the share where that end is present, the task is of its user and there is room for it. It is dropped
+    /// elsewhere.
+    pub(crate) fn give<R: Wait>(
+        &self,
+        rt: &R,
+        end: u64,
+        user: u8,
+        done: &mut Box<Done>,
+        share: &mut Share<L>,
+    )
         ensures never_falls { share.old ≤ share.new }
         ensures one_at_most { share.new ≤ share.old + 1 }
     {
@@ -309,15 +355,16 @@ impl<L: Room> QueuePool<L> {
         }
     }
 
-    /// Fetches a result of the user, and waits for one. None where the pool is closed. So many are owed to the end that
-    /// asks.
-    pub(crate) fn fetch<R: Wait>(&self, rt: &R, user: u8, owed: usize) -> Option<Done>
-        ensures whose { IfSome result (λ done. done.name.label.user ≡ user) }
+    /// Fetches a result of the user, and waits for one, in exchange for the box of another. False where the pool is
+    /// closed. So many are owed to the end that asks.
+    pub(crate) fn fetch<R: Wait>(&self, rt: &R, user: u8, owed: usize, room: &mut Box<Done>) -> bool
+        ensures whose { result ≡ true → room.new.value.name.label.user ≡ user }
+        ensures same_room { result ≡ false → room.new.value ≡ room.old.value }
     {
         let mut hall = self.hall.lock(rt);
         for _ in rt.forever() {
-            let fetched = hall.fetch(user);
-            if fetched.is_some() || hall.is_closed() {
+            let fetched = hall.fetch(user, room);
+            if fetched || hall.is_closed() {
                 return fetched;
             }
             hall.awaits(user, owed.min(RESULTS_AT_ONCE));
@@ -326,11 +373,13 @@ impl<L: Room> QueuePool<L> {
         unreachable!()
     }
 
-    /// Fetches a result of the user that is there now. None where there is none, or the pool is closed.
-    pub(crate) fn poll<R: Wait>(&self, rt: &R, user: u8) -> Option<Done>
-        ensures whose { IfSome result (λ done. done.name.label.user ≡ user) }
+    /// Fetches a result of the user that is there now, in exchange for the box of another. False where there is none,
+    /// or the pool is closed.
+    pub(crate) fn poll<R: Wait>(&self, rt: &R, user: u8, room: &mut Box<Done>) -> bool
+        ensures whose { result ≡ true → room.new.value.name.label.user ≡ user }
+        ensures same_room { result ≡ false → room.new.value ≡ room.old.value }
     {
-        self.hall.lock(rt).fetch(user)
+        self.hall.lock(rt).fetch(user, room)
     }
 
     /// How many results were given, which is what all parts of the ledger have together.
@@ -359,4 +408,16 @@ fn shares_of<L: Room>(
         shares.push(Share::new(all.split_off(1, 0)))?;
     }
     Ok(shares)
+}
+
+/// As many boxes as tickets may be open, and one for each pass.
+fn spare_boxes(alloc: Global, passes: usize) -> Result<ArrayQueue<Box<Task>>, AllocError> {
+    let Some(count) = passes.checked_add(MAX_OPEN) else {
+        return Err(AllocError);
+    };
+    let mut boxes = ArrayQueue::new(alloc, count)?;
+    for _ in 0..count {
+        let _spare = boxes.push_mut(Box::new(alloc, Task::blank())?);
+    }
+    Ok(boxes)
 }

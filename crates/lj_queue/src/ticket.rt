@@ -1,11 +1,21 @@
 //! An open task, and whose it is.
 
 use lj_tile::Task;
+use std::marker::Model;
 
-/// A task that is open, with the number of the end that posted it and that end's user.
+/// A task that is open, with the number of the end that posted it and that end's user. The task lies in a box, which
+/// passes from hand to hand.
 #[derive(Drop)]
 pub struct Ticket {
     pub end: u64,
     pub user: u8,
-    pub task: Task,
+    pub task: Box<Task>,
+}
+
+impl Model for Ticket {
+    ghost use Rattle.lj_queue.specs.Tickets.{Posted};
+
+    ghost Value = { Posted };
+
+    ghost view = { λ t. record { end = t.end; user = t.user; task = t.task.value } };
 }

@@ -2,12 +2,12 @@
 ghost use Rattle.std.specs.Prelude.{◌≡◌, ◌≤◌, ◌-◌, sum, vec_len, IfNone, IfSome};
 ghost use Rattle.lj_queue.specs.Passes.{PopsFor, pushing};
 
-use crate::pass::{PoolPass, Room};
+use crate::pass::{CountedPass, PoolPass, Room};
 use crate::pool::QueuePool;
 use crate::ticket::Ticket;
 use lj_pool::{Gate, Share};
 use lj_table::Table;
-use lj_tile::compute;
+use lj_tile::compute_in;
 use std::sync::Wait;
 
 /// Computes tasks of the pool until it is closed, with a gate between taking a task and computing it. The share that is
@@ -25,25 +25,27 @@ pub fn work_queue<L: Room, G: Gate, R: Wait>(
     ensures never_falls { share ≤ result.0 }
     ensures of_its_own { PopsFor (result.0 - share) (G.sends_back gate.now) pass result.1 }
 {
-    let (mut share, mut pass) = (share, pass);
+    let mut share = share;
+    let (mut counted, mut room) = pass.into_parts();
     for _ in rt.forever() {
-        let Some(ticket) = pool.take(rt, &mut pass) else {
+        let Some(ticket) = pool.take(rt, &mut counted) else {
             break;
         };
-        if let Some(ticket) = kept(rt, pool, &mut pass, gate, ticket) {
-            let Ticket { end, user, task } = ticket;
-            gate.between(task.name());
-            pool.give(rt, end, user, compute(task, table), &mut share);
+        if let Some(ticket) = kept(rt, pool, &mut counted, gate, ticket) {
+            gate.between(ticket.task.name());
+            compute_in(&ticket.task, table, &mut room);
+            pool.give(rt, ticket.end, ticket.user, &mut room, &mut share);
+            pool.put_by(rt, ticket.task);
         }
     }
-    (share, pass)
+    (share, PoolPass::new(counted, room))
 }
 
 /// The ticket, unless the gate sends its task back and there is room for it in the queue, where it is open again.
 fn kept<L: Room, G: Gate, R: Wait>(
     rt: &R,
     pool: &QueuePool<L>,
-    pass: &mut PoolPass<L>,
+    pass: &mut CountedPass<L>,
     gate: &G,
     ticket: Ticket,
 ) -> Option<Ticket>

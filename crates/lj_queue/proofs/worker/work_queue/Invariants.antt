@@ -6,7 +6,7 @@ abbrev pub invariant-loop : goal.invariant-loop
 invariant-loop g l = record {
   next : (goal.iterator-loop g).can_next l.iterator';
   finite : (goal.iterator-loop g).is_finite l.iterator';
-  number : l.pass.number ≡ l.fn.pass.number;
+  number : l.counted.number ≡ l.fn.pass.number;
   rises : l.fn.share ≤ l.share;
-  pops : PopsFor (l.share - l.fn.share) (g.G.Gate.sends_back l.fn.gate) l.fn.pass l.pass;
+  pops : PopsFor (l.share - l.fn.share) (g.G.Gate.sends_back l.fn.gate) l.fn.pass l.counted;
 }
