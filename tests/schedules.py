@@ -356,6 +356,14 @@ LONG = Run(
     "A 1 OK SHOW a 0 0 0 0 0\nA 1 OK SHOW a 0 1 25165824 0 0\n",
 )
 
+# More lines and events than any room of fixed size, and as many items that wait in one connection as no room of 1,000 has.
+MANY = Run(
+    "a hundred thousand events",
+    (("A", (1, 2, 0)),),
+    (("hello 1 A; enter 1", 1), ("arrive 1 LIST", 1_200), ("next 1", 1_200), ("arrive 1 LIST; next 1", 49_400)),
+    "A 1 OK LIST 0\n" * 50_600,
+)
+
 # User A of the two users at once again, as the second of three users and over two connections, the second of which waits for the first.
 AMONG_OTHERS = Run(
     "a user among others",
@@ -406,4 +414,4 @@ ONE_LOSS = Run(
     "A 1 OK MEASURE c 1 65 0 0 0 693842 -342445638\n",
 )
 
-RUNS = (*SESSIONS, *RESULTS, *IMPOSSIBLE, crowd(), LONG, LOSSES, ONE_LOSS)
+RUNS = (*SESSIONS, *RESULTS, *IMPOSSIBLE, crowd(), LONG, MANY, LOSSES, ONE_LOSS)

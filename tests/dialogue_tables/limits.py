@@ -37,6 +37,12 @@ def without_sessions(stream: Tuple[Part, ...], replies: str, ending: Ending) -> 
 
 BODIES = (
     Dialogue(
+        "a LOAD of one atom with a body of 65,536 bytes",
+        (("LOAD a 256 1 1 rest 65536\n1\nc\nX 1 0 0\n", 1), ("#", 65_524), ("SHOW a 0\n", 1)),
+        "OK LOAD a 0 1\nOK SHOW a 0 0 16777216 0 0\n",
+        "OK LIST 1\na 0 1 0\n",
+    ),
+    Dialogue(
         "a LOAD of one atom with a long body",
         (("LOAD a 256 1 1 rest 65537\n1\nc\nX 1 0 0\n", 1), ("#", 65_525), ("SHOW a 0\n", 1)),
         "OK LOAD a 0 1\nOK SHOW a 0 0 16777216 0 0\n",
@@ -76,6 +82,12 @@ BODIES = (
         "OK LOAD s1 0 4096\nOK LOAD s2 0 4096\nOK LOAD s3 0 4096\nOK LOAD s4 0 4096\n"
         "ERR 21 QUOTA_ATOMS\nOK SHOW s4 0 4095 0 0 0\n",
         "OK LIST 4\ns1 0 4096 0\ns2 0 4096 0\ns3 0 4096 0\ns4 0 4096 0\n",
+    ),
+    Dialogue(
+        "4,096 atoms are saved and restored",
+        (("LOAD s 256 1 1 rest 32775\n4096\nc\n", 1), ("X 0 0 1\n", 4_096), ("BRANCH s b\nRESTORE s b\nLIST s\nSHOW s 4095\n", 1)),
+        "OK LOAD s 0 4096\nOK BRANCH s b 0\nOK RESTORE s b 0\nOK LIST s 1\nb 0\nOK SHOW s 0 4095 0 0 16777216\n",
+        "OK LIST 1\ns 0 4096 1\n",
     ),
     # The last row of a frame of 4,096 atoms is written.
     Dialogue(

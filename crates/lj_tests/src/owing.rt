@@ -3,7 +3,7 @@
 ghost use Rattle.std.specs.Prelude.{◌≡◌, []};
 
 use arrayvec::ArrayVec;
-use lj_pool::{InlinePool, Pool, Refused, Served, serve};
+use lj_pool::{InlinePool, NotPosted, Pool, Served, serve};
 use lj_quota::Quota;
 use lj_session::UserState;
 use lj_table::Table;
@@ -46,31 +46,37 @@ impl Pool for ClosingPool {
 
     ghost seen = { λ pool. record (seen_of pool.inner) { closed = pool.closed } };
 
+    ghost last = { λ pool. pool.inner.last };
+
     ghost for_others = { λ _ _. 0 };
 
     ghost most = { 1 };
 
-    fn post(&mut self, task: Task, wait: bool) -> Result<(), Refused> {
+    fn post_from(&mut self, task: &Task, wait: bool) -> Result<(), NotPosted> {
         if !self.is_open() {
             self.closed = true;
-            return Err(Refused::Closed(task));
+            return Err(NotPosted::Closed);
         }
-        self.inner.post(task, wait)
+        self.inner.post_from(task, wait)
     }
 
-    fn fetch(&mut self, user: u8) -> Option<Done> {
+    fn fetch_in(&mut self, user: u8) -> bool {
         if !self.is_open() {
             self.closed = true;
-            return None;
+            return false;
         }
-        self.inner.fetch(user)
+        self.inner.fetch_in(user)
     }
 
-    fn poll(&mut self, user: u8) -> Option<Done> {
+    fn poll_in(&mut self, user: u8) -> bool {
         if !self.is_open() {
-            return None;
+            return false;
         }
-        self.inner.poll(user)
+        self.inner.poll_in(user)
+    }
+
+    fn fetched(&self) -> &Done {
+        self.inner.fetched()
     }
 
     fn owed(&self) -> usize {

@@ -2,7 +2,7 @@
 ghost use Rattle.std.specs.Prelude.{◌≡◌, None, IfSome};
 
 use arrayvec::ArrayVec;
-use lj_pool::{Pool, Refused, Served, serve_lines};
+use lj_pool::{NotPosted, Pool, Served, serve_lines};
 use lj_quota::Quota;
 use lj_session::UserState;
 use lj_table::Table;
@@ -18,6 +18,8 @@ struct OddPool {
     held: Option<Done>,
     /// The result before the one that is held.
     earlier: Option<Done>,
+    /// The result that was handed out last.
+    shown: Done,
     /// How many copies of it are handed out before each result.
     copies: u64,
     /// How many of them are still to come before the next one.
@@ -37,6 +39,7 @@ impl OddPool {
             table: Table::new(),
             held: None,
             earlier: None,
+            shown: Done::blank(),
             copies,
             left: copies,
             posts,
@@ -70,46 +73,56 @@ impl Pool for OddPool {
       closed = pool.closed;
     } };
 
+    ghost last = { λ pool. pool.shown };
+
     ghost for_others = { λ _ _. 0 };
 
     ghost most = { 1 };
 
-    fn post(&mut self, task: Task, _wait: bool) -> Result<(), Refused> {
+    fn post_from(&mut self, task: &Task, _wait: bool) -> Result<(), NotPosted> {
         if self.posts == 0 {
             self.closed = true;
-            return Err(Refused::Closed(task));
+            return Err(NotPosted::Closed);
         }
         if self.held.is_some() {
-            return Err(Refused::Full(task));
+            return Err(NotPosted::Full);
         }
         self.posts -= 1;
-        self.held = Some(compute(task, &self.table));
+        self.held = Some(compute(task.copy(), &self.table));
         Ok(())
     }
 
-    fn fetch(&mut self, _user: u8) -> Option<Done> {
+    fn fetch_in(&mut self, _user: u8) -> bool {
         if self.fetches == 0 {
             self.closed = true;
-            return None;
+            return false;
         }
         if let Some(stray) = self.stray() {
             self.left = self.left.saturating_sub(1);
             self.strays = self.strays.saturating_add(1);
-            return Some(stray);
+            self.shown = stray;
+            return true;
         }
+        let Some(done) = self.held.take() else {
+            return false;
+        };
         self.fetches -= 1;
         self.left = self.copies;
-        let done = self.held.take()?;
         self.earlier = Some(done.copy());
         self.good = self.good.saturating_add(1);
-        Some(done)
+        self.shown = done;
+        true
     }
 
-    fn poll(&mut self, user: u8) -> Option<Done> {
+    fn poll_in(&mut self, user: u8) -> bool {
         if self.held.is_none() || self.stray().is_some() {
-            return None;
+            return false;
         }
-        self.fetch(user)
+        self.fetch_in(user)
+    }
+
+    fn fetched(&self) -> &Done {
+        &self.shown
     }
 
     fn owed(&self) -> usize {
