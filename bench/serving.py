@@ -1,0 +1,163 @@
+"""The program as `run` and as a server, and conversations with it, for measurements."""
+from __future__ import annotations
+
+import os
+import socket
+import subprocess
+import sys
+import tempfile
+import time
+from typing import BinaryIO, Callable, Dict, List, NamedTuple, Sequence, Tuple
+
+HERE = os.path.dirname(os.path.abspath(__file__))
+TOKEN = "0" * 32
+SECONDS = 120
+WORKERS = 4
+KINDS = ["lock", "queue"]
+Child = subprocess.Popen
+
+
+def load_of(atoms: int, name: str = "a") -> bytes:
+    """A LOAD of a liquid."""
+    command = [sys.executable, os.path.join(HERE, "liquid"), str(atoms), "--name", name]
+    stream = subprocess.run(command, check=True, capture_output=True).stdout
+    line, _, rest = stream.partition(b"\n")
+    return line + b"\n" + rest[: int(line.split()[-1])]
+
+
+class Talk(NamedTuple):
+    """A conversation by lines: `send` takes bytes, and `lines` gives what is replied."""
+
+    send: Callable[[bytes], object]
+    lines: BinaryIO
+
+    def ask(self, data: bytes, reply: bytes) -> None:
+        self.send(data)
+        self.hear(reply)
+
+    def hear(self, reply: bytes) -> None:
+        line = self.lines.readline()
+        if line != reply:
+            sys.exit(f"{os.path.basename(sys.argv[0])}: {line!r} in place of {reply!r}")
+
+
+def talk_to(stream: socket.socket) -> Talk:
+    return Talk(stream.sendall, stream.makefile("rb"))
+
+
+def run_alone(program: str) -> Tuple[Child, Talk]:
+    child = subprocess.Popen([program, "run"], stdin=subprocess.PIPE, stdout=subprocess.PIPE, bufsize=0)
+    return child, Talk(child.stdin.write, os.fdopen(os.dup(child.stdout.fileno()), "rb"))
+
+
+def free_port() -> int:
+    with socket.socket() as taken:
+        taken.bind(("127.0.0.1", 0))
+        return taken.getsockname()[1]
+
+
+def connected(child: Child, port: int) -> socket.socket:
+    """A connection to a server, as soon as it listens."""
+    while child.poll() is None:
+        try:
+            stream = socket.create_connection(("127.0.0.1", port), SECONDS)
+            stream.setsockopt(socket.IPPROTO_TCP, socket.TCP_NODELAY, 1)
+            return stream
+        except ConnectionRefusedError:
+            time.sleep(0.01)
+    sys.exit(f"{child.args[0]} ended with {child.returncode}")
+
+
+def serve(program: str, kind: str, workers: int, users: int = 1) -> Tuple[Child, List[socket.socket]]:
+    """A server of so many users over a kind of pool, and a connection to it as each of them."""
+    port = free_port()
+    with tempfile.NamedTemporaryFile("w") as file:
+        file.write("".join(f"user{number} {TOKEN} 8 16384 16\n" for number in range(users)))
+        file.flush()
+        options = ["--users", file.name, "--workers", str(workers), "--connections", str(users), "--pool", kind]
+        child = subprocess.Popen([program, "serve", "--listen", f"127.0.0.1:{port}", *options], stdout=subprocess.PIPE)
+        streams = [connected(child, port) for _ in range(users)]
+    for number, stream in enumerate(streams):
+        talk_to(stream).ask(f"HELLO user{number} {TOKEN}\n".encode(), f"OK HELLO user{number}\n".encode())
+    return child, streams
+
+
+def crowd_of(program: str, kind: str, users: int, atoms: int, workers: int = WORKERS) -> Tuple[Child, List[Talk]]:
+    """A server, and its users, each with a session of so many atoms."""
+    child, streams = serve(program, kind, workers, users)
+    return child, [loaded(talk_to(stream), atoms) for stream in streams]
+
+
+def loaded(talk: Talk, atoms: int) -> Talk:
+    talk.ask(load_of(atoms), f"OK LOAD a 0 {atoms}\n".encode())
+    return talk
+
+
+def end(child: Child, talks: Sequence[Talk]) -> None:
+    """Says BYE on each connection, after which the program ends."""
+    for talk in talks:
+        talk.ask(b"BYE\n", b"OK BYE\n")
+        talk.lines.close()
+    child.communicate(timeout=SECONDS)
+
+
+def seconds(work: Callable[..., object], *words: object) -> float:
+    start = time.perf_counter()
+    work(*words)
+    return time.perf_counter() - start
+
+
+def advance(talks: Sequence[Talk], steps: int, step: int) -> None:
+    """Advances all sessions at once."""
+    for talk in talks:
+        talk.send(f"ADVANCE a {steps}\n".encode())
+    for talk in talks:
+        talk.hear(f"OK ADVANCE a {step}\n".encode())
+
+
+def spent(path: str) -> float:
+    """How long a process or thread has computed, in seconds, by its file `stat`."""
+    with open(f"{path}/stat", encoding="utf-8") as file:
+        words = file.read().rpartition(")")[2].split()
+    return (int(words[11]) + int(words[12])) / os.sysconf("SC_CLK_TCK")
+
+
+def processor_seconds(child: Child) -> float:
+    """How long the threads of a program have computed."""
+    return spent(f"/proc/{child.pid}")
+
+
+class Use(NamedTuple):
+    """What a thread has used: processor time in seconds, and how often it gave its processor away."""
+
+    seconds: float
+    switches: int
+
+
+def uses(child: Child) -> Dict[int, Use]:
+    """What each thread of a program has used, by its number: those begun first have the lesser ones."""
+    folder = f"/proc/{child.pid}/task"
+    return {int(thread): Use(spent(f"{folder}/{thread}"), switches(f"{folder}/{thread}")) for thread in os.listdir(folder)}
+
+
+def switches(path: str) -> int:
+    with open(f"{path}/status", encoding="utf-8") as file:
+        return sum(int(line.split()[1]) for line in file if line.startswith("voluntary_ctxt_switches"))
+
+
+class Host(NamedTuple):
+    """What all processors have spent, in clock ticks, and what of it the host took away."""
+
+    ticks: int
+    stolen: int
+
+    @classmethod
+    def now(cls) -> Host:
+        with open("/proc/stat", encoding="utf-8") as file:
+            ticks = [int(word) for word in file.readline().split()[1:9]]
+        return cls(sum(ticks), ticks[7])
+
+    def stolen_since(self) -> float:
+        """What part of all time the host has taken away since."""
+        now = Host.now()
+        return (now.stolen - self.stolen) / max(now.ticks - self.ticks, 1)
