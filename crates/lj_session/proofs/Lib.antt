@@ -20,6 +20,8 @@ pub mod Results
 pub mod Limits
 pub mod Advancing
 pub mod Waiting
+pub mod Indices
 pub mod Resting
 pub mod Listing
 pub mod Passing
+pub mod Turned

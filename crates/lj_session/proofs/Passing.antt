@@ -14,13 +14,10 @@ use Rattle.lj_session.specs.declared.command.Command.TheVariants.{Load, Advance,
 use Rattle.lj_session.specs.declared.command.Command.TheVariants.{Measure, Show, Dump, List as ListSessions}
 use Rattle.lj_session.specs.declared.command.Command.TheVariants.{ListBranches, Unload, Bye}
 use Rattle.lj_session.specs.declared.reply.Reply.{Reply}
-use Rattle.lj_session.specs.declared.settling.Settled.{Settled}
-use Rattle.lj_session.specs.declared.settling.Settled.TheVariants.{Answered, Waits}
 use Rattle.lj_session.specs.Answers.{performed, settled, session_named}
 use Rattle.lj_session.specs.Turns.{turns, waits_for}
 use Rattle.lj_session.specs.States.{Held, Owned, OthersKept, OtherSessionsKept, StepsFollow, StepsAfter, SameSteps, IsIdle, IsIdleIn, IsAtWork, IsWhole, Reads, user_of, held_in, owed_in, changed, with_held, step_passed, step_closed, is_whole_in, is_measured, kind_owed, turns_before}
 use Rattle.lj_session.specs.Owners.{IsAnswered}
-use Rattle.lj_session.specs.Settling.{IfReplied, IfWaits}
 use Rattle.lj_session.proofs.AtWork.{kind-none, kind-passed}
 use Rattle.lj_session.proofs.Entries.{by_test, named-put_any, named-put_other}
 use Rattle.lj_session.proofs.Holding.{changed-none, changed-some, named-held, none-before}
@@ -300,16 +297,3 @@ others-passed command old new name waits kept other apart =
 
 pub others-closed : (old : Owned) (name : List ℕ) → OtherSessionsKept name old (changed name step_closed old)
 others-closed old name other apart = others-changed old name step_closed other (λ same. apart (same_Some name other same))
-
--- facts of what is replied and of what waits follow from others
-pub replied-map : (s : Settled) (P Q : Reply → Type 0) → ((r : Reply) → P r → Q r) → IfReplied s P → IfReplied s Q
-replied-map (Answered reply) P Q f h = f reply h
-replied-map (Waits command) P Q f h = tt
-
-pub replied-both : (s : Settled) (P Q : Reply → Type 0) → IfReplied s P → IfReplied s Q → IfReplied s (λ r. P r × Q r)
-replied-both (Answered r) P Q p q = (p, q)
-replied-both (Waits k) P Q p q = tt
-
-pub waits-map : (s : Settled) (P Q : Command → Type 0) → ((k : Command) → P k → Q k) → IfWaits s P → IfWaits s Q
-waits-map (Answered reply) P Q f h = tt
-waits-map (Waits command) P Q f h = f command h

@@ -133,7 +133,7 @@ begins_alike command owner some = by_test (nat_lt 0 (steps_before owner.state co
         record { user = rw t made.0; left = rw t made.1 }
 
 -- the session that a command waits for
-same_name : (command : Command) (name : List ℕ) → is_waited_for (Some command) name ≡ true → waits_for command ≡ Some name
+pub same_name : (command : Command) (name : List ℕ) → is_waited_for (Some command) name ≡ true → waits_for command ≡ Some name
 same_name command name h = by (waits_for command) refl
   where
     by : (o : Option (List ℕ)) → waits_for command ≡ o → o ≡ Some name
@@ -184,7 +184,8 @@ left-taken command owned none = rw none refl
 pub begun-taken : (command : Command) (owned : Owned) → steps_before owned command ≡ 0 → begun_in command owned ≡ taken_up command owned
 begun-taken command owned none = rw none refl
 
-nothing-turns : (user : User) (name : List ℕ) → turns user (Advance name 0) ≡ 0
+-- an ADVANCE by 0 takes no turn
+pub nothing-turns : (user : User) (name : List ℕ) → turns user (Advance name 0) ≡ 0
 unfolding turns
 nothing-turns user name = by (named name user.sessions)
   where

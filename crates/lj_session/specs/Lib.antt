@@ -10,7 +10,6 @@ pub mod Totals
 pub mod Openings
 pub mod Faults
 pub mod Owners
-pub mod Settling
 pub mod Begins
 pub mod KeptOwners
 pub mod Laws

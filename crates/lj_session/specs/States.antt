@@ -1,6 +1,6 @@
 -- What the code holds of a user, open steps and all, and the user of the definition that it stands for.
 use Rattle.std.specs.Prelude.{◌≡◌, ◌≢◌, OnOk, IsSomeAnd, ℕ, ◌+◌, ◌-◌, Bool, true, false, ◌&&◌, nat_le, nat_lt, List, []}
-use Rattle.std.specs.Prelude.{◌∷◌, length, map, slice_get, Option, Some, None, Result, Ok, Err, if◌then◌else◌, ◌⊎◌}
+use Rattle.std.specs.Prelude.{◌∷◌, length, map, position, slice_get, Option, Some, None, Result, Ok, Err, if◌then◌else◌, ◌⊎◌}
 use Rattle.std.specs.Option.{option_map, option_map_or, option_and_then}
 use Rattle.std.specs.List.{find, range_with_len}
 use Rattle.std.specs.Str.{bytes_eq}
@@ -61,6 +61,7 @@ session_meant held = record {
   saved = held.saved;
 }
 
+-- a name with the session that is meant by what is held under it
 abbrev pub as_entry : List ℕ × Held → List ℕ × Session
 as_entry entry = (entry.0, session_meant entry.1)
 
@@ -92,6 +93,7 @@ names owned = map (λ entry. entry.0) owned.sessions
 abbrev pub with_held : List ℕ → Held → Owned → Owned
 with_held name held owned = record owned { sessions = put name held owned.sessions }
 
+-- with what is held under a name changed, if something is
 abbrev pub changed_to : List ℕ → (Held → Held) → Option Held → Owned → Owned
 changed_to name change None owned = owned
 changed_to name change (Some held) owned = with_held name (change held) owned
@@ -114,9 +116,11 @@ abbrev pub next_of : Label → Option Held → Option Work
 next_of label None = None
 next_of label (Some held) = option_and_then (task_at held.live label) (next_tile held)
 
+-- that task of the session that a label names
 abbrev pub next_task : Owned → Label → Option Work
 next_task owned label = next_of label (held_in owned label.session)
 
+-- with the tiles passed up to a position and at it, if one is given
 abbrev pub passed_to : Option ℕ → Held → Held
 passed_to None held = held
 passed_to (Some i) held = record held { passed = i + 1 }
@@ -138,6 +142,7 @@ abbrev pub whole_of : Option Held → Bool
 whole_of None = false
 whole_of (Some held) = is_whole held.live.part
 
+-- so of the session of a name
 abbrev pub is_whole_in : Owned → List ℕ → Bool
 is_whole_in owned name = whole_of (held_in owned name)
 
@@ -184,6 +189,11 @@ owed_in owned name = option_map_or (λ held. held.owed) (held_in owned name) 0
 -- how many steps are owed to the session that a command waits for
 abbrev pub steps_before : Owned → Command → ℕ
 steps_before owned command = option_map_or (owed_in owned) (waits_for command) 0
+
+-- the index, in order of loading, of the session that a command waits for, if there is one
+abbrev pub index_waited_for : Owned → Command → Option ℕ
+index_waited_for owned command =
+    option_and_then (λ name. position (bytes_eq name) (names owned)) (waits_for command)
 
 -- how many turns of its session come before a command is answered: the steps that are owed there, and its own
 abbrev pub turns_before : Owned → Command → ℕ

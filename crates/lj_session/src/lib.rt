@@ -12,7 +12,6 @@ mod reply;
 mod seconds;
 mod session;
 mod sessions;
-mod settling;
 mod state;
 mod substance;
 

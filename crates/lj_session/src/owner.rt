@@ -4,18 +4,19 @@ ghost use Rattle.std.specs.List.{IsDistinct};
 ghost use Rattle.std.specs.Str.{bytes_eq};
 ghost use Rattle.lj_session.specs.Answers.{AnswersAlike};
 ghost use Rattle.lj_session.specs.States.{OthersKept, OtherSessionsKept, StepsFollow, IsIdleIn, is_measured, is_whole_in, names, rested};
-ghost use Rattle.lj_session.specs.States.{turns_before, user_of};
+ghost use Rattle.lj_session.specs.States.{IsAtWork, index_waited_for, turns_before, user_of};
 ghost use Rattle.lj_session.specs.Owners.{IsAnswered, IsReplied, IsAwaitedIn, IsLastTurn, IsSettled, WaitsAlike};
+ghost use Rattle.lj_session.specs.Owners.{begun_in, left_in};
 ghost use Rattle.lj_session.specs.Owners.{user_in, entered, owes, is_busy, turns_left, is_waited_for, begun, label_of, task_in, next_session};
 ghost use Rattle.lj_session.specs.Owners.{with_task_posted, with_task_in, ready_session, turned_from};
-ghost use Rattle.lj_session.specs.Begins.{IfAnswered, OnRunning, OnRefused};
+ghost use Rattle.lj_session.specs.Begins.{IfAnswered, OnRunning, OnRefused, OnRefusal, reply_of};
 
 use crate::command::Command;
+use crate::refusal::Refusal;
 use crate::reply::Reply;
-use crate::settling::{self, Settled};
 use crate::state::UserState;
 use lj_step::{NotAwaited, Stray};
-use lj_tile::{Done, Label, Name, Task};
+use lj_tile::{Done, Kind, Label, Name, Task};
 use std::marker::Model;
 
 /// What the beginning of a command comes to.
@@ -49,8 +50,8 @@ impl Model for Owner {
 }
 
 impl Owner {
-    /// Nothing waits, and the step of each session to which steps are owed is begun anew. The number of the user stands in
-    /// the names of the tasks.
+    /// Returns the owner of a state. Nothing waits, and the step of each session to which steps are owed is begun anew. The
+    /// number of the user stands in the names of the tasks.
     pub fn new(state: UserState, user: u8) -> Owner
         ensures value { result ≡ entered state user }
         ensures distinct { IsDistinct bytes_eq (names result.state) }
@@ -85,13 +86,12 @@ impl Owner {
         ensures number { self.new.number ≡ self.old.number }
         ensures quota { self.new.state.quota ≡ self.old.state.quota }
     {
-        match settling::settle(&mut self.state, command) {
-            Settled::Answered(reply) => Begin::Answered(reply),
-            Settled::Waits(left) => {
-                self.waiting = Some(left);
-                Begin::Running
-            }
+        let index = self.state.index_waited_for(&command);
+        if self.state.is_at_once(&command, index) {
+            return Begin::Answered(answer(&mut self.state, command, index));
         }
+        self.hold(command);
+        Begin::Running
     }
 
     /// The task of the first tile that is neither posted nor in, of the first session, in order of loading, that has one.
@@ -106,7 +106,7 @@ impl Owner {
         }
     }
 
-    /// Makes `room` that task. False where there is none; the room is as before then.
+    /// Makes `room` the task that `next_task` returns. False where there is none; the room is as before then.
     pub fn next_task_in(&self, room: &mut Task) -> bool
         ensures some { result ≡ true → task_in self.now ≡ Some room.new }
         ensures none { result ≡ false → task_in self.now ≡ None }
@@ -118,7 +118,7 @@ impl Owner {
         }
     }
 
-    /// Notes that tile as posted.
+    /// Notes the tile of the task that `next_task` returns as posted.
     pub fn posted(&mut self)
         requires { IsSome (task_in self.old) }
         ensures noted { self.new ≡ with_task_posted self.old }
@@ -203,12 +203,16 @@ impl Owner {
             self.state.pass_step(name);
             return None;
         }
-        match settling::turn(&mut self.state, name, self.waiting.take()?) {
-            Settled::Answered(reply) => Some(reply),
-            Settled::Waits(left) => {
-                self.waiting = Some(left);
-                None
-            }
+        let command = self.waiting.take()?;
+        if self.state.owed(name) == 0 {
+            let reply = self.state.measured(name.copy());
+            self.state.close_step(name);
+            return Some(reply);
+        }
+        self.state.pass_step(name);
+        match self.begin(command) {
+            Begin::Answered(reply) => Some(reply),
+            Begin::Running => None,
         }
     }
 
@@ -240,6 +244,23 @@ impl Owner {
 
     /// Gives up the state, and what waits.
     pub fn abandon(self) {}
+
+    /// Holds a command that is not answered at once, and begins to take its own steps where no other is owed. It is kept out
+    /// of line, so that `begin` is short for what is answered at once.
+    #[inline(never)]
+    fn hold(&mut self, command: Command)
+        requires idle { self.old.waiting ≡ None }
+        requires waits { 0 < turns_before self.old.state command }
+        ensures begun { self.new ≡ begun command self.old }
+        ensures alike { IfSome self.new.waiting (λ left.
+            AnswersAlike (user_in self.new) left (user_in self.old) command) }
+        ensures turns { turns_left self.new ≡ turns_before self.old.state command }
+        ensures others { OthersKept command self.old.state self.new.state }
+        ensures number { self.new.number ≡ self.old.number }
+        ensures quota { self.new.state.quota ≡ self.old.state.quota }
+    {
+        self.waiting = Some(take_up(&mut self.state, command));
+    }
 
     /// The first session, in order of loading, that has a tile which is neither posted nor in.
     fn next_session(&self) -> Option<Name>
@@ -283,5 +304,60 @@ impl Owner {
             user: self.user,
             session,
         }
+    }
+}
+
+/// Answers a command that waits for nothing, and takes no step of its own. The index is that of the session that it waits
+/// for.
+fn answer(state: &mut UserState, command: Command, index: Option<usize>) -> Reply
+    requires index { index ≡ index_waited_for state.old command }
+    requires at_once { turns_before state.old command ≡ 0 }
+    requires at_work { IsAtWork None state.old }
+    ensures answered { IsAnswered (user_of state.old) command result (user_of state.new) }
+    ensures settled { IsSettled state.new result }
+    ensures at_work { IsAtWork None state.new }
+    ensures steps { StepsFollow command state.old state.new }
+    ensures unchanged { OnRefusal result (state.new ≡ state.old) }
+    ensures others { OthersKept command state.old state.new }
+    ensures quota { state.new.quota ≡ state.old.quota }
+{
+    replied(state.perform(command, index))
+}
+
+/// Returns the reply to a command: where it is refused, its refusal.
+fn replied(outcome: Result<Reply, Refusal>) -> Reply
+    ensures { result ≡ reply_of outcome }
+{
+    outcome.unwrap_or_else(Reply::Refused)
+}
+
+/// Begins to take the steps of a command where none is owed to its session. Returns what waits then.
+fn take_up(state: &mut UserState, command: Command) -> Command
+    requires at_work { IsAtWork None state.old }
+    requires waits { 0 < turns_before state.old command }
+    ensures left { result ≡ left_in command state.old }
+    ensures begun { state.new ≡ begun_in command state.old }
+    ensures alike { AnswersAlike (user_of state.new) result (user_of state.old) command }
+    ensures at_work { IsAtWork (Some result) state.new }
+    ensures turns { turns_before state.new result ≡ turns_before state.old command }
+    ensures others { OthersKept command state.old state.new }
+    ensures quota { state.new.quota ≡ state.old.quota }
+{
+    if state.steps_before(&command) > 0 {
+        return command;
+    }
+    match &command {
+        Command::Advance { name, steps } => {
+            state.owe(name, *steps);
+            Command::Advance {
+                name: name.copy(),
+                steps: 0,
+            }
+        }
+        Command::Measure { name } => {
+            state.open_step(name, Kind::Energy);
+            Command::Measure { name: name.copy() }
+        }
+        _ => command,
     }
 }

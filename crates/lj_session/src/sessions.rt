@@ -4,7 +4,8 @@ ghost use Rattle.std.specs.List.{IsDistinct};
 ghost use Rattle.std.specs.Option.{option_copied};
 ghost use Rattle.std.specs.Str.{bytes_eq};
 ghost use Rattle.lj_branch.specs.Named.{named};
-ghost use Rattle.lj_session.specs.States.{Performs, empty, user_of, used_by, names, held_in, held_at, turns_before};
+ghost use Rattle.lj_session.specs.States.{Performs, empty, user_of, used_by, names, held_in, held_at, index_waited_for};
+ghost use Rattle.lj_session.specs.States.{turns_before};
 
 mod advancing;
 mod loading;
@@ -45,7 +46,7 @@ impl Model for Sessions {
 }
 
 impl Sessions {
-    /// None.
+    /// Returns no sessions, under a quota.
     pub fn new(alloc: Global, quota: Quota) -> Sessions
         ensures { result ≡ empty quota }
     {
@@ -60,7 +61,7 @@ impl Sessions {
         }
     }
 
-    /// How many there are.
+    /// How many sessions there are.
     pub fn len(&self) -> usize
         ensures value { result ≡ length self.now.sessions }
         ensures distinct { IsDistinct bytes_eq (names self.now) }
@@ -105,6 +106,14 @@ impl Sessions {
         self.sessions.get(name)
     }
 
+    /// The session of a name whose index was looked up, if there is one.
+    fn found(&self, name: &Name, index: Option<usize>) -> Option<&Session>
+        requires { index ≡ position (bytes_eq name.now) (names self.now) }
+        ensures { option_copied result ≡ held_in self.now name.now }
+    {
+        Some(self.at(index?))
+    }
+
     /// Whether a session has the name.
     fn has(&self, name: &Name) -> bool
         ensures { result ≡ is_some (named name.now (user_of self.now).sessions) }
@@ -112,19 +121,21 @@ impl Sessions {
         self.find(name).is_some()
     }
 
-    /// Performs a command that waits for nothing, and takes no step of its own.
+    /// Performs a command that waits for nothing, and takes no step of its own. The index is that of the session that it
+    /// waits for: SHOW, DUMP and ADVANCE read the session by it.
     ///
     /// # Errors
     /// The command's first refusal. Nothing has changed then.
-    pub fn perform(&mut self, command: Command) -> Result<Reply, Refusal>
-        requires { turns_before self.old command ≡ 0 }
+    pub fn perform(&mut self, command: Command, index: Option<usize>) -> Result<Reply, Refusal>
+        requires index { index ≡ index_waited_for self.old command }
+        requires at_once { turns_before self.old command ≡ 0 }
         ensures performs { Performs self.old command result self.new }
         ensures quota { self.new.quota ≡ self.old.quota }
         ensures unchanged { OnErr result (self.new ≡ self.old) }
     {
         match command {
             Command::Load(load) => self.load(load),
-            Command::Advance { name, steps } => self.advance_at_once(name, steps),
+            Command::Advance { name, steps } => self.advance_at_once(name, index, steps),
             Command::Start { name, steps } => self.start(name, steps),
             Command::Reverse { name } => self.reverse(name),
             Command::Branch { name, branch } => self.branch(name, branch),
@@ -138,8 +149,8 @@ impl Sessions {
                 z,
             } => self.tug(name, atom, Displacement { x, y, z }),
             Command::Measure { name } => self.measure_at_once(name),
-            Command::Show { name, atom } => self.show(name, atom),
-            Command::Dump { name } => self.dump(name),
+            Command::Show { name, atom } => self.show(name, index, atom),
+            Command::Dump { name } => self.dump(name, index),
             Command::List => Ok(Reply::Listed),
             Command::ListBranches { name } => self.list_branches(name),
             Command::Unload { name } => self.unload(name),

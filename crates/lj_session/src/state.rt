@@ -9,7 +9,6 @@ ghost use Rattle.lj_step.specs.OpenSteps.{tile_number_of};
 ghost use Rattle.lj_ring.specs.Mixes.{edge_of};
 ghost use Rattle.lj_session.specs.declared.command.Command.TheVariants.{Advance, Measure};
 ghost use Rattle.lj_session.specs.Answers.{answer, can_advance};
-ghost use Rattle.lj_session.specs.Turns.{turns};
 ghost use Rattle.lj_session.specs.States as states;
 ghost use Rattle.lj_session.specs.States.{Reached, Performs, Reads, IsWhole, IsAwaited, empty, turns_before, session_meant};
 ghost use Rattle.lj_session.specs.States.{user_of, used_by, names, held_in, held_at, owed_in, changed, with_step, with_posted};
@@ -46,7 +45,7 @@ impl Model for UserState {
 }
 
 impl UserState {
-    /// No sessions.
+    /// Returns a state without sessions.
     pub fn new(alloc: Global, quota: Quota) -> UserState
         ensures { result ≡ empty quota }
     {
@@ -64,7 +63,7 @@ impl UserState {
         self.sessions.len()
     }
 
-    /// Whether there are none.
+    /// Whether there are no sessions.
     pub fn is_empty(&self) -> bool
         ensures { IsTrue result ↔ (length self.now.sessions ≡ 0) }
     {
@@ -148,24 +147,39 @@ impl UserState {
         self.sessions.steps_before(command)
     }
 
-    /// How many turns a command takes of its own.
-    pub(crate) fn turns(&self, command: &Command) -> u64
-        ensures { result ≡ turns (user_of self.now) command.now }
+    /// The index of the session that a command waits for, if there is one.
+    pub(crate) fn index_waited_for(&self, command: &Command) -> Option<usize>
+        ensures { result ≡ states.index_waited_for self.now command.now }
     {
-        self.sessions.turns(command)
+        self.sessions.index_waited_for(command)
     }
 
-    /// Performs a command that waits for nothing, and takes no step of its own.
+    /// Whether a command waits for nothing and takes no step of its own. The index is that of the session that it waits for.
+    pub(crate) fn is_at_once(&self, command: &Command, index: Option<usize>) -> bool
+        requires { index ≡ states.index_waited_for self.now command.now }
+        ensures at_once { result ≡ true → turns_before self.now command.now ≡ 0 }
+        ensures waits { result ≡ false → 0 < turns_before self.now command.now }
+    {
+        self.sessions.is_at_once(command, index)
+    }
+
+    /// Performs a command that waits for nothing and takes no step of its own. The index is that of the session that it waits
+    /// for.
     ///
     /// # Errors
     /// The command's first refusal. The user is as before then. `Memory` comes only from LOAD, LOADMIX and BRANCH.
-    pub(crate) fn perform(&mut self, command: Command) -> Result<Reply, Refusal>
-        requires { turns_before self.old command ≡ 0 }
+    pub(crate) fn perform(
+        &mut self,
+        command: Command,
+        index: Option<usize>,
+    ) -> Result<Reply, Refusal>
+        requires index { index ≡ states.index_waited_for self.old command }
+        requires at_once { turns_before self.old command ≡ 0 }
         ensures performs { Performs self.old command result self.new }
         ensures quota { self.new.quota ≡ self.old.quota }
         ensures unchanged { OnErr result (self.new ≡ self.old) }
     {
-        self.sessions.perform(command)
+        self.sessions.perform(command, index)
     }
 
     /// Owes so many steps more to a session, which may go on by them.
@@ -214,7 +228,8 @@ impl UserState {
         self.sessions.next_task_in(label, room)
     }
 
-    /// The first session, in order of loading, that has such a tile. The tasks are of the user of this number.
+    /// The first session, in order of loading, whose open step has a tile that is neither posted nor in. The tasks are of
+    /// the user of this number.
     pub(crate) fn next_session(&self, user: u8) -> Option<&Name>
         ensures { option_copied result
             ≡ find (λ name. is_some (states.next_task self.now (record { user = user; session = name }))) (names self.now) }
@@ -222,7 +237,7 @@ impl UserState {
         self.sessions.next_session(user)
     }
 
-    /// Notes that tile as posted.
+    /// Notes the first tile of a session's open step that is neither posted nor in as posted.
     pub(crate) fn post(&mut self, name: &Name)
         ensures posted { self.new ≡ changed name.now with_posted self.old }
         ensures user { user_of self.new ≡ user_of self.old }

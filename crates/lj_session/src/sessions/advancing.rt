@@ -1,13 +1,14 @@
-//! ADVANCE, START and MEASURE: what is owed to a session, how many steps a command takes of its own, and what is answered
-//! without one.
-ghost use Rattle.std.specs.Prelude.{◌≡◌, Bool, false, true, Ok, IsSome, OnErr};
+//! ADVANCE, START and MEASURE: what is owed to a session, whether a command waits, and what is answered without a step.
+ghost use Rattle.std.specs.Prelude.{◌≡◌, ◌<◌, Bool, false, true, Ok, IsSome, OnErr, position};
 ghost use Rattle.std.specs.Option.{ForSome, option_copied};
+ghost use Rattle.std.specs.Str.{bytes_eq};
 ghost use Rattle.lj_tile.specs.declared.names.Kind.TheVariants.{Energy};
 ghost use Rattle.lj_session.specs.declared.command.Command.TheVariants as commands;
 ghost use Rattle.lj_session.specs.Answers.{answer, can_advance};
 ghost use Rattle.lj_session.specs.Turns as definition;
 ghost use Rattle.lj_session.specs.States as states;
-ghost use Rattle.lj_session.specs.States.{IsWhole, Performs, Reads, changed, held_in, owed_in, owing, session_meant, user_of};
+ghost use Rattle.lj_session.specs.States.{IsWhole, Performs, Reads, changed, held_in, names, owed_in, owing, session_meant};
+ghost use Rattle.lj_session.specs.States.{turns_before, user_of};
 
 use crate::command::Command;
 use crate::refusal::Refusal;
@@ -63,36 +64,31 @@ impl Sessions {
         }
     }
 
-    /// How many turns a command takes of its own.
-    pub fn turns(&self, command: &Command) -> u64
-        ensures { result ≡ definition.turns (user_of self.now) command.now }
+    /// The index of the session that a command waits for, if there is one.
+    pub fn index_waited_for(&self, command: &Command) -> Option<usize>
+        ensures { result ≡ states.index_waited_for self.now command.now }
     {
-        match command {
-            Command::Advance { name, steps } => self.advance_turns(name, *steps),
-            Command::Measure { name } => self.measure_turns(name),
-            _ => 0,
-        }
+        self.index_of(command.waits_for()?)
     }
 
-    fn advance_turns(&self, name: &Name, steps: u64) -> u64
-        ensures { result ≡ definition.turns (user_of self.now) (commands.Advance name.now steps) }
+    /// Whether a command waits for nothing and takes no step of its own. The index is that of the session that it waits for.
+    pub fn is_at_once(&self, command: &Command, index: Option<usize>) -> bool
+        requires { index ≡ states.index_waited_for self.now command.now }
+        ensures at_once { result ≡ true → turns_before self.now command.now ≡ 0 }
+        ensures waits { result ≡ false → 0 < turns_before self.now command.now }
     {
-        let Some(session) = self.find(name) else {
-            return 0;
+        let Some(i) = index else {
+            return true;
         };
-        if !session.can_advance(steps) {
-            return 0;
+        let session = self.at(i);
+        if session.owed() > 0 {
+            return false;
         }
-        steps
-    }
-
-    fn measure_turns(&self, name: &Name) -> u64
-        ensures { result ≡ definition.turns (user_of self.now) (commands.Measure name.now) }
-    {
-        if !self.has(name) {
-            return 0;
+        match command {
+            Command::Advance { steps, .. } => *steps == 0 || !session.can_advance(*steps),
+            Command::Measure { .. } => false,
+            _ => true,
         }
-        1
     }
 
     /// Owes so many steps more to a session, which may go on by them.
@@ -125,12 +121,18 @@ impl Sessions {
         Ok(Reply::Started { name, step })
     }
 
-    /// An ADVANCE that waits for nothing, and takes no turn: it is refused, or by 0.
-    pub fn advance_at_once(&self, name: Name, steps: u64) -> Result<Reply, Refusal>
-        requires { definition.turns (user_of self.now) (commands.Advance name steps) ≡ 0 }
+    /// An ADVANCE that waits for nothing, and takes no turn: it is refused, or by 0. The index is that of the session.
+    pub fn advance_at_once(
+        &self,
+        name: Name,
+        index: Option<usize>,
+        steps: u64,
+    ) -> Result<Reply, Refusal>
+        requires index { index ≡ position (bytes_eq name) (names self.now) }
+        requires turns { definition.turns (user_of self.now) (commands.Advance name steps) ≡ 0 }
         ensures { Reads self.now (commands.Advance name steps) result }
     {
-        let Some(session) = self.find(&name) else {
+        let Some(session) = self.found(&name, index) else {
             return Err(Refusal::NoSession);
         };
         if !session.can_advance(steps) {

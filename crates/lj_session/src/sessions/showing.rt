@@ -1,7 +1,8 @@
 //! SHOW, DUMP and LIST of a session.
-ghost use Rattle.std.specs.Prelude.{◌≡◌, Bool};
+ghost use Rattle.std.specs.Prelude.{◌≡◌, Bool, position};
+ghost use Rattle.std.specs.Str.{bytes_eq};
 ghost use Rattle.lj_session.specs.declared.command.Command.TheVariants as commands;
-ghost use Rattle.lj_session.specs.States.{Reads, owed_in};
+ghost use Rattle.lj_session.specs.States.{Reads, names, owed_in};
 
 use crate::refusal::Refusal;
 use crate::reply::Reply;
@@ -9,12 +10,13 @@ use crate::sessions::Sessions;
 use lj_tile::Name;
 
 impl Sessions {
-    /// Shows the place of an atom of a session.
-    pub fn show(&self, name: Name, atom: u64) -> Result<Reply, Refusal>
-        requires { owed_in self.now name ≡ 0 }
+    /// Shows the place of an atom of a session. The index is that of the session.
+    pub fn show(&self, name: Name, index: Option<usize>, atom: u64) -> Result<Reply, Refusal>
+        requires index { index ≡ position (bytes_eq name) (names self.now) }
+        requires owed { owed_in self.now name ≡ 0 }
         ensures { Reads self.now (commands.Show name atom) result }
     {
-        let Some(session) = self.find(&name) else {
+        let Some(session) = self.found(&name, index) else {
             return Err(Refusal::NoSession);
         };
         let sim = session.sim();
@@ -29,13 +31,14 @@ impl Sessions {
         })
     }
 
-    /// Writes out the frame of a session.
-    pub fn dump(&self, name: Name) -> Result<Reply, Refusal>
+    /// Writes out the frame of a session. The index is that of the session.
+    pub fn dump(&self, name: Name, index: Option<usize>) -> Result<Reply, Refusal>
+        requires { index ≡ position (bytes_eq name) (names self.now) }
         ensures { Reads self.now (commands.Dump name) result }
     {
-        if !self.has(&name) {
+        let Some(_session) = self.found(&name, index) else {
             return Err(Refusal::NoSession);
-        }
+        };
         Ok(Reply::Dumped { name })
     }
 

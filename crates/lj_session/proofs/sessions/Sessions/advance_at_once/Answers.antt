@@ -31,7 +31,7 @@ returns c = λ mark.
     let near = sym c.can_advance.ensures ∙ c.if-not-can_advance.false in
     let none =
     sym (advance-turns-near (user_of old) c.args.name c.args.steps (session_meant held)
-    (named-held old c.args.name held found) near) ∙ c.requires in
+    (named-held old c.args.name held found) near) ∙ c.requires.turns in
     ap (λ n. performed (user_of old) (Advance c.args.name n) mark) none
     ∙ outcomes.advance-nothing old c.args.name held found (ap (can_advance (session_meant held)) (sym none) ∙ near) mark
     ∙ ap (λ s. Ok (reply.Advanced c.args.name s, user_of old))

@@ -1,17 +1,17 @@
-use Rattle.std.proofs.Common.{sym, ◌∙◌}
-use Rattle.lj_branch.specs.Named.{named}
-use Rattle.lj_session.specs.States.{user_of}
+use Rattle.std.proofs.Common.{sym}
+use Rattle.lj_session.proofs.Holding.{named-absent, named-held}
 use Rattle.lj_session.proofs.Performing as performing
-use Rattle.lj_session.proofs.Results.{none-of, some-of}
+use Rattle.lj_session.specs.States.{session_meant, user_of}
 use Rattle.lj_session.proofs.sessions.Sessions.dump.Goals as goal
 
-pub returns-then-not-has : goal.returns-then-not-has
-returns-then-not-has c = λ mark.
-    let user = user_of c.args.self.now in
-    performing.none user _ mark (none-of (named c.args.name user.sessions) (sym c.has.ensures ∙ c.if-not-has.true))
+pub returns-in_default : goal.returns-in_default
+returns-in_default c = λ mark.
+    let old = c.args.self.now in
+    performing.none (user_of old) _ mark (named-absent old c.args.name (sym c.in_default.ensures))
 
 pub returns : goal.returns
 returns c = λ mark.
-    let user = user_of c.args.self.now in
-    let session = some-of (named c.args.name user.sessions) (sym c.has.ensures ∙ c.if-not-has.false) in
-    performing.dump-done user c.args.name mark session.0 session.1
+    let old = c.args.self.now in
+    let held = c.in-Some._session.now in
+    performing.dump-done (user_of old) c.args.name mark (session_meant held)
+    (named-held old c.args.name held (sym c.in-Some.ensures))

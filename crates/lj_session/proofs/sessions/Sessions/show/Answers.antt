@@ -19,7 +19,7 @@ returns-then-atom-count c = λ mark.
     let held = c.in-Some.session.now in
     performing.show-no_atom (user_of old) c.args.name mark (as_session held)
     (named-settled old c.args.name held (sym c.in-Some.ensures)
-    (owed-of old c.args.name held (sym c.in-Some.ensures) c.requires)) c.args.atom
+    (owed-of old c.args.name held (sym c.in-Some.ensures) c.requires.owed)) c.args.atom
     (outcomes.past c.args.atom (length held.live.sim.cur)
     (let n = c.count.ensures.value ∙ ap (λ (l : Live). length l.sim.cur)
     c.sim-sim.ensures in let t = c.if-atom-count.true in omega (arith, n, t)))
@@ -30,7 +30,7 @@ returns c = λ mark.
     let held = c.in-Some.session.now in
     performing.show-done (user_of old) c.args.name mark (as_session held)
     (named-settled old c.args.name held (sym c.in-Some.ensures)
-    (owed-of old c.args.name held (sym c.in-Some.ensures) c.requires)) c.args.atom
+    (owed-of old c.args.name held (sym c.in-Some.ensures) c.requires.owed)) c.args.atom
     (outcomes.there c.args.atom (length held.live.sim.cur)
     (let n = c.count.ensures.value ∙ ap (λ (l : Live). length l.sim.cur)
     c.sim-sim.ensures in let t = c.if-atom-count.false in omega (arith, n, t)))

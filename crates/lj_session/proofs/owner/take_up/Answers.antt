@@ -6,14 +6,14 @@ use Rattle.lj_session.specs.Turns.{turns, waits_for}
 use Rattle.std.specs.Prelude.{IsSome, true}
 use Rattle.lj_session.specs.Answers.{answer, can_advance, session_named}
 use Rattle.lj_session.specs.States.{Held, Owned, IsAtWork, user_of, held_in, owed_in, owing, with_step, session_meant, steps_before, turns_before}
-use Rattle.lj_session.specs.Owners.{IsSettled, rest_of, taken_up}
-use Rattle.lj_session.specs.Begins.{OnRefusal}
-use Rattle.lj_session.proofs.AtWork.{at_work-changed, at_work-measured, at_work-waits, at_work-performed, kind-owing, steps-performed}
+use Rattle.lj_session.specs.Owners.{rest_of, taken_up}
+use Rattle.lj_session.proofs.AtWork.{at_work-changed, at_work-measured, at_work-waits, kind-owing}
 use Rattle.lj_session.proofs.Holding.{owed-of}
-use Rattle.lj_session.proofs.Others.{others-changed, refused-unchanged, settled-performed}
+use Rattle.lj_session.proofs.Others.{others-changed}
 use Rattle.lj_session.proofs.Turning.{no-turns}
 use Rattle.lj_session.proofs.Waiting.{Goes, goes, taken_alike, taken_turns, measured_there, measured_turns, left-taken, begun-taken}
-use Rattle.lj_session.proofs.settling.settle.Goals as goal
+use Rattle.lj_session.proofs.owner.take_up.Goals.{In_default}
+use Rattle.lj_session.proofs.owner.take_up.Goals as goal
 
 pub returns-then-steps_before-gt0-clause-at_work :
     goal.returns-then-steps_before-gt0-clause-at_work
@@ -21,39 +21,20 @@ returns-then-steps_before-gt0-clause-at_work c =
     at_work-waits c.args.command c.args.state.now
     (subst (λ n. 0 < n) c.steps_before.ensures c.if-steps_before-gt0.true) c.requires.at_work
 
-pub returns-then-turns-eq0-clause-settled : goal.returns-then-turns-eq0-clause-settled
-returns-then-turns-eq0-clause-settled c =
-    let none : steps_before c.args.state.now c.args.command ≡ 0 =
-    (let few = c.if-steps_before-gt0.false in let is = c.steps_before.ensures in omega (arith, few, is)) in
-    subst (IsSettled c.perform.new.self) (sym c.replied.ensures)
-    (settled-performed c.args.state.now c.perform.new.self c.args.command c.perform.result c.perform.ensures.performs none)
-
-pub returns-then-turns-eq0-clause-at_rest : goal.returns-then-turns-eq0-clause-at_rest
-returns-then-turns-eq0-clause-at_rest c =
-    at_work-performed c.args.state.now c.perform.new.self c.args.command c.perform.result
-    c.perform.ensures.performs c.perform.ensures.unchanged c.requires.at_work
-
-pub returns-then-turns-eq0-clause-steps : goal.returns-then-turns-eq0-clause-steps
-returns-then-turns-eq0-clause-steps c =
-    steps-performed c.args.state.now c.perform.new.self c.args.command c.perform.result
-    c.perform.ensures.performs c.perform.ensures.unchanged
-
-pub returns-then-turns-eq0-clause-unchanged : goal.returns-then-turns-eq0-clause-unchanged
-returns-then-turns-eq0-clause-unchanged c =
-    subst (λ r. OnRefusal r (c.perform.new.self ≡ c.args.state.now)) (sym c.replied.ensures)
-    (refused-unchanged (c.perform.new.self ≡ c.args.state.now) c.args.state.now c.perform.new.self c.args.command
-    c.perform.result c.perform.ensures.performs c.perform.ensures.unchanged)
-
 -- nothing is owed to the session
 none_of : (m k : ℕ) → m ≤ 0 → m ≡ k → k ≡ 0
 none_of m k few is = omega (arith, few, is)
 
--- so it can go on
-goes_of : (owned : Owned) (command : Command) (name : List ℕ) (n m : ℕ) → (m ≡ 0 → ⊥) → m ≡ turns (user_of owned) command
-    → command ≡ Advance name n → Goes owned name n
-goes_of owned command name n m some is which =
-    let more : 0 < m = omega (arith, some) in
-    goes owned name n (subst (λ (k : Command). 0 < turns (user_of owned) k) which (subst (λ n. 0 < n) is more))
+-- so its own turns are left
+own_some : (owned : Owned) (command : Command) → 0 < turns_before owned command → steps_before owned command ≡ 0
+    → 0 < turns (user_of owned) command
+own_some owned command some none = omega (arith, some, none)
+
+-- and an ADVANCE can go on
+goes_of : (owned : Owned) (command : Command) (name : List ℕ) (n : ℕ) → 0 < turns_before owned command
+    → steps_before owned command ≡ 0 → command ≡ Advance name n → Goes owned name n
+goes_of owned command name n some none which =
+    goes owned name n (subst (λ (k : Command). 0 < turns (user_of owned) k) which (own_some owned command some none))
 
 none-owed : (owned : Owned) (command : Command) (name : List ℕ) (n : ℕ) → command ≡ Advance name n
     → steps_before owned command ≡ 0 → owed_in owned name ≡ 0
@@ -71,12 +52,12 @@ near_of owned name n g held e = subst (λ (h : Held). can_advance (session_meant
     same a b k = cc
 
 pub owe-requires-clause-session : goal.owe-requires-clause-session
-owe-requires-clause-session c = is_there c.args.state.now c.in-Advance.name (goes_of c.args.state.now c.args.command c.in-Advance.name c.in-Advance.steps c.turns.result
-    c.if-turns-eq0.false c.turns.ensures c.in-Advance.is)
+owe-requires-clause-session c = is_there c.args.state.now c.in-Advance.name (goes_of c.args.state.now c.args.command c.in-Advance.name c.in-Advance.steps c.requires.waits
+    (none_of c.steps_before.result _ c.if-steps_before-gt0.false c.steps_before.ensures) c.in-Advance.is)
 
 pub owe-requires-clause-near : goal.owe-requires-clause-near
-owe-requires-clause-near c = λ held e. near_of c.args.state.now c.in-Advance.name c.in-Advance.steps (goes_of c.args.state.now c.args.command c.in-Advance.name c.in-Advance.steps c.turns.result
-    c.if-turns-eq0.false c.turns.ensures c.in-Advance.is) held e
+owe-requires-clause-near c = λ held e. near_of c.args.state.now c.in-Advance.name c.in-Advance.steps (goes_of c.args.state.now c.args.command c.in-Advance.name c.in-Advance.steps c.requires.waits
+    (none_of c.steps_before.result _ c.if-steps_before-gt0.false c.steps_before.ensures) c.in-Advance.is) held e
 
 pub returns-in-Advance-clause-left : goal.returns-in-Advance-clause-left
 unfolding rest_of
@@ -95,8 +76,8 @@ returns-in-Advance-clause-alike c = λ mark.
     let old = c.args.state.now in
     ap (λ n. answer (user_of c.owe.new.self) (Advance n 0) mark) c.copy.ensures
     ∙ ap (λ (o : Owned). answer (user_of o) (Advance c.in-Advance.name 0) mark) c.owe.ensures.owed
-    ∙ taken_alike old c.in-Advance.name c.in-Advance.steps (goes_of c.args.state.now c.args.command c.in-Advance.name c.in-Advance.steps c.turns.result
-    c.if-turns-eq0.false c.turns.ensures c.in-Advance.is) mark
+    ∙ taken_alike old c.in-Advance.name c.in-Advance.steps (goes_of c.args.state.now c.args.command c.in-Advance.name c.in-Advance.steps c.requires.waits
+    (none_of c.steps_before.result _ c.if-steps_before-gt0.false c.steps_before.ensures) c.in-Advance.is) mark
     ∙ ap (λ k. answer (user_of old) k mark) (sym c.in-Advance.is)
 
 pub returns-in-Advance-clause-at_work : goal.returns-in-Advance-clause-at_work
@@ -107,15 +88,15 @@ returns-in-Advance-clause-at_work c =
     (at_work-changed None old name (owing c.in-Advance.steps)
     (λ held e. kind-owing None name c.in-Advance.steps held refl (c.requires.at_work name held e)) c.requires.at_work)
 
-pub returns-in-Advance-clause-more : goal.returns-in-Advance-clause-more
-returns-in-Advance-clause-more c =
+pub returns-in-Advance-clause-turns : goal.returns-in-Advance-clause-turns
+returns-in-Advance-clause-turns c =
     let old = c.args.state.now in
     let none = none_of c.steps_before.result _ c.if-steps_before-gt0.false c.steps_before.ensures in
     let owed = none-owed old c.args.command c.in-Advance.name c.in-Advance.steps c.in-Advance.is none in
     ap (λ n. turns_before c.owe.new.self (Advance n 0)) c.copy.ensures
     ∙ ap (λ (o : Owned). turns_before o (Advance c.in-Advance.name 0)) c.owe.ensures.owed
     ∙ taken_turns old c.in-Advance.name c.in-Advance.steps (goes_of old c.args.command c.in-Advance.name c.in-Advance.steps
-    c.turns.result c.if-turns-eq0.false c.turns.ensures c.in-Advance.is) owed
+    c.requires.waits none c.in-Advance.is) owed
     ∙ ap (turns_before old) (sym c.in-Advance.is)
 
 pub returns-in-Advance-clause-others : goal.returns-in-Advance-clause-others
@@ -124,11 +105,10 @@ returns-in-Advance-clause-others c = λ other apart.
     ∙ others-changed c.args.state.now c.in-Advance.name (owing c.in-Advance.steps) other
     (λ same. apart (ap session_named c.in-Advance.is ∙ same))
 
-measured_of : (owned : Owned) (command : Command) (name : List ℕ) (m : ℕ) → (m ≡ 0 → ⊥) → m ≡ turns (user_of owned) command
-    → command ≡ Measure name → (held : Held) × (held_in owned name ≡ Some held)
-measured_of owned command name m some is which =
-    let more : 0 < m = omega (arith, some) in
-    measured_there owned name (subst (λ (k : Command). 0 < turns (user_of owned) k) which (subst (λ n. 0 < n) is more))
+measured_of : (owned : Owned) (command : Command) (name : List ℕ) → 0 < turns_before owned command
+    → steps_before owned command ≡ 0 → command ≡ Measure name → (held : Held) × (held_in owned name ≡ Some held)
+measured_of owned command name some none which =
+    measured_there owned name (subst (λ (k : Command). 0 < turns (user_of owned) k) which (own_some owned command some none))
 
 none-measured : (owned : Owned) (command : Command) (name : List ℕ) → command ≡ Measure name → steps_before owned command ≡ 0
     → owed_in owned name ≡ 0
@@ -150,7 +130,8 @@ returns-in-Measure-clause-begun c =
 pub returns-in-Measure-clause-at_work : goal.returns-in-Measure-clause-at_work
 returns-in-Measure-clause-at_work c =
     let old = c.args.state.now in
-    let held = measured_of old c.args.command c.in-Measure.name c.turns.result c.if-turns-eq0.false c.turns.ensures c.in-Measure.is in
+    let held = measured_of old c.args.command c.in-Measure.name c.requires.waits
+    (none_of c.steps_before.result _ c.if-steps_before-gt0.false c.steps_before.ensures) c.in-Measure.is in
     let none = none_of c.steps_before.result _ c.if-steps_before-gt0.false c.steps_before.ensures in
     subst (λ n. IsAtWork (Some (Measure n)) c.open_step.new.self) (sym c.copy-in-Measure.ensures)
     (subst (λ (o : Owned). IsAtWork (Some (Measure c.in-Measure.name)) o) (sym c.open_step.ensures.opened)
@@ -158,10 +139,11 @@ returns-in-Measure-clause-at_work c =
     (owed-of old c.in-Measure.name held.0 held.1 (none-measured old c.args.command c.in-Measure.name c.in-Measure.is none))
     c.requires.at_work))
 
-pub returns-in-Measure-clause-more : goal.returns-in-Measure-clause-more
-returns-in-Measure-clause-more c =
+pub returns-in-Measure-clause-turns : goal.returns-in-Measure-clause-turns
+returns-in-Measure-clause-turns c =
     let old = c.args.state.now in
-    let held = measured_of old c.args.command c.in-Measure.name c.turns.result c.if-turns-eq0.false c.turns.ensures c.in-Measure.is in
+    let held = measured_of old c.args.command c.in-Measure.name c.requires.waits
+    (none_of c.steps_before.result _ c.if-steps_before-gt0.false c.steps_before.ensures) c.in-Measure.is in
     ap (λ n. turns_before c.open_step.new.self (Measure n)) c.copy-in-Measure.ensures
     ∙ ap (λ (o : Owned). turns_before o (Measure c.in-Measure.name)) c.open_step.ensures.opened
     ∙ measured_turns old c.in-Measure.name held.0 held.1 ∙ ap (turns_before old) (sym c.in-Measure.is)
@@ -172,7 +154,33 @@ returns-in-Measure-clause-others c = λ other apart.
     ∙ others-changed c.args.state.now c.in-Measure.name (with_step Energy) other
     (λ same. apart (ap session_named c.in-Measure.is ∙ same))
 
-pub returns-in_default : goal.returns-in_default
-returns-in_default c =
-    absurd (c.if-turns-eq0.false (c.turns.ensures ∙ sym (no-turns (user_of c.args.state.now) c.args.command
-    c.in_default.not-Advance c.in_default.not-Measure)))
+-- no other command takes a turn
+default-turns : (owned : Owned) (command : Command) → 0 < turns_before owned command → steps_before owned command ≡ 0
+    → ((name : List ℕ) (n : ℕ) → command ≡ Advance name n → ⊥) → ((name : List ℕ) → command ≡ Measure name → ⊥) → ⊥
+default-turns owned command some none advance measure =
+    let own = own_some owned command some none in
+    let zero_own = no-turns (user_of owned) command advance measure in
+    omega (arith, own, zero_own)
+
+nothing : (c : In_default) → ⊥
+nothing c = default-turns c.args.state.now c.args.command c.requires.waits
+    (none_of c.steps_before.result _ c.if-steps_before-gt0.false c.steps_before.ensures)
+    c.in_default.not-Advance c.in_default.not-Measure
+
+pub returns-in_default-clause-left : goal.returns-in_default-clause-left
+returns-in_default-clause-left c = absurd (nothing (goal.at.returns-in_default-clause-left c).In_default)
+
+pub returns-in_default-clause-begun : goal.returns-in_default-clause-begun
+returns-in_default-clause-begun c = absurd (nothing (goal.at.returns-in_default-clause-begun c).In_default)
+
+pub returns-in_default-clause-alike : goal.returns-in_default-clause-alike
+returns-in_default-clause-alike c = absurd (nothing (goal.at.returns-in_default-clause-alike c).In_default)
+
+pub returns-in_default-clause-at_work : goal.returns-in_default-clause-at_work
+returns-in_default-clause-at_work c = absurd (nothing (goal.at.returns-in_default-clause-at_work c).In_default)
+
+pub returns-in_default-clause-turns : goal.returns-in_default-clause-turns
+returns-in_default-clause-turns c = absurd (nothing (goal.at.returns-in_default-clause-turns c).In_default)
+
+pub returns-in_default-clause-others : goal.returns-in_default-clause-others
+returns-in_default-clause-others c = absurd (nothing (goal.at.returns-in_default-clause-others c).In_default)
