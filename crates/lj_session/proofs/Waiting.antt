@@ -14,7 +14,7 @@ use Rattle.lj_session.specs.Users.{Session, User}
 use Rattle.lj_session.specs.Answers.{answer, AnswersAlike, can_advance}
 use Rattle.lj_session.specs.Turns.{turns, waits_for, advance_turns}
 use Rattle.lj_session.specs.States.{Held, Owned, user_of, as_entry, session_meant, held_in, changed, with_step, with_posted, with_tile_in, at_rest, rested, owing, step_passed, owed_in, steps_before, turns_before}
-use Rattle.lj_session.specs.Owners.{Owning, user_in, begun_in, left_in, taken_up, rest_of, changed_in, next_session, with_task_posted, with_task_in, with_state, is_waited_for, turned_from, IsLastTurn, WaitsAlike}
+use Rattle.lj_session.specs.Owners.{Owning, user_in, begun_in, left_in, taken_up, rest_of, changed_in, next_session, with_task_posted, with_task_in, is_waited_for}
 use Rattle.lj_session.specs.Laws.{user_taking, BeginsAlike}
 use Rattle.lj_session.proofs.Advancing.{advanced, alike}
 use Rattle.lj_session.proofs.Entries.{by_test, named-put_any}
@@ -151,31 +151,6 @@ passed_turns owned name command waits some =
     let then = ap (λ o. option_map_or (owed_in (changed name step_passed owned)) o 0) waits in
     let now = ap (λ o. option_map_or (owed_in owned) o 0) waits in
     omega (arith, less, same, then, now)
-
-pub turn_alike : (name : List ℕ) (owner : Owning) → 0 < owed_in owner.state name → (IsLastTurn name owner → ⊥)
-    → WaitsAlike owner (turned_from name owner)
-turn_alike name owner some more = by owner.waiting refl
-  where
-    passed : Owning
-    passed = with_state (changed name step_passed owner.state) owner
-
-    same : user_in passed ≡ user_in owner
-    same = passed_user owner.state name some
-
-    by : (waiting : Option Command) → owner.waiting ≡ waiting → WaitsAlike owner (turned_from name owner)
-    by None e = rw e same
-    by (Some command) e = by_test (is_waited_for (Some command) name) waited other
-      where
-        other : is_waited_for (Some command) name ≡ false → WaitsAlike owner (turned_from name owner)
-        other t = rw (e, t) (λ mark. ap (λ u. answer u command mark) same)
-
-        waited : is_waited_for (Some command) name ≡ true → WaitsAlike owner (turned_from name owner)
-        waited t =
-            let fewer = passed_turns owner.state name command (same_name command name t) some in
-            let last : turns_before owner.state command ≡ 1 → ⊥ = λ one. more (record { waited = rw e t; last = rw e one }) in
-            let left : 0 < turns_before passed.state command = omega (arith, fewer, last) in
-            let made = (begins_alike command passed left).left in
-            rw (e, t) (λ mark. made mark ∙ ap (λ u. answer u command mark) same)
 
 -- a command to whose session nothing is owed takes steps of its own
 pub left-taken : (command : Command) (owned : Owned) → steps_before owned command ≡ 0 → left_in command owned ≡ rest_of command

@@ -5,6 +5,7 @@ use Rattle.lj_session.specs.declared.session.TheConstants.{MAX_STEP_NUMBER}
 use Rattle.lj_session.specs.States.{Held, HasCount}
 use Rattle.lj_session.specs.declared.session.Session.TheInside.{Inside}
 
+-- the session that the fields of one in the code stand for
 abbrev pub held_of : Inside → Held
 held_of a =
     record { symbols = a.symbols.items; live = a.sim; passed = a.passed; saved = a.branches; owed = a.owed }

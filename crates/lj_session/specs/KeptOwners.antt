@@ -4,6 +4,7 @@ use Rattle.lj_session.specs.declared.owner.Owner.TheInside.{Inside}
 use Rattle.lj_session.specs.Owners.{Owning}
 use Rattle.lj_session.specs.States.{IsAtWork, turns_before}
 
+-- the owner that the fields of one in the code stand for
 abbrev pub owning_of : Inside → Owning
 owning_of a = record { state = a.state; number = a.user; waiting = a.waiting }
 

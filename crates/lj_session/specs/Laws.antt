@@ -8,8 +8,8 @@ use Rattle.lj_session.specs.declared.reply.Reply.{Reply}
 use Rattle.lj_session.specs.declared.reply.Reply.TheVariants.{Dumped, ListedBranches}
 use Rattle.lj_session.specs.Users.{User}
 use Rattle.lj_session.specs.Answers.{answer, AnswersAlike}
-use Rattle.lj_session.specs.States.{Owned, user_of, rested, owed_in, steps_before, turns_before}
-use Rattle.lj_session.specs.Owners.{Owning, user_in, begun, with_task_posted, with_task_in, turned_from, IsLastTurn, WaitsAlike}
+use Rattle.lj_session.specs.States.{Owned, user_of, rested, steps_before, turns_before}
+use Rattle.lj_session.specs.Owners.{Owning, user_in, begun, with_task_posted, with_task_in}
 
 -- To begin each step anew leaves the user.
 abbrev pub RestKeepsUser : Type 0
@@ -37,15 +37,10 @@ pub record BeginsAlike (command : Command) (owner : Owning) : Type 0 where
   pub left : IfSome (begun command owner).waiting (λ left.
       AnswersAlike (user_in (begun command owner)) left (user_in owner) command)
 
+-- So does every command before which turns come.
 abbrev pub BegunWaitsAlike : Type 0
 BegunWaitsAlike = (command : Command) (owner : Owning) → 0 < turns_before owner.state command
     → BeginsAlike command owner
-
--- To turn a session to which steps are owed, where that does not answer what waits, keeps what will be answered; where
--- nothing waits it leaves the user.
-abbrev pub TurnWaitsAlike : Type 0
-TurnWaitsAlike = (name : List ℕ) (owner : Owning) → 0 < owed_in owner.state name
-    → (IsLastTurn name owner → ⊥) → WaitsAlike owner (turned_from name owner)
 
 -- the session whose atoms a reply lists, as DUMP's does, or what is saved in it, as that of LIST with a name does
 abbrev pub session_listed : Reply → Option (List ℕ)

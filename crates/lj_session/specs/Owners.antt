@@ -32,6 +32,7 @@ user_in owner = user_of owner.state
 abbrev pub entered : Owned → ℕ → Owning
 entered state number = record { state = rested state; number = number; waiting = None }
 
+-- an owner with another state
 abbrev pub with_state : Owned → Owning → Owning
 with_state state owner = record owner { state = state }
 
@@ -63,18 +64,21 @@ unfoldable pub rest_of : Command → Command
 rest_of (Advance name n) = Advance name 0
 rest_of command = command
 
--- A command that is begun and waits: for the steps that are owed to its session, and where none are it begins to take its
--- own. What is held then, and what waits.
+-- what is held once a command is begun and waits: where steps are owed to its session it waits for them, and elsewhere it
+-- begins to take its own
 abbrev pub begun_in : Command → Owned → Owned
 begun_in command owned = if nat_lt 0 (steps_before owned command) then owned else taken_up command owned
 
+-- what waits then
 abbrev pub left_in : Command → Owned → Command
 left_in command owned = if nat_lt 0 (steps_before owned command) then command else rest_of command
 
+-- the owner once a command is begun and waits
 abbrev pub begun : Command → Owning → Owning
 begun command owner =
     record owner { state = begun_in command owner.state; waiting = Some (left_in command owner.state) }
 
+-- with what waits, if something does, begun once more
 abbrev pub begun_again : Option Command → Owning → Owning
 begun_again None owner = owner
 begun_again (Some command) owner = begun command owner
@@ -95,6 +99,7 @@ next_session owner = find (λ name. is_some (task_of_session owner name)) (names
 abbrev pub task_in : Owning → Option Work
 task_in owner = option_and_then (task_of_session owner) (next_session owner)
 
+-- with a session changed, if a name is given
 abbrev pub changed_in : Option (List ℕ) → (Held → Held) → Owned → Owned
 changed_in None change owned = owned
 changed_in (Some name) change owned = changed name change owned
@@ -144,6 +149,7 @@ WaitsAlikeFor None None old new = new ≡ old
 WaitsAlikeFor (Some before) (Some after) old new = AnswersAlike new after old before
 WaitsAlikeFor _ _ old new = ⊥
 
+-- so of two owners
 abbrev pub WaitsAlike : Owning → Owning → Type 0
 WaitsAlike old new = WaitsAlikeFor old.waiting new.waiting (user_in old) (user_in new)
 

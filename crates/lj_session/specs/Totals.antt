@@ -3,6 +3,7 @@ use Rattle.std.specs.Prelude.{◌≡◌}
 use Rattle.lj_session.specs.States.{Owned, used_by}
 use Rattle.lj_session.specs.declared.sessions.Sessions.TheInside.{Inside}
 
+-- what the fields of the code hold of a user
 abbrev pub owned_of : Inside → Owned
 owned_of a = record { quota = a.quota; sessions = a.sessions.entries }
 

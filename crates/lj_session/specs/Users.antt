@@ -30,12 +30,14 @@ with_session name session user = record user { sessions = put name session user.
 abbrev pub atoms_of : Session → ℕ
 atoms_of session = length session.sim.cur
 
--- what a user has used of each part of the quota
+-- how many sessions a user has
 abbrev pub sessions_used : User → ℕ
 sessions_used user = length user.sessions
 
+-- how many atoms its sessions have together
 abbrev pub atoms_used : User → ℕ
 atoms_used user = sum_by (λ entry. atoms_of entry.1) user.sessions
 
+-- how many simulations are saved in them together
 abbrev pub branches_used : User → ℕ
 branches_used user = sum_by (λ entry. length entry.1.saved) user.sessions

@@ -1,6 +1,5 @@
 //! Laws of owners and of what is answered: functions that do nothing, whose contracts are the laws.
-ghost use Rattle.lj_session.specs.Laws.{RestKeepsUser, PostedKeepsUser, AcceptKeepsUser, BegunWaitsAlike};
-ghost use Rattle.lj_session.specs.Laws.{TurnWaitsAlike, ListedIsThere};
+ghost use Rattle.lj_session.specs.Laws.{RestKeepsUser, PostedKeepsUser, AcceptKeepsUser, BegunWaitsAlike, ListedIsThere};
 
 /// To begin each step anew leaves the user.
 pub fn rest_keeps_user()
@@ -21,11 +20,6 @@ pub fn accept_keeps_user()
 /// ADVANCE that it begins to take.
 pub fn begun_waits_alike()
     ensures { BegunWaitsAlike }
-{}
-
-/// A turn that answers nothing keeps what will be answered; where nothing waits it leaves the user.
-pub fn turn_waits_alike()
-    ensures { TurnWaitsAlike }
 {}
 
 /// A reply lists the atoms of a session, or what is saved in it, only where that session is one of the user after it.

@@ -19,7 +19,6 @@ pub use body::{Body, LoadBody};
 pub use command::{Command, Load, Mode};
 pub use laws::{
     accept_keeps_user, begun_waits_alike, listed_is_there, posted_keeps_user, rest_keeps_user,
-    turn_waits_alike,
 };
 pub use lj_tile::Name;
 pub use owner::{Begin, Owner};

@@ -224,7 +224,8 @@ impl Session {
         None
     }
 
-    /// Makes `room` the task of that tile. False where there is none; the room is as before then.
+    /// Makes `room` the task of the first tile that is neither posted nor in. False where there is none; the room is as
+    /// before then.
     pub fn next_task_in(&self, label: &Label, room: &mut Task) -> bool
         ensures some { result ≡ true → states.next_of label.now (Some self.now) ≡ Some room.new }
         ensures none { result ≡ false → states.next_of label.now (Some self.now) ≡ None }
@@ -236,14 +237,14 @@ impl Session {
         }
     }
 
-    /// Whether there is such a tile.
+    /// Whether there is a tile that is neither posted nor in.
     pub fn has_task(&self) -> bool
         ensures { (label : Labelled) → result ≡ is_some (states.next_of label (Some self.now)) }
     {
         self.next_tile().is_some()
     }
 
-    /// Notes that tile as posted.
+    /// Notes the first tile that is neither posted nor in as posted.
     pub fn post(&mut self)
         ensures { self.new ≡ states.with_posted self.old }
     {

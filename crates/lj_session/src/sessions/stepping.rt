@@ -64,7 +64,7 @@ impl Sessions {
         }
     }
 
-    /// Whether the i-th session has such a tile.
+    /// Whether the open step of the i-th session has a tile that is neither posted nor in.
     fn has_task_at(&self, i: usize) -> bool
         requires within { i < length self.now.sessions }
         requires distinct { IsDistinct bytes_eq (names self.now) }
@@ -74,7 +74,8 @@ impl Sessions {
         self.at(i).has_task()
     }
 
-    /// The first session, in order of loading, that has such a tile. The tasks are of the user of this number.
+    /// The first session, in order of loading, whose open step has a tile that is neither posted nor in. The tasks are of
+    /// the user of this number.
     pub fn next_session(&self, user: u8) -> Option<&Name>
         ensures { option_copied result
             ≡ find (λ name. is_some (states.next_task self.now (record { user = user; session = name }))) (names self.now) }
@@ -88,7 +89,7 @@ impl Sessions {
         None
     }
 
-    /// Notes that tile as posted.
+    /// Notes the first tile of a session's open step that is neither posted nor in as posted.
     pub fn post(&mut self, name: &Name)
         ensures posted { self.new ≡ changed name.now with_posted self.old }
         ensures user { user_of self.new ≡ user_of self.old }
