@@ -4,11 +4,10 @@ use Rattle.std.proofs.lemmas.Bool.{cases_eq, cases_lt}
 use Rattle.std.proofs.lemmas.List.{get_or_past}
 use Rattle.std.specs.Prelude.{slice_set}
 use Rattle.slab.specs.Slab.{Slab, Updates, get, slab_len}
-use Rattle.lj_book.specs.declared.entries.Entry.{Entry}
 use Rattle.lj_book.specs.declared.entries.TheConstants.{MAX_ENTRIES}
 use Rattle.lj_book.specs.declared.marks.Mark.{Mark}
 use Rattle.lj_book.specs.declared.marks.Mark.TheVariants.{Vacant}
-use Rattle.lj_book.specs.Held.{IsBook, mark_of, waiting}
+use Rattle.lj_book.specs.Held.{Entry, IsBook, mark_of, waiting}
 use Rattle.lj_book.specs.Marks.{HasMark, mark_at}
 use Rattle.lj_book.specs.Picks.{IsPick}
 

@@ -1,3 +1,4 @@
 mod BookLemmas
 mod CountLemmas
 mod MarkLemmas
+mod RoomLemmas

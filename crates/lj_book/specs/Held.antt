@@ -2,12 +2,16 @@
 use Rattle.std.specs.Prelude.{◌≡◌, ◌≢◌, ℕ, ◌+◌, ◌≤◌, ◌<◌, Bool, true, false, List, Option, Some, None, is_some, count_by, cond, nat_eq, slice_index_or, length}
 use Rattle.slab.specs.Slab.{Slab, get, slab_len}
 use Rattle.lj_tile.specs.Tasks.{Work}
-use Rattle.lj_book.specs.declared.entries.Entry.{Entry}
-use Rattle.lj_book.specs.declared.entries.Entry.TheVariants.{Open, Out, Done}
 use Rattle.lj_book.specs.declared.marks.Mark.{Mark}
 use Rattle.lj_book.specs.declared.marks.Mark.TheVariants.{Vacant, ToTake, Taken, ToFetch}
 use Rattle.lj_book.specs.declared.entries.TheConstants.{MAX_ENTRIES}
 use Rattle.lj_book.specs.Marks.{mark_at}
+
+-- a task that is open or out, or the result of one
+pub data Entry : Type 0 where
+  Open : Work → Entry
+  Out : Work → Entry
+  Done : Work → Entry
 
 -- the entry or nothing under each key from 0 on, and how many tasks were ever posted, results given, results fetched,
 -- and entries withdrawn
@@ -31,6 +35,11 @@ abbrev pub work_of : Entry → Work
 work_of (Open work) = work
 work_of (Out work) = work
 work_of (Done work) = work
+
+-- the task of what stands under a key
+abbrev pub work_at : Option Entry → Option Work
+work_at None = None
+work_at (Some entry) = Some (work_of entry)
 
 -- the mark of what stands under a key
 abbrev pub mark_of : Option Entry → Mark

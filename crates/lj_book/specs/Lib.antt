@@ -1,4 +1,5 @@
 pub mod Picks
 pub mod Marks
 pub mod Held
+pub mod Rooms
 pub mod Limits

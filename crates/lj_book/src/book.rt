@@ -1,14 +1,13 @@
 //! The book.
-ghost use Rattle.std.specs.Prelude.{◌≡◌, ◌≤◌, ◌<◌, ◌+◌, ◌-◌, ◌^◌, ◌↔◌, ◌⊎◌, ℕ, List, [], Some, IsOk, OnOk, OnErr, IfOk, IfErr, IfSome, IfNone, IsTrue};
+ghost use Rattle.std.specs.Prelude.{◌≡◌, true, false, ◌≤◌, ◌<◌, ◌+◌, ◌-◌, ◌^◌, ◌↔◌, ◌⊎◌, ℕ, List, [], Some, IsOk, OnOk, OnErr, IfOk, IfErr, IfSome, IfNone, IsTrue};
 ghost use Rattle.lj_book.specs.Picks.{IsPick};
-ghost use Rattle.lj_book.specs.Held.{Held, at, standing, IsOpenAt, IsDoneAt, Posts, Takes, Gives, HandsBack, Fetches, Withdraws, WithdrawsAt};
+ghost use Rattle.lj_book.specs.Held.{Held, Entry, at, standing, IsOpenAt, IsDoneAt, Posts, Takes, Gives, HandsBack, Fetches, Withdraws, WithdrawsAt};
 
+use crate::entries::Entries;
 pub use crate::entries::MAX_ENTRIES;
-use crate::entries::{self, Entry};
-use crate::faults::{Full, NotOut};
+use crate::faults::{Full, NoRoom, NotOut};
 use crate::marks::{Mark, Marks};
 use lj_tile::{Done, Task};
-use slab::Slab;
 use std::alloc::{AllocError, Global};
 use std::marker::Model;
 
@@ -32,9 +31,12 @@ pub struct Counts {
 
 /// The book of tasks. A task is posted, and stands open; it is taken, and is out; its result is given, and is then to
 /// be fetched by its user. No call but `new` takes memory.
+///
+/// Tasks and results are large, so they pass by reference, into a room of the book or of the caller; `post`, `take`,
+/// `give` and `fetch` copy them.
 #[derive(Drop)]
 pub struct Book {
-    slab: Slab<Entry>,
+    entries: Entries,
     marks: Marks,
     posted: u64,
     given: u64,
@@ -48,14 +50,14 @@ impl Model for Book {
     ghost Value = { Held };
 
     ghost view = { λ b. record {
-      slots = b.slab.slots;
+      slots = b.entries.slots;
       posted = b.posted;
       given = b.given;
       fetched = b.fetched;
       withdrawn = b.withdrawn;
     } };
 
-    ghost invariant = { λ b. IsBook b.slab b.marks b.posted b.given b.fetched b.withdrawn };
+    ghost invariant = { λ b. IsBook b.entries b.marks b.posted b.given b.fetched b.withdrawn };
 }
 
 impl Book {
@@ -67,16 +69,34 @@ impl Book {
         ensures { IfOk result (λ book.
             book ≡ record { slots = []; posted = 0; given = 0; fetched = 0; withdrawn = 0 }) }
     {
-        let slab = Slab::with_capacity(alloc, MAX_ENTRIES)?;
-        let marks = Marks::new(alloc, slab.capacity())?;
+        let entries = Entries::new(alloc)?;
+        let marks = Marks::new(alloc, entries.capacity())?;
         Ok(Book {
-            slab,
+            entries,
             marks,
             posted: 0,
             given: 0,
             fetched: 0,
             withdrawn: 0,
         })
+    }
+
+    /// Posts a copy of a task, which then stands open.
+    ///
+    /// # Errors
+    /// `NoRoom` where `MAX_ENTRIES` entries stand or 2^64 - 1 tasks have been posted. Nothing has changed then.
+    pub fn post_from(&mut self, task: &Task) -> Result<(), NoRoom>
+        ensures room { IsOk result ↔ ((standing self.old < MAX_ENTRIES) × (self.old.posted < 2 ^ 64 - 1)) }
+        ensures posts { OnOk result ((key : ℕ) × Posts self.old self.new task.now key) }
+        ensures unchanged { OnErr result (self.new ≡ self.old) }
+    {
+        if self.entries.len() == MAX_ENTRIES || self.posted == u64::MAX {
+            return Err(NoRoom);
+        }
+        let key = self.entries.insert(task);
+        self.marks.set(key, Mark::ToTake);
+        self.posted += 1;
+        Ok(())
     }
 
     /// Posts a task, which then stands open.
@@ -89,13 +109,25 @@ impl Book {
         ensures handed_back { IfErr result (λ full. full.task ≡ task) }
         ensures unchanged { OnErr result (self.new ≡ self.old) }
     {
-        if self.slab.len() == MAX_ENTRIES || self.posted == u64::MAX {
-            return Err(Full { task });
+        match self.post_from(&task) {
+            Ok(()) => Ok(()),
+            Err(NoRoom) => Err(Full { task }),
         }
-        let key = entries::insert(&mut self.slab, Entry::Open(task));
-        self.marks.set(key, Mark::ToTake);
-        self.posted += 1;
-        Ok(())
+    }
+
+    /// Takes the open task of the least key from `pick` on, else of the least key, and copies it into a room. It is then
+    /// out, under the key that is handed out. The room stays as it is where no task is open.
+    pub fn take_into(&mut self, pick: usize, room: &mut Task) -> Option<Key>
+        ensures some { IfSome result (λ key. Takes self.old self.new key room.new) }
+        ensures picked { IfSome result (λ key. IsPick (IsOpenAt self.old) pick key) }
+        ensures none { IfNone result ((k : ℕ) → ¬ IsOpenAt self.old k) }
+        ensures unchanged { IfNone result (self.new ≡ self.old) }
+        ensures same_room { IfNone result (room.new ≡ room.old) }
+    {
+        let key = self.marks.find(Mark::ToTake, pick)?;
+        self.entries.let_out(key, room);
+        self.marks.set(key, Mark::Taken);
+        Some(key)
     }
 
     /// Takes the open task of the least key from `pick` on, else of the least key. It is then out.
@@ -105,10 +137,28 @@ impl Book {
         ensures none { IfNone result ((k : ℕ) → ¬ IsOpenAt self.old k) }
         ensures unchanged { IfNone result (self.new ≡ self.old) }
     {
-        let key = self.marks.find(Mark::ToTake, pick)?;
-        let task = entries::let_out(&mut self.slab, key);
-        self.marks.set(key, Mark::Taken);
-        Some((key, task))
+        let mut room = Task::blank();
+        let key = self.take_into(pick, &mut room)?;
+        Some((key, room))
+    }
+
+    /// Gives a copy of the result of a task that is out under a key. It is then to be fetched by its user.
+    ///
+    /// # Errors
+    /// `NotOut` where that very task is not out under that key. Nothing has changed then.
+    pub fn give_from(&mut self, key: Key, done: &Done) -> Result<(), NotOut>
+        ensures given { IsOk result ↔ (at self.old key ≡ Some (Entry.Out done.now)) }
+        ensures gives { OnOk result (Gives self.old self.new key done.now) }
+        ensures unchanged { OnErr result (self.new ≡ self.old) }
+    {
+        if !self.entries.is_out(key, done.task()) {
+            return Err(NotOut);
+        }
+        let user = done.task().name().label.user;
+        self.entries.finish(key, done);
+        self.marks.set(key, Mark::ToFetch(user));
+        self.given += 1;
+        Ok(())
     }
 
     /// Gives the result of a task that is out under a key. It is then to be fetched by its user.
@@ -121,14 +171,10 @@ impl Book {
         ensures handed_back { IfErr result (λ refused. refused ≡ done) }
         ensures unchanged { OnErr result (self.new ≡ self.old) }
     {
-        if !entries::is_out(&self.slab, key, done.task()) {
-            return Err(done);
+        match self.give_from(key, &done) {
+            Ok(()) => Ok(()),
+            Err(NotOut) => Err(done),
         }
-        let user = done.task().name().label.user;
-        entries::replace(&mut self.slab, key, Entry::Done(done));
-        self.marks.set(key, Mark::ToFetch(user));
-        self.given += 1;
-        Ok(())
     }
 
     /// Hands back a task that is out under a key. It is then open again.
@@ -140,12 +186,30 @@ impl Book {
         ensures hands_back { OnOk result (HandsBack self.old self.new key task.now) }
         ensures unchanged { OnErr result (self.new ≡ self.old) }
     {
-        if !entries::is_out(&self.slab, key, task) {
+        if !self.entries.is_out(key, task) {
             return Err(NotOut);
         }
-        entries::replace(&mut self.slab, key, Entry::Open(task.copy()));
+        self.entries.reopen(key, task);
         self.marks.set(key, Mark::ToTake);
         Ok(())
+    }
+
+    /// Fetches the user's result of the least key from `pick` on, else of the least key, and copies it into a room. Its
+    /// entry leaves the book. False where there is none: the room stays as it is then.
+    pub fn fetch_into(&mut self, user: u8, pick: usize, room: &mut Done) -> bool
+        ensures some { result ≡ true → (key : ℕ) × Fetches self.old self.new room.new key
+            × IsPick (IsDoneAt user self.old) pick key }
+        ensures none { result ≡ false → (k : ℕ) → ¬ IsDoneAt user self.old k }
+        ensures unchanged { result ≡ false → self.new ≡ self.old }
+        ensures same_room { result ≡ false → room.new ≡ room.old }
+    {
+        let Some(key) = self.marks.find(Mark::ToFetch(user), pick) else {
+            return false;
+        };
+        self.entries.take_out(key, user, room);
+        self.marks.set(key, Mark::Vacant);
+        self.fetched += 1;
+        true
     }
 
     /// Fetches the user's result of the least key from `pick` on, else of the least key. Its entry leaves the book.
@@ -155,18 +219,18 @@ impl Book {
         ensures none { IfNone result ((k : ℕ) → ¬ IsDoneAt user self.old k) }
         ensures unchanged { IfNone result (self.new ≡ self.old) }
     {
-        let key = self.marks.find(Mark::ToFetch(user), pick)?;
-        let done = entries::remove_done(&mut self.slab, key, user);
-        self.marks.set(key, Mark::Vacant);
-        self.fetched += 1;
-        Some(done)
+        let mut room = Done::blank();
+        if !self.fetch_into(user, pick, &mut room) {
+            return None;
+        }
+        Some(room)
     }
 
     /// Withdraws every entry of the user, also of tasks that are out.
     pub fn withdraw(&mut self, user: u8)
         ensures { Withdraws user self.old self.new }
     {
-        for key in 0..self.slab.capacity() {
+        for key in 0..self.entries.capacity() {
             self.withdraw_at(key, user);
         }
     }
@@ -175,8 +239,8 @@ impl Book {
     fn withdraw_at(&mut self, key: usize, user: u8)
         ensures { WithdrawsAt user key self.old self.new }
     {
-        if entries::is_of(&self.slab, key, user) {
-            entries::remove(&mut self.slab, key);
+        if self.entries.is_of(key, user) {
+            self.entries.remove(key);
             self.marks.set(key, Mark::Vacant);
             self.withdrawn += 1;
         }
@@ -197,7 +261,7 @@ impl Book {
             given: self.given,
             fetched: self.fetched,
             withdrawn: self.withdrawn,
-            entries: self.slab.len() as u64,
+            entries: self.entries.len() as u64,
         }
     }
 }

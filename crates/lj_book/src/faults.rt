@@ -12,3 +12,8 @@ pub struct Full {
 #[derive(Clone, Copy, PartialEq, Eq, Debug, Error)]
 #[error("that task is not out under that key")]
 pub struct NotOut;
+
+/// The book took no task: it is full, or has taken as many as it counts.
+#[derive(Clone, Copy, PartialEq, Eq, Debug, Error)]
+#[error("the book takes no task now")]
+pub struct NoRoom;

@@ -7,4 +7,4 @@ mod faults;
 mod marks;
 
 pub use book::{Book, Counts, Key, MAX_ENTRIES};
-pub use faults::{Full, NotOut};
+pub use faults::{Full, NoRoom, NotOut};

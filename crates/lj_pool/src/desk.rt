@@ -1,7 +1,6 @@
 //! What lies under the lock of a pool.
 ghost use Rattle.std.specs.Prelude.{◌≡◌, ◌+◌, ◌-◌, ◌≤◌, ◌<◌, ◌↔◌, ℕ, cond, max, nat_eq, nat_lt, Some, None, true, false, IsOk, IsTrue, IfErr, IfNone, IfSome, OnErr, OnOk};
-ghost use Rattle.lj_book.specs.declared.entries.Entry.TheVariants.{Out};
-ghost use Rattle.lj_book.specs.Held.{at, standing, Fetches, Gives, HandsBack, IsDoneAt, IsOpenAt, Posts, Takes, Withdraws};
+ghost use Rattle.lj_book.specs.Held.{Out, at, standing, Fetches, Gives, HandsBack, IsDoneAt, IsOpenAt, Posts, Takes, Withdraws};
 ghost use Rattle.lj_pool.specs.Refusals.{task_of, IsClosed};
 ghost use Rattle.lj_pool.specs.Desks.{HasRoom, bell_of, due_at};
 

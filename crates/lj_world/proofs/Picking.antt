@@ -1,9 +1,8 @@
 -- Where the picked entry of the book changes, or none does, the pick decides.
 use Rattle.std.proofs.Common.{ℕ, Option, refl, sym, subst, inl, inr}
 use Rattle.std.proofs.lemmas.Bool.{cases_eq}
-use Rattle.lj_book.specs.declared.entries.Entry.{Entry}
 use Rattle.lj_book.specs.Picks.{IsPick}
-use Rattle.lj_book.specs.Held.{Held, Puts}
+use Rattle.lj_book.specs.Held.{Held, Entry, Puts}
 use Rattle.lj_world.specs.declared.event.Deed.{Deed}
 use Rattle.lj_world.specs.declared.event.Deed.TheVariants.{Take, Compute, Give, HandBack}
 use Rattle.lj_world.specs.Picked.{ChangesPicked, DeedHeeds}

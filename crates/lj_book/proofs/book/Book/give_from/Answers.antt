@@ -2,24 +2,23 @@ use Rattle.std.proofs.Common.{◌≡◌, Some, ap, sym, ◌∙◌, arith}
 use Rattle.slab.specs.Slab.{get}
 use Rattle.lj_tile.specs.declared.names.TaskName.{TaskName}
 use Rattle.lj_tile.specs.Tasks.{Work}
-use Rattle.lj_book.specs.declared.entries.Entry.TheVariants.{Out, Done}
+use Rattle.lj_book.specs.Held.{Out}
 use Rattle.lj_book.specs.declared.marks.Mark.TheVariants.{Taken, ToFetch}
-use Rattle.lj_book.specs.Held.{mark_of, weight}
+use Rattle.lj_book.specs.Held.{mark_of}
 use Rattle.lj_book.specs.Marks.{mark_at}
 use Rattle.lj_book.proofs.BookLemmas.{changed_book, key_within}
-use Rattle.lj_book.proofs.book.Book.give.Goals as goal
+use Rattle.lj_book.proofs.book.Book.give_from.Goals as goal
 
 pub invariant_of-self : goal.invariant_of-self
 invariant_of-self c =
     let held = c.self.invariant in
-    let out : get c.self.inside.slab c.args.key ≡ Some (Out c.args.done) =
+    let out : get c.self.inside.entries c.args.key ≡ Some (Out c.args.done.now) =
     rw c.task.ensures at (c.is_out.ensures.0 c.if-not-is_out.false) in
     let taken : mark_at c.self.inside.marks c.args.key ≡ Taken = held.marked c.args.key ∙ ap mark_of out in
-    let waits = rw out at c.replace.ensures.waiting in
     let user = ap (λ (n : TaskName). n.label.user) (c.name.ensures.value ∙ ap (λ (w : Work). w.name) c.task-2.ensures) in
     rw c.set.ensures
-    (changed_book c.self.inside.slab c.self.inside.marks held.marked c.replace.new.slab c.args.key _ _
+    (changed_book c.self.inside.entries c.self.inside.marks held.marked c.finish.new.self c.args.key _ _
     (key_within c.self.inside.marks c.args.key (λ vacant. let e : Taken ≡ _ = sym taken ∙ vacant in cc))
-    c.replace.ensures.updates (ap ToFetch user) held.keys held.room c.replace.ensures.capacity _ _ _ _
-    (omega (arith, held.balance, c.replace.ensures.len)) (omega (arith, held.given_or_waiting, waits))
-    (omega (arith, held.most, c.replace.ensures.len)))
+    c.finish.ensures.updates (ap ToFetch user) held.keys held.room c.finish.ensures.capacity _ _ _ _
+    (omega (arith, held.balance, c.finish.ensures.len)) (omega (arith, held.given_or_waiting, c.finish.ensures.waiting))
+    (omega (arith, held.most, c.finish.ensures.len)))

@@ -3,31 +3,31 @@ use Rattle.lj_book.specs.declared.marks.Mark.TheVariants.{ToFetch}
 use Rattle.lj_book.specs.Held.{Held, Fetches, IsDoneAt}
 use Rattle.lj_book.specs.Picks.{IsPick}
 use Rattle.lj_book.proofs.BookLemmas.{picked}
-use Rattle.lj_book.proofs.book.Book.fetch.Goals as goal
+use Rattle.lj_book.proofs.book.Book.fetch_into.Goals as goal
 
 pub returns-clause-some : goal.returns-clause-some
-returns-clause-some c =
+returns-clause-some c e =
     let new : Held = record {
-      slots = c.remove_done-done.new.slab.slots;
+      slots = c.take_out.new.self.slots;
       posted = c.self.inside.posted;
       given = c.self.inside.given;
       fetched = c.self.inside.fetched + 1;
       withdrawn = c.self.inside.withdrawn;
     } in
-    subst (λ (old : Held). (key : ℕ) × Fetches old new c.remove_done-done.result key
+    subst (λ (old : Held). (key : ℕ) × Fetches old new c.take_out.new.room key
     × IsPick (IsDoneAt c.args.user old) c.args.pick key) c.self.view_is (
-      c.in_ok-key.key,
+      c.in-Some.key,
       record {
-        was = c.remove_done-done.ensures.value;
+        was = c.take_out.ensures.value;
         puts = record {
-          changed = c.remove_done-done.ensures.updates.changed;
-          others = c.remove_done-done.ensures.updates.others;
+          changed = c.take_out.ensures.updates.changed;
+          others = c.take_out.ensures.updates.others;
         };
         posted = refl;
         given = refl;
         fetched = refl;
         withdrawn = refl;
       },
-      picked c.self.inside.slab c.self.inside.marks c.self.invariant.marked (ToFetch c.args.user) c.args.pick
-          c.in_ok-key.key (λ vacant. cc) c.in_ok-key.ensures.some,
+      picked c.self.inside.entries c.self.inside.marks c.self.invariant.marked (ToFetch c.args.user) c.args.pick
+          c.in-Some.key (λ vacant. cc) c.in-Some.ensures.some,
     )

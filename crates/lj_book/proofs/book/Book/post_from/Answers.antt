@@ -1,13 +1,13 @@
 use Rattle.std.proofs.Common.{ℕ, ◌+◌, refl, subst, arith}
 use Rattle.lj_book.specs.Held.{Held, Posts}
 use Rattle.lj_book.proofs.BookLemmas.{changed_book}
-use Rattle.lj_book.proofs.book.Book.post.Goals as goal
+use Rattle.lj_book.proofs.book.Book.post_from.Goals as goal
 
 pub invariant_of-self : goal.invariant_of-self
 invariant_of-self c =
     let held = c.self.invariant in
     rw c.set.ensures
-    (changed_book c.self.inside.slab c.self.inside.marks held.marked c.insert-key.new.slab c.insert-key.result _ _
+    (changed_book c.self.inside.entries c.self.inside.marks held.marked c.insert-key.new.self c.insert-key.result _ _
     (omega (arith, held.keys, c.insert-key.ensures.key_in_range, c.insert-key.ensures.capacity))
     c.insert-key.ensures.updates refl held.keys held.room c.insert-key.ensures.capacity _ _ _ _
     (omega (arith, held.balance, c.insert-key.ensures.len))
@@ -17,13 +17,13 @@ invariant_of-self c =
 pub returns-clause-posts : goal.returns-clause-posts
 returns-clause-posts c =
     let new : Held = record {
-      slots = c.insert-key.new.slab.slots;
+      slots = c.insert-key.new.self.slots;
       posted = c.self.inside.posted + 1;
       given = c.self.inside.given;
       fetched = c.self.inside.fetched;
       withdrawn = c.self.inside.withdrawn;
     } in
-    subst (λ (old : Held). (key : ℕ) × Posts old new c.args.task key) c.self.view_is (
+    subst (λ (old : Held). (key : ℕ) × Posts old new c.args.task.now key) c.self.view_is (
       c.insert-key.result,
       record {
         was = c.insert-key.ensures.was_vacant;
