@@ -65,18 +65,6 @@ impl Account {
         self.owed += 1;
     }
 
-    /// Notes that the task which was posted last was not.
-    pub fn take_back(&mut self)
-        requires { 0 < length self.old.owed }
-        ensures owed { self.new.owed ≡ remove self.old.owed (length self.old.owed - 1) }
-        ensures good { self.new.good ≡ self.old.good }
-        ensures strays { self.new.strays ≡ self.old.strays }
-        ensures closed { self.new.closed ≡ self.old.closed }
-    {
-        let last = self.owed() - 1;
-        self.take_off(last);
-    }
-
     /// Counts a result of this task, which is then owed no more if it was.
     pub fn count(&mut self, task: &Task)
         ensures handed_out { IsHandedOut task.now self.old self.new }

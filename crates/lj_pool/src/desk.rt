@@ -1,12 +1,12 @@
 //! What lies under the lock of a pool.
 ghost use Rattle.std.specs.Prelude.{◌≡◌, ◌+◌, ◌-◌, ◌≤◌, ◌<◌, ◌↔◌, ℕ, cond, max, nat_eq, nat_lt, Some, None, true, false, IsOk, IsTrue, IfErr, IfNone, IfSome, OnErr, OnOk};
 ghost use Rattle.lj_book.specs.Held.{Out, at, standing, Fetches, Gives, HandsBack, IsDoneAt, IsOpenAt, Posts, Takes, Withdraws};
-ghost use Rattle.lj_pool.specs.Refusals.{task_of, IsClosed};
+ghost use Rattle.lj_pool.specs.declared.pool.NotPosted.TheVariants.{Closed};
 ghost use Rattle.lj_pool.specs.Desks.{HasRoom, bell_of, due_at};
 
-use crate::pool::Refused;
+use crate::pool::NotPosted;
 use crate::share::Share;
-use lj_book::{Book, Counts, Full, Key, MAX_ENTRIES};
+use lj_book::{Book, Counts, Key, MAX_ENTRIES};
 use lj_tile::{Done, Task};
 use std::mem;
 use std::sync::ledger::{self, Ledger};
@@ -53,26 +53,23 @@ impl<L: Ledger> Desk<L> {
         }
     }
 
-    /// Posts a task.
-    pub(crate) fn post(&mut self, task: Task) -> Result<(), Refused>
+    /// Posts a copy of a task.
+    pub(crate) fn post(&mut self, task: &Task) -> Result<(), NotPosted>
         ensures room { IsOk result ↔ ((self.old.closed ≡ false) × HasRoom self.old.book) }
-        ensures posts { OnOk result ((key : ℕ) × Posts self.old.book self.new.book task key) }
-        ensures handed_back { IfErr result (λ refused. task_of refused ≡ task) }
-        ensures closed { IfErr result (λ refused. IsClosed refused ↔ (self.old.closed ≡ true)) }
+        ensures posts { OnOk result ((key : ℕ) × Posts self.old.book self.new.book task.now key) }
+        ensures closed { IfErr result (λ why. (why ≡ Closed) ↔ (self.old.closed ≡ true)) }
         ensures unchanged { OnErr result (self.new.book ≡ self.old.book) }
         ensures stays { self.new.closed ≡ self.old.closed }
         ensures untold { OnOk result (1 ≤ self.new.untold) }
     {
         if self.closed {
-            return Err(Refused::Closed(task));
+            return Err(NotPosted::Closed);
         }
-        match self.book.post(task) {
-            Ok(()) => {
-                self.untold = self.untold.saturating_add(1);
-                Ok(())
-            }
-            Err(Full { task }) => Err(Refused::Full(task)),
+        if self.book.post_from(task).is_err() {
+            return Err(NotPosted::Full);
         }
+        self.untold = self.untold.saturating_add(1);
+        Ok(())
     }
 
     /// How many tasks the workers are to be told of, once there are so many that they were not told of.
@@ -115,35 +112,34 @@ impl<L: Ledger> Desk<L> {
         rings
     }
 
-    /// Takes an open task, in turn. None where there is none, or the pool is closed.
-    pub(crate) fn take(&mut self) -> Option<(Key, Task)>
-        ensures some { IfSome result (λ taken. Takes self.old.book self.new.book taken.0 taken.1) }
+    /// Takes an open task, in turn, into a room. None where there is none, or the pool is closed: the room stays as it is.
+    pub(crate) fn take(&mut self, room: &mut Task) -> Option<Key>
+        ensures some { IfSome result (λ key. Takes self.old.book self.new.book key room.new) }
         ensures none { IfNone result (self.old.closed ≡ false → (k : ℕ) → ¬ IsOpenAt self.old.book k) }
         ensures unchanged { IfNone result (self.new.book ≡ self.old.book) }
+        ensures same_room { IfNone result (room.new ≡ room.old) }
         ensures closed { self.old.closed ≡ true → result ≡ None }
         ensures stays { self.new.closed ≡ self.old.closed }
     {
         if self.closed {
             return None;
         }
-        let taken = self.book.take(self.next);
-        if let Some((key, _)) = &taken {
-            self.next = key.wrapping_add(1);
-        }
-        taken
+        let key = self.book.take_into(self.next, room)?;
+        self.next = key.wrapping_add(1);
+        Some(key)
     }
 
     /// Gives a result, and credits it to the share of its worker if it is accepted. Whether it is.
-    pub(crate) fn give(&mut self, key: Key, done: Done, share: &mut Share<L>) -> bool
-        ensures accepted { IsTrue result ↔ (at self.old.book key ≡ Some (Out done)) }
-        ensures gives { result ≡ true → Gives self.old.book self.new.book key done }
+    pub(crate) fn give(&mut self, key: Key, done: &Done, share: &mut Share<L>) -> bool
+        ensures accepted { IsTrue result ↔ (at self.old.book key ≡ Some (Out done.now)) }
+        ensures gives { result ≡ true → Gives self.old.book self.new.book key done.now }
         ensures credited { result ≡ true → share.new ≡ share.old + 1 }
         ensures unchanged { result ≡ false → self.new.book ≡ self.old.book }
         ensures not_credited { result ≡ false → share.new ≡ share.old }
         ensures stays { self.new.closed ≡ self.old.closed }
     {
         let Desk { book, results, .. } = self;
-        if book.give(key, done).is_err() {
+        if book.give_from(key, done).is_err() {
             return false;
         }
         let _given = book.counts().given;
@@ -169,19 +165,20 @@ impl<L: Ledger> Desk<L> {
         true
     }
 
-    /// Fetches a result of the user. None where there is none, or the pool is closed.
-    pub(crate) fn fetch(&mut self, user: u8) -> Option<Done>
-        ensures some { IfSome result (λ done. (key : ℕ) × Fetches self.old.book self.new.book done key) }
-        ensures whose { IfSome result (λ done. done.name.label.user ≡ user) }
-        ensures none { IfNone result (self.old.closed ≡ false → (k : ℕ) → ¬ IsDoneAt user self.old.book k) }
-        ensures unchanged { IfNone result (self.new.book ≡ self.old.book) }
-        ensures closed { self.old.closed ≡ true → result ≡ None }
+    /// Fetches a result of the user into a room. False where there is none, or the pool is closed: the room stays as it is.
+    pub(crate) fn fetch(&mut self, user: u8, room: &mut Done) -> bool
+        ensures some { result ≡ true → (key : ℕ) × Fetches self.old.book self.new.book room.new key }
+        ensures whose { result ≡ true → room.new.name.label.user ≡ user }
+        ensures none { result ≡ false → self.old.closed ≡ false → (k : ℕ) → ¬ IsDoneAt user self.old.book k }
+        ensures unchanged { result ≡ false → self.new.book ≡ self.old.book }
+        ensures same_room { result ≡ false → room.new ≡ room.old }
+        ensures closed { self.old.closed ≡ true → result ≡ false }
         ensures stays { self.new.closed ≡ self.old.closed }
     {
         if self.closed {
-            return None;
+            return false;
         }
-        self.book.fetch(user, 0)
+        self.book.fetch_into(user, 0, room)
     }
 
     /// Withdraws every entry of the user.

@@ -6,7 +6,7 @@ ghost use Rattle.lj_pool.specs.Seen.{IsHandedOut, IsPosted, SameOwed, StaysClose
 
 use crate::account::Account;
 use crate::locked::LockPool;
-use crate::pool::{NotPosted, Pool, Refused};
+use crate::pool::{NotPosted, Pool};
 use lj_tile::{Done, Task};
 use std::marker::Model;
 use std::sync::Wait;
@@ -65,51 +65,46 @@ impl<'p, L: Ledger, R: Wait> Pool for LockEnd<'p, L, R> {
         ensures closed { IfErr result (λ why. why ≡ Closed → self.new.seen.closed ≡ true) }
         ensures stays_closed { StaysClosed self.old.seen self.new.seen }
     {
-        self.account.post(task);
-        match self.pool.post(self.rt, task.copy(), wait) {
-            Ok(()) => Ok(()),
-            Err(Refused::Full(_)) => {
-                self.account.take_back();
-                Err(NotPosted::Full)
-            }
-            Err(Refused::Closed(_)) => {
-                self.account.take_back();
-                self.account.close();
-                Err(NotPosted::Closed)
-            }
+        let posted = self.pool.post(self.rt, task, wait);
+        match posted {
+            Ok(()) => self.account.post(task),
+            Err(NotPosted::Full) => {}
+            Err(NotPosted::Closed) => self.account.close(),
         }
+        posted
     }
 
     fn fetch_in(&mut self, user: u8) -> bool
         ensures whose { result ≡ true → self.new.last.name.label.user ≡ user }
+        ensures last { result ≡ false → self.new.last ≡ self.old.last }
         ensures handed_out { result ≡ true → IsHandedOut self.new.last self.old.seen self.new.seen }
         ensures unchanged { result ≡ false → SameOwed self.old.seen self.new.seen }
         ensures closed { result ≡ false → self.new.seen.closed ≡ true }
         ensures stays_closed { StaysClosed self.old.seen self.new.seen }
     {
         let owed = self.account.owed();
-        let Some(done) = self.pool.fetch(self.rt, user, owed) else {
+        let fetched = self.pool.fetch(self.rt, user, owed, &mut self.room);
+        if fetched {
+            self.account.count(self.room.task());
+        } else {
             self.account.close();
-            return false;
-        };
-        self.account.count(done.task());
-        self.room = done;
-        true
+        }
+        fetched
     }
 
     fn poll_in(&mut self, user: u8) -> bool
         ensures whose { result ≡ true → self.new.last.name.label.user ≡ user }
+        ensures last { result ≡ false → self.new.last ≡ self.old.last }
         ensures open { self.new.seen.closed ≡ self.old.seen.closed }
         ensures handed_out { result ≡ true → IsHandedOut self.new.last self.old.seen self.new.seen }
         ensures unchanged { result ≡ false → SameOwed self.old.seen self.new.seen }
         ensures stays_closed { StaysClosed self.old.seen self.new.seen }
     {
-        let Some(done) = self.pool.poll(self.rt, user) else {
-            return false;
-        };
-        self.account.count(done.task());
-        self.room = done;
-        true
+        let polled = self.pool.poll(self.rt, user, &mut self.room);
+        if polled {
+            self.account.count(self.room.task());
+        }
+        polled
     }
 
     fn fetched(&self) -> &Done {

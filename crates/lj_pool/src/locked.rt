@@ -1,13 +1,13 @@
 //! A pool behind a lock, whose workers run in threads of their own.
-ghost use Rattle.std.specs.Prelude.{◌≡◌, ◌+◌, ◌≤◌, true, vec_len, IfErr, IfOk, IfSome};
+ghost use Rattle.std.specs.Prelude.{◌≡◌, ◌+◌, ◌≤◌, true, false, vec_len, IfErr, IfNone, IfOk, OnErr};
 ghost use Rattle.std.specs.List.{All};
-ghost use Rattle.lj_pool.specs.Refusals.{task_of, IsClosed};
+ghost use Rattle.lj_pool.specs.declared.pool.NotPosted.TheVariants.{Closed};
 ghost use Rattle.lj_pool.specs.Seen.{unseen};
 ghost use Rattle.lj_tile.specs.Blank.{blank};
 
 use crate::desk::{BELLS, Desk, bell_of};
 use crate::lock_end::LockEnd;
-use crate::pool::Refused;
+use crate::pool::NotPosted;
 use crate::share::Share;
 use lj_book::{Book, Counts, Key};
 use lj_tile::{Done, Task};
@@ -95,16 +95,14 @@ impl<L: Ledger> LockPool<L> {
         self.room.notify_all();
     }
 
-    /// Posts a task. With `wait` it waits while the book is full.
-    pub(crate) fn post<R: Wait>(&self, rt: &R, task: Task, wait: bool) -> Result<(), Refused>
-        ensures handed_back { IfErr result (λ refused. task_of refused ≡ task) }
-        ensures full { wait ≡ true → IfErr result IsClosed }
+    /// Posts a copy of a task. With `wait` it waits while the book is full.
+    pub(crate) fn post<R: Wait>(&self, rt: &R, task: &Task, wait: bool) -> Result<(), NotPosted>
+        ensures full { wait ≡ true → IfErr result (λ why. why ≡ Closed) }
     {
-        let mut task = task;
         let mut desk = self.desk.lock(rt);
         for _ in rt.forever() {
             match desk.post(task) {
-                Err(Refused::Full(refused)) if wait => task = refused,
+                Err(NotPosted::Full) if wait => {}
                 posted => {
                     let tasks = desk.tells(TASKS_AT_ONCE);
                     drop(desk);
@@ -126,14 +124,15 @@ impl<L: Ledger> LockPool<L> {
         }
     }
 
-    /// Fetches a result of the user, and waits for one. None where the pool is closed. So many are owed to the end that
-    /// asks.
-    pub(crate) fn fetch<R: Wait>(&self, rt: &R, user: u8, owed: usize) -> Option<Done>
-        ensures { IfSome result (λ done. done.name.label.user ≡ user) }
+    /// Fetches a result of the user into a room, and waits for one. False where the pool is closed: the room stays as it
+    /// is. So many are owed to the end that asks.
+    pub(crate) fn fetch<R: Wait>(&self, rt: &R, user: u8, owed: usize, room: &mut Done) -> bool
+        ensures whose { result ≡ true → room.new.name.label.user ≡ user }
+        ensures same_room { result ≡ false → room.new ≡ room.old }
     {
         let mut desk = self.desk.lock(rt);
         for _ in rt.forever() {
-            match self.fetch_from(desk, user) {
+            match self.fetch_from(desk, user, room) {
                 Ok(fetched) => return fetched,
                 Err(kept) => desk = kept,
             }
@@ -143,15 +142,17 @@ impl<L: Ledger> LockPool<L> {
         unreachable!()
     }
 
-    /// Fetches a result of the user that is there now. None where there is none, or the pool is closed.
-    pub(crate) fn poll<R: Wait>(&self, rt: &R, user: u8) -> Option<Done>
-        ensures { IfSome result (λ done. done.name.label.user ≡ user) }
+    /// Fetches a result of the user that is there now into a room. False where there is none, or the pool is closed: the
+    /// room stays as it is.
+    pub(crate) fn poll<R: Wait>(&self, rt: &R, user: u8, room: &mut Done) -> bool
+        ensures whose { result ≡ true → room.new.name.label.user ≡ user }
+        ensures same_room { result ≡ false → room.new ≡ room.old }
     {
         let desk = self.desk.lock(rt);
-        self.fetch_from(desk, user).unwrap_or(None)
+        self.fetch_from(desk, user, room).unwrap_or(false)
     }
 
-    /// Fetches a result of the user, or None where the pool is closed, and lets go of the desk.
+    /// Fetches a result of the user into a room, and lets go of the desk. False where the pool is closed.
     ///
     /// # Errors
     /// The desk, where there is none yet. Workers that wait are told then of the tasks that they were not told of.
@@ -159,13 +160,16 @@ impl<L: Ledger> LockPool<L> {
         &self,
         desk: MutexGuard<'d, Desk<L>>,
         user: u8,
-    ) -> Result<Option<Done>, MutexGuard<'d, Desk<L>>>
-        ensures { IfOk result (λ fetched. IfSome fetched (λ done. done.name.label.user ≡ user)) }
+        room: &mut Done,
+    ) -> Result<bool, MutexGuard<'d, Desk<L>>>
+        ensures whose { IfOk result (λ fetched. fetched ≡ true → room.new.name.label.user ≡ user) }
+        ensures same_room { IfOk result (λ fetched. fetched ≡ false → room.new ≡ room.old) }
+        ensures unchanged { OnErr result (room.new ≡ room.old) }
     {
         let mut desk = desk;
         let was_full = desk.is_full();
-        let fetched = desk.fetch(user);
-        if fetched.is_none() && !desk.is_closed() {
+        let fetched = desk.fetch(user, room);
+        if !fetched && !desk.is_closed() {
             self.tell(desk.tells(1));
             return Err(desk);
         }
@@ -176,48 +180,54 @@ impl<L: Ledger> LockPool<L> {
         Ok(fetched)
     }
 
-    /// Gives a result, which is credited to the share if it is accepted. Then takes an open task, and waits for one.
-    /// None where the pool is closed.
+    /// Gives a result, which is credited to the share if it is accepted. Then takes an open task into a room, and waits
+    /// for one. None where the pool is closed: the room stays as it is.
     pub(crate) fn exchange<R: Wait>(
         &self,
         rt: &R,
         key: Key,
-        done: Done,
+        done: &Done,
         share: &mut Share<L>,
-    ) -> Option<(Key, Task)>
+        room: &mut Task,
+    ) -> Option<Key>
         ensures never_falls { share.old ≤ share.new }
         ensures one_at_most { share.new ≤ share.old + 1 }
+        ensures same_room { IfNone result (room.new ≡ room.old) }
     {
         let user = done.task().name().label.user;
         let mut desk = self.desk.lock(rt);
         let rings = desk.give(key, done, share) && desk.rings(user);
-        let taken = desk.take();
+        let taken = desk.take(room);
         drop(desk);
         if rings {
             self.given[bell_of(user)].notify_all();
         }
         if taken.is_none() {
-            return self.take(rt);
+            return self.take(rt, room);
         }
         taken
     }
 
-    /// Hands a task back, which is then open again, and tells workers that wait of it. Then takes an open task, which may
-    /// be the same, and waits for one. None where the pool is closed.
-    pub(crate) fn hand_back<R: Wait>(&self, rt: &R, key: Key, task: Task) -> Option<(Key, Task)> {
+    /// Hands the task in a room back, which is then open again, and tells workers that wait of it. Then takes an open task
+    /// into the room, which may be the same, and waits for one. None where the pool is closed: the room stays as it is.
+    pub(crate) fn hand_back<R: Wait>(&self, rt: &R, key: Key, room: &mut Task) -> Option<Key>
+        ensures { IfNone result (room.new ≡ room.old) }
+    {
         let mut desk = self.desk.lock(rt);
-        desk.hand_back(key, &task);
+        desk.hand_back(key, room);
         let tasks = desk.tells(1);
         drop(desk);
         self.tell(tasks);
-        self.take(rt)
+        self.take(rt, room)
     }
 
-    /// Takes an open task, and waits for one. None where the pool is closed.
-    pub(crate) fn take<R: Wait>(&self, rt: &R) -> Option<(Key, Task)> {
+    /// Takes an open task into a room, and waits for one. None where the pool is closed: the room stays as it is.
+    pub(crate) fn take<R: Wait>(&self, rt: &R, room: &mut Task) -> Option<Key>
+        ensures { IfNone result (room.new ≡ room.old) }
+    {
         let mut desk = self.desk.lock(rt);
         for _ in rt.forever() {
-            let taken = desk.take();
+            let taken = desk.take(room);
             if taken.is_some() || desk.is_closed() {
                 return taken;
             }

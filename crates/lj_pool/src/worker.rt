@@ -5,7 +5,7 @@ ghost use Rattle.lj_tile.specs.declared.names.TaskName.{TaskName};
 use crate::locked::LockPool;
 use crate::share::Share;
 use lj_table::Table;
-use lj_tile::{TaskName, compute};
+use lj_tile::{Done, Task, TaskName, compute_in};
 use std::sync::Wait;
 use std::sync::ledger::Ledger;
 
@@ -34,7 +34,8 @@ impl Gate for () {
 }
 
 /// Computes tasks of the pool until it is closed, but those that the gate sends back, which it hands back. The share
-/// that is handed back has been credited each result that was accepted.
+/// that is handed back has been credited each result that was accepted. A worker has one room for a task and one for its
+/// result.
 pub fn work<L: Ledger, G: Gate, R: Wait>(
     rt: &R,
     pool: &LockPool<L>,
@@ -45,16 +46,19 @@ pub fn work<L: Ledger, G: Gate, R: Wait>(
     ensures { share ≤ result }
 {
     let mut share = share;
-    let mut taken = pool.take(rt);
+    let mut task = Task::blank();
+    let mut done = Done::blank();
+    let mut taken = pool.take(rt, &mut task);
     for _ in rt.forever() {
-        let Some((key, task)) = taken else {
+        let Some(key) = taken else {
             break;
         };
         if gate.back(task.name()) {
-            taken = pool.hand_back(rt, key, task);
+            taken = pool.hand_back(rt, key, &mut task);
         } else {
             gate.between(task.name());
-            taken = pool.exchange(rt, key, compute(task, table), &mut share);
+            compute_in(&task, table, &mut done);
+            taken = pool.exchange(rt, key, &done, &mut share, &mut task);
         }
     }
     share
