@@ -116,15 +116,16 @@ def advance(talks: Sequence[Talk], steps: int, step: int) -> None:
 
 
 def spent(path: str) -> float:
-    """How long a process or thread has computed, in seconds, by its file `stat`."""
-    with open(f"{path}/stat", encoding="utf-8") as file:
-        words = file.read().rpartition(")")[2].split()
-    return (int(words[11]) + int(words[12])) / os.sysconf("SC_CLK_TCK")
+    """How long a thread has computed, in seconds, by its file `schedstat`, which counts nanoseconds."""
+    with open(f"{path}/schedstat", encoding="utf-8") as file:
+        return int(file.read().split()[0]) / 1e9
 
 
 def processor_seconds(child: Child) -> float:
-    """How long the threads of a program have computed."""
-    return spent(f"/proc/{child.pid}")
+    """How long the threads of a program have computed, those too that have ended, by its file `stat`."""
+    with open(f"/proc/{child.pid}/stat", encoding="utf-8") as file:
+        words = file.read().rpartition(")")[2].split()
+    return (int(words[11]) + int(words[12])) / os.sysconf("SC_CLK_TCK")
 
 
 class Use(NamedTuple):
