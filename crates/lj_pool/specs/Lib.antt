@@ -11,5 +11,6 @@ pub mod Serving
 pub mod Served
 pub mod Accounts
 pub mod Ends
+pub mod Waking
 pub mod Desks
 pub mod Limits

@@ -1,11 +1,12 @@
 //! What an end of a pool is owed, and what it has counted.
-ghost use Rattle.std.specs.Prelude.{◌≡◌, ◌<◌, ◌≤◌, ◌-◌, ◌↔◌, ℕ, Some, cond, length, nat_lt, slice_index_or, true, false, IfSome, IfNone, IsTrue};
+ghost use Rattle.std.specs.Prelude.{◌≡◌, ◌<◌, ◌≤◌, ◌-◌, ◌↔◌, ℕ, Some, cond, length, nat_lt, slice_index_or, true, false, IfErr, IfSome, IfNone, IsTrue, OnErr, OnOk};
 ghost use Rattle.std.specs.List.{Contains, remove};
-ghost use Rattle.lj_pool.specs.Seen.{IsHandedOut, IsPosted, SameOwed, unseen};
+ghost use Rattle.lj_pool.specs.declared.pool.NotPosted.TheVariants.{Closed, Full};
+ghost use Rattle.lj_pool.specs.Seen.{IsHandedOut, IsPosted, SameOwed, StaysClosed, unseen};
 ghost use Rattle.lj_pool.specs.Gathering.{times};
 ghost use Rattle.lj_pool.specs.Accounts.{IsFirst};
 
-use crate::pool::MAX_OWED;
+use crate::pool::{MAX_OWED, NotPosted};
 use arrayvec::ArrayVec;
 use lj_tile::Task;
 use std::array;
@@ -55,7 +56,7 @@ impl Account {
     }
 
     /// Notes that a task was posted.
-    pub fn post(&mut self, task: &Task)
+    fn post(&mut self, task: &Task)
         requires { length self.old.owed < MAX_OWED }
         ensures posted { IsPosted task.now self.old self.new }
         ensures closed { self.new.closed ≡ self.old.closed }
@@ -63,6 +64,22 @@ impl Account {
         let place = usize::from(self.places[self.owed]);
         keep(&mut self.tasks[place], task);
         self.owed += 1;
+    }
+
+    /// Notes that a task was posted, or why it was not.
+    pub fn note_post(&mut self, task: &Task, posted: Result<(), NotPosted>)
+        requires { length self.old.owed < MAX_OWED }
+        ensures posted { OnOk posted (IsPosted task.now self.old self.new) }
+        ensures unchanged { OnErr posted (SameOwed self.old self.new) }
+        ensures full { IfErr posted (λ why. why ≡ Full → self.new ≡ self.old) }
+        ensures closed { IfErr posted (λ why. why ≡ Closed → self.new.closed ≡ true) }
+        ensures stays_closed { StaysClosed self.old self.new }
+    {
+        match posted {
+            Ok(()) => self.post(task),
+            Err(NotPosted::Full) => {}
+            Err(NotPosted::Closed) => self.close(),
+        }
     }
 
     /// Counts a result of this task, which is then owed no more if it was.

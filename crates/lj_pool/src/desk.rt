@@ -1,26 +1,15 @@
 //! What lies under the lock of a pool.
-ghost use Rattle.std.specs.Prelude.{◌≡◌, ◌+◌, ◌-◌, ◌≤◌, ◌<◌, ◌↔◌, ℕ, cond, max, nat_eq, nat_lt, Some, None, true, false, IsOk, IsTrue, IfErr, IfNone, IfSome, OnErr, OnOk};
+ghost use Rattle.std.specs.Prelude.{◌≡◌, ◌+◌, ◌-◌, ◌≤◌, ◌<◌, ◌↔◌, ℕ, Some, None, true, false, IsOk, IsTrue, IfErr, IfNone, IfSome, OnErr, OnOk};
 ghost use Rattle.lj_book.specs.Held.{Out, at, standing, Fetches, Gives, HandsBack, IsDoneAt, IsOpenAt, Posts, Takes, Withdraws};
 ghost use Rattle.lj_pool.specs.declared.pool.NotPosted.TheVariants.{Closed};
-ghost use Rattle.lj_pool.specs.Desks.{HasRoom, bell_of, due_at};
+ghost use Rattle.lj_pool.specs.Desks.{HasRoom};
 
 use crate::pool::NotPosted;
 use crate::share::Share;
+use crate::waking::{Bells, Untold};
 use lj_book::{Book, Counts, Key, MAX_ENTRIES};
 use lj_tile::{Done, Task};
-use std::mem;
 use std::sync::ledger::{self, Ledger};
-
-/// The number of bells at which ends wait for results. Users whose numbers are equal modulo this share one.
-pub(crate) const BELLS: usize = 64;
-
-/// The bell of a user.
-pub(crate) fn bell_of(user: u8) -> usize
-    ensures value { result ≡ bell_of user }
-    ensures within { result < BELLS }
-{
-    usize::from(user) % BELLS
-}
 
 /// The book of a pool, and the ledger's book of the results that it was given.
 #[derive(Drop)]
@@ -28,10 +17,9 @@ pub(crate) struct Desk<L: Ledger> {
     book: Book,
     results: ledger::Book<L>,
     next: Key,
-    /// How many tasks were posted since the workers were told of any.
-    untold: usize,
-    /// After how many more results each bell is rung; 0 where nobody waits for it.
-    due: [usize; BELLS],
+    pub(crate) untold: Untold,
+    /// Where ends wait for results.
+    pub(crate) bells: Bells,
     closed: bool,
     ghost counted: { book.given ≡ results.total },
 }
@@ -47,8 +35,8 @@ impl<L: Ledger> Desk<L> {
             book,
             results,
             next: 0,
-            untold: 0,
-            due: [0; BELLS],
+            untold: Untold::new(),
+            bells: Bells::new(),
             closed: false,
         }
     }
@@ -60,6 +48,7 @@ impl<L: Ledger> Desk<L> {
         ensures closed { IfErr result (λ why. (why ≡ Closed) ↔ (self.old.closed ≡ true)) }
         ensures unchanged { OnErr result (self.new.book ≡ self.old.book) }
         ensures stays { self.new.closed ≡ self.old.closed }
+        ensures bells { self.new.bells ≡ self.old.bells }
         ensures untold { OnOk result (1 ≤ self.new.untold) }
     {
         if self.closed {
@@ -68,48 +57,8 @@ impl<L: Ledger> Desk<L> {
         if self.book.post_from(task).is_err() {
             return Err(NotPosted::Full);
         }
-        self.untold = self.untold.saturating_add(1);
+        self.untold.count();
         Ok(())
-    }
-
-    /// How many tasks the workers are to be told of, once there are so many that they were not told of.
-    pub(crate) fn tells(&mut self, least: usize) -> usize
-        ensures value { result ≡ cond (nat_lt self.old.untold least) 0 self.old.untold }
-        ensures left { self.old.untold ≡ self.new.untold + result }
-        ensures due { self.new.due ≡ self.old.due }
-        ensures unchanged { self.new.book ≡ self.old.book }
-        ensures stays { self.new.closed ≡ self.old.closed }
-    {
-        if self.untold < least {
-            return 0;
-        }
-        mem::take(&mut self.untold)
-    }
-
-    /// Notes that an end waits at the user's bell, which is to be rung after so many results, or earlier where another
-    /// waits at it.
-    pub(crate) fn awaits(&mut self, user: u8, results: usize)
-        ensures due { due_at self.new.due user ≡ cond (nat_eq (due_at self.old.due user) 0) (max results 1) 1 }
-        ensures untold { self.new.untold ≡ self.old.untold }
-        ensures unchanged { self.new.book ≡ self.old.book }
-        ensures stays { self.new.closed ≡ self.old.closed }
-    {
-        let due = &mut self.due[bell_of(user)];
-        *due = if *due == 0 { results.max(1) } else { 1 };
-    }
-
-    /// Counts a result of the user that was given. Whether the user's bell is to be rung for it.
-    pub(crate) fn rings(&mut self, user: u8) -> bool
-        ensures rings { IsTrue result ↔ (due_at self.old.due user ≡ 1) }
-        ensures counted { due_at self.new.due user ≡ due_at self.old.due user - 1 }
-        ensures untold { self.new.untold ≡ self.old.untold }
-        ensures unchanged { self.new.book ≡ self.old.book }
-        ensures stays { self.new.closed ≡ self.old.closed }
-    {
-        let due = &mut self.due[bell_of(user)];
-        let rings = *due == 1;
-        *due = due.saturating_sub(1);
-        rings
     }
 
     /// Takes an open task, in turn, into a room. None where there is none, or the pool is closed: the room stays as it is.
@@ -120,6 +69,7 @@ impl<L: Ledger> Desk<L> {
         ensures same_room { IfNone result (room.new ≡ room.old) }
         ensures closed { self.old.closed ≡ true → result ≡ None }
         ensures stays { self.new.closed ≡ self.old.closed }
+        ensures bells { self.new.bells ≡ self.old.bells }
     {
         if self.closed {
             return None;
@@ -137,6 +87,7 @@ impl<L: Ledger> Desk<L> {
         ensures unchanged { result ≡ false → self.new.book ≡ self.old.book }
         ensures not_credited { result ≡ false → share.new ≡ share.old }
         ensures stays { self.new.closed ≡ self.old.closed }
+        ensures bells { self.new.bells ≡ self.old.bells }
     {
         let Desk { book, results, .. } = self;
         if book.give_from(key, done).is_err() {
@@ -155,13 +106,13 @@ impl<L: Ledger> Desk<L> {
         ensures untold { result ≡ true → 1 ≤ self.new.untold }
         ensures unchanged { result ≡ false → self.new.book ≡ self.old.book }
         ensures not_told { result ≡ false → self.new.untold ≡ self.old.untold }
-        ensures due { self.new.due ≡ self.old.due }
+        ensures bells { self.new.bells ≡ self.old.bells }
         ensures stays { self.new.closed ≡ self.old.closed }
     {
         if self.book.hand_back(key, task).is_err() {
             return false;
         }
-        self.untold = self.untold.saturating_add(1);
+        self.untold.count();
         true
     }
 
@@ -174,6 +125,7 @@ impl<L: Ledger> Desk<L> {
         ensures same_room { result ≡ false → room.new ≡ room.old }
         ensures closed { self.old.closed ≡ true → result ≡ false }
         ensures stays { self.new.closed ≡ self.old.closed }
+        ensures bells { self.new.bells ≡ self.old.bells }
     {
         if self.closed {
             return false;
@@ -185,6 +137,7 @@ impl<L: Ledger> Desk<L> {
     pub(crate) fn withdraw(&mut self, user: u8)
         ensures withdraws { Withdraws user self.old.book self.new.book }
         ensures stays { self.new.closed ≡ self.old.closed }
+        ensures bells { self.new.bells ≡ self.old.bells }
     {
         self.book.withdraw(user);
     }
@@ -193,6 +146,7 @@ impl<L: Ledger> Desk<L> {
     pub(crate) fn close(&mut self)
         ensures closed { self.new.closed ≡ true }
         ensures unchanged { self.new.book ≡ self.old.book }
+        ensures bells { self.new.bells ≡ self.old.bells }
     {
         self.closed = true;
     }
@@ -230,6 +184,7 @@ impl<L: Ledger> Desk<L> {
         ensures given { result ≡ self.old.book.given }
         ensures amount { result ≡ all.old.amount }
         ensures unchanged { self.new.book ≡ self.old.book }
+        ensures bells { self.new.bells ≡ self.old.bells }
     {
         let Desk { book, results, .. } = self;
         results.audit(all);

@@ -12,6 +12,7 @@ mod running;
 mod served;
 mod serving;
 mod share;
+mod waking;
 mod worker;
 
 pub use account::Account;
@@ -21,5 +22,6 @@ pub use locked::LockPool;
 pub use pool::{MAX_AHEAD, MAX_OWED, MAX_STRAYS, NotPosted, Pool, Refused};
 pub use served::Served;
 pub use serving::{serve, serve_lines};
-pub use share::Share;
+pub use share::{Share, merged, shares_of};
+pub use waking::{BELLS, Bells, TASKS_AT_ONCE, Untold, bell_of};
 pub use worker::{Gate, gather, work};

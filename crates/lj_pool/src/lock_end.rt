@@ -66,11 +66,7 @@ impl<'p, L: Ledger, R: Wait> Pool for LockEnd<'p, L, R> {
         ensures stays_closed { StaysClosed self.old.seen self.new.seen }
     {
         let posted = self.pool.post(self.rt, task, wait);
-        match posted {
-            Ok(()) => self.account.post(task),
-            Err(NotPosted::Full) => {}
-            Err(NotPosted::Closed) => self.account.close(),
-        }
+        self.account.note_post(task, posted);
         posted
     }
 

@@ -5,22 +5,17 @@ ghost use Rattle.lj_pool.specs.declared.pool.NotPosted.TheVariants.{Closed};
 ghost use Rattle.lj_pool.specs.Seen.{unseen};
 ghost use Rattle.lj_tile.specs.Blank.{blank};
 
-use crate::desk::{BELLS, Desk, bell_of};
+use crate::desk::Desk;
 use crate::lock_end::LockEnd;
 use crate::pool::NotPosted;
-use crate::share::Share;
+use crate::share::{Share, shares_of};
+use crate::waking::{BELLS, TASKS_AT_ONCE, bell_of};
 use lj_book::{Book, Counts, Key};
 use lj_tile::{Done, Task};
 use std::alloc::{AllocError, Global};
 use std::array;
 use std::sync::ledger::{self, Blank, Ledger};
 use std::sync::{Condvar, Mutex, MutexGuard, Wait};
-
-/// So many tasks are posted before workers that wait are told of them, unless an end finds no result.
-const TASKS_AT_ONCE: usize = 16;
-
-/// An end that waits is told once so many results of its user were given, or all that it is owed.
-const RESULTS_AT_ONCE: usize = 16;
 
 /// A book of tasks behind a lock. Its ends post tasks and fetch results, each from a thread of its own, and workers
 /// compute them (`work`). The lock is never held while a task is computed.
@@ -104,7 +99,7 @@ impl<L: Ledger> LockPool<L> {
             match desk.post(task) {
                 Err(NotPosted::Full) if wait => {}
                 posted => {
-                    let tasks = desk.tells(TASKS_AT_ONCE);
+                    let tasks = desk.untold.take(TASKS_AT_ONCE);
                     drop(desk);
                     self.tell(tasks);
                     return posted;
@@ -136,7 +131,7 @@ impl<L: Ledger> LockPool<L> {
                 Ok(fetched) => return fetched,
                 Err(kept) => desk = kept,
             }
-            desk.awaits(user, owed.min(RESULTS_AT_ONCE));
+            desk.bells.wait(user, owed);
             desk = self.given[bell_of(user)].wait(rt, desk);
         }
         unreachable!()
@@ -170,7 +165,7 @@ impl<L: Ledger> LockPool<L> {
         let was_full = desk.is_full();
         let fetched = desk.fetch(user, room);
         if !fetched && !desk.is_closed() {
-            self.tell(desk.tells(1));
+            self.tell(desk.untold.take(1));
             return Err(desk);
         }
         drop(desk);
@@ -196,7 +191,7 @@ impl<L: Ledger> LockPool<L> {
     {
         let user = done.task().name().label.user;
         let mut desk = self.desk.lock(rt);
-        let rings = desk.give(key, done, share) && desk.rings(user);
+        let rings = desk.give(key, done, share) && desk.bells.count(user);
         let taken = desk.take(room);
         drop(desk);
         if rings {
@@ -215,7 +210,7 @@ impl<L: Ledger> LockPool<L> {
     {
         let mut desk = self.desk.lock(rt);
         desk.hand_back(key, room);
-        let tasks = desk.tells(1);
+        let tasks = desk.untold.take(1);
         drop(desk);
         self.tell(tasks);
         self.take(rt, room)
@@ -243,23 +238,4 @@ impl<L: Ledger> LockPool<L> {
     {
         self.desk.lock(rt).audited(all)
     }
-}
-
-/// A share for each worker.
-fn shares_of<L: Ledger>(
-    alloc: Global,
-    all: ledger::Share<L>,
-    workers: usize,
-) -> Result<Vec<Share<L>>, AllocError>
-    requires parts { all.parts ≡ workers }
-    requires nothing { all.amount ≡ 0 }
-    ensures one_each { IfOk result (λ shares. vec_len shares ≡ workers) }
-    ensures nothing { IfOk result (λ shares. All (λ count. count ≡ 0) shares.items) }
-{
-    let mut all = all;
-    let mut shares = Vec::with_capacity(alloc, workers)?;
-    for _ in 0..workers {
-        shares.push(Share::new(all.split_off(1, 0)))?;
-    }
-    Ok(shares)
 }

@@ -1,6 +1,8 @@
 //! A worker's share of the results that a pool was given.
-ghost use Rattle.std.specs.Prelude.{◌≡◌, ◌<◌, ◌+◌, ◌-◌, ◌^◌};
+ghost use Rattle.std.specs.Prelude.{◌≡◌, ◌<◌, ◌+◌, ◌-◌, ◌^◌, sum, vec_len, IfNone, IfOk, IfSome};
+ghost use Rattle.std.specs.List.{All};
 
+use std::alloc::{AllocError, Global};
 use std::marker::Model;
 use std::sync::ledger::{self, Book, Ledger};
 
@@ -57,4 +59,40 @@ impl<L: Ledger> Share<L> {
     {
         self.part
     }
+}
+
+/// The share of each of so many workers, to which nothing is credited yet.
+///
+/// # Errors
+/// Out of memory.
+pub fn shares_of<L: Ledger>(
+    alloc: Global,
+    all: ledger::Share<L>,
+    workers: usize,
+) -> Result<Vec<Share<L>>, AllocError>
+    requires parts { all.parts ≡ workers }
+    requires nothing { all.amount ≡ 0 }
+    ensures one_each { IfOk result (λ shares. vec_len shares ≡ workers) }
+    ensures nothing { IfOk result (λ shares. All (λ count. count ≡ 0) shares.items) }
+{
+    let mut all = all;
+    let mut shares = Vec::with_capacity(alloc, workers)?;
+    for _ in 0..workers {
+        shares.push(Share::new(all.split_off(1, 0)))?;
+    }
+    Ok(shares)
+}
+
+/// The parts of all shares as one, whose amount is what was credited to all of them. None where there is no share.
+pub fn merged<L: Ledger>(shares: Vec<Share<L>>) -> Option<ledger::Share<L>>
+    ensures parts { IfSome result (λ all. all.parts ≡ vec_len shares) }
+    ensures amount { IfSome result (λ all. all.amount ≡ sum shares.items) }
+    ensures none { IfNone result (vec_len shares ≡ 0) }
+{
+    let mut shares = shares;
+    let mut all = shares.pop()?.into_part();
+    while let Some(share) = shares.pop() {
+        all.merge(share.into_part());
+    }
+    Some(all)
 }

@@ -3,7 +3,7 @@ ghost use Rattle.std.specs.Prelude.{◌≡◌, ◌≤◌, sum, vec_len, true, �
 ghost use Rattle.lj_tile.specs.declared.names.TaskName.{TaskName};
 
 use crate::locked::LockPool;
-use crate::share::Share;
+use crate::share::{Share, merged};
 use lj_table::Table;
 use lj_tile::{Done, Task, TaskName, compute_in};
 use std::sync::Wait;
@@ -69,13 +69,8 @@ pub fn gather<L: Ledger, R: Wait>(rt: &R, pool: &LockPool<L>, shares: Vec<Share<
     requires { vec_len shares ≡ L.parts }
     ensures { result ≡ sum shares.items }
 {
-    let mut shares = shares;
-    let Some(first) = shares.pop() else {
-        return 0;
-    };
-    let mut all = first.into_part();
-    while let Some(share) = shares.pop() {
-        all.merge(share.into_part());
+    match merged(shares) {
+        Some(mut all) => pool.audited(rt, &mut all),
+        None => 0,
     }
-    pool.audited(rt, &mut all)
 }

@@ -1,4 +1,4 @@
--- What lies under the lock of a pool: for each user a list of results, the number of its present end, and a bell.
+-- What lies under the lock of a pool: for each user a list of results and the number of its present end.
 use Rattle.std.specs.Prelude.{ℕ, ◌%◌, List, slice_index_or, slice_set, Option, None}
 use Rattle.lj_queue.specs.Lists.{Kept, none_of}
 use Rattle.lj_queue.specs.declared.hall.TheConstants.{USERS}
@@ -18,7 +18,3 @@ list_of lists user = slice_index_or lists (place_of user) (none_of user)
 -- the number of the present end at a user's place, if there is one
 abbrev pub present_of : List (Option ℕ) → ℕ → Option ℕ
 present_of present user = slice_index_or present (place_of user) None
-
--- after how many more results at a user's place the bell is rung; 0 where nobody waits for it
-abbrev pub due_of : List ℕ → ℕ → ℕ
-due_of due user = slice_index_or due (place_of user) 0

@@ -61,13 +61,15 @@ pub record Names : Type 0 where
   pub parts : ℕ
   pub table : TableId
 
--- an end of a pool: what it has seen, its pass, its number, its user and the task of the result in its room
+-- an end of a pool: what it has seen, its pass, its number, its user, the task of the result that it shows, and those of the
+-- results that it has in hand
 pub record Ending : Type 0 where
   pub seen : Seen
   pub pass : Trace
   pub number : ℕ
   pub user : ℕ
   pub last : Work
+  pub hand : List Work
 
 -- the name of no queue
 abbrev pub no_table : TableId

@@ -1,18 +1,15 @@
 //! One connection's end of a pool with a queue.
-ghost use Rattle.std.specs.Prelude.{◌≡◌, ◌<◌, true, false, length, IfErr, OnErr, OnOk};
+ghost use Rattle.std.specs.Prelude.{◌≡◌, ◌<◌, ◌↔◌, [], ◌∷◌, true, false, length, IfErr, IsTrue, OnErr, OnOk};
 ghost use Rattle.lj_pool.specs.declared.pool.NotPosted.TheVariants.{Closed};
 ghost use Rattle.lj_pool.specs.Seen.{IsHandedOut, IsPosted, SameOwed, StaysClosed, unseen};
 ghost use Rattle.lj_queue.specs.Passes.{pushing, ticket_of};
 
-use crate::pass::{CountedPass, PoolPass, Room};
+use crate::pass::{CountedPass, PoolPass, Room, Rooms};
 use crate::pool::QueuePool;
-use lj_pool::{Account, MAX_OWED, NotPosted, Pool};
+use lj_pool::{Account, MAX_OWED, NotPosted, Pool, TASKS_AT_ONCE, Untold};
 use lj_tile::{Done, Task};
 use std::marker::Model;
 use std::sync::Wait;
-
-/// So many tasks are posted before workers that wait are told of them, unless a result is asked for and none is there.
-const TASKS_AT_ONCE: usize = 16;
 
 /// An end of a pool for one user, with a pass. It keeps a copy of each task that it is owed, and takes no memory. It
 /// hands out results of its user's tasks: what comes of another's that is posted by it is dropped.
@@ -22,12 +19,12 @@ pub struct QueueEnd<'p, L: Room, R: Wait> {
     pool: &'p QueuePool<L>,
     account: Account,
     counted: CountedPass<L>,
-    /// The result that was handed out last.
-    room: Box<Done>,
+    /// The result that was handed out last, and those that are handed out next.
+    rooms: Rooms,
     number: u64,
     user: u8,
-    /// How many tasks were posted since the workers were told of any.
-    untold: usize,
+    untold: Untold,
+    ghost whose: { rooms.hand.user ≡ user },
 }
 
 impl<'p, L: Room, R: Wait> Model for QueueEnd<'p, L, R> {
@@ -40,7 +37,8 @@ impl<'p, L: Room, R: Wait> Model for QueueEnd<'p, L, R> {
       pass = end.counted;
       number = end.number;
       user = end.user;
-      last = end.room.value;
+      last = end.rooms.last.value;
+      hand = end.rooms.hand.results;
     } };
 }
 
@@ -57,17 +55,19 @@ impl<'p, L: Room, R: Wait> QueueEnd<'p, L, R> {
         ensures pass { result.pass ≡ pass }
         ensures number { result.number ≡ number }
         ensures user { result.user ≡ user }
+        ensures empty_handed { result.hand ≡ [] }
     {
-        let (counted, room) = pass.into_parts();
+        let (counted, mut rooms) = pass.into_parts();
+        rooms.hand.clear_for(user);
         QueueEnd {
             rt,
             pool,
             account: Account::new(),
             counted,
-            room,
+            rooms,
             number,
             user,
-            untold: 0,
+            untold: Untold::new(),
         }
     }
 
@@ -75,8 +75,9 @@ impl<'p, L: Room, R: Wait> QueueEnd<'p, L, R> {
     pub fn finish(self) -> PoolPass<L>
         ensures { result ≡ self.entry.pass }
     {
-        self.pool.tell(self.rt, self.untold);
-        PoolPass::new(self.counted, self.room)
+        let mut untold = self.untold;
+        self.pool.tell(self.rt, untold.take(1));
+        PoolPass::new(self.counted, self.rooms)
     }
 }
 
@@ -98,6 +99,7 @@ impl<'p, L: Room, R: Wait> Pool for QueueEnd<'p, L, R> {
         ensures nothing { OnErr result (self.new.pass ≡ self.old.pass) }
         ensures number { self.new.number ≡ self.old.number }
         ensures user { self.new.user ≡ self.old.user }
+        ensures hand { self.new.hand ≡ self.old.hand }
         ensures posted { OnOk result (IsPosted task.now self.old.seen self.new.seen) }
         ensures unchanged { OnErr result (SameOwed self.old.seen self.new.seen) }
         ensures full { wait ≡ true → IfErr result (λ why. why ≡ Closed) }
@@ -108,13 +110,10 @@ impl<'p, L: Room, R: Wait> Pool for QueueEnd<'p, L, R> {
         let posted = self
             .pool
             .post(self.rt, &mut self.counted, end, user, task, wait);
-        match posted {
-            Ok(()) => {
-                self.account.post(task);
-                self.count();
-            }
-            Err(NotPosted::Full) => {}
-            Err(NotPosted::Closed) => self.account.close(),
+        self.account.note_post(task, posted);
+        if posted.is_ok() {
+            self.untold.count();
+            self.tell(TASKS_AT_ONCE);
         }
         posted
     }
@@ -124,21 +123,27 @@ impl<'p, L: Room, R: Wait> Pool for QueueEnd<'p, L, R> {
         ensures number { self.new.number ≡ self.old.number }
         ensures user { self.new.user ≡ self.old.user }
         ensures whose { result ≡ true → self.new.last.name.label.user ≡ self.old.user }
+        ensures in_hand { result ≡ true → 0 < length self.old.hand → self.old.hand ≡ self.new.last ∷ self.new.hand }
         ensures handed_out { result ≡ true → IsHandedOut self.new.last self.old.seen self.new.seen }
         ensures unchanged { result ≡ false → SameOwed self.old.seen self.new.seen }
         ensures closed { result ≡ false → self.new.seen.closed ≡ true }
         ensures stays_closed { StaysClosed self.old.seen self.new.seen }
     {
-        let mut fetched = self.pool.poll(self.rt, self.user, &mut self.room);
-        if !fetched {
-            self.tell();
-            fetched = self
-                .pool
-                .fetch(self.rt, self.user, self.account.owed(), &mut self.room);
+        if self.is_shut() {
+            self.account.close();
+            return false;
         }
-        if fetched {
-            self.account.count(self.room.task());
-        } else {
+        if !self.look() {
+            self.tell(1);
+            self.pool.fetch(
+                self.rt,
+                self.user,
+                self.account.owed(),
+                &mut self.rooms.hand,
+            );
+        }
+        let fetched = self.hand_out();
+        if !fetched {
             self.account.close();
         }
         fetched
@@ -150,21 +155,20 @@ impl<'p, L: Room, R: Wait> Pool for QueueEnd<'p, L, R> {
         ensures user { self.new.user ≡ self.old.user }
         ensures open { self.new.seen.closed ≡ self.old.seen.closed }
         ensures whose { result ≡ true → self.new.last.name.label.user ≡ self.old.user }
+        ensures in_hand { result ≡ true → 0 < length self.old.hand → self.old.hand ≡ self.new.last ∷ self.new.hand }
         ensures handed_out { result ≡ true → IsHandedOut self.new.last self.old.seen self.new.seen }
         ensures unchanged { result ≡ false → SameOwed self.old.seen self.new.seen }
         ensures stays_closed { StaysClosed self.old.seen self.new.seen }
     {
-        let polled = self.pool.poll(self.rt, self.user, &mut self.room);
-        if polled {
-            self.account.count(self.room.task());
-        } else {
-            self.tell();
+        let polled = !self.is_shut() && self.look() && self.hand_out();
+        if !polled {
+            self.tell(1);
         }
         polled
     }
 
     fn fetched(&self) -> &Done {
-        &self.room
+        &self.rooms.last
     }
 
     fn owed(&self) -> usize {
@@ -181,21 +185,52 @@ impl<'p, L: Room, R: Wait> Pool for QueueEnd<'p, L, R> {
 }
 
 impl<'p, L: Room, R: Wait> QueueEnd<'p, L, R> {
-    /// Counts a task that was posted, and tells workers that wait once there are enough of them.
-    fn count(&mut self)
-        ensures { self.new ≡ self.old }
+    /// Whether the pool is closed. The end drops what it has in hand then.
+    fn is_shut(&mut self) -> bool
+        ensures dropped { result ≡ true → self.new.hand ≡ [] }
+        ensures kept { result ≡ false → self.new.hand ≡ self.old.hand }
+        ensures unchanged { self.new ≡ record self.old { hand = self.new.hand } }
     {
-        self.untold = self.untold.saturating_add(1);
-        if self.untold >= TASKS_AT_ONCE {
-            self.tell();
+        let is_shut = self.pool.is_shut();
+        if is_shut {
+            self.rooms.hand.clear_for(self.user);
         }
+        is_shut
     }
 
-    /// Tells workers that wait of the tasks that they were not told of.
-    fn tell(&mut self)
+    /// Takes in hand what results are there, if it has none. Whether it has some now.
+    fn look(&mut self) -> bool
+        ensures some { result ≡ true → 0 < length self.new.hand }
+        ensures none { result ≡ false → self.new.hand ≡ [] }
+        ensures kept { 0 < length self.old.hand → self.new.hand ≡ self.old.hand }
+        ensures unchanged { self.new ≡ record self.old { hand = self.new.hand } }
+    {
+        !self.rooms.hand.is_empty() || self.pool.poll(self.rt, self.user, &mut self.rooms.hand)
+    }
+
+    /// Hands out the next result that it has in hand. False where it has none.
+    fn hand_out(&mut self) -> bool
+        ensures some { IsTrue result ↔ (0 < length self.old.hand) }
+        ensures next { result ≡ true → self.old.hand ≡ self.new.last ∷ self.new.hand }
+        ensures whose { result ≡ true → self.new.last.name.label.user ≡ self.old.user }
+        ensures handed_out { result ≡ true → IsHandedOut self.new.last self.old.seen self.new.seen }
+        ensures unchanged { result ≡ false → self.new ≡ self.old }
+        ensures pass { self.new.pass ≡ self.old.pass }
+        ensures number { self.new.number ≡ self.old.number }
+        ensures user { self.new.user ≡ self.old.user }
+        ensures open { self.new.seen.closed ≡ self.old.seen.closed }
+    {
+        if !self.rooms.hand.pop(self.user, &mut self.rooms.last) {
+            return false;
+        }
+        self.account.count(self.rooms.last.task());
+        true
+    }
+
+    /// Tells workers that wait of the tasks that they were not told of, if these are so many.
+    fn tell(&mut self, least: usize)
         ensures { self.new ≡ self.old }
     {
-        self.pool.tell(self.rt, self.untold);
-        self.untold = 0;
+        self.pool.tell(self.rt, self.untold.take(least));
     }
 }

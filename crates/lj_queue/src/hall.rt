@@ -1,13 +1,15 @@
 //! What lies under the lock of a pool: results for its users, and the ledger of them all.
-ghost use Rattle.std.specs.Prelude.{◌≡◌, ◌+◌, ◌-◌, ◌<◌, ◌^◌, ◌↔◌, [], None, Some, cond, length, max, nat_eq, replicate, true, false, vec_len, IfNone, IfOk, IfSome, IsTrue};
+ghost use Rattle.std.specs.Prelude.{◌≡◌, ◌+◌, ◌-◌, ◌<◌, ◌^◌, ◌↔◌, [], None, Some, length, replicate, true, false, vec_len, IfNone, IfOk, IfSome, IsTrue};
 ghost use Rattle.std.specs.List.{All};
-ghost use Rattle.lj_queue.specs.Lists.{none_of, with_first, with_last};
-ghost use Rattle.lj_queue.specs.Halls.{place_of, list_of, present_of, due_of, with_own};
+ghost use Rattle.lj_queue.specs.Lists.{none_of, with_last};
+ghost use Rattle.lj_pool.specs.declared.waking.TheConstants.{BELLS};
+ghost use Rattle.lj_queue.specs.Halls.{place_of, list_of, present_of, with_own};
 
 use crate::list::{List, MAX_RESULTS};
-use lj_pool::Share;
+use lj_pool::{Bells, Share};
 use lj_tile::Done;
 use std::alloc::{AllocError, Global};
+use std::mem;
 use std::sync::ledger::{self, Ledger};
 
 /// The number of users whose results are kept apart. Users whose numbers are equal modulo this share a list.
@@ -32,8 +34,8 @@ pub(crate) struct Hall<L: Ledger> {
     /// How many results were given.
     given: u64,
     results: ledger::Book<L>,
-    /// After how many more results each bell is rung; 0 where nobody waits for it.
-    due: [usize; USERS],
+    /// Where ends wait for results.
+    pub(crate) bells: Bells,
     closed: bool,
     ghost counted: { given ≡ results.total },
     ghost lists_are: { vec_len lists ≡ 64 },
@@ -46,7 +48,7 @@ impl<L: Ledger> Hall<L> {
         ensures lists { IfOk result (λ hall. All (λ list. list.results ≡ []) hall.lists.items) }
         ensures present { IfOk result (λ hall. hall.present ≡ replicate USERS None) }
         ensures last { IfOk result (λ hall. hall.last ≡ 0) }
-        ensures due { IfOk result (λ hall. hall.due ≡ replicate USERS 0) }
+        ensures bells { IfOk result (λ hall. hall.bells ≡ replicate BELLS 0) }
         ensures open { IfOk result (λ hall. hall.closed ≡ false) }
     {
         Ok(Hall {
@@ -55,7 +57,7 @@ impl<L: Ledger> Hall<L> {
             last: 0,
             given: 0,
             results,
-            due: [0; USERS],
+            bells: Bells::new(),
             closed: false,
         })
     }
@@ -69,7 +71,7 @@ impl<L: Ledger> Hall<L> {
         ensures stays_last { IfNone result (self.new.last ≡ self.old.last) }
         ensures present { self.new.present ≡ with_own self.old.present user result }
         ensures lists { self.new.lists.items ≡ with_own self.old.lists.items user (none_of user) }
-        ensures due { self.new.due ≡ self.old.due }
+        ensures bells { self.new.bells ≡ self.old.bells }
         ensures given { self.new.given ≡ self.old.given }
         ensures stays { self.new.closed ≡ self.old.closed }
     {
@@ -85,7 +87,7 @@ impl<L: Ledger> Hall<L> {
         ensures present { self.new.present ≡ with_own self.old.present user None }
         ensures lists { self.new.lists.items ≡ with_own self.old.lists.items user (none_of user) }
         ensures last { self.new.last ≡ self.old.last }
-        ensures due { self.new.due ≡ self.old.due }
+        ensures bells { self.new.bells ≡ self.old.bells }
         ensures given { self.new.given ≡ self.old.given }
         ensures stays { self.new.closed ≡ self.old.closed }
     {
@@ -122,7 +124,7 @@ impl<L: Ledger> Hall<L> {
         ensures not_credited { result ≡ false → share.new ≡ share.old }
         ensures present { self.new.present ≡ self.old.present }
         ensures last { self.new.last ≡ self.old.last }
-        ensures due { self.new.due ≡ self.old.due }
+        ensures bells { self.new.bells ≡ self.old.bells }
         ensures stays { self.new.closed ≡ self.old.closed }
     {
         let is_present = self.is_present(end, user);
@@ -142,58 +144,33 @@ impl<L: Ledger> Hall<L> {
         true
     }
 
-    /// Fetches the next result of the user, in exchange for the box of another. False where there is none, or the pool
-    /// is closed.
-    pub(crate) fn fetch(&mut self, user: u8, room: &mut Box<Done>) -> bool
-        ensures lists { result ≡ true → self.old.lists.items
-            ≡ with_own self.new.lists.items user (with_first room.new.value (list_of self.new.lists.items user)) }
-        ensures whose { result ≡ true → room.new.value.name.label.user ≡ user }
+    /// Hands out all results of the user, in exchange for an empty list. False where there is none, or the pool is closed.
+    pub(crate) fn hand_out(&mut self, user: u8, hand: &mut List) -> bool
+        requires { hand.old ≡ none_of user }
+        ensures handed_out { result ≡ true → hand.new ≡ list_of self.old.lists.items user }
+        ensures whose { hand.new.user ≡ user }
+        ensures some { result ≡ true → 0 < length hand.new.results }
+        ensures lists { result ≡ true → self.new.lists.items ≡ with_own self.old.lists.items user (none_of user) }
         ensures none { let list = list_of self.old.lists.items user in
             result ≡ false → self.old.closed ≡ false → list.user ≡ user → list.results ≡ [] }
         ensures unchanged { result ≡ false → self.new.lists.items ≡ self.old.lists.items }
-        ensures same_room { result ≡ false → room.new.value ≡ room.old.value }
+        ensures stays_empty { result ≡ false → hand.new ≡ hand.old }
         ensures closed { self.old.closed ≡ true → result ≡ false }
         ensures present { self.new.present ≡ self.old.present }
         ensures last { self.new.last ≡ self.old.last }
-        ensures due { self.new.due ≡ self.old.due }
+        ensures bells { self.new.bells ≡ self.old.bells }
         ensures given { self.new.given ≡ self.old.given }
         ensures stays { self.new.closed ≡ self.old.closed }
     {
         if self.closed {
             return false;
         }
-        self.lists[place_of(user)].pop(user, room)
-    }
-
-    /// Notes that an end waits at the user's bell, which is to be rung after so many results, or earlier where another
-    /// waits at it.
-    pub(crate) fn awaits(&mut self, user: u8, results: usize)
-        ensures due { let old = due_of self.old.due user in
-            self.new.due ≡ with_own self.old.due user (cond (nat_eq old 0) (max results 1) 1) }
-        ensures lists { self.new.lists.items ≡ self.old.lists.items }
-        ensures present { self.new.present ≡ self.old.present }
-        ensures last { self.new.last ≡ self.old.last }
-        ensures given { self.new.given ≡ self.old.given }
-        ensures stays { self.new.closed ≡ self.old.closed }
-    {
-        let due = &mut self.due[place_of(user)];
-        *due = if *due == 0 { results.max(1) } else { 1 };
-    }
-
-    /// Counts a result of the user that was kept. Whether the user's bell is to be rung for it.
-    pub(crate) fn rings(&mut self, user: u8) -> bool
-        ensures rings { IsTrue result ↔ (due_of self.old.due user ≡ 1) }
-        ensures due { self.new.due ≡ with_own self.old.due user (due_of self.old.due user - 1) }
-        ensures lists { self.new.lists.items ≡ self.old.lists.items }
-        ensures present { self.new.present ≡ self.old.present }
-        ensures last { self.new.last ≡ self.old.last }
-        ensures given { self.new.given ≡ self.old.given }
-        ensures stays { self.new.closed ≡ self.old.closed }
-    {
-        let due = &mut self.due[place_of(user)];
-        let rings = *due == 1;
-        *due = due.saturating_sub(1);
-        rings
+        let list = &mut self.lists[place_of(user)];
+        if !list.has_some_of(user) {
+            return false;
+        }
+        mem::swap(list, hand);
+        true
     }
 
     /// Closes the pool.
@@ -202,7 +179,7 @@ impl<L: Ledger> Hall<L> {
         ensures lists { self.new.lists.items ≡ self.old.lists.items }
         ensures present { self.new.present ≡ self.old.present }
         ensures last { self.new.last ≡ self.old.last }
-        ensures due { self.new.due ≡ self.old.due }
+        ensures bells { self.new.bells ≡ self.old.bells }
         ensures given { self.new.given ≡ self.old.given }
     {
         self.closed = true;
@@ -223,7 +200,7 @@ impl<L: Ledger> Hall<L> {
         ensures lists { self.new.lists.items ≡ self.old.lists.items }
         ensures present { self.new.present ≡ self.old.present }
         ensures last { self.new.last ≡ self.old.last }
-        ensures due { self.new.due ≡ self.old.due }
+        ensures bells { self.new.bells ≡ self.old.bells }
         ensures given { self.new.given ≡ self.old.given }
         ensures stays { self.new.closed ≡ self.old.closed }
     {

@@ -47,6 +47,20 @@ impl List {
         })
     }
 
+    /// Whether it has results of this user.
+    pub fn has_some_of(&self, user: u8) -> bool
+        ensures { IsTrue result ↔ ((self.now.user ≡ user) × (0 < length self.now.results)) }
+    {
+        self.user == user && !self.results.is_empty()
+    }
+
+    /// Whether it has no results.
+    pub fn is_empty(&self) -> bool
+        ensures { IsTrue result ↔ (length self.now.results ≡ 0) }
+    {
+        self.results.is_empty()
+    }
+
     /// Whether there is room for a result, and it is of the list's user.
     pub fn takes(&self, done: &Done) -> bool
         ensures { IsTrue result ↔ ((length self.now.results < MAX_RESULTS)

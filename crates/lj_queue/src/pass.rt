@@ -3,9 +3,11 @@ ghost use Rattle.std.specs.Prelude.{◌≡◌, ◌-◌, ◌^◌, ℕ, length, On
 ghost use Rattle.atomic_table.specs.Seated.{TableId};
 ghost use Rattle.lj_queue.specs.Passes.{IsCounted, pushing, popping, trace_of};
 
+use crate::list::List;
 use crate::rule::{OpenTasks, Popped, Pushed, TaskPass};
 use crate::ticket::Ticket;
 use lj_tile::Done;
+use std::alloc::{AllocError, Global};
 use std::marker::{Brand, Model, PhantomData};
 use std::sync::Wait;
 use std::sync::ledger::Ledger;
@@ -96,11 +98,31 @@ impl<L: Room> CountedPass<L> {
     }
 }
 
-/// What one thread at a time may push and pop by. It counts up to 2^64 - 1 tasks each, and has room for one result.
+/// Where the results of one thread lie: the one that it looks at, and those that it has in hand.
+#[derive(Drop)]
+pub(crate) struct Rooms {
+    pub(crate) last: Box<Done>,
+    pub(crate) hand: List,
+}
+
+impl Rooms {
+    /// Rooms of no results.
+    ///
+    /// # Errors
+    /// Out of memory.
+    pub(crate) fn new(alloc: Global) -> Result<Rooms, AllocError> {
+        Ok(Rooms {
+            last: Box::new(alloc, Done::blank())?,
+            hand: List::new(alloc, 0)?,
+        })
+    }
+}
+
+/// What one thread at a time may push and pop by. It counts up to 2^64 - 1 tasks each, and has room for results.
 #[derive(Drop)]
 pub struct PoolPass<L: Room> {
     counted: CountedPass<L>,
-    room: Box<Done>,
+    rooms: Rooms,
 }
 
 impl<L: Room> Model for PoolPass<L> {
@@ -112,11 +134,11 @@ impl<L: Room> Model for PoolPass<L> {
 }
 
 impl<L: Room> PoolPass<L> {
-    /// The pass that counts so, with this room.
-    pub(crate) fn new(counted: CountedPass<L>, room: Box<Done>) -> PoolPass<L>
+    /// The pass that counts so, with these rooms.
+    pub(crate) fn new(counted: CountedPass<L>, rooms: Rooms) -> PoolPass<L>
         ensures { result ≡ counted }
     {
-        PoolPass { counted, room }
+        PoolPass { counted, rooms }
     }
 
     /// Its number: which of its pool's passes it is, from 0.
@@ -140,11 +162,11 @@ impl<L: Room> PoolPass<L> {
         self.counted.popped
     }
 
-    /// What it counts by, and its room.
-    pub(crate) fn into_parts(self) -> (CountedPass<L>, Box<Done>)
+    /// What it counts by, and its rooms.
+    pub(crate) fn into_parts(self) -> (CountedPass<L>, Rooms)
         ensures { result.0 ≡ self }
     {
-        (self.counted, self.room)
+        (self.counted, self.rooms)
     }
 
     /// The pass of the queue.

@@ -3,16 +3,18 @@ ghost use Rattle.std.specs.Prelude.{◌≡◌, ◌+◌, ◌≤◌, ◌<◌, true
 ghost use Rattle.std.specs.List.{All};
 ghost use Rattle.lj_pool.specs.Seen.{unseen};
 ghost use Rattle.lj_pool.specs.declared.pool.NotPosted.TheVariants.{Closed};
+ghost use Rattle.lj_queue.specs.Lists.{none_of};
 ghost use Rattle.lj_queue.specs.Passes.{IsRest, pushing, popping, ticket_of, untouched};
 
 use crate::end::QueueEnd;
-use crate::hall::{Hall, USERS, place_of};
+use crate::hall::Hall;
+use crate::list::List;
 use crate::pass::{CountedPass, PoolPass, Room};
 use crate::rest::{Rest, passes_of};
 use crate::rule::{OpenTasks, TaskPass};
 use crate::ticket::Ticket;
 use crossbeam_queue::ArrayQueue;
-use lj_pool::{NotPosted, Share};
+use lj_pool::{BELLS, NotPosted, Share, bell_of, shares_of};
 use lj_tile::{Done, Task};
 use std::alloc::{AllocError, Global};
 use std::array;
@@ -27,8 +29,8 @@ pub const MAX_OPEN: usize = 1024;
 /// The number of passes for connections. Those of the workers come after them.
 pub const CONNECTIONS: usize = 64;
 
-/// An end that waits is told once so many results of its user were kept, or all that it is owed.
-const RESULTS_AT_ONCE: usize = 16;
+/// So many boxes of no ticket are kept for what is posted next.
+const WARM_BOXES: usize = 64;
 
 /// What a pool is made of: an empty queue, its first pass and a blank ledger.
 #[derive(Drop)]
@@ -75,6 +77,8 @@ pub struct QueuePool<L: Room> {
     pub(crate) queue: OpenTasks,
     /// The boxes of no ticket. With those of tickets they are as many as may be open, and one for each pass.
     spare: ArrayQueue<Box<Task>>,
+    /// Those of them that were put by last, which the processors' caches may still hold.
+    warm: ArrayQueue<Box<Task>>,
     /// What the passes were cut from.
     pub(crate) rest: Mutex<Rest<L>>,
     hall: Mutex<Hall<L>>,
@@ -83,7 +87,7 @@ pub struct QueuePool<L: Room> {
     /// A task was taken while posters waited.
     room: Condvar,
     /// Results were kept, at each bell to the users who share it. Their ends wait for it.
-    given: [Condvar; USERS],
+    given: [Condvar; BELLS],
     /// How many workers wait for a task.
     idle: AtomicUsize,
     /// How many ends wait for room.
@@ -123,12 +127,14 @@ impl<L: Room> QueuePool<L> {
             return Err(AllocError);
         };
         let spare = spare_boxes(alloc, count)?;
+        let warm = ArrayQueue::new(alloc, WARM_BOXES)?;
         let (results, all) = ledger.open::<L>();
         let shares = shares_of(alloc, all, workers)?;
         let (passes, rest) = passes_of(alloc, &queue, first, count)?;
         let pool = QueuePool {
             queue,
             spare,
+            warm,
             rest: Mutex::new(rest),
             hall: Mutex::new(Hall::new(alloc, results)?),
             posted: Condvar::new(),
@@ -185,7 +191,7 @@ impl<L: Room> QueuePool<L> {
         ensures nothing { OnErr result (pass.new ≡ pass.old) }
         ensures full { wait ≡ true → IfErr result (λ why. why ≡ Closed) }
     {
-        if self.shut.load(Ordering::SeqCst) {
+        if self.is_shut() {
             return Err(NotPosted::Closed);
         }
         if self.try_post(rt, pass, end, user, task) {
@@ -209,7 +215,7 @@ impl<L: Room> QueuePool<L> {
         ensures pushed { result ≡ true → pass.new ≡ pushing pass.old (ticket_of end user task.now) }
         ensures nothing { result ≡ false → pass.new ≡ pass.old }
     {
-        let Some(mut room) = self.spare.pop(rt) else {
+        let Some(mut room) = self.spare_box(rt) else {
             return false;
         };
         room.copy_from(task);
@@ -255,9 +261,19 @@ impl<L: Room> QueuePool<L> {
         unreachable!()
     }
 
+    /// A box of no ticket, one that was put by lately if there is one.
+    fn spare_box<R: Wait>(&self, rt: &R) -> Option<Box<Task>> {
+        match self.warm.pop(rt) {
+            Some(room) => Some(room),
+            None => self.spare.pop(rt),
+        }
+    }
+
     /// Puts by the box of a ticket that is no more, for another.
     pub(crate) fn put_by<R: Wait>(&self, rt: &R, room: Box<Task>) {
-        let _spare = self.spare.push(rt, room);
+        if let Err(room) = self.warm.push(rt, room) {
+            let _spare = self.spare.push(rt, room);
+        }
     }
 
     /// Tells workers that wait that so many tasks were posted.
@@ -278,7 +294,7 @@ impl<L: Room> QueuePool<L> {
         ensures popped { IfSome result (λ ticket. pass.new ≡ popping pass.old ticket) }
         ensures nothing { IfNone result (pass.new ≡ pass.old) }
     {
-        if self.shut.load(Ordering::SeqCst) {
+        if self.is_shut() {
             return None;
         }
         let taken = match pass.pop(rt, &self.queue) {
@@ -348,38 +364,47 @@ impl<L: Room> QueuePool<L> {
         ensures one_at_most { share.new ≤ share.old + 1 }
     {
         let mut hall = self.hall.lock(rt);
-        let rings = hall.keep(end, user, done, share) && hall.rings(user);
+        let rings = hall.keep(end, user, done, share) && hall.bells.count(user);
         drop(hall);
         if rings {
-            self.given[place_of(user)].notify_all();
+            self.given[bell_of(user)].notify_all();
         }
     }
 
-    /// Fetches a result of the user, and waits for one, in exchange for the box of another. False where the pool is
-    /// closed. So many are owed to the end that asks.
-    pub(crate) fn fetch<R: Wait>(&self, rt: &R, user: u8, owed: usize, room: &mut Box<Done>) -> bool
-        ensures whose { result ≡ true → room.new.value.name.label.user ≡ user }
-        ensures same_room { result ≡ false → room.new.value ≡ room.old.value }
+    /// Whether the pool is closed.
+    pub(crate) fn is_shut(&self) -> bool {
+        self.shut.load(Ordering::SeqCst)
+    }
+
+    /// Fetches all results of the user that are there in exchange for an empty list, and waits for one. False where the
+    /// pool is closed. So many are owed to the end that asks.
+    pub(crate) fn fetch<R: Wait>(&self, rt: &R, user: u8, owed: usize, hand: &mut List) -> bool
+        requires { hand.old ≡ none_of user }
+        ensures whose { hand.new.user ≡ user }
+        ensures some { result ≡ true → 0 < length hand.new.results }
+        ensures stays_empty { result ≡ false → hand.new ≡ hand.old }
     {
         let mut hall = self.hall.lock(rt);
         for _ in rt.forever() {
-            let fetched = hall.fetch(user, room);
+            let fetched = hall.hand_out(user, hand);
             if fetched || hall.is_closed() {
                 return fetched;
             }
-            hall.awaits(user, owed.min(RESULTS_AT_ONCE));
-            hall = self.given[place_of(user)].wait(rt, hall);
+            hall.bells.wait(user, owed);
+            hall = self.given[bell_of(user)].wait(rt, hall);
         }
         unreachable!()
     }
 
-    /// Fetches a result of the user that is there now, in exchange for the box of another. False where there is none,
-    /// or the pool is closed.
-    pub(crate) fn poll<R: Wait>(&self, rt: &R, user: u8, room: &mut Box<Done>) -> bool
-        ensures whose { result ≡ true → room.new.value.name.label.user ≡ user }
-        ensures same_room { result ≡ false → room.new.value ≡ room.old.value }
+    /// Fetches all results of the user that are there now, in exchange for an empty list. False where there is none, or
+    /// the pool is closed.
+    pub(crate) fn poll<R: Wait>(&self, rt: &R, user: u8, hand: &mut List) -> bool
+        requires { hand.old ≡ none_of user }
+        ensures whose { hand.new.user ≡ user }
+        ensures some { result ≡ true → 0 < length hand.new.results }
+        ensures stays_empty { result ≡ false → hand.new ≡ hand.old }
     {
-        self.hall.lock(rt).fetch(user, room)
+        self.hall.lock(rt).hand_out(user, hand)
     }
 
     /// How many results were given, which is what all parts of the ledger have together.
@@ -389,25 +414,6 @@ impl<L: Room> QueuePool<L> {
     {
         self.hall.lock(rt).audited(all)
     }
-}
-
-/// A share for each worker.
-fn shares_of<L: Room>(
-    alloc: Global,
-    all: ledger::Share<L>,
-    workers: usize,
-) -> Result<Vec<Share<L>>, AllocError>
-    requires parts { all.parts ≡ workers }
-    requires nothing { all.amount ≡ 0 }
-    ensures one_each { IfOk result (λ shares. vec_len shares ≡ workers) }
-    ensures nothing { IfOk result (λ shares. All (λ count. count ≡ 0) shares.items) }
-{
-    let mut all = all;
-    let mut shares = Vec::with_capacity(alloc, workers)?;
-    for _ in 0..workers {
-        shares.push(Share::new(all.split_off(1, 0)))?;
-    }
-    Ok(shares)
 }
 
 /// As many boxes as tickets may be open, and one for each pass.

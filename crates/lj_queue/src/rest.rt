@@ -2,9 +2,8 @@
 ghost use Rattle.std.specs.Prelude.{◌≡◌, ◌+◌, ◌-◌, ◌<◌, ◌^◌, ℕ, [], vec_len, slice_index_or, IfOk};
 ghost use Rattle.lj_queue.specs.Passes.{IsOf, IsRest, IsCounted, untouched};
 
-use crate::pass::{CountedPass, PoolPass, Room};
+use crate::pass::{CountedPass, PoolPass, Room, Rooms};
 use crate::rule::{Cut, OpenTasks, TaskPass};
-use lj_tile::Done;
 use std::alloc::{AllocError, Global};
 use std::marker::PhantomData;
 
@@ -42,7 +41,7 @@ pub(crate) fn passes_of<L: Room>(
     let mut passes = Vec::with_capacity(alloc, count)?;
     for number in 0..count {
         let counted = CountedPass::new(queue.another::<Cut>(&mut first), number);
-        passes.push(PoolPass::new(counted, Box::new(alloc, Done::blank())?))?;
+        passes.push(PoolPass::new(counted, Rooms::new(alloc)?))?;
     }
     Ok((
         passes,

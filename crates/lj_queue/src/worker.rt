@@ -5,7 +5,7 @@ ghost use Rattle.lj_queue.specs.Passes.{PopsFor, pushing};
 use crate::pass::{CountedPass, PoolPass, Room};
 use crate::pool::QueuePool;
 use crate::ticket::Ticket;
-use lj_pool::{Gate, Share};
+use lj_pool::{Gate, Share, merged};
 use lj_table::Table;
 use lj_tile::compute_in;
 use std::sync::Wait;
@@ -26,19 +26,19 @@ pub fn work_queue<L: Room, G: Gate, R: Wait>(
     ensures of_its_own { PopsFor (result.0 - share) (G.sends_back gate.now) pass result.1 }
 {
     let mut share = share;
-    let (mut counted, mut room) = pass.into_parts();
+    let (mut counted, mut rooms) = pass.into_parts();
     for _ in rt.forever() {
         let Some(ticket) = pool.take(rt, &mut counted) else {
             break;
         };
         if let Some(ticket) = kept(rt, pool, &mut counted, gate, ticket) {
             gate.between(ticket.task.name());
-            compute_in(&ticket.task, table, &mut room);
-            pool.give(rt, ticket.end, ticket.user, &mut room, &mut share);
+            compute_in(&ticket.task, table, &mut rooms.last);
+            pool.give(rt, ticket.end, ticket.user, &mut rooms.last, &mut share);
             pool.put_by(rt, ticket.task);
         }
     }
-    (share, PoolPass::new(counted, room))
+    (share, PoolPass::new(counted, rooms))
 }
 
 /// The ticket, unless the gate sends its task back and there is room for it in the queue, where it is open again.
@@ -66,13 +66,8 @@ pub fn gather<L: Room, R: Wait>(rt: &R, pool: &QueuePool<L>, shares: Vec<Share<L
     requires { vec_len shares ≡ L.parts }
     ensures { result ≡ sum shares.items }
 {
-    let mut shares = shares;
-    let Some(first) = shares.pop() else {
-        return 0;
-    };
-    let mut all = first.into_part();
-    while let Some(share) = shares.pop() {
-        all.merge(share.into_part());
+    match merged(shares) {
+        Some(mut all) => pool.audited(rt, &mut all),
+        None => 0,
     }
-    pool.audited(rt, &mut all)
 }

@@ -21,6 +21,9 @@ const GONE: u8 = 6;
 
 const GONE_TASKS: i64 = 4;
 
+/// How many more it posts over a queue once it has those in hand.
+const MORE_TASKS: i64 = 2;
+
 /// Its neighbour.
 const NEIGHBOUR: u8 = 5;
 
@@ -63,7 +66,8 @@ fn count_polled<P: Pool, R: Abort>(rt: &R, end: &mut P, user: u8, steps: (i64, i
     count
 }
 
-/// Withdraws a user once all results were given. The neighbour's end also posts a task of that user, of which nothing comes.
+/// Withdraws a user once all results were given, when its end has some of them in hand: these are still handed out. The
+/// neighbour's end also posts a task of that user, of which nothing comes.
 fn leave_queue<L: Room, R: Wait + Abort>(
     rt: &R,
     pool: &QueuePool<L>,
@@ -74,11 +78,15 @@ fn leave_queue<L: Room, R: Wait + Abort>(
     post_one(rt, &mut neighbour, task(rt, GONE, GONE_TASKS));
     let last_came = fetch_last(&mut posting_end(rt, pool, passes, LAST, 1));
     let before = count_polled(rt, &mut gone, GONE, (0, 1));
+    for step in GONE_TASKS..GONE_TASKS + MORE_TASKS {
+        post_one(rt, &mut gone, task(rt, GONE, step));
+    }
+    let all_came = fetch_last(&mut posting_end(rt, pool, passes, LAST, 1));
     pool.withdraw(rt, GONE);
     Left {
-        last_came,
+        last_came: last_came && all_came,
         before,
-        after: count_polled(rt, &mut gone, GONE, (1, GONE_TASKS + 1)),
+        after: count_polled(rt, &mut gone, GONE, (1, GONE_TASKS + MORE_TASKS)),
         neighbour: count_polled(rt, &mut neighbour, NEIGHBOUR, (0, NEIGHBOUR_TASKS + 1)),
     }
 }
@@ -119,10 +127,15 @@ fn queued_once(
     withdraw_queued::<Brand, _>(rt, alloc, QueueBlank::new(alloc, 1)?)
 }
 
-/// All results are kept but the one of the task that was posted by another user's end.
+/// All results are kept but the one of the task that was posted by another user's end. The three in hand come, and the two
+/// that the pool had do not.
 #[test]
 fn a_withdrawal_over_a_queue_leaves_the_neighbour(rt: HostRuntime) -> Result<(), Fail> {
-    assert_eq!(rt; queued_once(&rt, rt.alloc())?, (EXPECTED, 8));
+    let expected = Left {
+        after: GONE_TASKS - 1,
+        ..EXPECTED
+    };
+    assert_eq!(rt; queued_once(&rt, rt.alloc())?, (expected, 11));
     Ok(())
 }
 

@@ -5,5 +5,5 @@ abbrev pub invariant-loop : goal.invariant-loop
 invariant-loop g l = record {
   next : (goal.iterator-loop g).can_next l.iterator';
   finite : (goal.iterator-loop g).is_finite l.iterator';
-  room : l.room.value ≡ l.fn.room.value;
+  empty : l.hand ≡ l.fn.hand;
 }

@@ -1,9 +1,9 @@
 use Rattle.std.specs.Prelude.{◌≡◌, ◌+◌, sum, vec_len}
-use Rattle.lj_queue.proofs.worker.gather.Given as goal
+use Rattle.lj_pool.proofs.share.merged.Given as goal
 
 abbrev pub invariant-loop-share : goal.invariant-loop-share
 invariant-loop-share g l = record {
-  parts : vec_len l.shares + l.all.parts ≡ g.L.Ledger.parts;
+  parts : vec_len l.shares + l.all.parts ≡ vec_len l.fn.shares;
   amount : sum l.shares.items + l.all.amount ≡ sum l.fn.shares.items;
 }
 
