@@ -142,7 +142,7 @@ fn serve_command<'a>(alloc: Global) -> Result<Command<'a>, AllocError> {
                 .long("pool")
                 .value_name("KIND")
                 .value_parser(POOLS.as_slice())
-                .default_value(LOCK)
+                .default_value(QUEUE)
                 .help("Where open tasks are kept, in a book behind a lock or in a queue"),
         )
 }
