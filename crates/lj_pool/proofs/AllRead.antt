@@ -9,9 +9,9 @@ use Rattle.lj_session.specs.States.{Owned, user_of}
 use Rattle.lj_wire.specs.declared.item.Item.{Item}
 use Rattle.lj_wire.specs.Items.{ends}
 use Rattle.lj_wire.specs.Streams.{Splits}
-use Rattle.lj_pool.specs.declared.served.Served.{Served}
-use Rattle.lj_pool.specs.declared.served.Served.TheVariants.{End, Bye, Ended, ReadFault, WriteFault, PoolClosed}
-use Rattle.lj_pool.specs.declared.served.Served.TheVariants.{TooManyStrays}
+use Rattle.lj_pool.specs.declared.engine.served.Served.{Served}
+use Rattle.lj_pool.specs.declared.engine.served.Served.TheVariants.{End, Bye, Ended, ReadFault, WriteFault, PoolClosed}
+use Rattle.lj_pool.specs.declared.engine.served.Served.TheVariants.{TooManyStrays}
 use Rattle.lj_pool.specs.Seen.{Seen}
 use Rattle.lj_pool.specs.Served.{NoneEnds, EndsByBye, EndsByFault, AnswersAll, Reaches, StopsShort, IsServed}
 use Rattle.lj_pool.specs.Served.{Serves}

@@ -33,10 +33,10 @@ use Rattle.lj_wire.specs.Standings.{Standing, IsLost, IsHandedOut, HandsOut, Cea
 use Rattle.lj_wire.proofs.Marks.{marked}
 use Rattle.lj_wire.proofs.Handed.{lost_answered, ends_alike}
 use Rattle.lj_wire.proofs.Progressing.{Takes-more, Splits-part, Splits-end, Added, added, marks-length, texts-length}
-use Rattle.lj_pool.specs.declared.served.Served.{Served}
-use Rattle.lj_pool.specs.declared.served.Served.TheVariants as served
-use Rattle.lj_pool.specs.declared.running.Halt.{Halt}
-use Rattle.lj_pool.specs.declared.running.Halt.TheVariants as halts
+use Rattle.lj_pool.specs.declared.engine.served.Served.{Served}
+use Rattle.lj_pool.specs.declared.engine.served.Served.TheVariants as served
+use Rattle.lj_pool.specs.declared.engine.running.Halt.{Halt}
+use Rattle.lj_pool.specs.declared.engine.running.Halt.TheVariants as halts
 use Rattle.lj_pool.specs.Seen.{Seen}
 use Rattle.lj_pool.specs.declared.pool.TheConstants.{MAX_AHEAD}
 use Rattle.lj_pool.specs.Counting.{command_tiles, item_tiles, tiles, tiles_owed, CountsRise}

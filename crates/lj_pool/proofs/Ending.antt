@@ -13,8 +13,8 @@ use Rattle.lj_session.specs.States.{Owned, IsIdleIn, OthersKept, OtherSessionsKe
 use Rattle.lj_session.specs.Owners.{Owning, IsAnswered, IsReplied, IsLastTurn, WaitsAlike, WaitsAlikeFor, begun, is_waited_for, user_in}
 use Rattle.lj_session.proofs.Entries.{by_test}
 use Rattle.lj_wire.specs.declared.item.Item.TheVariants.{Command as Ordered}
-use Rattle.lj_pool.specs.declared.running.Halt.{Halt}
-use Rattle.lj_pool.specs.declared.running.Halt.TheVariants.{PoolClosed, TooManyStrays}
+use Rattle.lj_pool.specs.declared.engine.running.Halt.{Halt}
+use Rattle.lj_pool.specs.declared.engine.running.Halt.TheVariants.{PoolClosed, TooManyStrays}
 use Rattle.lj_pool.specs.Seen.{Seen}
 use Rattle.lj_pool.specs.Gathering.{Gathers}
 use Rattle.lj_pool.specs.Counting.{CountsRise, StraysRise, command_tiles}

@@ -3,10 +3,10 @@ use Rattle.std.specs.Prelude.{Option, Some, None}
 use Rattle.lj_session.specs.declared.command.Command.TheVariants.{Bye as ByeCommand}
 use Rattle.lj_wire.specs.declared.item.Item.{Item}
 use Rattle.lj_wire.specs.declared.item.Item.TheVariants.{Command, Bad, Last}
-use Rattle.lj_pool.specs.declared.running.Halt.{Halt}
-use Rattle.lj_pool.specs.declared.running.Halt.TheVariants as halt
-use Rattle.lj_pool.specs.declared.served.Served.{Served}
-use Rattle.lj_pool.specs.declared.served.Served.TheVariants.{Bye, Ended, PoolClosed, TooManyStrays}
+use Rattle.lj_pool.specs.declared.engine.running.Halt.{Halt}
+use Rattle.lj_pool.specs.declared.engine.running.Halt.TheVariants as halt
+use Rattle.lj_pool.specs.declared.engine.served.Served.{Served}
+use Rattle.lj_pool.specs.declared.engine.served.Served.TheVariants.{Bye, Ended, PoolClosed, TooManyStrays}
 
 -- why serving ends where a command is given up
 abbrev pub served_of : Halt → Served

@@ -1,8 +1,8 @@
 -- What may stop the work that is owed.
 use Rattle.std.specs.Prelude.{◌≡◌, true}
 use Rattle.lj_pool.specs.declared.pool.TheConstants.{MAX_STRAYS}
-use Rattle.lj_pool.specs.declared.running.Halt.{Halt}
-use Rattle.lj_pool.specs.declared.running.Halt.TheVariants.{PoolClosed, TooManyStrays}
+use Rattle.lj_pool.specs.declared.engine.running.Halt.{Halt}
+use Rattle.lj_pool.specs.declared.engine.running.Halt.TheVariants.{PoolClosed, TooManyStrays}
 use Rattle.lj_pool.specs.Seen.{Seen}
 use Rattle.lj_pool.specs.Counting.{StraysRise}
 

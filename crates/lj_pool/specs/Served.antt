@@ -16,9 +16,9 @@ use Rattle.lj_wire.specs.Texts.{is_memory}
 use Rattle.lj_wire.specs.Told.{told}
 use Rattle.lj_wire.specs.Streams.{IsItem, Dialogue}
 use Rattle.lj_wire.specs.Progress.{Progress}
-use Rattle.lj_pool.specs.declared.served.Served.{Served}
-use Rattle.lj_pool.specs.declared.served.Served.TheVariants.{End, Bye, Ended, ReadFault, WriteFault, PoolClosed}
-use Rattle.lj_pool.specs.declared.served.Served.TheVariants.{TooManyStrays}
+use Rattle.lj_pool.specs.declared.engine.served.Served.{Served}
+use Rattle.lj_pool.specs.declared.engine.served.Served.TheVariants.{End, Bye, Ended, ReadFault, WriteFault, PoolClosed}
+use Rattle.lj_pool.specs.declared.engine.served.Served.TheVariants.{TooManyStrays}
 use Rattle.lj_pool.specs.Seen.{Seen}
 use Rattle.lj_pool.specs.declared.pool.TheConstants.{MAX_AHEAD}
 use Rattle.lj_pool.specs.Counting.{tiles, tiles_owed, CountsRise}

@@ -2,26 +2,17 @@
 #![tactic(auto)]
 
 mod account;
-mod desk;
+mod engine;
 mod inline;
-mod lock_end;
-mod locked;
+mod lock;
 mod pool;
-mod replies;
-mod running;
-mod served;
-mod serving;
 mod share;
 mod waking;
-mod worker;
 
 pub use account::Account;
+pub use engine::{Served, serve, serve_lines};
 pub use inline::InlinePool;
-pub use lock_end::LockEnd;
-pub use locked::LockPool;
+pub use lock::{Gate, LockEnd, LockPool, gather, work};
 pub use pool::{MAX_AHEAD, MAX_OWED, MAX_STRAYS, NotPosted, Pool, Refused};
-pub use served::Served;
-pub use serving::{serve, serve_lines};
 pub use share::{Share, merged, shares_of};
 pub use waking::{BELLS, Bells, TASKS_AT_ONCE, Untold, bell_of};
-pub use worker::{Gate, gather, work};

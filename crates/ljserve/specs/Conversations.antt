@@ -3,8 +3,8 @@ use Rattle.std.specs.Prelude.{◌≡◌, ℕ, true, List, [], Option, IfSome}
 use Rattle.std.specs.Io.KnownBytes.{IsAtEnd}
 use Rattle.lj_quota.specs.declared.Quota.{Quota}
 use Rattle.lj_session.specs.States.{Owned, empty}
-use Rattle.lj_pool.specs.declared.served.Served.{Served}
-use Rattle.lj_pool.specs.declared.served.Served.TheVariants.{End, PoolClosed, TooManyStrays}
+use Rattle.lj_pool.specs.declared.engine.served.Served.{Served}
+use Rattle.lj_pool.specs.declared.engine.served.Served.TheVariants.{End, PoolClosed, TooManyStrays}
 use Rattle.lj_pool.specs.declared.pool.TheConstants.{MAX_STRAYS}
 use Rattle.lj_pool.specs.Seen.{Seen, unseen}
 use Rattle.lj_pool.specs.Gathering.{NoneOwed}

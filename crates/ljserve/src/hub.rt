@@ -3,7 +3,7 @@ ghost use Rattle.std.specs.Prelude.{◌≡◌, [], IfSome};
 ghost use Rattle.std.specs.Io.KnownBytes.{IsAtEnd};
 ghost use Rattle.lj_wire.specs.declared.reader.phase.Phase.TheVariants.{Open};
 ghost use Rattle.lj_wire.specs.Ends.{Rises};
-ghost use Rattle.lj_pool.specs.declared.served.Served.TheVariants.{End, ReadFault, WriteFault};
+ghost use Rattle.lj_pool.specs.declared.engine.served.Served.TheVariants.{End, ReadFault, WriteFault};
 ghost use Rattle.ljserve.specs.Conversations.{Attends};
 
 use lj_pool::Served;

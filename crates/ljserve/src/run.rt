@@ -2,7 +2,7 @@
 ghost use Rattle.std.specs.Prelude.{◌≡◌};
 ghost use Rattle.ljserve.specs.Conversations.{Converses};
 ghost use Rattle.ljserve.specs.Outcomes.{ComesTo};
-ghost use Rattle.lj_pool.specs.declared.served.Served.TheVariants.{PoolClosed, TooManyStrays};
+ghost use Rattle.lj_pool.specs.declared.engine.served.Served.TheVariants.{PoolClosed, TooManyStrays};
 
 use crate::ends::{Commands, Replies};
 use crate::fault::RunFault;

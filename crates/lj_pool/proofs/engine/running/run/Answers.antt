@@ -1,0 +1,91 @@
+use Rattle.std.proofs.Common.{◌≡◌, true, false, refl, arith, rules}
+use Rattle.lj_pool.proofs.Ending.{alike_some, ends_replied, ends_gathers, ends_counted, ends_owes, ends_rests, strays_none}
+use Rattle.lj_pool.proofs.Going.{goes_then, goes_turned, turned_fewer}
+use Rattle.lj_pool.proofs.engine.running.run.Goals as goal
+
+pub returns-in-Some-turn_session-clause-replied : goal.returns-in-Some-turn_session-clause-replied
+returns-in-Some-turn_session-clause-replied g c =
+    ends_replied c.args.owner.now (g.P.Pool.seen c.args.pool.now) c.loop-name.owner (g.P.Pool.seen c.loop-name.pool)
+    c.loop-name.invariant.goes c.in-Some.name c.in-Some.ensures.whole (c.in-Some-turn_session.ensures.last.0 refl)
+    c.turn_session.new.self c.in-Some-turn_session.reply c.turn_session.ensures.number c.in-Some-turn_session.ensures.idle
+    c.turn_session.ensures.others c.in-Some-turn_session.ensures.rests
+    (alike_some c.args.owner.now c.loop-name.owner c.loop-name.invariant.goes.alike c.requires.waits)
+    c.in-Some-turn_session.ensures.replied
+
+pub returns-in-Some-turn_session-clause-gathers : goal.returns-in-Some-turn_session-clause-gathers
+returns-in-Some-turn_session-clause-gathers g c =
+    ends_gathers c.args.owner.now (g.P.Pool.seen c.args.pool.now) c.loop-name.owner (g.P.Pool.seen c.loop-name.pool)
+    c.loop-name.invariant.goes c.in-Some.name c.in-Some.ensures.whole (c.in-Some-turn_session.ensures.last.0 refl)
+    c.turn_session.new.self c.in-Some-turn_session.reply c.turn_session.ensures.number c.in-Some-turn_session.ensures.idle
+    c.turn_session.ensures.others c.in-Some-turn_session.ensures.rests
+    (alike_some c.args.owner.now c.loop-name.owner c.loop-name.invariant.goes.alike c.requires.waits)
+    c.in-Some-turn_session.ensures.replied
+
+pub returns-in-Some-turn_session-clause-counted : goal.returns-in-Some-turn_session-clause-counted
+returns-in-Some-turn_session-clause-counted g c =
+    ends_counted c.args.owner.now (g.P.Pool.seen c.args.pool.now) c.loop-name.owner (g.P.Pool.seen c.loop-name.pool)
+    c.loop-name.invariant.goes c.in-Some.name c.in-Some.ensures.whole (c.in-Some-turn_session.ensures.last.0 refl)
+    c.turn_session.new.self c.in-Some-turn_session.reply c.turn_session.ensures.number c.in-Some-turn_session.ensures.idle
+    c.turn_session.ensures.others c.in-Some-turn_session.ensures.rests
+    (alike_some c.args.owner.now c.loop-name.owner c.loop-name.invariant.goes.alike c.requires.waits)
+    c.in-Some-turn_session.ensures.replied
+
+pub returns-in-Some-turn_session-clause-no_more : goal.returns-in-Some-turn_session-clause-no_more
+returns-in-Some-turn_session-clause-no_more g c =
+    ends_owes c.args.owner.now (g.P.Pool.seen c.args.pool.now) c.loop-name.owner (g.P.Pool.seen c.loop-name.pool)
+    c.loop-name.invariant.goes c.in-Some.name c.in-Some.ensures.whole (c.in-Some-turn_session.ensures.last.0 refl)
+    c.turn_session.new.self c.in-Some-turn_session.reply c.turn_session.ensures.number c.in-Some-turn_session.ensures.idle
+    c.turn_session.ensures.others c.in-Some-turn_session.ensures.rests
+    (alike_some c.args.owner.now c.loop-name.owner c.loop-name.invariant.goes.alike c.requires.waits)
+    c.in-Some-turn_session.ensures.replied
+
+pub returns-in-Some-turn_session-clause-rests : goal.returns-in-Some-turn_session-clause-rests
+returns-in-Some-turn_session-clause-rests g c =
+    ends_rests c.args.owner.now (g.P.Pool.seen c.args.pool.now) c.loop-name.owner (g.P.Pool.seen c.loop-name.pool)
+    c.loop-name.invariant.goes c.in-Some.name c.in-Some.ensures.whole (c.in-Some-turn_session.ensures.last.0 refl)
+    c.turn_session.new.self c.in-Some-turn_session.reply c.turn_session.ensures.number c.in-Some-turn_session.ensures.idle
+    c.turn_session.ensures.others c.in-Some-turn_session.ensures.rests
+    (alike_some c.args.owner.now c.loop-name.owner c.loop-name.invariant.goes.alike c.requires.waits)
+    c.in-Some-turn_session.ensures.replied
+
+pub poll_next-requires : goal.poll_next-requires
+poll_next-requires g c = record {
+  gathers = (goes_turned c.loop-name.owner c.turn_session.new.self (g.P.Pool.seen c.loop-name.pool)
+      c.loop-name.invariant.goes.gathers c.in-Some.name c.in-Some.ensures.whole
+      (λ e. let last : false ≡ true = c.in_default-turn_session.ensures.last.1 e in cc)
+      c.in_default-turn_session.ensures.turned c.in_default-turn_session.ensures.alike
+      c.turn_session.ensures.number c.turn_session.ensures.quota).gathers;
+}
+
+pub loop-name-preserved-in-Some : goal.loop-name-preserved-in-Some
+loop-name-preserved-in-Some g c =
+    let turned = goes_turned c.loop-name.owner c.turn_session.new.self (g.P.Pool.seen c.loop-name.pool)
+    c.loop-name.invariant.goes.gathers c.in-Some.name c.in-Some.ensures.whole
+    (λ e. let last : false ≡ true = c.in_default-turn_session.ensures.last.1 e in cc)
+    c.in_default-turn_session.ensures.turned c.in_default-turn_session.ensures.alike
+    c.turn_session.ensures.number c.turn_session.ensures.quota in
+    let goes = goes_then c.loop-name.invariant.goes
+    (goes_then turned (goes_then c.poll_next.ensures.goes_on c.post_next.ensures.goes_on)) in
+    record {
+      goes = goes;
+      in_a_row = strays_none (g.P.Pool.seen c.args.pool.now) (g.P.Pool.seen c.post_next.new.pool) goes.counted;
+      few = omega arith;
+      own = search rules;
+    }
+
+pub loop-name-smaller-in-Some : goal.loop-name-smaller-in-Some
+loop-name-smaller-in-Some g c =
+    let turned = goes_turned c.loop-name.owner c.turn_session.new.self (g.P.Pool.seen c.loop-name.pool)
+    c.loop-name.invariant.goes.gathers c.in-Some.name c.in-Some.ensures.whole
+    (λ e. let last : false ≡ true = c.in_default-turn_session.ensures.last.1 e in cc)
+    c.in_default-turn_session.ensures.turned c.in_default-turn_session.ensures.alike
+    c.turn_session.ensures.number c.turn_session.ensures.quota in
+    let less = turned_fewer c.loop-name.owner c.turn_session.new.self (g.P.Pool.seen c.loop-name.pool)
+    c.loop-name.invariant.goes.gathers c.in-Some.name c.in-Some.ensures.whole
+    (λ e. let last : false ≡ true = c.in_default-turn_session.ensures.last.1 e in cc)
+    c.in_default-turn_session.ensures.turned in
+    let rest = goes_then c.poll_next.ensures.goes_on c.post_next.ensures.goes_on in
+    let tiles = turned.tiles in let posts = turned.posts in
+    let turns_then = rest.turns in let tiles_then = rest.tiles in let posts_then = rest.posts in
+    let few = c.loop-name.invariant.few in
+    omega (arith, less, tiles, posts, turns_then, tiles_then, posts_then, few)

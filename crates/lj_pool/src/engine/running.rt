@@ -1,0 +1,288 @@
+//! The work that is owed to sessions, done over a pool: while a command waits for it, and before the next one is read. Tasks
+//! are written in one room, which is handed down.
+ghost use Rattle.std.specs.Prelude.{◌≡◌, ◌+◌, ◌-◌, ◌<◌, ◌≤◌, length, Bool, true, false, [], ◌∷◌, Some, None, Ok, IsSome, IfOk, IfErr, IfSome, OnErr, OnOk};
+ghost use Rattle.lj_session.specs.States.{turns_before};
+ghost use Rattle.lj_session.specs.Owners.{IsAnswered, IsReplied, IsSettled, user_in, ready_session};
+ghost use Rattle.lj_wire.specs.declared.item.Item.TheVariants.{Command as Ordered};
+ghost use Rattle.lj_pool.specs.declared.engine.running.Halt.TheVariants.{TooManyStrays};
+ghost use Rattle.lj_pool.specs.Seen.{SameOwed};
+ghost use Rattle.lj_pool.specs.Gathering.{Gathers};
+ghost use Rattle.lj_pool.specs.Counting.{CountsRise, StraysRise, command_tiles};
+ghost use Rattle.lj_pool.specs.Coming.{GoesOn, OwesNoMore, OwesNoneWhereWaited, posts_coming, tiles_coming, tiles_to_come};
+ghost use Rattle.lj_pool.specs.Owing.{OwesAfter};
+ghost use Rattle.lj_pool.specs.Running.{IsHalted};
+
+use crate::pool::{MAX_AHEAD, MAX_STRAYS, NotPosted, Pool};
+use lj_session::{Begin, Command, Owner, Reply};
+use lj_tile::Task;
+
+/// Why the work was given up.
+#[derive(Clone, Copy, PartialEq, Eq, Debug)]
+pub(crate) enum Halt {
+    PoolClosed,
+    TooManyStrays,
+}
+
+/// Answers a command, once what it waits for is done.
+pub(crate) fn answer_over<P: Pool>(
+    owner: &mut Owner,
+    user: u8,
+    pool: &mut P,
+    command: Command,
+    room: &mut Task,
+) -> Result<Reply, Halt>
+    requires idle { owner.old.waiting ≡ None }
+    requires number { owner.old.number ≡ user }
+    requires gathers { Gathers owner.old (P.seen pool.old).owed }
+    ensures answered { IfOk result (λ reply. IsAnswered (user_in owner.old) command reply (user_in owner.new)) }
+    ensures settled { IfOk result (IsSettled owner.new.state) }
+    ensures idle { OnOk result (owner.new.waiting ≡ None) }
+    ensures gathers { OnOk result (Gathers owner.new (P.seen pool.new).owed) }
+    ensures counted { OnOk result (CountsRise
+        (command_tiles (user_in owner.old) command + tiles_to_come owner.old.state - tiles_to_come owner.new.state)
+        (P.seen pool.old) (P.seen pool.new)) }
+    ensures owes { OnOk result (OwesAfter owner.old.state (Ordered command ∷ []) owner.new.state) }
+    ensures waits { OnErr result (0 < turns_before owner.old.state command) }
+    ensures halted { IfErr result (λ halt. IsHalted halt (P.seen pool.old) (P.seen pool.new)) }
+    ensures number { owner.new.number ≡ user }
+    ensures quota { owner.new.state.quota ≡ owner.old.state.quota }
+    ensures own { P.for_others pool.new user ≡ P.for_others pool.old user }
+{
+    match owner.begin(command) {
+        Begin::Answered(reply) => Ok(reply),
+        Begin::Running => run(owner, user, pool, room),
+    }
+}
+
+/// Goes on with the steps of all sessions, until what waits is answered.
+fn run<P: Pool>(owner: &mut Owner, user: u8, pool: &mut P, room: &mut Task) -> Result<Reply, Halt>
+    requires waits { IsSome owner.old.waiting }
+    requires number { owner.old.number ≡ user }
+    requires gathers { Gathers owner.old (P.seen pool.old).owed }
+    ensures replied { IfOk result (λ reply. IsReplied owner.old reply (user_in owner.new)) }
+    ensures settled { IfOk result (IsSettled owner.new.state) }
+    ensures idle { OnOk result (owner.new.waiting ≡ None) }
+    ensures gathers { OnOk result (Gathers owner.new (P.seen pool.new).owed) }
+    ensures counted { OnOk result
+        (CountsRise (tiles_coming owner.old - tiles_coming owner.new) (P.seen pool.old) (P.seen pool.new)) }
+    ensures no_more { OnOk result (OwesNoMore owner.old owner.new.state) }
+    ensures rests { OnOk result (OwesNoneWhereWaited owner.old owner.new.state) }
+    ensures halted { IfErr result (λ halt. IsHalted halt (P.seen pool.old) (P.seen pool.new)) }
+    ensures number { owner.new.number ≡ user }
+    ensures quota { owner.new.state.quota ≡ owner.old.state.quota }
+    ensures own { P.for_others pool.new user ≡ P.for_others pool.old user }
+{
+    let mut strays = 0;
+    loop {
+        if let Some(name) = owner.ready_session() {
+            if let Some(reply) = owner.turn_session(&name) {
+                return Ok(reply);
+            }
+            poll_next(owner, user, pool);
+            post_next(owner, pool, room, false)?;
+            strays = 0;
+        } else if !post_or_wait(owner, pool, room)? {
+            strays = strays_after(strays, fetch_next(owner, user, pool)?)?;
+            if poll_and_post(owner, user, pool, room) {
+                strays = 0;
+            }
+        }
+    }
+}
+
+/// Goes on with what is owed, if something may be, before the next command is read: takes in what is there, turns what is
+/// whole, posts what there is room for, and fetches until few tasks are owed. The last look for results tells the workers
+/// of what was posted. Whether something is still owed.
+pub(crate) fn work_ahead<P: Pool>(
+    owner: &mut Owner,
+    user: u8,
+    pool: &mut P,
+    owes: bool,
+    room: &mut Task,
+) -> Result<bool, Halt>
+    requires idle { owner.old.waiting ≡ None }
+    requires number { owner.old.number ≡ user }
+    requires gathers { Gathers owner.old (P.seen pool.old).owed }
+    ensures goes_on { GoesOn owner.old (P.seen pool.old) owner.new (P.seen pool.new) }
+    ensures many { OnErr result (MAX_AHEAD < length (P.seen pool.new).owed) }
+    ensures halted { IfErr result (λ halt. IsHalted halt (P.seen pool.old) (P.seen pool.new)) }
+    ensures own { P.for_others pool.new user ≡ P.for_others pool.old user }
+{
+    if !owes {
+        return Ok(false);
+    }
+    poll_all(owner, user, pool);
+    turn_whole(owner, user, pool, room);
+    post_all(owner, pool, room);
+    fetch_down(owner, user, pool)?;
+    poll_all(owner, user, pool);
+    Ok(owner.is_busy())
+}
+
+/// Takes in what is there of the results that are owed. Whether one of them was of a tile that is awaited.
+fn poll_all<P: Pool>(owner: &mut Owner, user: u8, pool: &mut P) -> bool
+    requires gathers { Gathers owner.old (P.seen pool.old).owed }
+    ensures goes_on { GoesOn owner.old (P.seen pool.old) owner.new (P.seen pool.new) }
+    ensures fewer { result ≡ true → tiles_coming owner.new < tiles_coming owner.old }
+    ensures own { P.for_others pool.new user ≡ P.for_others pool.old user }
+{
+    let mut some = false;
+    for _ in 0..pool.owed() {
+        let Some(taken) = poll_next(owner, user, pool) else {
+            break;
+        };
+        some = some || taken;
+    }
+    some
+}
+
+/// Turns sessions until none is whole. Between two turns a result is taken in and a task posted, so that a session whose
+/// steps have no tiles does not keep the others waiting.
+fn turn_whole<P: Pool>(owner: &mut Owner, user: u8, pool: &mut P, room: &mut Task)
+    requires idle { owner.old.waiting ≡ None }
+    requires number { owner.old.number ≡ user }
+    requires gathers { Gathers owner.old (P.seen pool.old).owed }
+    ensures goes_on { GoesOn owner.old (P.seen pool.old) owner.new (P.seen pool.new) }
+    ensures own { P.for_others pool.new user ≡ P.for_others pool.old user }
+{
+    while let Some(name) = owner.ready_session() {
+        let _none = owner.turn_session(&name);
+        poll_next(owner, user, pool);
+        let _posted = post_next(owner, pool, room, false);
+    }
+}
+
+/// Posts tasks while there is room for them.
+fn post_all<P: Pool>(owner: &mut Owner, pool: &mut P, room: &mut Task)
+    requires gathers { Gathers owner.old (P.seen pool.old).owed }
+    ensures goes_on { GoesOn owner.old (P.seen pool.old) owner.new (P.seen pool.new) }
+    ensures own { let user = owner.old.number in P.for_others pool.new user ≡ P.for_others pool.old user }
+{
+    while let Ok(true) = post_next(owner, pool, room, false) {}
+}
+
+/// Fetches results until few tasks are owed.
+fn fetch_down<P: Pool>(owner: &mut Owner, user: u8, pool: &mut P) -> Result<(), Halt>
+    requires gathers { Gathers owner.old (P.seen pool.old).owed }
+    ensures goes_on { GoesOn owner.old (P.seen pool.old) owner.new (P.seen pool.new) }
+    ensures many { OnErr result (MAX_AHEAD < length (P.seen pool.new).owed) }
+    ensures halted { IfErr result (λ halt. IsHalted halt (P.seen pool.old) (P.seen pool.new)) }
+    ensures own { P.for_others pool.new user ≡ P.for_others pool.old user }
+{
+    let mut strays = 0;
+    while pool.owed() > MAX_AHEAD {
+        strays = strays_after(strays, fetch_next(owner, user, pool)?)?;
+    }
+    Ok(())
+}
+
+/// Posts the next task, and waits for room for it only where nothing is owed. False where there is no task, or no room; then
+/// something is owed.
+fn post_or_wait<P: Pool>(owner: &mut Owner, pool: &mut P, room: &mut Task) -> Result<bool, Halt>
+    requires waits { IsSome owner.old.waiting }
+    requires none_ready { ready_session owner.old ≡ None }
+    requires gathers { Gathers owner.old (P.seen pool.old).owed }
+    ensures goes_on { GoesOn owner.old (P.seen pool.old) owner.new (P.seen pool.new) }
+    ensures fewer { IfOk result (λ posted. posted ≡ true → posts_coming owner.new < posts_coming owner.old) }
+    ensures owes { IfOk result (λ posted. posted ≡ false → 0 < length (P.seen pool.new).owed) }
+    ensures halted { IfErr result (λ halt. IsHalted halt (P.seen pool.old) (P.seen pool.new)) }
+    ensures own { let user = owner.old.number in P.for_others pool.new user ≡ P.for_others pool.old user }
+{
+    let wait = pool.owed() == 0;
+    post_next(owner, pool, room, wait)
+}
+
+/// Posts the next task, written in `room`. False where there is none, or the pool has no place for it now.
+fn post_next<P: Pool>(
+    owner: &mut Owner,
+    pool: &mut P,
+    room: &mut Task,
+    wait: bool,
+) -> Result<bool, Halt>
+    requires gathers { Gathers owner.old (P.seen pool.old).owed }
+    requires alone { wait ≡ true → (P.seen pool.old).owed ≡ [] }
+    ensures goes_on { GoesOn owner.old (P.seen pool.old) owner.new (P.seen pool.new) }
+    ensures fewer { IfOk result (λ posted. posted ≡ true → posts_coming owner.new < posts_coming owner.old) }
+    ensures owes { (wait ≡ false → 0 < length (P.seen pool.old).owed) → IsSome owner.old.waiting
+        → ready_session owner.old ≡ None → IfOk result (λ posted. posted ≡ false → 0 < length (P.seen pool.new).owed) }
+    ensures halted { IfErr result (λ halt. IsHalted halt (P.seen pool.old) (P.seen pool.new)) }
+    ensures own { let user = owner.old.number in P.for_others pool.new user ≡ P.for_others pool.old user }
+{
+    if pool.full() {
+        return Ok(false);
+    }
+    if !owner.next_task_in(room) {
+        return Ok(false);
+    }
+    match pool.post_from(room, wait) {
+        Ok(()) => {
+            owner.posted();
+            Ok(true)
+        }
+        Err(NotPosted::Full) => Ok(false),
+        Err(NotPosted::Closed) => Err(Halt::PoolClosed),
+    }
+}
+
+/// Takes in what is there of the results that are owed, and posts what there is room for then, so that many tasks go to the
+/// workers together. Whether one of the results was of a tile that is awaited.
+fn poll_and_post<P: Pool>(owner: &mut Owner, user: u8, pool: &mut P, room: &mut Task) -> bool
+    requires number { owner.old.number ≡ user }
+    requires gathers { Gathers owner.old (P.seen pool.old).owed }
+    ensures goes_on { GoesOn owner.old (P.seen pool.old) owner.new (P.seen pool.new) }
+    ensures fewer { result ≡ true → tiles_coming owner.new < tiles_coming owner.old }
+    ensures own { P.for_others pool.new user ≡ P.for_others pool.old user }
+{
+    let taken = poll_all(owner, user, pool);
+    post_all(owner, pool, room);
+    taken
+}
+
+/// Fetches a result. False where it is of no tile that is awaited; it is dropped then.
+fn fetch_next<P: Pool>(owner: &mut Owner, user: u8, pool: &mut P) -> Result<bool, Halt>
+    requires gathers { Gathers owner.old (P.seen pool.old).owed }
+    requires owes { 0 < length (P.seen pool.old).owed }
+    ensures goes_on { GoesOn owner.old (P.seen pool.old) owner.new (P.seen pool.new) }
+    ensures fewer { IfOk result (λ taken. taken ≡ true → tiles_coming owner.new < tiles_coming owner.old) }
+    ensures stray { IfOk result (λ taken. taken ≡ false → StraysRise 1 (P.seen pool.old) (P.seen pool.new)) }
+    ensures kept { IfOk result (λ taken. taken ≡ false → (P.seen pool.new).owed ≡ (P.seen pool.old).owed) }
+    ensures unchanged { OnErr result (SameOwed (P.seen pool.old) (P.seen pool.new)) }
+    ensures halted { IfErr result (λ halt. IsHalted halt (P.seen pool.old) (P.seen pool.new)) }
+    ensures own { P.for_others pool.new user ≡ P.for_others pool.old user }
+{
+    if !pool.fetch_in(user) {
+        return Err(Halt::PoolClosed);
+    }
+    Ok(owner.take_in(pool.fetched()).is_ok())
+}
+
+/// Takes in a result that is there now. False where it is of no tile that is awaited; it is dropped then. None where there
+/// is no result.
+fn poll_next<P: Pool>(owner: &mut Owner, user: u8, pool: &mut P) -> Option<bool>
+    requires gathers { Gathers owner.old (P.seen pool.old).owed }
+    ensures goes_on { GoesOn owner.old (P.seen pool.old) owner.new (P.seen pool.new) }
+    ensures fewer { IfSome result (λ taken. taken ≡ true → tiles_coming owner.new < tiles_coming owner.old) }
+    ensures own { P.for_others pool.new user ≡ P.for_others pool.old user }
+{
+    if !pool.poll_in(user) {
+        return None;
+    }
+    Some(owner.take_in(pool.fetched()).is_ok())
+}
+
+/// How many results in a row were of no tile that is awaited, after one more that was taken in or was not.
+fn strays_after(strays: u64, taken: bool) -> Result<u64, Halt>
+    requires { strays < MAX_STRAYS }
+    ensures taken { taken ≡ true → result ≡ Ok 0 }
+    ensures stray { taken ≡ false → IfOk result (λ row. (row ≡ strays + 1) × (row < MAX_STRAYS)) }
+    ensures many { OnErr result ((taken ≡ false) × (strays + 1 ≡ MAX_STRAYS)) }
+    ensures halt { IfErr result (λ halt. halt ≡ TooManyStrays) }
+{
+    if taken {
+        return Ok(0);
+    }
+    if strays + 1 == MAX_STRAYS {
+        return Err(Halt::TooManyStrays);
+    }
+    Ok(strays + 1)
+}

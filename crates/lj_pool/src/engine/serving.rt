@@ -1,0 +1,147 @@
+//! A stream of commands served over a pool.
+ghost use Rattle.std.specs.Prelude.{◌≡◌, ◌+◌, ◌-◌, ◌<◌, ℕ, List, Option, [], ◌∷◌, None, IfOk, IfErr, IfSome, OnErr, OnOk};
+ghost use Rattle.std.specs.Prelude.{true};
+ghost use Rattle.std.specs.Io.KnownBytes.{IsAtEnd};
+ghost use Rattle.lj_session.specs.Owners.{IsSettled, user_in};
+ghost use Rattle.lj_wire.specs.declared.reader.phase.Phase.TheVariants.{Open};
+ghost use Rattle.lj_wire.specs.Ends.{Rises};
+ghost use Rattle.lj_wire.specs.Runs.{item_before};
+ghost use Rattle.lj_pool.specs.declared.engine.served.Served.TheVariants as served;
+ghost use Rattle.lj_pool.specs.Gathering.{Gathers, NoneOwed};
+ghost use Rattle.lj_pool.specs.Counting.{CountsRise, StraysRise, item_tiles};
+ghost use Rattle.lj_pool.specs.Coming.{tiles_to_come};
+ghost use Rattle.lj_pool.specs.Owing.{OwesAfter};
+ghost use Rattle.lj_pool.specs.Endings.{served_of};
+ghost use Rattle.lj_pool.specs.Running.{IsHalted};
+ghost use Rattle.lj_pool.specs.Serving.{AnswersItem};
+ghost use Rattle.lj_pool.specs.Served.{Serves};
+
+use crate::engine::replies::put_reply;
+use crate::engine::running::{Halt, answer_over, work_ahead};
+use crate::engine::served::{Served, ending_of};
+use crate::pool::{MAX_STRAYS, Pool};
+use lj_session::{Command, Owner, Refusal, Reply, UserState};
+use lj_tile::Task;
+use lj_wire::{Item, Line, LineReader, ReadFault, Sink, Source, WriteFault};
+use std::alloc::Global;
+
+/// Serves a stream of commands from a user's state on, over a pool that owes nothing. What is written is the dialogue
+/// of what is read. The state is handed back, with the steps that are still owed to its sessions, but where the pool was
+/// given up; and the reader in any case. The pool is asked for no other user.
+pub fn serve<R: Source, W: Sink, P: Pool>(
+    alloc: Global,
+    state: UserState,
+    user: u8,
+    reader: R,
+    writer: &mut W,
+    pool: &mut P,
+) -> (Option<UserState>, Served, R)
+    requires none_owed { (P.seen pool.old).owed ≡ [] }
+    ensures told { Serves result.1 state (R.remaining reader) (R.remaining result.2)
+        (W.contents writer.old) (W.contents writer.new) (P.seen pool.old) (P.seen pool.new) result.0 }
+    ensures end { result.1 ≡ served.End → IsAtEnd (R.remaining result.2) }
+    ensures read_fault { result.1 ≡ served.ReadFault → Rises (R.errors reader) (R.errors result.2) }
+    ensures write_fault { result.1 ≡ served.WriteFault → Rises (W.faults writer.old) (W.faults writer.new) }
+    ensures closed { result.1 ≡ served.PoolClosed → (P.seen pool.new).closed ≡ true }
+    ensures strays { result.1 ≡ served.TooManyStrays → StraysRise MAX_STRAYS (P.seen pool.old) (P.seen pool.new) }
+    ensures none_owed { IfSome result.0 (λ owned. NoneOwed owned → (P.seen pool.new).owed ≡ []) }
+    ensures own { P.for_others pool.new user ≡ P.for_others pool.old user }
+    ensures quota { IfSome result.0 (λ owned. owned.quota ≡ state.quota) }
+{
+    let mut lines = LineReader::new(alloc, reader);
+    let (state, served) = serve_lines(state, user, &mut lines, writer, pool);
+    (state, served, lines.into_source())
+}
+
+/// Answers the items of a reader that has handed out none, over a pool that owes nothing, from a user's state on. The
+/// state is handed back but where the pool was given up.
+pub fn serve_lines<R: Source, W: Sink, P: Pool>(
+    state: UserState,
+    user: u8,
+    lines: &mut LineReader<R>,
+    writer: &mut W,
+    pool: &mut P,
+) -> (Option<UserState>, Served)
+    requires fresh { lines.old.items ≡ 0 }
+    requires at_work { lines.old.phase ≡ Open }
+    requires none_owed { (P.seen pool.old).owed ≡ [] }
+    ensures told { Serves result.1 state lines.old.left lines.new.left
+        (W.contents writer.old) (W.contents writer.new) (P.seen pool.old) (P.seen pool.new) result.0 }
+    ensures end { result.1 ≡ served.End → IsAtEnd lines.new.left }
+    ensures all_read { result.1 ≡ served.ReadFault → lines.new.held ≡ [] }
+    ensures read_fault { result.1 ≡ served.ReadFault → Rises lines.old.errors lines.new.errors }
+    ensures write_fault { result.1 ≡ served.WriteFault → Rises (W.faults writer.old) (W.faults writer.new) }
+    ensures closed { result.1 ≡ served.PoolClosed → (P.seen pool.new).closed ≡ true }
+    ensures strays { result.1 ≡ served.TooManyStrays → StraysRise MAX_STRAYS (P.seen pool.old) (P.seen pool.new) }
+    ensures none_owed { IfSome result.0 (λ owned. NoneOwed owned → (P.seen pool.new).owed ≡ []) }
+    ensures own { P.for_others pool.new user ≡ P.for_others pool.old user }
+    ensures quota { IfSome result.0 (λ owned. owned.quota ≡ state.quota) }
+{
+    let mut owner = Owner::new(state, user);
+    let mut line = Line::new();
+    let mut room = Task::blank();
+    let mut owes = true;
+    'items: loop {
+        owes = match work_ahead(&mut owner, user, pool, owes, &mut room) {
+            Ok(owes) => owes,
+            Err(halt) => return given_up(owner, halt),
+        };
+        let item = match lines.next() {
+            Ok(Some(item)) => item,
+            Ok(None) => return (Some(owner.into_state()), Served::End),
+            Err(ReadFault) => return (Some(owner.into_state()), Served::ReadFault),
+        };
+        let ending = ending_of(&item);
+        owes = owes || matches!(&item, Item::Command(Command::Start { .. }));
+        let reply = match answer(&mut owner, user, pool, item, &mut room) {
+            Ok(reply) => reply,
+            Err(halt) => return given_up(owner, halt),
+        };
+        if let Err(WriteFault) = put_reply(writer, &mut line, owner.state(), &reply) {
+            return (Some(owner.into_state()), Served::WriteFault);
+        }
+        if let Some(served) = ending {
+            return (Some(owner.into_state()), served);
+        }
+    }
+}
+
+/// How serving ends where the pool was given up. The state is not handed back.
+fn given_up(owner: Owner, halt: Halt) -> (Option<UserState>, Served)
+    ensures none { result.0 ≡ None }
+    ensures served { result.1 ≡ served_of halt }
+{
+    owner.abandon();
+    (None, Served::from(halt))
+}
+
+/// Answers an item.
+fn answer<P: Pool>(
+    owner: &mut Owner,
+    user: u8,
+    pool: &mut P,
+    item: Item,
+    room: &mut Task,
+) -> Result<Reply, Halt>
+    requires idle { owner.old.waiting ≡ None }
+    requires number { owner.old.number ≡ user }
+    requires gathers { Gathers owner.old (P.seen pool.old).owed }
+    ensures answered { IfOk result (λ reply. AnswersItem (user_in owner.old) item reply (user_in owner.new)) }
+    ensures settled { IfOk result (IsSettled owner.new.state) }
+    ensures idle { OnOk result (owner.new.waiting ≡ None) }
+    ensures gathers { OnOk result (Gathers owner.new (P.seen pool.new).owed) }
+    ensures counted { OnOk result (CountsRise
+        (item_tiles (user_in owner.old) item + tiles_to_come owner.old.state - tiles_to_come owner.new.state)
+        (P.seen pool.old) (P.seen pool.new)) }
+    ensures owes { OnOk result (OwesAfter owner.old.state (item ∷ []) owner.new.state) }
+    ensures waits { OnErr result (0 < item_before owner.old.state item) }
+    ensures halted { IfErr result (λ halt. IsHalted halt (P.seen pool.old) (P.seen pool.new)) }
+    ensures number { owner.new.number ≡ user }
+    ensures quota { owner.new.state.quota ≡ owner.old.state.quota }
+    ensures own { P.for_others pool.new user ≡ P.for_others pool.old user }
+{
+    match item {
+        Item::Command(command) => answer_over(owner, user, pool, command, room),
+        Item::Bad(fault) | Item::Last(fault) => Ok(Reply::Refused(Refusal::from(fault))),
+    }
+}
