@@ -23,3 +23,4 @@ pub mod TileValues
 pub mod TilesTaken
 pub mod RoundTrip
 pub mod Sound
+pub mod BlockAdded

@@ -68,6 +68,17 @@ IsPartial u frame p (Some kind) = IsOpen u frame p kind
 abbrev pub IsOutside : ℕ → ℕ → ℕ → Type 0
 IsOutside b places i = (i < tile_number b 0) ⊎ (tile_number b places ≤ i)
 
+-- the sum for a place of a list of them
+abbrev pub sum_of : List Push → ℕ → Push
+sum_of sums t = slice_index_or sums t no_push
+
+-- the sums for some places, counted from an atom on, are added to those of their atoms, and the others are as they were
+pub record HasPartAdded (start from until : ℕ) (sums : ℕ → Push) (old new : List Push) : Type 0 where
+  pub count : length new ≡ length old
+  pub part : (t : ℕ) → from ≤ t → t < until → slice_index_or new (start + t) no_push
+      ≡ plus (slice_index_or old (start + t) no_push) (sums t)
+  pub others : (i : ℕ) → (i < start + from) ⊎ (start + until ≤ i) → slice_index_or new i no_push ≡ slice_index_or old i no_push
+
 -- sums are added to those of the atoms of a block, one for each of its places, and the others are as they were
 pub record HasBlockAdded (b places : ℕ) (sums : ℕ → Push) (old new : List Push) : Type 0 where
   pub count : length new ≡ length old

@@ -8,7 +8,7 @@ ghost use Rattle.lj_tile.specs.Pushes.{no_push};
 ghost use Rattle.lj_tile.specs.Tasks.{task_force, task_second, task_energy};
 ghost use Rattle.lj_step.specs.declared.frames.TheConstants.{MAX_ATOMS};
 ghost use Rattle.lj_step.specs.OpenSteps as steps;
-ghost use Rattle.lj_step.specs.Sums.{HasRoom, HasAdded, HasBlockAdded};
+ghost use Rattle.lj_step.specs.Sums.{HasRoom, HasAdded, HasBlockAdded, HasPartAdded, sum_of};
 ghost use Rattle.lj_step.specs.Kept.{block_arcs, set_numbers};
 
 use crate::atoms::Atoms;
@@ -78,14 +78,12 @@ impl Partial {
         self.kind = Some(kind);
     }
 
-    /// Adds the sums of a tile that is awaited, of blocks of so many places, and awaits it no more.
-    pub fn add(&mut self, done: &Done, first: usize, second: usize)
-        requires first { first ≡ length done.now.a.places }
-        requires second { second ≡ length done.now.b.places }
+    /// Adds the sums of a tile that is awaited, and awaits it no more.
+    pub fn add(&mut self, done: &Done)
         requires awaited { steps.tile_number_of done.now < length self.old.awaited.items }
         requires left { 1 ≤ self.old.left }
-        requires first_count { steps.tile_number done.now.name.bi first ≤ length self.old.pushes.items }
-        requires second_count { steps.tile_number done.now.name.bj second ≤ length self.old.pushes.items }
+        requires first { steps.tile_number done.now.name.bi (length done.now.a.places) ≤ length self.old.pushes.items }
+        requires second { steps.tile_number done.now.name.bj (length done.now.b.places) ≤ length self.old.pushes.items }
         requires size { unsigned_abs self.old.energy + 2 ^ 63 ≤ 2 ^ 75 }
         ensures kind { self.new.kind ≡ self.old.kind }
         ensures arcs { vec_capacity self.new.arcs ≡ vec_capacity self.old.arcs }
@@ -101,7 +99,7 @@ impl Partial {
         let name = done.task().name();
         let number = BLOCK * usize::from(name.bi) + usize::from(name.bj);
         match name.kind {
-            Kind::Force => add_pushes(&mut self.pushes, done, first, second),
+            Kind::Force => add_pushes(self.pushes.as_mut_slice(), done),
             Kind::Energy => self.energy = plus_energy(self.energy, done),
         }
         self.awaited[number] = false;
@@ -157,47 +155,67 @@ fn clear(pushes: &mut Vec<Push>)
 }
 
 /// Adds the sums of a force task to those of its two blocks' atoms, once where they are one block.
-fn add_pushes(pushes: &mut Vec<Push>, done: &Done, first: usize, second: usize)
+fn add_pushes(pushes: &mut [Push], done: &Done)
     requires kind { done.now.name.kind ≡ Force }
-    requires first { first ≡ length done.now.a.places }
-    requires second { second ≡ length done.now.b.places }
-    requires first_count { steps.tile_number done.now.name.bi first ≤ length pushes.old.items }
-    requires second_count { steps.tile_number done.now.name.bj second ≤ length pushes.old.items }
-    ensures { HasAdded done.now pushes.old.items pushes.new.items }
+    requires first { steps.tile_number done.now.name.bi (length done.now.a.places) ≤ length pushes.old }
+    requires second { steps.tile_number done.now.name.bj (length done.now.b.places) ≤ length pushes.old }
+    ensures { HasAdded done.now pushes.old pushes.new }
 {
     let name = done.task().name();
-    add_first(pushes, done, first);
+    add_block(pushes, usize::from(name.bi), done.sums());
     if name.bi < name.bj {
-        add_second(pushes, done, second);
+        add_block(pushes, usize::from(name.bj), done.second_sums());
     }
 }
 
-/// Adds its sums for the places of the first block.
-fn add_first(pushes: &mut Vec<Push>, done: &Done, places: usize)
-    requires kind { done.now.name.kind ≡ Force }
-    requires places { places ≡ length done.now.a.places }
-    requires count { steps.tile_number done.now.name.bi places ≤ length pushes.old.items }
-    ensures { HasBlockAdded done.now.name.bi places (task_force done.now) pushes.old.items pushes.new.items }
+/// Adds sums to those of a block's atoms, one for each place.
+fn add_block(pushes: &mut [Push], index: usize, sums: &[Push])
+    requires count { steps.tile_number index (length sums.now) ≤ length pushes.old }
+    ensures { HasBlockAdded index (length sums.now) (sum_of sums.now) pushes.old pushes.new }
 {
-    let start = BLOCK * usize::from(done.task().name().bi);
-    for place in 0..places {
-        let [x, y, z] = done.sum_at(place);
-        pushes[start + place] = pushes[start + place].plus(Push { x, y, z });
+    let start = BLOCK * index;
+    let fours = sums.len() / 4;
+    add_fours(pushes, start, sums, fours);
+    add_rest(pushes, start, sums, 4 * fours);
+}
+
+/// Adds the first sums to those from a place on, so many times four.
+fn add_fours(pushes: &mut [Push], start: usize, sums: &[Push], fours: usize)
+    requires enough { 4 * fours ≤ length sums.now }
+    requires count { start + length sums.now ≤ length pushes.old }
+    ensures { HasPartAdded start 0 (4 * fours) (sum_of sums.now) pushes.old pushes.new }
+{
+    for group in 0..fours {
+        add_four(pushes, start, sums, 4 * group);
     }
 }
 
-/// Adds its sums for the places of the second block, where that is another one.
-fn add_second(pushes: &mut Vec<Push>, done: &Done, places: usize)
-    requires kind { done.now.name.kind ≡ Force }
-    requires apart { done.now.name.bi < done.now.name.bj }
-    requires places { places ≡ length done.now.b.places }
-    requires count { steps.tile_number done.now.name.bj places ≤ length pushes.old.items }
-    ensures { HasBlockAdded done.now.name.bj places (task_second done.now) pushes.old.items pushes.new.items }
+/// Adds four sums. It reads all of them before it writes, so that they are added side by side.
+#[inline]
+fn add_four(pushes: &mut [Push], start: usize, sums: &[Push], from: usize)
+    requires enough { from + 4 ≤ length sums.now }
+    requires count { start + length sums.now ≤ length pushes.old }
+    ensures { HasPartAdded start from (from + 4) (sum_of sums.now) pushes.old pushes.new }
 {
-    let start = BLOCK * usize::from(done.task().name().bj);
-    for place in 0..places {
-        let [x, y, z] = done.second_at(place);
-        pushes[start + place] = pushes[start + place].plus(Push { x, y, z });
+    let at = start + from;
+    let first = pushes[at].plus(sums[from]);
+    let second = pushes[at + 1].plus(sums[from + 1]);
+    let third = pushes[at + 2].plus(sums[from + 2]);
+    let fourth = pushes[at + 3].plus(sums[from + 3]);
+    pushes[at] = first;
+    pushes[at + 1] = second;
+    pushes[at + 2] = third;
+    pushes[at + 3] = fourth;
+}
+
+/// Adds the sums from one on.
+fn add_rest(pushes: &mut [Push], start: usize, sums: &[Push], from: usize)
+    requires within { from ≤ length sums.now }
+    requires count { start + length sums.now ≤ length pushes.old }
+    ensures { HasPartAdded start from (length sums.now) (sum_of sums.now) pushes.old pushes.new }
+{
+    for place in from..sums.len() {
+        pushes[start + place] = pushes[start + place].plus(sums[place]);
     }
 }
 

@@ -303,10 +303,7 @@ impl Sim {
         if !self.is_awaited(label, done.task()) {
             return Err(NotAwaited);
         }
-        let name = done.task().name();
-        let first = self.block(usize::from(name.bi)).len();
-        let second = self.block(usize::from(name.bj)).len();
-        self.partial.add(done, first, second);
+        self.partial.add(done);
         Ok(())
     }
 

@@ -6,3 +6,4 @@ pub mod RowLemmas
 pub mod Splits
 pub mod SameLemmas
 pub mod NearLemmas
+pub mod FirstSums

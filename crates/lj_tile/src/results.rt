@@ -1,10 +1,12 @@
 //! Results of tasks.
-ghost use Rattle.std.specs.Prelude.{◌≡◌, ◌<◌, length, ◌∷◌, []};
+ghost use Rattle.std.specs.Prelude.{◌≡◌, ◌<◌, length, map, ◌∷◌, []};
+ghost use Rattle.std.specs.List.{range_with_len};
 ghost use Rattle.lj_tile.specs.declared.names.Kind.TheVariants.{Force, Energy};
 ghost use Rattle.lj_tile.specs.Blank.{blank};
 ghost use Rattle.lj_tile.specs.Tasks.{task_force, task_second, task_energy};
 
 use crate::names::Kind;
+use crate::pairs::Push;
 use crate::sums::{ForceSums, energy_sum, sum_forces};
 use crate::tasks::Task;
 use lj_table::Table;
@@ -59,6 +61,26 @@ impl Done {
     {
         let other = self.pushes.second_at(s);
         [other.x, other.y, other.z]
+    }
+
+    /// The sums of the pushes on the places of the first block, in order.
+    #[inline]
+    pub fn sums(&self) -> &[Push]
+        requires { self.now.name.kind ≡ Force }
+        ensures { result.now ≡ map (task_force self.now) (range_with_len 0 (length self.now.a.places)) }
+    {
+        self.pushes.firsts(self.task.first().places().len())
+    }
+
+    /// The sums of the pushes on the places of the second block, in order. Of a task of one block twice `sums` has
+    /// it all.
+    #[inline]
+    pub fn second_sums(&self) -> &[Push]
+        requires force { self.now.name.kind ≡ Force }
+        requires apart { self.now.name.bi < self.now.name.bj }
+        ensures { result.now ≡ map (task_second self.now) (range_with_len 0 (length self.now.b.places)) }
+    {
+        self.pushes.seconds(self.task.second().places().len())
     }
 
     /// The sum of the energies of the task's pairs, in units of 2^-24 ε.

@@ -1,6 +1,6 @@
 //! The sums of a task: of pushes and of energies.
 ghost use Rattle.std.specs.Prelude.{◌≡◌, ◌≤◌, ◌<◌, ◌+◌, ◌*◌, ◌^◌, ◌&&◌, ℕ, length, slice_index_or};
-ghost use Rattle.std.specs.Prelude.{unsigned_abs, nat_lt};
+ghost use Rattle.std.specs.Prelude.{unsigned_abs, nat_lt, take};
 ghost use Rattle.std.specs.Int.{bit_at};
 ghost use Rattle.lj_ring.specs.Ring.{IsOnRing};
 ghost use Rattle.lj_ring.specs.Mixes.{can_interact};
@@ -49,6 +49,26 @@ impl ForceSums {
         ensures { result ≡ slice_index_or self.now.second s no_push }
     {
         self.second[s]
+    }
+
+    /// The sums for the first places of the first block, so many of them.
+    #[inline]
+    pub(crate) fn firsts(&self, count: usize) -> &[Push]
+        requires { count ≤ BLOCK }
+        ensures count { length result.now ≡ count }
+        ensures value { result.now ≡ take count self.now.first }
+    {
+        &self.first[..count]
+    }
+
+    /// The sums for the first places of the second block, so many of them.
+    #[inline]
+    pub(crate) fn seconds(&self, count: usize) -> &[Push]
+        requires { count ≤ BLOCK }
+        ensures count { length result.now ≡ count }
+        ensures value { result.now ≡ take count self.now.second }
+    {
+        &self.second[..count]
     }
 }
 
