@@ -5,7 +5,7 @@ ghost use Rattle.std.specs.List.{range_with_len};
 ghost use Rattle.std.proofs.Common.{replicate};
 ghost use Rattle.lj_tile.specs.declared.names.Kind.TheVariants.{Force, Energy};
 ghost use Rattle.lj_tile.specs.Pushes.{no_push};
-ghost use Rattle.lj_tile.specs.Tasks.{task_force, task_second, task_energy};
+ghost use Rattle.lj_tile.specs.Tasks.{task_energy};
 ghost use Rattle.lj_step.specs.declared.frames.TheConstants.{MAX_ATOMS};
 ghost use Rattle.lj_step.specs.OpenSteps as steps;
 ghost use Rattle.lj_step.specs.Sums.{HasRoom, HasAdded, HasBlockAdded, HasPartAdded, sum_of};

@@ -1,5 +1,5 @@
 //! Blocks of places of atoms.
-ghost use Rattle.std.specs.Prelude.{◌≡◌, ◌≤◌, ◌↔◌, length, IsTrue};
+ghost use Rattle.std.specs.Prelude.{◌≡◌, ◌≤◌, ◌↔◌, ◌+◌, ◌*◌, ◌&&◌, drop, length, IsTrue};
 ghost use Rattle.lj_tile.specs.Blocks.{same_place, same_places};
 
 use arrayvec::ArrayVec;
@@ -115,8 +115,47 @@ fn is_same_list(a: &[Place], b: &[Place]) -> bool
     requires { length a.now ≡ length b.now }
     ensures { result ≡ same_places a.now b.now }
 {
+    let fours = a.len() / 4;
+    is_same_in_fours(a, b, fours) & is_same_from(a, b, 4 * fours)
+}
+
+/// Whether the first places of two lists are the same, so many times four.
+#[inline]
+fn is_same_in_fours(a: &[Place], b: &[Place], fours: usize) -> bool
+    requires count { length a.now ≡ length b.now }
+    requires enough { 4 * fours ≤ length a.now }
+    ensures { (result && same_places (drop (4 * fours) a.now) (drop (4 * fours) b.now)) ≡ same_places a.now b.now }
+{
     let mut same = true;
-    for i in 0..a.len() {
+    for group in 0..fours {
+        same &= is_same_four(a, b, 4 * group);
+    }
+    same
+}
+
+/// Whether the four places from one on are the same.
+#[inline]
+fn is_same_four(a: &[Place], b: &[Place], from: usize) -> bool
+    requires count { length a.now ≡ length b.now }
+    requires enough { from + 4 ≤ length a.now }
+    ensures { (result && same_places (drop (from + 4) a.now) (drop (from + 4) b.now))
+        ≡ same_places (drop from a.now) (drop from b.now) }
+{
+    is_same(&a[from], &b[from])
+        & is_same(&a[from + 1], &b[from + 1])
+        & is_same(&a[from + 2], &b[from + 2])
+        & is_same(&a[from + 3], &b[from + 3])
+}
+
+/// Whether the places from one on are the same.
+#[inline]
+fn is_same_from(a: &[Place], b: &[Place], from: usize) -> bool
+    requires count { length a.now ≡ length b.now }
+    requires within { from ≤ length a.now }
+    ensures { result ≡ same_places (drop from a.now) (drop from b.now) }
+{
+    let mut same = true;
+    for i in from..a.len() {
         same &= is_same(&a[i], &b[i]);
     }
     same
