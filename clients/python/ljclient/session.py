@@ -32,7 +32,7 @@ class Measurement:
 
     step, atoms  the step number, and how many atoms there are
     momentum     along x, y and z: the sum of the displacements of the last step, in ring units (edge / 2^32) per step
-    kinetic      the kinetic number: the sum of the squares of these displacements
+    kinetic      the kinetic number: the sum of the squares of these displacements, in square ring units
     potential    the potential in units of 2^-24 epsilon
 
     Of a mixture, epsilon is that of its first class. Displacements are those of the step before, so the kinetic energy is
