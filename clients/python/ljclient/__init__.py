@@ -19,6 +19,7 @@ from . import refusals, units
 from .arrays import distance, least_images
 from .errors import BadReply, CannotStart, ClientError, Closed, ConnectionLost, Refused, TimedOut
 from .mixture import Mixture
+from .motion import Motion
 from .session import Measurement, Row, Saved, Session
 from .units import Scale
 from .user import User, connect, run
@@ -33,6 +34,7 @@ __all__ = [
     "ConnectionLost",
     "Measurement",
     "Mixture",
+    "Motion",
     "Refused",
     "Row",
     "Saved",

@@ -1,10 +1,15 @@
 """Between sessions and `Atoms` of ASE, where ASE is installed."""
 from __future__ import annotations
 
-from typing import TYPE_CHECKING, Any
+from typing import TYPE_CHECKING, Any, List, Optional
+
+from .units import time_unit
 
 if TYPE_CHECKING:
     from .session import Session
+
+TIME_UNIT = time_unit(1.0, 1.0, 1.0)
+"""The unit of time of ASE in femtoseconds: `angstrom sqrt(dalton / electronvolt)`."""
 
 
 def is_atoms(source: Any) -> bool:
@@ -21,8 +26,16 @@ def edge_of(atoms: Any) -> float:
     return edge
 
 
+def velocities_of(atoms: Any) -> Optional[List[List[float]]]:
+    """The velocities of an `Atoms`, in angstrom per femtosecond. None where all its atoms are at rest."""
+    read = getattr(atoms, "get_velocities", None)
+    told = None if read is None else read()
+    velocities = [] if told is None else [[float(part) / TIME_UNIT for part in velocity] for velocity in told]
+    return velocities if any(map(any, velocities)) else None
+
+
 def atoms_of(session: "Session") -> Any:
-    """The present frame as an `Atoms`: positions in the unit of the file, in a periodic cubic cell.
+    """The present frame as an `Atoms`: positions in the unit of the file, in a periodic cubic cell, without velocities.
 
     Symbols that ASE does not know become X.
     """

@@ -10,6 +10,7 @@ from typing import TYPE_CHECKING, Any, List, NamedTuple, Optional, Sequence, Tup
 from . import arrays, ase_bridge, going, progress as bars
 from .errors import BadReply
 from .mixture import Mixture
+from .motion import Motion
 from .replies import fields, number_after, of_session, whole_number, whole_numbers
 from .units import POTENTIAL_UNIT, Scale, kelvin
 
@@ -103,6 +104,7 @@ class Session:
     name     its name
     scale    what its whole numbers mean (`units.Scale`), where that was said
     mixture  how its two species interact (`Mixture`), where `User.load_mix` has loaded it, else None
+    motion   what its first velocities were rounded to (`Motion`), where this is what has loaded `Atoms` with velocities
     """
 
     def __init__(
@@ -111,9 +113,11 @@ class Session:
         name: str,
         scale: Optional[Scale] = None,
         mixture: Optional[Mixture] = None,
+        motion: Optional[Motion] = None,
     ):
         self.name = checked_name(name)
         self.mixture = mixture
+        self.motion = motion
         self._user = user
         self._given = scale
         self._pace = going.Pace()
@@ -257,7 +261,7 @@ class Session:
         return list(self._symbols)
 
     def to_ase(self) -> Any:
-        """The frame as an `Atoms` of ASE, which has to be installed."""
+        """The frame as an `Atoms` of ASE, which has to be installed. It has positions, and no velocities."""
         return ase_bridge.atoms_of(self)
 
     def saved(self) -> List[Saved]:

@@ -1,6 +1,7 @@
 """A user's connection to a server, or to a program of its own."""
 from __future__ import annotations
 
+import contextlib
 import os
 import pathlib
 import shutil
@@ -12,6 +13,7 @@ from . import going, progress as bars, units, xyz
 from .ends import ChildEnds, SocketEnds
 from .errors import BadReply, CannotStart, ClientError, ConnectionLost, TimedOut
 from .mixture import Mixture, Pair, RawClass
+from .motion import Motion, motion_of
 from .replies import fields, whole_number
 from .session import Row, Session, checked_name, count_of
 from .wire import Reply, Wire, checked_timeout
@@ -78,15 +80,19 @@ class User:
         epsilon and mass may be said beside h too: `Session.dt` and temperatures in kelvin are known then.
 
         The atoms are at rest, or, where `before` has the atoms one step before (a source too), move as these two say.
+        `Atoms` of ASE without `before` move with their velocities, which need epsilon and mass. They are rounded, and
+        `print(session.motion)` tells to what; they are those of half a step ago, as kinetic energies are.
+
         With `replace=True` a session of that name is dropped first.
         """
         checked_name(name)
         edge = _edge_of(edge, source)
         scale = units.Scale.of(edge, sigma, h, epsilon=epsilon, mass=mass, dt=dt)
+        motion = motion_of(source, scale) if before is None else None
         words = f"{units.word(edge)} {units.word(sigma)} {units.word(scale.h)}"
-        self._send("LOAD", name, words, xyz.frames_of(source, before, symbols), replace)
+        self._send("LOAD", name, words, xyz.frames_of(source, before, symbols), replace, motion)
         self._scales[name] = scale
-        return Session(self, name, scale)
+        return Session(self, name, scale, motion=motion)
 
     def load_mix(
         self,
@@ -131,19 +137,31 @@ class User:
         mixture = Mixture.of(
             edge, species, first=first, second=second, mixed=mixed, mass=mass, dt=dt, classes=classes, epsilon=epsilon
         )
+        motion = motion_of(source, mixture.scale) if before is None else None
         words = f"{units.word(edge)} {mixture.words}"
-        self._send("LOADMIX", name, words, xyz.frames_of(source, before, symbols), replace)
+        self._send("LOADMIX", name, words, xyz.frames_of(source, before, symbols), replace, motion)
         self._scales[name] = mixture.scale
         self._mixtures[name] = mixture
-        return Session(self, name, mixture.scale, mixture=mixture)
+        return Session(self, name, mixture.scale, mixture=mixture, motion=motion)
 
-    def _send(self, command: str, name: str, words: str, frames: xyz.Frames, replace: bool) -> None:
-        """Asks for a new session, in place of one of that name where it is to be replaced."""
+    def _send(
+        self, command: str, name: str, words: str, frames: xyz.Frames, replace: bool, motion: Optional[Motion]
+    ) -> None:
+        """Asks for a new session, in place of one of that name where it is to be replaced, and sets its atoms in motion.
+
+        Where an error or an interrupt comes between, the new session is given up.
+        """
         mode, body = frames
         if replace and any(row.name == name for row in self.sessions()):
             self.ask(f"DROP {name}")
         self.ask(f"{command} {name} {words} {mode} {len(body)}", body)
         self.has_dropped(name)
+        try:
+            self.ask_all(motion.tugs(name) if motion else [])
+        except BaseException:
+            with contextlib.suppress(ClientError):
+                self.ask(f"DROP {name}")
+            raise
 
     def session(
         self,

@@ -1,0 +1,66 @@
+"""The motion that atoms are loaded with: velocities, rounded to whole displacements of each step."""
+from __future__ import annotations
+
+from dataclasses import dataclass, field
+from typing import Any, List, Optional, Sequence, Tuple
+
+from . import ase_bridge
+from .units import RING, Scale, checked_positive
+
+HALF = RING // 2
+Displacement = Tuple[int, int, int]
+
+
+@dataclass(frozen=True)
+class Motion:
+    """The velocities that `Atoms` of ASE were loaded with, and what they were rounded to.
+
+    unit           a displacement of one ring unit (edge / 2^32) for each step, in angstrom per femtosecond: velocities are
+                   whole multiples of it
+    largest_error  by how much a velocity is off along an axis at most, in angstrom per femtosecond
+    displacements  of each atom along x, y and z, in ring units for each step
+
+    `str` tells it in a line.
+    """
+
+    unit: float
+    largest_error: float
+    displacements: Tuple[Displacement, ...] = field(repr=False)
+
+    @staticmethod
+    def of(velocities: Sequence[Sequence[float]], scale: Scale) -> "Motion":
+        """The motion of these velocities, in angstrom per femtosecond. ValueError where the time step is not known."""
+        if scale.dt is None:
+            raise ValueError(
+                "the atoms have velocities, which need epsilon= and mass=; atoms.set_momenta(None) takes velocities away"
+            )
+        unit = checked_positive("edge", scale.edge) / (RING * checked_positive("dt", scale.dt))
+        wanted = [[part / unit for part in velocity] for velocity in velocities]
+        rounded = tuple(_rounded(atom, parts) for atom, parts in enumerate(wanted))
+        errors = (abs(exact - whole) for pair in zip(wanted, rounded) for exact, whole in zip(*pair))
+        return Motion(unit, unit * max(errors, default=0.0), rounded)
+
+    def tugs(self, name: str) -> List[str]:
+        """The commands that set the atoms of a session in motion."""
+        moving = ((atom, moved) for atom, moved in enumerate(self.displacements) if any(moved))
+        return [f"TUG {name} {atom} {x} {y} {z}" for atom, (x, y, z) in moving]
+
+    def __str__(self) -> str:
+        return (
+            f"{len(self.displacements)} velocities, rounded to multiples of {self.unit:.3g} angstrom / fs: "
+            f"off by {self.largest_error:.3g} at most along an axis"
+        )
+
+
+def motion_of(source: Any, scale: Scale) -> Optional[Motion]:
+    """The motion that a source says itself: `Atoms` of ASE with velocities. None for atoms at rest."""
+    velocities = ase_bridge.velocities_of(source) if ase_bridge.is_atoms(source) else None
+    return None if velocities is None else Motion.of(velocities, scale)
+
+
+def _rounded(atom: int, parts: Sequence[float]) -> Displacement:
+    """The nearest whole displacement, where it is below half the box."""
+    if not all(abs(part) < HALF - 1 for part in parts):
+        raise ValueError(f"the velocity of atom {atom} is not below half the box in a step")
+    x, y, z = map(round, parts)
+    return x, y, z

@@ -1,0 +1,147 @@
+"""The velocities of `Atoms`, which become tugs.
+
+The box is 256 wide, so a ring unit is 2^-24. With epsilon and mass 1 and h = 2^20 the time step is 2^-6 of the unit of ASE:
+a velocity of 1 is a displacement of 2^18 ring units for each step.
+"""
+import random
+import unittest
+from unittest import mock
+
+from ljclient import Measurement, connect, run, units
+from support import DIMER, EXAMPLES, PROGRAM, TOKEN, Server
+
+try:
+    import ase
+    import ase.io
+    import ase.units
+except ImportError:
+    ase = None
+
+SCALE = {"sigma": 1, "h": 2**20, "epsilon": 1, "mass": 1}
+FAR = [[0, 0, 0], [100, 0, 0]]
+CLASS = (1, 2**20, 256)
+
+
+class Stand:
+    """Speaks as an `Atoms` of ASE does, in a box of 256."""
+
+    def __init__(self, positions, velocities):
+        self.positions = positions
+        self.velocities = velocities
+
+    def get_chemical_symbols(self):
+        return ["Ar"] * len(self.positions)
+
+    def get_positions(self):
+        return self.positions
+
+    def get_cell(self):
+        return [[256, 0, 0], [0, 256, 0], [0, 0, 256]]
+
+    def get_velocities(self):
+        return self.velocities
+
+
+class Velocities(unittest.TestCase):
+    def setUp(self):
+        self.user = run(PROGRAM)
+        self.addCleanup(self.user.close)
+
+    def load(self, velocities, name="a", positions=FAR, **words):
+        return self.user.load(name, Stand(positions, velocities), **{**SCALE, **words})
+
+    def test_atoms_go_on_with_their_velocities(self):
+        a = self.load([[1, 0, -2], [0, 0.5, 0]])
+        self.assertEqual(a.measure().momentum, (2**18, 2**17, -(2**19)))
+        a.advance(2)
+        self.assertEqual((a.place(0), a.place(1)), ((2**19, 0, 2**32 - 2**20), (100 * 2**24, 2**18, 0)))
+
+    def test_what_was_rounded_is_told(self):
+        a = self.load([[5.25 / 2**18, -0.75 / 2**18, 0], [0, 0, 0.25 / 2**18]])
+        self.assertEqual(a.measure(), Measurement(0, 2, (5, -1, 0), 26, 0))
+        self.assertEqual(a.motion.displacements, ((5, -1, 0), (0, 0, 0)))
+        # The unit of time of ASE is 10.18 fs, so a ring unit for each step is 2^-18 / 10.18 angstrom / fs.
+        self.assertAlmostEqual(a.motion.unit * 2**18, 1 / 10.180505671, places=9)
+        self.assertAlmostEqual(a.motion.largest_error / a.motion.unit, 0.25, places=6)
+        told = "2 velocities, rounded to multiples of 3.75e-07 angstrom / fs: off by 9.37e-08 at most along an axis"
+        self.assertEqual(str(a.motion), told)
+
+    def test_atoms_at_rest(self):
+        for number, velocities in enumerate([[[0, 0, 0]] * 2, None]):
+            a = self.user.load(f"a{number}", Stand(FAR, velocities), sigma=1, h=2**20)
+            self.assertEqual((a.measure().kinetic, a.motion), (0, None))
+        self.assertIsNone(self.user.load("b", DIMER, edge=256, **SCALE).motion)
+
+    def test_the_atoms_before_go_before_velocities(self):
+        before = "2\n\nAr -0.25 0 0\nAr 100 0 0\n"
+        self.assertEqual(self.load([[1, 1, 1]] * 2, before=before).measure().momentum, (2**22, 0, 0))
+
+    def test_many_are_under_way_at_once(self):
+        grid = [[16 * x, 16 * y, 16 * z] for x in range(16) for y in range(16) for z in range(16)]
+        with mock.patch.object(self.user._wire, "ask_all", wraps=self.user._wire.ask_all) as asked:
+            a = self.load([[1, 0, 0]] * 4096, positions=grid)
+            self.assertLess(asked.call_count, 4)
+        self.assertEqual(a.measure().momentum, (4096 * 2**18, 0, 0))
+
+    def test_velocities_that_do_not_fit(self):
+        self.load([[1, 0, 0]] * 2)
+        for velocities, words, told in [
+            ([[0, 0, 0], [0, 8192, 0]], {}, "velocity of atom 1 is not below half the box in a step"),
+            ([[float("nan"), 0, 0], [0, 0, 0]], {}, "velocity of atom 0 is not"),
+            ([[1, 0, 0]] * 2, {"epsilon": None}, "velocities, which need epsilon= and mass="),
+            ([[1, 0, 0]] * 2, {"edge": 0}, "edge is a number above 0"),
+            ([[1, 0, 0]] * 2, {"h": 0}, "dt is a number above 0"),
+        ]:
+            with self.subTest(words), self.assertRaisesRegex(ValueError, told):
+                self.load(velocities, replace=True, **words)
+        self.assertEqual(self.user.session("a").measure().momentum, (2**19, 0, 0))
+        self.assertEqual(self.load([[8191, 0, 0]] * 2, "b").measure().momentum[1:], (0, 0))
+
+    def test_what_is_interrupted_is_given_up(self):
+        ask_all = self.user.ask_all
+        with mock.patch.object(self.user, "ask_all", side_effect=lambda lines: ask_all(lines[:1]) and 1 / 0):
+            with self.assertRaises(ZeroDivisionError):
+                self.load([[1, 0, 0]] * 2)
+        self.assertEqual(self.user.sessions(), [])
+
+    def test_mixtures(self):
+        words = {"species": ("Ar", "Kr"), "classes": [CLASS] * 3, "epsilon": 1, "mass": 1}
+        m = self.user.load_mix("m", Stand(FAR, [[1, 0, 0]] * 2), **words)
+        self.assertEqual((m.measure().momentum, m.motion.largest_error), ((2**19, 0, 0), 0))
+
+
+class Served(unittest.TestCase):
+    def test_a_server(self):
+        with Server() as server, connect("127.0.0.1", server.port, "ann", TOKEN) as user:
+            a = user.load("a", Stand(FAR, [[1, 0, 0]] * 2), **SCALE)
+            self.assertEqual(a.measure().momentum, (2**19, 0, 0))
+
+
+@unittest.skipIf(ase is None, "ASE is not installed")
+class WithAse(unittest.TestCase):
+    def setUp(self):
+        random.seed(1)
+        self.atoms = ase.io.read(EXAMPLES / "argon_256.xyz", format="xyz")
+        self.atoms.set_cell([21.04] * 3)
+        speeds = [[random.gauss(0, (115.8 * ase.units.kB / 39.948) ** 0.5) for _ in range(3)] for _ in self.atoms]
+        self.atoms.set_masses([39.948] * 256)
+        self.atoms.set_velocities(speeds)
+
+    def test_the_temperature_stays(self):
+        with run(PROGRAM) as user:
+            argon = user.load("argon", self.atoms, dt=10, **units.ARGON)
+            wanted = self.atoms.get_temperature()
+            self.assertGreater(wanted, 100)
+            self.assertAlmostEqual(argon.measure().temperature / wanted, 1, places=5)
+            self.assertLess(argon.motion.largest_error, 1e-6 * abs(self.atoms.get_velocities()).max())
+
+    def test_velocities_may_be_taken_away(self):
+        with run(PROGRAM) as user:
+            with self.assertRaisesRegex(ValueError, r"atoms.set_momenta\(None\) takes velocities away"):
+                user.load("argon", self.atoms, sigma=3.4, h=131072)
+            self.atoms.set_momenta(None)
+            self.assertEqual(user.load("argon", self.atoms, sigma=3.4, h=131072).measure().kinetic, 0)
+
+
+if __name__ == "__main__":
+    unittest.main()
