@@ -173,11 +173,14 @@ class Wire:
                 deadline = time.monotonic() + self.timeout
 
     def _move(self, seconds: float) -> bool:
-        """Sends and receives what can be. Answers whether any byte was sent or any line came whole."""
+        """Sends and receives what can be. Answers whether any byte was sent or any line came whole.
+
+        It waits, for so many seconds at most, only where nothing was sent: what is sent begins the time limit anew.
+        """
         went = self._send()
-        if not went or not self._outgoing:
+        if not went:
             self._watch_sink(bool(self._outgoing))
-            if not self._selector.select(max(0.0, seconds)) and not went:
+            if not self._selector.select(max(0.0, seconds)):
                 text = f"nothing was heard for {self.timeout:g} s; `{shown(self._owed[0])}` was not answered"
                 raise self._given_up(TimedOut(text))
         return self._receive() or went

@@ -136,6 +136,25 @@ class Ends(unittest.TestCase):
                 self.assertLess(time.monotonic() - start, 5)
                 self.assertTrue(user.closed)
 
+    def test_the_time_limit_is_not_doubled(self):
+        with peer(says(then=stays)) as port, joined(port, timeout=2) as user:
+            start = time.monotonic()
+            with self.assertRaises(TimedOut):
+                user.sessions()
+            self.assertTrue(2 <= time.monotonic() - start < 3.5)
+
+    def test_what_is_heard_in_time_renews_the_time_limit(self):
+        def slowly(connection, stop):
+            read_line(connection)
+            for line in (b"OK LIST 2\n", b"a 0 1 0\n", b"b 0 1 0\n"):
+                time.sleep(0.7)
+                connection.sendall(line)
+            stays(connection, stop)
+
+        with peer(says(then=slowly)) as port, joined(port, timeout=1.5) as user:
+            self.assertEqual([row.name for row in user.sessions()], ["a", "b"])
+            user._wire.close()
+
     def test_silence_at_the_beginning(self):
         with peer(stays) as port:
             with self.assertRaises(TimedOut) as caught:
