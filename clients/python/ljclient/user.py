@@ -316,9 +316,11 @@ def _greet(wire: Wire, name: str, token: str) -> None:
     try:
         reply = wire.ask(f"HELLO {name} {token}")
     except TimedOut as error:
-        raise TimedOut(f"{error} (is another connection of {name} open?)") from error
+        causes = f"is another connection of {name} open? or are all --connections of the server used up?"
+        raise TimedOut(f"{error} ({causes})") from error
     except ConnectionLost as error:
-        raise ConnectionLost(f"{error} (has the server no place for more connections?)") from error
+        causes = "has the server no place for more connections? or are all its --connections used up?"
+        raise ConnectionLost(f"{error} ({causes})") from error
     if reply.words != ["HELLO", name]:
         raise BadReply(f"HELLO was answered {' '.join(reply.words)[:80]!r}")
 

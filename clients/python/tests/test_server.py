@@ -144,9 +144,15 @@ class FullServers(unittest.TestCase):
 
     def test_the_last_connection_was_accepted(self):
         with Server(connections=2) as server, connect("127.0.0.1", server.port, "ann", TOKEN) as user:
-            with self.assertRaises((ConnectionLost, TimedOut)):
+            with self.assertRaisesRegex(TimedOut, "all --connections of the server used up"):
                 connect("127.0.0.1", server.port, "ann", TOKEN, timeout=1)
             self.assertEqual(user.sessions(), [])
+
+    def test_a_server_that_ends_while_a_connection_waits(self):
+        with Server(connections=2) as server, connect("127.0.0.1", server.port, "ann", TOKEN) as user:
+            threading.Timer(0.5, user.close).start()
+            with self.assertRaisesRegex(ConnectionLost, "all its --connections used up"):
+                connect("127.0.0.1", server.port, "ann", TOKEN, timeout=SECONDS)
 
 
 if __name__ == "__main__":
