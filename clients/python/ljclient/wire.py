@@ -16,6 +16,7 @@ from .errors import BadReply, ClientError, Closed, ConnectionLost, Refused, Time
 
 MAX_UNDER_WAY = 1024
 MAX_OUTGOING = 1 << 20
+MAX_COMMAND = 256
 MAX_LINE = 4096
 MAX_LINES = 10_000
 PIECE = 1 << 16
@@ -113,6 +114,8 @@ class Wire:
         """Puts a command among what is to be sent."""
         if "\n" in line:
             raise ValueError("a command is one line")
+        if body and len(line.encode()) > MAX_COMMAND:
+            raise ValueError(f"a line with a body has {MAX_COMMAND} bytes at most: after a longer one it is read as commands")
         data = line.encode() + b"\n" + body
         self._torn = True
         self._outgoing += data

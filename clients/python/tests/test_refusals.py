@@ -16,6 +16,7 @@ class Classes(unittest.TestCase):
         with open(TOP / "docs" / "PROTOCOL.md") as file:
             table = file.read().split("## Refusals")[1].split("## Limits")[0]
         listed = {int(number): name for number, name in re.findall(r"\| (\d\d) \| ([A-Z_]+) ", table)}
+        self.assertIn("A server has one more, `ERR 01 DENIED`", table)
         listed[1] = "DENIED"
         self.assertGreater(len(listed), 24)
         self.assertEqual({number: kind.name for number, kind in Refused.by_number.items()}, listed)
@@ -52,6 +53,19 @@ class Refusals(unittest.TestCase):
         self.refused(refusals.Syntax, lambda: self.a.tug(0, (2**31, 0, 0)))
         self.refused(refusals.Command, lambda: self.user.ask("advance a 1"))
         self.refused(refusals.Command, lambda: self.user.ask("HELLO a b"))
+
+    def test_a_body_after_a_line_that_is_too_long(self):
+        """The program reads such a body as commands, so it is not sent."""
+        with self.assertRaisesRegex(ValueError, "256 bytes"):
+            self.load(X, edge="0" * 240 + "256")()
+        self.assertEqual(self.user.sessions(), [("a", 0, 2, 0)])
+        with self.assertRaises(refusals.Edge):
+            self.load(X, edge="0" * 200 + "256")()
+        replies = self.user.ask_all(["LIST a", "LIST"])
+        self.assertEqual([reply.words[-1] for reply in replies], ["0", "1"])
+        stream = b"LOAD " + b"x" * 252 + b" 256 1 1 rest 10\nLIST\nBYE\n\n\n"
+        told = subprocess.run([PROGRAM, "run"], input=stream, capture_output=True, timeout=60).stdout
+        self.assertEqual(told, b"ERR 02 LINE\nOK LIST 0\nOK BYE\n")
 
     def test_sessions(self):
         self.refused(refusals.NoSession, lambda: self.user.session("z"))
