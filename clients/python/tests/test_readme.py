@@ -1,8 +1,9 @@
-"""The examples in Python of both READMEs, run as they stand."""
+"""The examples in Python of both READMEs, run as they stand, and the comparison with stored replies."""
 import contextlib
 import io
 import os
 import re
+import subprocess
 import unittest
 from unittest import mock
 
@@ -52,6 +53,17 @@ class Examples(unittest.TestCase):
         (text,) = examples(TOP / "README.md")
         with mock.patch.dict(os.environ, {"LJSERVE": PROGRAM}):
             self.assertEqual(self.printed(text), ["0.0"])
+
+    def test_the_comparison_of_the_repository(self):
+        """Both files are among the examples, since a release has no crates."""
+        text = (TOP / "README.md").read_text()
+        commands, replies = re.search(r"`bin/ljserve < (examples/\S+) \| cmp - (examples/\S+)` is silent", text).groups()
+        with open(TOP / commands, "rb") as stream:
+            told = subprocess.run([PROGRAM], stdin=stream, capture_output=True, timeout=60).stdout
+        self.assertEqual(told, (TOP / replies).read_bytes())
+        stored = TOP / "crates" / "ljserve"
+        self.assertEqual((TOP / commands).read_bytes(), (stored / "stdin").read_bytes())
+        self.assertEqual(told, (stored / "stdout").read_bytes())
 
     def test_each_example_is_run(self):
         self.assertEqual(len(examples()), 4)
