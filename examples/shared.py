@@ -1,9 +1,11 @@
 """What the examples share: their options, the client, a crystal that is hot enough to melt, distances, and pictures."""
 import argparse
 import contextlib
+import importlib
 import math
 import os
 import random
+import shlex
 import sys
 
 TOP = os.path.dirname(os.path.dirname(os.path.abspath(__file__)))
@@ -120,16 +122,23 @@ def print_table(heads, rows):
         print("".join(f"{value:>{max(14, len(head) + 2)}}" for head, value in zip(heads, row)))
 
 
+def needed(name):
+    """The module of this name. Where it cannot be imported, the ImportError says how this Python comes by what is missing."""
+    try:
+        return importlib.import_module(name)
+    except ImportError as error:
+        missing = (error.name or name).partition(".")[0]
+        advice = f"{shlex.quote(sys.executable or 'python3')} -m pip install {missing}"
+        raise ImportError(f"{error}; try `{advice}`", name=missing) from error
+
+
 def pyplot():
     """The drawing module of matplotlib, for files alone. Where there is none, the example ends and says so."""
     try:
-        import matplotlib
-    except ImportError:
-        sys.exit("--plot needs matplotlib, which is not installed: try `python3 -m pip install matplotlib`, or leave out --plot")
-    matplotlib.use("Agg")
-    from matplotlib import pyplot as drawing
-
-    return drawing
+        needed("matplotlib").use("Agg")
+        return needed("matplotlib.pyplot")
+    except ImportError as error:
+        sys.exit(f"--plot needs matplotlib: {error}, or leave out --plot")
 
 
 def save_picture(draw, path):

@@ -1,0 +1,67 @@
+"""What the examples, the notebook and these tests say of the Python that they run under."""
+import json
+import os
+import pathlib
+import platform
+import subprocess
+import sys
+import tempfile
+import unittest
+
+from support import EXAMPLES, PROGRAM, SECONDS, TOP
+
+MISSING = "raise ModuleNotFoundError(\"No module named '{0}'\", name='{0}')\n"
+NOTEBOOK = json.loads((EXAMPLES / "ljserve.ipynb").read_text())
+
+
+class WithoutModules(unittest.TestCase):
+    def setUp(self):
+        folder = tempfile.TemporaryDirectory()
+        self.addCleanup(folder.cleanup)
+        self.folder = pathlib.Path(folder.name)
+
+    def lacks(self, name, text=None):
+        """Has an import of a module fail, or do what this text does."""
+        (self.folder / f"{name}.py").write_text(text or MISSING.format(name))
+
+    def told(self, *words):
+        """The status and the standard error of a Python that lacks what is said."""
+        environment = {**os.environ, "LJSERVE": PROGRAM, "PYTHONPATH": str(self.folder), "PYTHONDONTWRITEBYTECODE": "1"}
+        command = [sys.executable, *words]
+        done = subprocess.run(command, cwd=EXAMPLES, env=environment, capture_output=True, text=True, timeout=2 * SECONDS)
+        return done.returncode, done.stderr
+
+    def test_a_picture_without_matplotlib(self):
+        self.lacks("matplotlib")
+        for name in ["there_and_back.py", "butterfly.py", "energy.py", "temperatures.py", "unmixing.py"]:
+            status, told = self.told(name, "--plot", str(self.folder / "x.png"))
+            wanted = f"--plot needs matplotlib: No module named 'matplotlib'; try `{sys.executable} -m pip install matplotlib`"
+            self.assertEqual((status, told), (1, f"{wanted}, or leave out --plot\n"))
+
+    def test_a_picture_without_numpy(self):
+        self.lacks("matplotlib", "import numpy\n")
+        self.lacks("numpy")
+        status, told = self.told("energy.py", "--plot", str(self.folder / "x.png"))
+        self.assertIn(f"No module named 'numpy'; try `{sys.executable} -m pip install numpy`, or leave", told)
+        self.assertEqual(status, 1)
+
+    def test_a_notebook_without_matplotlib(self):
+        self.lacks("matplotlib")
+        cell = next(each for each in NOTEBOOK["cells"] if each["cell_type"] == "code")
+        status, told = self.told("-c", "".join(line for line in cell["source"] if not line.startswith("%")))
+        wanted = f"ImportError: No module named 'matplotlib'; try `{sys.executable} -m pip install matplotlib`"
+        self.assertEqual((status, told.splitlines()[-1]), (1, wanted))
+
+    def test_what_the_notebook_needs_is_told(self):
+        needs = "".join(NOTEBOOK["cells"][0]["source"])
+        self.assertIn("python3 -m pip install ipykernel matplotlib", needs)
+        self.assertIn("python3 -m pip install ipykernel matplotlib", (TOP / "docs" / "EXAMPLES.md").read_text())
+
+    def test_the_python_of_these_tests_is_told(self):
+        words = [sys.executable, TOP / "tests" / "client", PROGRAM, "--only", "no_test_has_this_name"]
+        told = subprocess.run(words, capture_output=True, text=True, timeout=2 * SECONDS).stdout
+        self.assertEqual(told, f"Python {platform.python_version()}: {sys.executable}\n0 passed, 0 failed\n")
+
+
+if __name__ == "__main__":
+    unittest.main()
