@@ -3,10 +3,12 @@ import socket
 import subprocess
 from concurrent.futures import ThreadPoolExecutor
 from dataclasses import dataclass
-from typing import Callable, Iterable, Optional, Union
+from typing import Iterable, Optional, Union
 
 from dialogues import Dialogue, Ending
-from exchange import CHUNK, SECONDS, Exchange
+from exchange import CHUNK, Exchange
+from shared.program import SECONDS, run_words
+from shared.tally import Expect
 
 AT_ONCE = 4
 
@@ -26,8 +28,7 @@ def play(program: str, dialogue: Dialogue, size: Optional[int]) -> Played:
     """Plays a dialogue of which each read gives a piece of at most so many bytes, or as much as there is room for."""
     kind = socket.SOCK_STREAM if size is None else socket.SOCK_SEQPACKET
     ours, theirs = socket.socketpair(socket.AF_UNIX, kind)
-    sessions, atoms, branches = map(str, dialogue.quota)
-    words = [program, "run", "--sessions", sessions, "--atoms", atoms, "--branches", branches]
+    words = [program, *run_words(dialogue.quota)]
     with ours, theirs, subprocess.Popen(words, stdin=theirs, stdout=subprocess.PIPE, stderr=subprocess.PIPE) as child:
         exchange = Exchange(ours, child.stdout.fileno(), dialogue.pieces(size))
         is_over = exchange.is_over(len(dialogue.replies), dialogue.ending is not Ending.INPUT)
@@ -50,7 +51,7 @@ def left_in(stream: socket.socket) -> int:
     return count
 
 
-def play_all(program: str, dialogues: Iterable[Dialogue], expect: Callable[..., None]) -> None:
+def play_all(program: str, dialogues: Iterable[Dialogue], expect: Expect) -> None:
     """Each of these dialogues is to be answered and to end as it says, in pieces of each of its sizes."""
     plays = [(dialogue, size) for dialogue in dialogues for size in dialogue.sizes]
     with ThreadPoolExecutor(AT_ONCE) as threads:

@@ -1,15 +1,14 @@
 """Plays dialogues over `ljserve serve`, a user for each of them, and asks what state is left, for tests/program."""
 import re
-import socket
-import subprocess
-import tempfile
-import time
 from concurrent.futures import ThreadPoolExecutor
-from typing import Callable, Iterator, Optional, Sequence, Tuple
+from typing import Iterator, Optional, Sequence, Tuple
 
 from dialogues import Dialogue, Ending
-from exchange import SECONDS, Exchange
-from ports import free_port, is_listened_on
+from exchange import Exchange
+from shared.program import end_of
+from shared.serving import begun, options_of, user_line
+from shared.sockets import connected
+from shared.tally import Expect
 
 TOKEN = "t" * 32
 MOST_USERS = 64
@@ -23,58 +22,21 @@ SERVED = re.compile(rb"served (\d+) connections, \d+ tiles\n")
 
 def users_of(dialogues: Sequence[Dialogue]) -> bytes:
     """The file of users: u0 plays the first of these dialogues, with its quota, and so on."""
-    lines = (f"u{number} {TOKEN} {' '.join(map(str, each.quota))}\n" for number, each in enumerate(dialogues))
-    return "".join(lines).encode()
+    return b"".join(user_line(f"u{number}", TOKEN, each.quota) for number, each in enumerate(dialogues))
 
 
 class DialogueServer:
     """A server with these options, which ends after so many connections."""
 
     def __init__(self, program: str, users: bytes, connections: int, options: Sequence[str]) -> None:
-        with tempfile.NamedTemporaryFile() as file:
-            file.write(users)
-            file.flush()
-            words = [program, "serve", "--users", file.name, "--workers", "2", "--connections", str(connections), *options]
-            # Another one may be quicker with a port. The file is read before the server listens.
-            while not self.begins(words):
-                pass
-
-    def begins(self, words: Sequence[str]) -> bool:
-        """Begins on a free port, and answers whether it listens there, or false where the port was taken."""
-        self.port = free_port()
-        words = [*words, "--listen", f"127.0.0.1:{self.port}"]
-        self.child = subprocess.Popen(words, stdout=subprocess.PIPE, stderr=subprocess.PIPE)
-        end = time.monotonic() + SECONDS
-        while not is_listened_on(self.port) and self.child.poll() is None and time.monotonic() < end:
-            time.sleep(0.005)
-        if self.child.poll() is None:
-            return True
-        ended = self.finish()
-        if ended != (1, b"", b"ljserve: cannot listen\n"):
-            raise ValueError(ended)
-        return False
-
-    def knock(self) -> socket.socket:
-        connection = socket.create_connection(("127.0.0.1", self.port), SECONDS)
-        connection.setsockopt(socket.IPPROTO_TCP, socket.TCP_NODELAY, 1)
-        return connection
+        self.child, self.port = begun(program, users, [*options_of(2, connections), *options])
 
     def visit(self, pieces: Iterator[bytes], replies: int, ends_itself: bool) -> Visited:
         """Says these pieces on a connection of its own."""
-        with self.knock() as connection:
+        with connected(self.port) as connection:
             exchange = Exchange(connection, connection.fileno(), pieces)
             is_over = exchange.is_over(replies, ends_itself)
             return bytes(exchange.told), is_over and not exchange.is_reset, exchange.is_open
-
-    def finish(self) -> Tuple[object, bytes, bytes]:
-        """The exit status of the server, and what it wrote to each output."""
-        try:
-            out, err = self.child.communicate(timeout=SECONDS)
-        except subprocess.TimeoutExpired:
-            self.child.kill()
-            out, err = self.child.communicate()
-            return "no end", out, err
-        return self.child.returncode, out, err
 
 
 def greeted(number: int, pieces: Iterator[bytes]) -> Iterator[bytes]:
@@ -90,7 +52,7 @@ def play(server: DialogueServer, number: int, dialogue: Dialogue, size: Optional
 
 
 def play_batch(
-    program: str, dialogues: Sequence[Dialogue], size: Optional[int], expect: Callable[..., None], options: Sequence[str]
+    program: str, dialogues: Sequence[Dialogue], size: Optional[int], expect: Expect, options: Sequence[str]
 ) -> None:
     """Plays these dialogues on one server, each as a user of its own."""
     server = DialogueServer(program, users_of(dialogues), 2 * len(dialogues), options)
@@ -104,14 +66,14 @@ def play_batch(
         expect(name, first == (told, True, each.ending is not Ending.INPUT), (first[0][-300:], *first[1:]))
         told = (welcome + each.state + "OK BYE\n").encode()
         expect(f"the state after {name}", second == (told, True, True), second)
-    status, out, err = server.finish()
+    status, out, err = end_of(server.child)
     served = SERVED.fullmatch(out)
     ended = (status, served and int(served[1]), err)
     expect("the end of a server of dialogues", ended == (0, 2 * len(dialogues), b""), (status, out, err))
 
 
 def play_all(
-    program: str, dialogues: Sequence[Dialogue], expect: Callable[..., None], options: Sequence[str] = ()
+    program: str, dialogues: Sequence[Dialogue], expect: Expect, options: Sequence[str] = ()
 ) -> None:
     """Each of these dialogues is to be answered so by a server, and to leave the state that it says."""
     for size in SIZES:

@@ -5,14 +5,11 @@ from enum import Enum
 from itertools import accumulate, cycle
 from typing import Iterator, Optional, Tuple
 
-from schedules import DIMER, Part
+from schedules import Part
+from shared import loads
+from shared.program import USUAL, Quota
 
-# How many sessions, atoms and branches a user may have.
-Quota = Tuple[int, int, int]
-
-USUAL: Quota = (8, 16384, 16)
-
-LOAD = "LOAD a 256 1 131072 rest 28\n" + DIMER
+LOAD = loads.LOAD.decode()
 
 # Streams above this size are cut into pieces of these sizes.
 LONG_STREAM = 100_000

@@ -1,9 +1,11 @@
 """A schedule of each kind of event, of which each and each of its numbers changes what is printed."""
 from typing import Iterator, Tuple
 
+from shared.loads import DIMER, load
+
 TOKEN = "a" * 32
 USERS = f"user A {TOKEN} 4 100 4\nuser B {TOKEN} 4 100 4\n"
-LOAD = "LOAD d 256 1 131072 rest 28\n2\ndimer\nAr 0 0 0\nAr 1.5 0 0\n"
+LOAD = load("d", DIMER).decode()
 
 # A line of each event, most of which are not possible, and two bodies: nothing is told, and no line is bad.
 EACH_EVENT = (

@@ -5,7 +5,8 @@ import socket
 import time
 from typing import Iterable
 
-SECONDS = 20
+from shared.program import SECONDS
+
 # How long one is looked at that is to wait for more input, and how long replies are waited for before the input ends.
 MOMENT = 0.01
 PATIENCE = 2.0

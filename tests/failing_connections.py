@@ -2,10 +2,11 @@
 
 Each is followed by one of the same user that does not fail, and looks at what was left behind.
 """
-from typing import Any, Callable, Dict, Iterator, List, Optional, Tuple
+from typing import Any, Callable, Iterator, List, Optional, Tuple
 
 import shims
 from one_dialogue import DIALOGUE, ITEMS, LOOK, QUOTA, REPLIES, begun_anew_after, cut, replies_in, tiles_after, whole_in
+from shared.tally import Expect
 
 HELLO = b"HELLO A " + b"a" * 32 + b"\n"
 WELCOME = b"OK HELLO A\n"
@@ -54,9 +55,7 @@ class Breaking:
     """Servers, which `begin` begins with users, a number of connections and an environment. `expect` is told what
     holds, and `run` answers what a run alone tells."""
 
-    def __init__(
-        self, begin: Callable[..., Any], expect: Callable[..., None], run: Callable[..., bytes], library: str
-    ) -> None:
+    def __init__(self, begin: Callable[..., Any], expect: Expect, run: Callable[..., bytes], library: str) -> None:
         self.begin = begin
         self.expect = expect
         self.library = library
@@ -71,7 +70,7 @@ class Breaking:
     def play(self, breaks: List[Break], **most: object) -> None:
         """Breaks a connection after the other on one server, and looks after each."""
         words = " - ".join(word for word, _, _ in breaks)
-        environment: Dict[str, str] = shims.variables(self.library, FAILING_CONNECTIONS=words, **most)
+        environment = shims.variables(self.library, FAILING_CONNECTIONS=words, **most)
         server = self.begin(USERS, 2 * len(breaks), env=environment)
         for word, wanted, count in breaks:
             name = f"{word} of {most or 'any number of'} bytes"

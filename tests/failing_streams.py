@@ -3,22 +3,19 @@
 A case is a name, what was seen and what is wanted: each an exit status and what was written to each output.
 """
 import socket
-import tempfile
 from contextlib import contextmanager
 from typing import Callable, Iterator, List, Optional, Sequence, Tuple
 
 import shims
-from one_dialogue import ITEMS, LOAD, QUOTA, REPLIES, cut, replies_in
+from one_dialogue import ITEMS, QUOTA, REPLIES, cut, replies_in
+from shared.loads import LOAD
+from shared.program import NO_MEMORY, READ_FAULT, WRITE_FAULT, Ended, file_of
 
-Ended = Tuple[object, bytes, bytes]
 Case = Tuple[str, Ended, Ended]
 # Runs the program with these words, and streams and an environment as subprocess.run has them.
 Runs = Callable[..., Ended]
 
 WORDS = ["run", "--branches", str(QUOTA[2])]
-READ_FAULT = b"ljserve: read fault\n"
-WRITE_FAULT = b"ljserve: write fault\n"
-NO_MEMORY = (3, b"", b"ljserve: no memory\n")
 
 SCHEDULE = f"user A {'a' * 32} 4 100 4\nhello 1 A {'a' * 32}\nenter 1\n".encode()
 # The replay of this schedule has one reply.
@@ -93,15 +90,13 @@ class Failing:
 
     def replays(self, kind: str, most: Optional[int]) -> Iterator[Case]:
         """Each write of a replay fails in turn, and at last none does."""
-        with tempfile.NamedTemporaryFile() as file:
-            file.write(LISTS)
-            file.flush()
+        with file_of(LISTS) as path:
             number, told = 1, b""
             while told != LISTED:
                 env = shims.variables(self.library, FAILING=f"{kind}{number}", MOST_WRITTEN=most)
                 told = LISTED[:(number - 1) * (most or len(LISTED))]
                 wanted = (0, told, b"") if told == LISTED else (1, told, WRITE_FAULT)
-                yield f"write {kind}{number} of a replay", self.run(["replay", file.name], env=env), wanted
+                yield f"write {kind}{number} of a replay", self.run(["replay", path], env=env), wanted
                 number += 1
 
     def all(self) -> Iterator[Case]:
@@ -117,21 +112,20 @@ class Failing:
 
 def cases(run: Runs) -> Iterator[Case]:
     """All runs and replays whose reads or writes fail."""
-    with tempfile.TemporaryDirectory() as folder:
-        yield from Failing(run, shims.built("fail_streams", folder)).all()
+    with shims.library("fail_streams") as library:
+        yield from Failing(run, library).all()
 
 
 def refused_growths(run: Runs) -> Iterator[Case]:
-    """A run without input and a replay, of which each allocation is refused in turn until 20 times none is: where there
-    is no memory for the program, nothing is written."""
-    with tempfile.TemporaryDirectory() as folder, tempfile.NamedTemporaryFile() as file:
-        file.write(GROWS)
-        file.flush()
-        library = shims.built("refuse_memory", folder)
-        for words, known in [(["run"], [b""]), (["replay", file.name], GROWN)]:
-            ends, number, whole = [(0, told, b"") for told in known] + [NO_MEMORY], 0, 0
-            while whole < 20 and number < 1000:
-                number += 1
-                seen = run(words, env=shims.variables(library, REFUSED=number))
-                whole = whole + 1 if seen == ends[0] else 0
-                yield f"allocation {number} of {words[0]}", seen, seen if seen in ends else ends[0]
+    """A run without input and a replay, of which each allocation is refused in turn: where there is no memory for the
+    program, nothing is written."""
+    with file_of(GROWS) as path:
+        yield from refused_in(run, ["run"], [b""])
+        yield from refused_in(run, ["replay", path], GROWN)
+
+
+def refused_in(run: Runs, words: List[str], known: Sequence[bytes]) -> Iterator[Case]:
+    """A program of these words, which tells the first of these texts where all memory is there, and otherwise any."""
+    ends: List[Ended] = [(0, told, b"") for told in known]
+    for number, seen in shims.refused_in_turn(lambda env: run(words, env=env), ends[0]):
+        yield f"allocation {number} of {words[0]}", seen, seen if seen in [*ends, NO_MEMORY] else ends[0]

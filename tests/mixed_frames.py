@@ -71,7 +71,7 @@ def dumped(talk: Talk) -> None:
     here = talk.simulation
     shown = [(SYMBOLS[kind], *place) for kind, place in zip(here.species, here.present)]
     item, reply = dump(FINE, shown, here.step)
-    talk.say(item, reply.removesuffix("\n"))
+    talk.say(item, reply.rstrip("\n"))
 
 
 def saved(talk: Talk, dice: random.Random) -> Talk:

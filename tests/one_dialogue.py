@@ -1,10 +1,10 @@
 """A dialogue of a user who may save one simulation, of which any read and any write may fail."""
 from typing import Iterable, List, Optional, Sequence
 
+from shared.loads import LOAD
+
 # The sessions, atoms and branches that the user may have.
 QUOTA = (8, 16384, 1)
-
-LOAD = b"LOAD a 256 1 131072 rest 28\n2\ndimer\nAr 0 0 0\nAr 1.5 0 0\n"
 
 # Each item, its reply, and how many tiles are computed for it.
 DIALOGUE = (

@@ -132,7 +132,7 @@ def pairs_in_reach(frame: Frame, classes: Sequence[Scale], species: Sequence[int
             way_y = (y - other_y + HALF) % RING - HALF
             way_z = (z - other_z + HALF) % RING - HALF
             squared += way_y * way_y + way_z * way_z
-            if squared < out and squared < outs[kind := species[i] + species[j]]:
+            if squared < out and squared < outs[(kind := species[i] + species[j])]:
                 yield i, j, (way_x, way_y, way_z), squared, classes[kind]
 
 

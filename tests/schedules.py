@@ -6,12 +6,12 @@ token is the letters of the user's name, or of a word after it, over and over.
 from dataclasses import dataclass
 from typing import Iterable, Iterator, Tuple
 
+from shared.loads import CHAIN, DIMER
+
 User = Tuple[str, Tuple[int, int, int]]
 Part = Tuple[str, int]
 
 TOKEN_BYTES = 32
-
-DIMER = "2\ndimer\nAr 0 0 0\nAr 1.5 0 0\n"
 
 # Two atoms that are out of reach of each other.
 APART = "2\napart\nAr 0 0 0\nAr 9.5 0 0\n"
@@ -19,9 +19,6 @@ APART = "2\napart\nAr 0 0 0\nAr 9.5 0 0\n"
 # An atom of each of two species, and both of one of them.
 MIX = "2\nmix\nNa 0 0 0\nCl 1.5 0 0\n"
 SODIUM = "2\nmix\nNa 0 0 0\nNa 1.5 0 0\n"
-
-# 65 atoms in a row, 1.5 sigma apart.
-CHAIN = "65\nchain\n" + "".join(f"X {place // 10}{'.5' if place % 10 else ''} 0 0\n" for place in range(0, 65 * 15, 15))
 
 # 513 atoms at one place.
 CROWD = "513\ncrowd\n" + "X 1 1 1\n" * 513
@@ -57,7 +54,7 @@ def event_line(event: str) -> str:
     if words[0] == "hello":
         return f"hello {words[1]} {words[2]} {token(words[-1])}\n"
     if words[-1] in BODIES:
-        return f"{event.removesuffix(' ' + words[-1])}\n{BODIES[words[-1]]}"
+        return f"{event[:event.rindex(' ')]}\n{BODIES[words[-1]]}"
     return f"{event}\n"
 
 

@@ -10,11 +10,10 @@ from typing import Callable, Dict, Iterable, Iterator, List, Sequence, Tuple
 
 from plain_steps import NANO, RING, Frame, Place, Scale, Simulation
 from schedules import user_line
+from shared.program import Ended
 
 # The name of a check, whether it holds, and what was seen.
 Check = Tuple[str, bool, object]
-# How a program ended: its status, and what it wrote to each output.
-Ended = Tuple[object, bytes, bytes]
 # Runs the program with these words and this input, or replays this schedule.
 Play = Callable[..., Ended]
 

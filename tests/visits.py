@@ -2,13 +2,13 @@
 from dataclasses import dataclass
 from typing import Any, Callable, Tuple
 
-import schedules
 import shims
+from shared.loads import CHAIN, LOAD, load
+from shared.serving import DENIED
+from shared.tally import Expect
 
 HELLO = b"HELLO A " + b"a" * 32 + b"\n"
-DENIED = b"ERR 01 DENIED\n"
-LOAD = b"LOAD a 256 1 131072 rest 28\n2\ndimer\nAr 0 0 0\nAr 1.5 0 0\n"
-CHAIN = b"LOAD c 256 1 131072 rest 651\n" + schedules.CHAIN.encode()
+LOAD_CHAIN = load("c", CHAIN)
 USERS = (
     b"# name, token, sessions, atoms, branches\nA " + b"a" * 32 + b" 4 128 4\n\nB " + b"b" * 32 + b" 4 64 4\n"
 )
@@ -45,7 +45,7 @@ def one_visit(name: str, said: bytes, told: bytes, tiles: int) -> Series:
 COME_AND_GO = (
     Visit(HELLO + b"BYE\n", b"OK HELLO A\nOK BYE\n"),
     Visit(
-        HELLO + CHAIN + b"ADVANCE c 1\nMEASURE c\n",
+        HELLO + LOAD_CHAIN + b"ADVANCE c 1\nMEASURE c\n",
         b"OK HELLO A\nOK LOAD c 0 65\nOK ADVANCE c 1\nOK MEASURE c 1 65 0 0 0 693842 -342445638\n",
     ),
     Visit(b"HELLO A " + b"c" * 32 + b"\n", DENIED),
@@ -79,7 +79,7 @@ SERIES = (
     ),
     Series("nothing is noted of connections", COME_AND_GO, 4),
     # A full block, and one atom alone beside it: one tile of the full block, and one of both.
-    one_visit("an atom alone has no tile", CHAIN + b"ADVANCE c 1\n", b"OK LOAD c 0 65\nOK ADVANCE c 1\n", 2),
+    one_visit("an atom alone has no tile", LOAD_CHAIN + b"ADVANCE c 1\n", b"OK LOAD c 0 65\nOK ADVANCE c 1\n", 2),
     one_visit(
         "blocks out of reach have no tile of both",
         two_blocks(b"100", 1160) + b"ADVANCE f 1\nMEASURE f\n",
@@ -106,8 +106,8 @@ def has_failing(series: Series) -> bool:
     return any(visit.failing != "-" for visit in series.visits)
 
 
-def play(series: Series, begin: Callable[..., Any], expect: Callable[..., None], library: str) -> None:
-    """Makes the connections of a series one after the other, on a server that `begin` begins."""
+def play(series: Series, begin: Callable[..., Any], expect: Expect, library: str = "") -> None:
+    """Makes the connections of a series one after the other, on a server that `begin` begins with this library."""
     words = " ".join(visit.failing for visit in series.visits)
     streams = {"env": shims.variables(library, FAILING_CONNECTIONS=words)} if has_failing(series) else {}
     server = begin(USERS, len(series.visits), **streams)

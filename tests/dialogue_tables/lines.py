@@ -1,6 +1,6 @@
 """Lines of commands: what is wrong with one, and how many bytes of body follow it."""
 from dialogues import Dialogue, Ending
-from schedules import DIMER
+from shared.loads import DIMER
 
 # Lines that are refused; the connection goes on after them.
 REFUSED = (

@@ -1,0 +1,1 @@
+"""What the programs of tests/ and of bench/ share."""

@@ -1,0 +1,40 @@
+"""Commands that load atoms, and how many tiles a step of them has."""
+import os
+import subprocess
+import sys
+from typing import Union
+
+from shared.program import SECONDS, TOP
+
+DIMER = "2\ndimer\nAr 0 0 0\nAr 1.5 0 0\n"
+
+# 65 atoms in a row, 1.5 sigma apart.
+CHAIN = "65\nchain\n" + "".join(f"X {place // 10}{'.5' if place % 10 else ''} 0 0\n" for place in range(0, 65 * 15, 15))
+
+
+def load(name: str, body: str) -> bytes:
+    """A LOAD of atoms at rest in a box of 256 sigma."""
+    return f"LOAD {name} 256 1 131072 rest {len(body)}\n{body}".encode()
+
+
+LOAD = load("a", DIMER)
+LOADED = b"OK LOAD a 0 2\n"
+
+
+def liquid_stream(atoms: Union[int, str], *words: str) -> bytes:
+    """What `bench/liquid` prints for so many atoms, by these words."""
+    command = [sys.executable, os.path.join(TOP, "bench", "liquid"), str(atoms), *words]
+    return subprocess.run(command, check=True, stdout=subprocess.PIPE, timeout=SECONDS).stdout
+
+
+def liquid(atoms: int, name: str = "a") -> bytes:
+    """A LOAD of a liquid."""
+    line, _, rest = liquid_stream(atoms, "--name", name).partition(b"\n")
+    return line + b"\n" + rest[:int(line.split()[-1])]
+
+
+def tiles_of_step(atoms: int) -> int:
+    """How many tiles a step has where all blocks of 64 atoms are within reach of each other: one for each pair of them,
+    and one for each with itself, but for a last one of one atom."""
+    blocks, is_last_alone = -(-atoms // 64), atoms % 64 == 1
+    return blocks * (blocks + 1) // 2 - is_last_alone

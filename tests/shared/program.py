@@ -1,0 +1,99 @@
+"""The built program: where it is, one run of it, and what its processes hold. Needs Linux, where /proc tells the latter."""
+import os
+import re
+import subprocess
+import tempfile
+import time
+from contextlib import contextmanager
+from typing import Any, Callable, Iterator, List, Optional, Sequence, Tuple, Union
+
+TOP = os.path.dirname(os.path.dirname(os.path.dirname(os.path.abspath(__file__))))
+SECONDS = 20
+
+# The exit status of a process, or that it did not end in time, and what it wrote to each output.
+Ended = Tuple[Union[int, str], bytes, bytes]
+# How many sessions, atoms and branches a user may have.
+Quota = Tuple[int, int, int]
+
+USUAL: Quota = (8, 16384, 16)
+READ_FAULT = b"ljserve: read fault\n"
+WRITE_FAULT = b"ljserve: write fault\n"
+NO_MEMORY: Ended = (3, b"", b"ljserve: no memory\n")
+
+
+def program_at(word: Optional[str]) -> str:
+    """The path of the program of this name, or else of the built one, which is built where it is missing or outdated."""
+    if word:
+        return os.path.abspath(word)
+    subprocess.run([os.path.join(TOP, "bin", "ljserve"), "--version"], stdout=subprocess.DEVNULL, check=True)
+    return os.path.join(TOP, "crates", "ljserve", "out", "ljserve")
+
+
+def contents(*path: str) -> bytes:
+    """What stands in a file of this repository."""
+    with open(os.path.join(TOP, *path), "rb") as file:
+        return file.read()
+
+
+@contextmanager
+def file_of(data: bytes) -> Iterator[str]:
+    """The path of a file of these bytes, which is there for as long as it is used."""
+    with tempfile.NamedTemporaryFile() as file:
+        file.write(data)
+        file.flush()
+        yield file.name
+
+
+def run_words(quota: Quota) -> List[str]:
+    """The words of a run for a user of this quota."""
+    sessions, atoms, branches = map(str, quota)
+    return ["run", "--sessions", sessions, "--atoms", atoms, "--branches", branches]
+
+
+def run(program: str, words: Sequence[Union[str, bytes]], data: bytes = b"", **streams: Any) -> Ended:
+    """How a run of the program over this input ends."""
+    streams = {"stdout": subprocess.PIPE, "stderr": subprocess.PIPE, **streams}
+    if "stdin" not in streams:
+        streams["input"] = data
+    try:
+        done = subprocess.run([program, *words], timeout=SECONDS, **streams)
+    except subprocess.TimeoutExpired:
+        return "no end", b"", b""
+    return done.returncode, done.stdout or b"", done.stderr or b""
+
+
+def end_of(child: "subprocess.Popen[bytes]", data: Optional[bytes] = None, seconds: float = SECONDS) -> Ended:
+    """How a process ends over the rest of its input. One that goes on is killed."""
+    status: Union[int, str]
+    try:
+        out, err = child.communicate(data, timeout=seconds)
+        status = child.returncode
+    except subprocess.TimeoutExpired:
+        child.kill()
+        out, err = child.communicate()
+        status = "no end"
+    return status, out or b"", err or b""
+
+
+def wait_until(holds: Callable[[], bool], seconds: float = SECONDS) -> bool:
+    """Returns whether this comes to hold within the time limit."""
+    end = time.monotonic() + seconds
+    while not holds():
+        if time.monotonic() > end:
+            return False
+        time.sleep(0.005)
+    return True
+
+
+def status_of(folder: str, word: str) -> int:
+    """The number that /proc tells by this word of a process or a thread, whose folder there this is."""
+    with open(f"{folder}/status", encoding="utf-8") as file:
+        found = re.search(rf"^{word}:\s*(\d+)", file.read(), re.M)
+    if found is None:
+        raise ValueError(f"{folder} has no {word}")
+    return int(found[1])
+
+
+def descriptors_of(process: int) -> int:
+    """How many files a process has open."""
+    return len(os.listdir(f"/proc/{process}/fd"))
