@@ -8,6 +8,8 @@ from shared.sockets import free_port, is_listened_on
 CANNOT_LISTEN = b"ljserve: cannot listen\n"
 DENIED = b"ERR 01 DENIED\n"
 POOLS = ["lock", "queue"]
+# The one that a server has where none is named.
+USUAL_POOL = "queue"
 # How many connections may be open at once.
 MAX_OPEN = 64
 

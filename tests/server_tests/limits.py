@@ -1,0 +1,164 @@
+"""How many connections, users and tasks there may be, quotas, and what connections leave behind."""
+import time
+from typing import Tuple
+
+from server_tests.client import Client
+from server_tests.server import Server
+from server_tests.setting import Setting
+from server_tests.words import AT_ONCE, hello, user, welcome
+from shared.loads import CHAIN, LOAD, LOADED, liquid, load, tiles_of_step
+from shared.program import wait_until
+from shared.serving import DENIED, MAX_OPEN
+
+
+def sixty_four_connections_are_open_at_once(setting: Setting) -> None:
+    names = [f"u{number}" for number in range(MAX_OPEN)]
+    server = setting.serve(b"".join(map(user, names)), MAX_OPEN + 120, workers=3)
+    clients = [server.enter(name) for name in names]
+    for client in clients:
+        client.says(b"LIST\n", b"OK LIST 0\n")
+    for _ in range(3):
+        server.connect().is_told_last(b"")
+    for client in clients:
+        client.says(LOAD + b"ADVANCE a 2\n", LOADED + b"OK ADVANCE a 2\n")
+    clients[7].leaves()
+    again = let_in(setting, server, "u7")
+    again.says(b"LIST\n", b"OK LIST 1\na 2 2 0\n")
+    for client in clients[:7] + [again] + clients[8:]:
+        client.leaves()
+    server.finish(tiles=2 * MAX_OPEN)
+
+
+def let_in(setting: Setting, server: Server, name: str) -> Client:
+    """A connection as this user, asked for until there is room for one more."""
+    end = time.monotonic() + AT_ONCE
+    client, line = knock(server, name)
+    while line == b"" and time.monotonic() < end:
+        time.sleep(0.05)
+        client, line = knock(server, name)
+    setting.expect("there is room for one more", line == welcome(name), line)
+    return client
+
+
+def knock(server: Server, name: str) -> Tuple[Client, bytes]:
+    """A connection as this user, and the first line that it is told, if any."""
+    client = server.connect()
+    try:
+        client.send(hello(name))
+        return client, client.lines(1)
+    except (BrokenPipeError, ConnectionResetError):
+        return client, b""
+
+
+def more_tasks_than_there_is_room_for_are_computed(setting: Setting) -> None:
+    names = [f"u{number}" for number in range(MAX_OPEN)]
+    asked = liquid(512) + b"ADVANCE a 1\nMEASURE a\nSHOW a 511\nBYE\n"
+    wanted = setting.replies_alone(asked)
+    for workers in [1, 16]:
+        server = setting.serve(b"".join(map(user, names)), MAX_OPEN, workers)
+        clients = [server.enter(name) for name in names]
+        for client in clients:
+            client.send(asked)
+        for client in clients:
+            client.is_told_last(wanted)
+        server.finish(MAX_OPEN * 2 * tiles_of_step(512))
+
+
+def tasks_are_computed_beside_two_workers(setting: Setting) -> None:
+    """65 atoms in a row: each step has one task of the full block, and one of it and the atom beside it."""
+    walk = b"ADVANCE c 125\nREVERSE c\nADVANCE c 125\nREVERSE c\nMEASURE c\n"
+    walked = (b"OK ADVANCE c 125\nOK REVERSE c 124\nOK ADVANCE c -1\nOK REVERSE c 0\n"
+              b"OK MEASURE c 0 65 0 0 0 0 -342344448\n")
+    one_step = b"OK ADVANCE c 1\nOK MEASURE c 1 65 0 0 0 693842 -342445638\n"
+    for asked, told, tiles in [(b"ADVANCE c 1\nMEASURE c\n", one_step, 4), (walk, walked, 502)]:
+        server = setting.serve(user("u0"), 1, workers=2)
+        client = server.enter("u0")
+        client.says(load("c", CHAIN) + asked, b"OK LOAD c 0 65\n" + told)
+        client.leaves()
+        server.finish(tiles)
+
+
+def sixty_four_users_ask_at_once(setting: Setting) -> None:
+    """Each has one task for the energy, and one for the step."""
+    names = [f"u{number}" for number in range(MAX_OPEN)]
+    server = setting.serve(b"".join(map(user, names)), MAX_OPEN, workers=2)
+    clients = [server.enter(name) for name in names]
+    for client in clients:
+        client.send(LOAD + b"MEASURE a\nADVANCE a 1\nBYE\n")
+    for client in clients:
+        client.is_told_last(LOADED + b"OK MEASURE a 0 2 0 0 0 0 -5349132\nOK ADVANCE a 1\nOK BYE\n")
+    server.finish(2 * MAX_OPEN)
+
+
+def quotas_are_those_of_the_file(setting: Setting) -> None:
+    lines = [
+        user("none", (0, 0, 0)),
+        b"\n# a comment\n#another one\n \t\n",
+        user("atom", (1, 1, 0)),
+        b"\t two\t" + user("two", (1, 2, 0))[4:],
+        user("most_-0123456789", (64, 65536, 256)),
+        user("last", ("01", "0000002", 1))[:-1],
+    ]
+    server = setting.serve(b"".join(lines), 5)
+    branch = b"BRANCH a k\n"
+    for name, reply in [
+        ("none", b"ERR 20 QUOTA_SESSIONS\nERR 10 NO_SESSION\n"),
+        ("atom", b"ERR 21 QUOTA_ATOMS\nERR 10 NO_SESSION\n"),
+        ("two", LOADED + b"ERR 22 QUOTA_BRANCHES\n"),
+        ("most_-0123456789", LOADED + b"OK BRANCH a k 0\n"),
+        ("last", LOADED + b"OK BRANCH a k 0\n"),
+    ]:
+        client = server.enter(name)
+        client.says(LOAD + branch, reply)
+        client.leaves()
+    server.finish(tiles=0)
+
+
+def short_connections_leave_nothing_behind(setting: Setting) -> None:
+    first = min(200, setting.short_connections)
+    server = setting.serve(user("A"), setting.short_connections, workers=2)
+    begun = wait_until(lambda: server.status("Threads") == 3, AT_ONCE)
+    setting.expect("the server has a thread for each worker and one more", begun, server.held())
+    idle = server.held()
+    for _ in range(first):
+        visit_shortly(setting, server)
+
+    def is_idle() -> bool:
+        return server.held() == idle
+
+    setting.expect("nothing is held after the first ones", wait_until(is_idle, AT_ONCE), (idle, server.held()))
+    memory = server.status("VmRSS")
+    for _ in range(server.left - 1):
+        visit_shortly(setting, server)
+    setting.expect("nothing is held after all", wait_until(is_idle, AT_ONCE), (idle, server.held()))
+    grown = server.status("VmRSS") - memory
+    setting.expect("the memory is what it was, to 1 MiB", abs(grown) <= 1024, grown)
+    server.finish(tiles=0)
+
+
+def visit_shortly(setting: Setting, server: Server) -> None:
+    """A connection that says HELLO and BYE, is denied, goes away or is reset, in turns."""
+    client, way = server.connect(), server.left % 5
+    if way == 0:
+        client.send(hello("B"))
+        wanted = DENIED
+    elif way == 1:
+        client.half_close()
+        wanted = b""
+    else:
+        client.send(hello("A") + b"LIST\nBYE\n" * (way - 2))
+        wanted = welcome("A") + [b"", b"OK LIST 0\nOK BYE\n", b"OK LIST 0\nOK BYE\n"][way - 2]
+    seen = client.lines(1) if way == 2 else client.rest()
+    if seen != wanted:
+        setting.expect(f"short connection {server.connections - server.left}", False, (seen, client.end))
+    client.reset() if way == 2 else client.close()
+
+
+TESTS = (
+    sixty_four_connections_are_open_at_once,
+    more_tasks_than_there_is_room_for_are_computed,
+    tasks_are_computed_beside_two_workers,
+    sixty_four_users_ask_at_once,
+    quotas_are_those_of_the_file,
+    short_connections_leave_nothing_behind,
+)
