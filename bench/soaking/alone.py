@@ -1,0 +1,77 @@
+"""A `run` of one user, and how many tiles a server computes for the same items."""
+import os
+import select
+import subprocess
+from typing import Dict, List
+
+from shared.loads import tiles_of_step
+from shared.program import Quota, run_words
+from shared.tally import shown
+from soaking.words import PATIENCE, SESSIONS, Fault, first_words, reply_end
+
+# A step of 130 atoms has so many tiles.
+MOST_TILES = 6
+
+
+class Alone:
+    """A `run` of one user."""
+
+    def __init__(self, program: str, quota: Quota) -> None:
+        self.child = subprocess.Popen([program, *run_words(quota)], stdin=subprocess.PIPE, stdout=subprocess.PIPE, bufsize=0)
+        self.held = b""
+
+    def ask(self, item: bytes) -> bytes:
+        """The reply to an item."""
+        self.child.stdin.write(item)
+        end = reply_end(self.held, 0)
+        while end < 0:
+            ready = select.select([self.child.stdout], [], [], PATIENCE)[0]
+            piece = os.read(self.child.stdout.fileno(), 1 << 16) if ready else b""
+            if not piece:
+                raise Fault(f"`run` does not reply to {shown(item)}")
+            self.held += piece
+            end = reply_end(self.held, 0)
+        reply, self.held = self.held[:end], self.held[end:]
+        return reply
+
+    def close(self) -> None:
+        self.child.stdin.close()
+        self.child.stdout.close()
+        self.child.wait()
+
+
+class Tiles:
+    """How many tiles a server computes for items: those that were answered, and at most those that may have been. Steps that
+    were started may be owed at the end, and the tiles of a step be computed once more for the next connection."""
+
+    def __init__(self) -> None:
+        self.sure, self.unsure, self.is_started = 0, 0, False
+        self.atoms: Dict[bytes, int] = {}
+
+    def note(self, item: bytes, reply: bytes) -> None:
+        words = reply.split(b"\n", 1)[0].split()
+        if words[0] != b"OK":
+            return
+        if words[1] == b"LOAD":
+            self.atoms[words[2]] = int(words[4])
+        elif words[1] in (b"ADVANCE", b"START", b"MEASURE"):
+            steps = 1 if words[1] == b"MEASURE" else int(first_words(item)[2])
+            count = steps * tiles_of_step(self.atoms[words[2]])
+            if words[1] == b"START":
+                self.unsure, self.is_started = self.unsure + count, True
+            else:
+                self.sure += count
+
+    def connection_ends(self) -> None:
+        if self.is_started:
+            self.unsure += MOST_TILES * len(SESSIONS)
+
+    def may_be(self, items: List[bytes]) -> None:
+        lines = [first_words(item) for item in items]
+        is_small = max(self.atoms.values(), default=0) <= 64 and all(words[:1] != [b"LOAD"] for words in lines)
+        most = 1 if is_small else MOST_TILES
+        for words in lines:
+            if words[:1] == [b"MEASURE"]:
+                self.unsure += most
+            elif words[:1] in ([b"ADVANCE"], [b"START"]) and words[-1].isdigit() and int(words[-1]) <= 10 ** 6:
+                self.unsure += most * int(words[-1])

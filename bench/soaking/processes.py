@@ -1,0 +1,22 @@
+"""Processes that work side by side, and the faults that they find."""
+import multiprocessing
+from multiprocessing.connection import Connection as Pipe
+from typing import Any, Callable, Iterable, List, Sequence, Tuple
+
+
+def started(work: Callable[..., None], shares: Iterable[Tuple[Any, ...]]) -> List[Pipe]:
+    """A process for each of these shares of the work, which is told a pipe as well; and the other ends of the pipes."""
+    pipes = []
+    for share in shares:
+        ours, theirs = multiprocessing.Pipe()
+        multiprocessing.Process(target=work, args=(*share, theirs), daemon=True).start()
+        pipes.append(ours)
+    return pipes
+
+
+def tell_faults(faults: Sequence[str], kept: str) -> bool:
+    """Prints the faults, and what was kept of them. Returns whether there are any."""
+    for fault in faults:
+        print(f"fault: {fault}")
+    print(f"{len(faults)} faults" + (f", {kept}" if faults else ""))
+    return bool(faults)

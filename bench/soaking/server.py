@@ -1,0 +1,102 @@
+"""The server of a soak, and what it holds."""
+import argparse
+import select
+import socket
+import sys
+import threading
+import time
+from typing import List, NamedTuple
+
+from shared.program import Ended, descriptors_of, end_of, status_of, wait_until
+from shared.serving import MAX_OPEN, NotBegun, begun, options_of, user_line
+from soaking.connection import connected_from_anywhere
+from soaking.words import PATIENCE, Fault, user_of
+
+# Of a crowd at least so many connections are turned away.
+TURNED_AWAY = 16
+CROWD = MAX_OPEN + TURNED_AWAY
+
+
+class Held(NamedTuple):
+    """What a process holds."""
+
+    kilobytes: int
+    descriptors: int
+    threads: int
+
+    def __str__(self) -> str:
+        return f"{self.kilobytes} kB, {self.descriptors} descriptors, {self.threads} threads"
+
+
+class Server:
+    """A server of random users, which ends after so many connections, and how many were made beside those of the users."""
+
+    def __init__(self, options: argparse.Namespace, bound: int) -> None:
+        self.workers, self.bound, self.made = options.workers, bound, 0
+        users = [user_of(number) for number in range(options.users)]
+        lines = b"".join(user_line(name.decode(), token.decode(), quota) for name, token, quota in users)
+        try:
+            self.child, self.port = begun(options.program, lines, options_of(options.workers, bound, options.pool))
+        except NotBegun as ended:
+            sys.exit(f"soak: the server does not listen: {ended}")
+
+    def is_there(self) -> bool:
+        return self.child.poll() is None
+
+    def held(self) -> Held:
+        folder = f"/proc/{self.child.pid}"
+        return Held(status_of(folder, "VmRSS"), descriptors_of(self.child.pid), status_of(folder, "Threads"))
+
+    def held_at_rest(self) -> Held:
+        """What it holds once all workers are there and no connection is open."""
+        wait_until(lambda: self.held().threads == self.workers + 1, PATIENCE)
+        return self.held()
+
+    def crowd(self) -> None:
+        """Opens more connections than there may be at once: of those that say nothing, all above the most are closed."""
+        crowd = [connected_from_anywhere(self.port) for _ in range(CROWD)]
+        self.made += len(crowd)
+        closed = closed_of(crowd)
+        for one in crowd:
+            one.close()
+        if closed < TURNED_AWAY:
+            raise Fault(f"of {len(crowd)} connections {closed} are turned away")
+
+    def finish(self, made: int) -> Ended:
+        """Makes the connections that are left, and returns what the server ended with."""
+        for _ in range(self.bound - made - self.made):
+            connected_from_anywhere(self.port).close()
+        return end_of(self.child, seconds=PATIENCE)
+
+
+def closed_of(crowd: List[socket.socket]) -> int:
+    """How many of these connections are closed without a byte, as soon as enough of them are."""
+    end = time.monotonic() + PATIENCE
+    closed: List[socket.socket] = []
+    while len(closed) < TURNED_AWAY and time.monotonic() < end:
+        ready = select.select([one for one in crowd if one not in closed], [], [], 0.1)[0]
+        closed += [one for one in ready if told_at_end(one) == b""]
+    return len(closed)
+
+
+def told_at_end(one: socket.socket) -> bytes:
+    try:
+        return one.recv(100)
+    except ConnectionResetError:
+        return b""
+
+
+class Watch(threading.Thread):
+    """Notes the most that a server holds."""
+
+    def __init__(self, server: Server) -> None:
+        super().__init__(daemon=True)
+        self.server, self.most, self.goes_on = server, Held(0, 0, 0), True
+
+    def run(self) -> None:
+        while self.goes_on:
+            try:
+                self.most = Held(*map(max, zip(self.most, self.server.held())))
+            except (OSError, ValueError):
+                return
+            time.sleep(0.1)

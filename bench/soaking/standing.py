@@ -1,0 +1,76 @@
+"""Where a user stands."""
+from typing import List, Optional
+
+from shared.program import Quota
+from shared.tally import shown
+from soaking.alone import Alone, Tiles
+from soaking.plans import Plan
+from soaking.words import Fault, first_words, reply_end
+
+KEEPS_STATE = (b"LIST", b"MEASURE", b"SHOW", b"DUMP")
+
+
+class Standing:
+    """What a user is known to have said, what it may have said after that (the tail), and a `run` that was said the same."""
+
+    def __init__(self, program: str, quota: Quota) -> None:
+        self.alone = Alone(program, quota)
+        self.tiles = Tiles()
+        self.known: List[bytes] = []
+        self.tail: List[bytes] = []
+        self.commands = self.asked = 0
+
+    def ask(self, item: bytes) -> bytes:
+        """Notes an item that was answered, and returns the reply of the `run`."""
+        reply = self.alone.ask(item)
+        self.known.append(item)
+        self.tiles.note(item, reply)
+        self.commands += 1
+        return reply
+
+    def agree(self, item: bytes, seen: bytes, at: int) -> int:
+        """Compares the reply to an item that was answered, as far as it came through, and returns where it ends."""
+        reply = self.ask(item)
+        told = seen[at:at + len(reply)]
+        if told != reply[:len(told)] or len(told) < len(reply) and at + len(told) < len(seen):
+            raise Fault(f"{shown(item)} is told {shown(told)} in place of {shown(reply)}")
+        return at + len(told)
+
+    def find(self, plan: Plan, seen: bytes, at: int) -> int:
+        """Finds after how many items of the tail the user stands as it was told, and goes there. Returns where the replies
+        to its questions end."""
+        told = replies_from(seen, at, len(plan.probes))
+        done = self.first_agreeing(plan.probes, told)
+        if done is None:
+            raise Fault(f"no number of {len(self.tail)} items gives {shown(b''.join(told))}")
+        for probe, reply in zip(plan.probes, told):
+            self.tiles.note(probe, reply)
+        self.asked += len(told)
+        if not (plan.late and done == 0):
+            self.tiles.may_be(self.tail[done:])
+            self.tail = []
+        return at + sum(map(len, told))
+
+    def first_agreeing(self, asked: List[bytes], told: List[bytes]) -> Optional[int]:
+        """After how many items of the tail these questions have these replies, if there is such a number."""
+        is_moved = True
+        for done in range(len(self.tail) + 1):
+            if is_moved and [self.alone.ask(probe) for probe in asked] == told:
+                return done
+            if done < len(self.tail):
+                item = self.tail[done]
+                self.ask(item)
+                is_moved = first_words(item)[:1] not in [[word] for word in KEEPS_STATE]
+        return None
+
+
+def replies_from(seen: bytes, at: int, count: int) -> List[bytes]:
+    """So many replies, of which the first begins at `at`."""
+    replies = []
+    for _ in range(count):
+        end = reply_end(seen, at)
+        if end < 0:
+            raise Fault(f"cut short: told {shown(seen)}")
+        replies.append(seen[at:end])
+        at = end
+    return replies
