@@ -5,24 +5,18 @@ import os
 import socket
 import subprocess
 import sys
-import tempfile
 import time
 from typing import BinaryIO, Callable, Dict, List, NamedTuple, Sequence, Tuple
 
-HERE = os.path.dirname(os.path.abspath(__file__))
+from shared.loads import liquid
+from shared.program import USUAL, end_of, status_of
+from shared.serving import begun, options_of, user_line
+from shared.sockets import connected
+
 TOKEN = "0" * 32
 SECONDS = 120
 WORKERS = 4
-KINDS = ["lock", "queue"]
 Child = subprocess.Popen
-
-
-def load_of(atoms: int, name: str = "a") -> bytes:
-    """A LOAD of a liquid."""
-    command = [sys.executable, os.path.join(HERE, "liquid"), str(atoms), "--name", name]
-    stream = subprocess.run(command, check=True, capture_output=True).stdout
-    line, _, rest = stream.partition(b"\n")
-    return line + b"\n" + rest[: int(line.split()[-1])]
 
 
 class Talk(NamedTuple):
@@ -50,33 +44,11 @@ def run_alone(program: str) -> Tuple[Child, Talk]:
     return child, Talk(child.stdin.write, os.fdopen(os.dup(child.stdout.fileno()), "rb"))
 
 
-def free_port() -> int:
-    with socket.socket() as taken:
-        taken.bind(("127.0.0.1", 0))
-        return taken.getsockname()[1]
-
-
-def connected(child: Child, port: int) -> socket.socket:
-    """A connection to a server, as soon as it listens."""
-    while child.poll() is None:
-        try:
-            stream = socket.create_connection(("127.0.0.1", port), SECONDS)
-            stream.setsockopt(socket.IPPROTO_TCP, socket.TCP_NODELAY, 1)
-            return stream
-        except ConnectionRefusedError:
-            time.sleep(0.01)
-    sys.exit(f"{child.args[0]} ended with {child.returncode}")
-
-
 def serve(program: str, kind: str, workers: int, users: int = 1) -> Tuple[Child, List[socket.socket]]:
     """A server of so many users over a kind of pool, and a connection to it as each of them."""
-    port = free_port()
-    with tempfile.NamedTemporaryFile("w") as file:
-        file.write("".join(f"user{number} {TOKEN} 8 16384 16\n" for number in range(users)))
-        file.flush()
-        options = ["--users", file.name, "--workers", str(workers), "--connections", str(users), "--pool", kind]
-        child = subprocess.Popen([program, "serve", "--listen", f"127.0.0.1:{port}", *options], stdout=subprocess.PIPE)
-        streams = [connected(child, port) for _ in range(users)]
+    lines = b"".join(user_line(f"user{number}", TOKEN, USUAL) for number in range(users))
+    child, port = begun(program, lines, options_of(workers, users, kind))
+    streams = [connected(port, SECONDS) for _ in range(users)]
     for number, stream in enumerate(streams):
         talk_to(stream).ask(f"HELLO user{number} {TOKEN}\n".encode(), f"OK HELLO user{number}\n".encode())
     return child, streams
@@ -89,7 +61,7 @@ def crowd_of(program: str, kind: str, users: int, atoms: int, workers: int = WOR
 
 
 def loaded(talk: Talk, atoms: int) -> Talk:
-    talk.ask(load_of(atoms), f"OK LOAD a 0 {atoms}\n".encode())
+    talk.ask(liquid(atoms), f"OK LOAD a 0 {atoms}\n".encode())
     return talk
 
 
@@ -98,7 +70,7 @@ def end(child: Child, talks: Sequence[Talk]) -> None:
     for talk in talks:
         talk.ask(b"BYE\n", b"OK BYE\n")
         talk.lines.close()
-    child.communicate(timeout=SECONDS)
+    end_of(child, seconds=SECONDS)
 
 
 def seconds(work: Callable[..., object], *words: object) -> float:
@@ -138,12 +110,12 @@ class Use(NamedTuple):
 def uses(child: Child) -> Dict[int, Use]:
     """What each thread of a program has used, by its number: those begun first have the lesser ones."""
     folder = f"/proc/{child.pid}/task"
-    return {int(thread): Use(spent(f"{folder}/{thread}"), switches(f"{folder}/{thread}")) for thread in os.listdir(folder)}
+    return {int(thread): use_of(f"{folder}/{thread}") for thread in os.listdir(folder)}
 
 
-def switches(path: str) -> int:
-    with open(f"{path}/status", encoding="utf-8") as file:
-        return sum(int(line.split()[1]) for line in file if line.startswith("voluntary_ctxt_switches"))
+def use_of(thread: str) -> Use:
+    """What a thread has used, whose folder of /proc this is."""
+    return Use(spent(thread), status_of(thread, "voluntary_ctxt_switches"))
 
 
 class Host(NamedTuple):

@@ -4,14 +4,15 @@ from __future__ import annotations
 import os
 import resource
 import subprocess
-import sys
+import time
 from typing import List, NamedTuple, Sequence
 
-HERE = os.path.dirname(os.path.abspath(__file__))
+from shared.loads import liquid_stream
+from shared.program import TOP
 
 
 class Run(NamedTuple):
-    """What a program printed, and its processor time in seconds, the system's for it included: their sum alone is exact."""
+    """What a program printed, and its time in seconds."""
 
     replies: bytes
     seconds: float
@@ -19,14 +20,31 @@ class Run(NamedTuple):
 
 def stream(atoms: int | str, steps: int | str, words: Sequence[str] = ()) -> bytes:
     """A LOAD or LOADMIX of a liquid named a, so many steps, and some of its atoms."""
-    command = [sys.executable, os.path.join(HERE, "liquid"), str(atoms), "--name", "a", "--steps", str(steps), *words]
-    return subprocess.run(command, check=True, stdout=subprocess.PIPE).stdout
+    return liquid_stream(atoms, "--name", "a", "--steps", str(steps), *words)
+
+
+def twin(name: str, folder: str) -> List[str]:
+    """The plain C twin of this name, which is built in a folder."""
+    path = os.path.join(folder, name)
+    subprocess.run(["cc", "-O3", "-march=native", "-o", path, os.path.join(TOP, "bench", f"{name}.c")], check=True)
+    return [path]
+
+
+def replies_of(command: Sequence[str], data: bytes) -> bytes:
+    return subprocess.run(command, input=data, check=True, stdout=subprocess.PIPE, stderr=subprocess.DEVNULL).stdout
+
+
+def clocked(command: Sequence[str], data: bytes) -> Run:
+    """One run of a program over a stream, by the clock."""
+    start = time.perf_counter()
+    replies = replies_of(command, data)
+    return Run(replies, time.perf_counter() - start)
 
 
 def run(command: List[str], data: bytes) -> Run:
-    """One run of a program over a stream."""
+    """One run of a program over a stream, by processor time, the system's for it included: their sum alone is exact."""
     before = seconds_of_children()
-    replies = subprocess.run(command, input=data, check=True, stdout=subprocess.PIPE, stderr=subprocess.DEVNULL).stdout
+    replies = replies_of(command, data)
     return Run(replies, seconds_of_children() - before)
 
 
