@@ -6,7 +6,6 @@ from typing import List, Optional, Tuple
 from soaking.speaker import Speaker, probes
 from soaking.words import SESSIONS
 
-
 CLEAN = {
     "bye": [(b"BYE\n", b"OK BYE\n")],
     "more": [(b"BYE\nDROP a\nDROP b\n" + b"LIST\n" * 50, b"OK BYE\n"), (b"BYE\n" + b"x" * 30000, b"OK BYE\n")],

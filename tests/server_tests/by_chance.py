@@ -10,7 +10,6 @@ from server_tests.tiles import tiles_of
 from server_tests.words import hello, token, user, welcome
 from shared.tally import difference
 
-
 # The sessions of random dialogues, and items that wait until no steps are owed to any of them, so that each tile is counted.
 RANDOM_SESSIONS = ["a", "b", "c_-9"]
 WAIT_FOR_ALL = "".join(f"ADVANCE {session} 0\n" for session in RANDOM_SESSIONS).encode()

@@ -1,20 +1,19 @@
 """What the tests are run over."""
-from typing import Any, Callable, List, Optional, Sequence
+from typing import Any, Callable, List, Optional
 
 from server_tests.server import Server
-from shared.program import USUAL, Ended, Quota, file_of, run, run_words
+from shared.program import USUAL, Ended, Quota, file_of, run_words
 from shared.serving import begun, options_of
 from shared.tally import Tally
+from shared.tested import Tested
 
 
-class Setting:
+class Setting(Tested):
     """The program, a kind of pool, and how many short connections are made; with the servers that a test begins."""
 
     def __init__(self, program: str, short_connections: int, tally: Tally) -> None:
-        self.program = program
+        super().__init__(program, tally)
         self.short_connections = short_connections
-        self.tally = tally
-        self.expect = tally.expect
         self.pool: Optional[str] = None
         self.servers: List[Server] = []
 
@@ -32,9 +31,6 @@ class Setting:
         server = Server(child, port, connections, self.expect)
         self.servers.append(server)
         return server
-
-    def run(self, words: Sequence[str], data: bytes = b"") -> Ended:
-        return run(self.program, words, data)
 
     def replies_alone(self, data: bytes, quota: Quota = USUAL) -> bytes:
         """What `ljserve run` replies to these bytes, for a user of this quota."""
