@@ -101,11 +101,12 @@ fn close_with_one_in_hand<L: Room + Send + Sync, R: Threads + Wait + Abort + Syn
     let (pool, mut passes, mut shares) = QueuePool::<L>::new(alloc, blank, 1)?;
     let (share, pass) = (next(rt, &mut shares), next(rt, &mut passes));
     let queue = &pool;
-    let ((share, _), dropped) = thread::join(
+    let ((share, pass), dropped) = thread::join(
         rt,
         move || work_queue(rt, queue, share, pass, &(), &Table::new()),
         || drop_in_hand(rt, queue, &mut passes),
     );
+    put_back(rt, &mut passes, pass);
     put_back(rt, &mut shares, share);
     assert!(rt; shares.len() == 1);
     Ok((dropped, gather(rt, &pool, shares)))
