@@ -100,10 +100,16 @@ def versions_agree(setting: Setting) -> None:
     setting.expect("and so is its package's", f'version = "{newest_version()}"\n'.encode() in project, newest)
 
 
+def the_list_of_wrong_bodies_follows_the_edits(setting: Setting) -> None:
+    done = subprocess.run([os.path.join(TOP, "bin", "wrong_bodies"), "--check"], capture_output=True, timeout=SECONDS)
+    setting.expect("docs/WRONG_BODIES.md is what bin/wrong_bodies writes", done.returncode == 0, done)
+
+
 TESTS = (
     the_version_tells_kit_and_commit,
     a_release_needs_no_toolchain,
     a_look_tells_the_status_of_the_program,
     a_look_answers_before_any_proof,
     versions_agree,
+    the_list_of_wrong_bodies_follows_the_edits,
 )
