@@ -6,6 +6,7 @@ use Rattle.std.proofs.KnownBytes.{Consumes-trans}
 use Rattle.std.proofs.lemmas.List.{append_assoc, append-nil}
 use Rattle.lj_session.specs.Users.{User}
 use Rattle.lj_session.specs.States.{Owned, user_of}
+use Rattle.lj_wire.specs.Progress.{Progress}
 use Rattle.lj_wire.specs.declared.item.Item.{Item}
 use Rattle.lj_wire.specs.Items.{ends}
 use Rattle.lj_wire.specs.Streams.{Splits}
@@ -41,20 +42,24 @@ module _ (state : Owned) (read written : List ℕ) (old new : Seen) (held : List
   abbrev user : User
   user = user_of state
 
+  progress-on : {count : ℕ} {so_far left : List ℕ} {between : User} → Progress user read count so_far left between
+      → Progress user (read ++ held) count so_far (left ++ held) between
+  progress-on {count} {so_far} {left} p = record {
+    items = p.items;
+    marks = p.marks;
+    takes = Takes-on 0 read p.items left held p.takes;
+    counted = p.counted;
+    are_marks = p.are_marks;
+    written_is = p.written_is;
+    next_is = p.next_is;
+  }
+
   reaches-on : (so_far : List ℕ) (between : User) (item : Item) → Reaches user read so_far between item
       → Reaches user (read ++ held) so_far between item
   reaches-on so_far between item r = record {
     count = r.count;
     left = r.left ++ held;
-    progress = record {
-      items = r.progress.items;
-      marks = r.progress.marks;
-      takes = Takes-on 0 read r.progress.items r.left held r.progress.takes;
-      counted = r.progress.counted;
-      are_marks = r.progress.are_marks;
-      written_is = r.progress.written_is;
-      next_is = r.progress.next_is;
-    };
+    progress = progress-on r.progress;
     front = r.front;
     behind = r.behind ++ held;
     goes_on = ap (λ b. b ++ held) r.goes_on ∙ append_assoc r.front r.behind held;
@@ -82,7 +87,7 @@ module _ (state : Owned) (read written : List ℕ) (old new : Seen) (held : List
   }
 
   stops-on : StopsShort state read written new → StopsShort state (read ++ held) written new
-  unfolding reaches-on
+  unfolding reaches-on progress-on
   stops-on (inl s) = inl (record {
     between = s.between;
     item = s.item;
@@ -93,15 +98,7 @@ module _ (state : Owned) (read written : List ℕ) (old new : Seen) (held : List
     count = s.count;
     left = s.left ++ held;
     between = s.between;
-    progress = record {
-      items = s.progress.items;
-      marks = s.progress.marks;
-      takes = Takes-on 0 read s.progress.items s.left held s.progress.takes;
-      counted = s.progress.counted;
-      are_marks = s.progress.are_marks;
-      written_is = s.progress.written_is;
-      next_is = s.progress.next_is;
-    };
+    progress = progress-on s.progress;
     owes = s.owes;
     many = s.many;
   })

@@ -37,7 +37,8 @@ use Rattle.lj_pool.proofs.Outcomes.{no-own-tiles, Stays, still-there, start_stay
 use Rattle.lj_pool.proofs.Sessions.{there-changed, other-changed, names-changed, sum-changed, sum-below, distinct-answered}
 use Rattle.lj_pool.proofs.Tiles.{idle-tiles, idle-gathered, closed-part, closed-posted, same-posted, same-tiles, same-gathered}
 use Rattle.lj_pool.proofs.Tiles.{started-tiles, started-posted, started-gathered}
-use Rattle.lj_pool.proofs.Begun.{start-waits, waited_name, whole-open, whole-left, whole-owes}
+use Rattle.lj_session.proofs.Waiting.{same_name}
+use Rattle.lj_pool.proofs.Begun.{start-waits, whole-open, whole-left, whole-owes}
 
 -- what is posted, and how many tiles are to come, of one session before and after
 pub record Settles (old new : Owned) (posted : (o : Option Held) → List Work) (name : List ℕ) : Type 0 where
@@ -290,7 +291,7 @@ module _ (owner : Owning) (owed : List Work) (t : Gathers owner owed) (name : Li
     where
       by : (w : Option Command) → owner.waiting ≡ w → Waited
       by None e = absurd (true≢false (sym last.waited ∙ rw e refl))
-      by (Some command) e = record { command = command; is = e; waits = waited_name command name (rw e at last.waited) }
+      by (Some command) e = record { command = command; is = e; waits = same_name command name (rw e at last.waited) }
 
   one : turns_before owner.state waited.command ≡ 1
   one = sym (ap (λ w. option_map_or (turns_before owner.state) w 0) waited.is) ∙ last.last
@@ -332,7 +333,7 @@ module _ (owner : Owning) (owed : List Work) (t : Gathers owner owed) (name : Li
   pub ended_rests : OwesNoneWhereWaited owner next.state
   ended_rests other for_it =
       subst (λ n. owed_in next.state n ≡ 0)
-      (same_name_of name other (sym waited.waits ∙ waited_name waited.command other (sym (ap (λ w. is_waited_for w other) waited.is) ∙ for_it)))
+      (same_name_of name other (sym waited.waits ∙ same_name waited.command other (sym (ap (λ w. is_waited_for w other) waited.is) ∙ for_it)))
       (idle_owed next.state name rests)
 
   -- no tile of the session was to come

@@ -30,7 +30,7 @@ use Rattle.lj_session.proofs.Holding.{named-held, owed-of}
 use Rattle.lj_session.proofs.Owed.{owed-owing}
 use Rattle.lj_session.proofs.Passing.{Open, opens, energies, measured_last, measures, at_work-passed}
 use Rattle.lj_session.proofs.Turning.{advance-turns-near, measure-turns-one, no-turns}
-use Rattle.lj_session.proofs.Waiting.{Goes, goes, measured_there, passed_user, passed_turns}
+use Rattle.lj_session.proofs.Waiting.{Goes, goes, measured_there, passed_user, passed_turns, same_name}
 use Rattle.lj_pool.specs.Gathering.{is_of, left_in, posted_of, IsOpenFor, Gathers}
 use Rattle.lj_pool.specs.Counting.{steps_tiles, advance_tiles, measure_tiles, frame_tiles, command_tiles, sum_over}
 use Rattle.lj_pool.specs.Coming.{tiles_of_session, posts_of_session, tiles_after, waiting_tiles, waiting_tiles_of, turns_coming}
@@ -255,16 +255,6 @@ waited-measure : (command : Command) (name : List ℕ) → command ≡ Measure n
 waited-measure command name is =
     ap (λ o. option_map_or (λ session. bytes_eq session name) o false) (measure-waits command name is)
     ∙ (bytes_eq-Decides name name).1 refl
-
--- the session that a command waits for
-pub waited_name : (command : Command) (name : List ℕ) → is_waited_for (Some command) name ≡ true → waits_for command ≡ Some name
-waited_name command name h = by (waits_for command) refl
-  where
-    by : (o : Option (List ℕ)) → waits_for command ≡ o → o ≡ Some name
-    by None e = absurd (true≢false (sym h ∙ ap (λ o. option_map_or (λ session. bytes_eq session name) o false) e))
-    by (Some session) e =
-        let t = sym (ap (λ o. option_map_or (λ session. bytes_eq session name) o false) e) ∙ h in
-        ap (λ (n : List ℕ). Some n) ((bytes_eq-Decides session name).0 t)
 
 -- what is left of a command waits for the same session
 rest-waits : (command : Command) (name : List ℕ) → is_waited_for (Some (rest_of command)) name ≡ is_waited_for (Some command) name
@@ -528,7 +518,7 @@ module _ (owner : Owning) (owed : List Work) (t : Gathers owner owed) (name : Li
 
           waited : is_waited_for (Some command) name ≡ true → Turns owner owed (turned_from name owner)
           waited y =
-              let waits = waited_name command name y in
+              let waits = same_name command name y in
               let work = subst (λ w. IsAtWork w owner.state) e t.at_work in
               let some : 0 < owed_in owner.state name = owed_some (λ none.
               last (measured_last command owner.state name (energies (Some command) owner.state name whole work none))) in

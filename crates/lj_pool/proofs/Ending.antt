@@ -56,6 +56,14 @@ distinct_replied now next reply some replied distinct = by now.waiting some repl
     by None s r = absurd (true≢false (sym s))
     by (Some command) s r = distinct-answered now.state next.state command r.mark reply r.answers distinct
 
+-- what is so once what waited is answered: of an owner and what its pool has been seen to do, since some work began
+pub record Ends (start : Owning) (before : Seen) (reply : Reply) (next : Owning) (after : Seen) : Type 0 where
+  pub replied : IsReplied start reply (user_in next)
+  pub gathers : Gathers next after.owed
+  pub counted : CountsRise (tiles_coming start - tiles_coming next) before after
+  pub no_more : OwesNoMore start next.state
+  pub rests : OwesNoneWhereWaited start next.state
+
 -- the last turn
 module _ (start : Owning) (before : Seen) (now : Owning) (after : Seen) (goes : GoesOn start before now after) (name : List ℕ)
     (whole : is_whole_in now.state name ≡ true) (last : IsLastTurn name now) (next : Owning) (reply : Reply)
@@ -65,29 +73,38 @@ module _ (start : Owning) (before : Seen) (now : Owning) (after : Seen) (goes : 
   distinct : IsDistinct bytes_eq (names next.state)
   distinct = distinct_replied now next reply some replied goes.gathers.distinct
 
-  pub ends_replied : IsReplied start reply (user_in next)
+  ends_replied : IsReplied start reply (user_in next)
   ends_replied = replied_alike start now reply (user_in next) goes.alike replied
 
-  pub ends_gathers : Gathers next after.owed
+  ends_gathers : Gathers next after.owed
   ends_gathers = ended_gathers now after.owed goes.gathers name whole last next number done others rests distinct
 
-  pub ends_counted : CountsRise (tiles_coming start - tiles_coming next) before after
+  ends_counted : CountsRise (tiles_coming start - tiles_coming next) before after
   ends_counted =
       let more = ended_tiles now after.owed goes.gathers name whole last next number done others rests distinct in
       rises_more (tiles_coming start - tiles_coming now) 0 (tiles_coming start - tiles_coming next) goes.counted
       (rises_none after after 0 refl refl (omega arith)) (omega (arith, more))
 
   -- no step is owed to the session that was waited for, and no more than before to the others
-  pub ends_owes : OwesNoMore start next.state
+  ends_owes : OwesNoMore start next.state
   ends_owes other quiet =
       let went = goes.owes other quiet in
       let ended = ended_owes now after.owed goes.gathers name whole last next number done others rests distinct other
       (goes.waits other ∙ quiet) in
       omega (arith, went, ended)
 
-  pub ends_rests : OwesNoneWhereWaited start next.state
+  ends_rests : OwesNoneWhereWaited start next.state
   ends_rests other for_it =
       ended_rests now after.owed goes.gathers name whole last next number done others rests distinct other (goes.waits other ∙ for_it)
+
+  pub ends : Ends start before reply next after
+  ends = record {
+    replied = ends_replied;
+    gathers = ends_gathers;
+    counted = ends_counted;
+    no_more = ends_owes;
+    rests = ends_rests;
+  }
 
 -- a command that begins
 module _ (owner : Owning) (seen : Seen) (t : Gathers owner seen.owed) (idle : owner.waiting ≡ None) (command : Command)

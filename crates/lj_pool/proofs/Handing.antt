@@ -36,14 +36,14 @@ idle_tiles owner idle =
     let none = ap (waiting_tiles_of owner) idle in omega (arith, none)
 
 -- the work goes on before the next item
-module _ (owner : Owning) (seen : Seen) (idle : owner.waiting ≡ None) (next : Owning) (newer : Seen)
+module _ {owner : Owning} {seen : Seen} (idle : owner.waiting ≡ None) {next : Owning} {newer : Seen}
     (goes : GoesOn owner seen next newer) where
   pub ahead_idle : next.waiting ≡ None
   ahead_idle = (alike_none owner next goes.alike idle).0
 
-  pub ahead_serving : (start : Owned) (first now : Standing) (was is : Option (List ℕ)) (old : Seen)
+  pub ahead_serving : {start : Owned} {first now : Standing} {was is : Option (List ℕ)} {old : Seen}
       → Serving start first now was is old seen owner.state → Serving start first now was is old newer next.state
-  ahead_serving start first now was is old s =
+  ahead_serving {start} {first} {now} {was} {is} {old} s =
       let before = idle_tiles owner idle in
       let after = idle_tiles next ahead_idle in
       serving-goes start first now was is old seen owner.state s next.state newer (alike_none owner next goes.alike idle).1

@@ -1,20 +1,21 @@
 //! The work that is owed to sessions, done over a pool: while a command waits for it, and before the next one is read. Tasks
 //! are written in one room, which is handed down.
 ghost use Rattle.std.specs.Prelude.{◌≡◌, ◌+◌, ◌-◌, ◌<◌, ◌≤◌, length, Bool, true, false, [], ◌∷◌, Some, None, Ok, IsSome, IfOk, IfErr, IfSome, OnErr, OnOk};
-ghost use Rattle.lj_session.specs.States.{turns_before};
-ghost use Rattle.lj_session.specs.Owners.{IsAnswered, IsReplied, IsSettled, user_in, ready_session};
-ghost use Rattle.lj_wire.specs.declared.item.Item.TheVariants.{Command as Ordered};
+ghost use Rattle.lj_session.specs.Owners.{IsReplied, IsSettled, user_in, ready_session};
+ghost use Rattle.lj_wire.specs.Runs.{item_before};
 ghost use Rattle.lj_pool.specs.declared.engine.running.Halt.TheVariants.{TooManyStrays};
 ghost use Rattle.lj_pool.specs.Seen.{SameOwed};
 ghost use Rattle.lj_pool.specs.Gathering.{Gathers};
-ghost use Rattle.lj_pool.specs.Counting.{CountsRise, StraysRise, command_tiles};
+ghost use Rattle.lj_pool.specs.Counting.{CountsRise, StraysRise, item_tiles};
 ghost use Rattle.lj_pool.specs.Coming.{GoesOn, OwesNoMore, OwesNoneWhereWaited, posts_coming, tiles_coming, tiles_to_come};
 ghost use Rattle.lj_pool.specs.Owing.{OwesAfter};
 ghost use Rattle.lj_pool.specs.Running.{IsHalted};
+ghost use Rattle.lj_pool.specs.Serving.{AnswersItem};
 
 use crate::pool::{MAX_AHEAD, MAX_STRAYS, NotPosted, Pool};
-use lj_session::{Begin, Command, Owner, Reply};
+use lj_session::{Begin, Owner, Refusal, Reply};
 use lj_tile::Task;
+use lj_wire::Item;
 
 /// Why the work was given up.
 #[derive(Clone, Copy, PartialEq, Eq, Debug)]
@@ -23,34 +24,37 @@ pub(crate) enum Halt {
     TooManyStrays,
 }
 
-/// Answers a command, once what it waits for is done.
-pub(crate) fn answer_over<P: Pool>(
+/// Answers an item; a command once what it waits for is done.
+pub(crate) fn answer<P: Pool>(
     owner: &mut Owner,
     user: u8,
     pool: &mut P,
-    command: Command,
+    item: Item,
     room: &mut Task,
 ) -> Result<Reply, Halt>
     requires idle { owner.old.waiting ≡ None }
     requires number { owner.old.number ≡ user }
     requires gathers { Gathers owner.old (P.seen pool.old).owed }
-    ensures answered { IfOk result (λ reply. IsAnswered (user_in owner.old) command reply (user_in owner.new)) }
+    ensures answered { IfOk result (λ reply. AnswersItem (user_in owner.old) item reply (user_in owner.new)) }
     ensures settled { IfOk result (IsSettled owner.new.state) }
     ensures idle { OnOk result (owner.new.waiting ≡ None) }
     ensures gathers { OnOk result (Gathers owner.new (P.seen pool.new).owed) }
     ensures counted { OnOk result (CountsRise
-        (command_tiles (user_in owner.old) command + tiles_to_come owner.old.state - tiles_to_come owner.new.state)
+        (item_tiles (user_in owner.old) item + tiles_to_come owner.old.state - tiles_to_come owner.new.state)
         (P.seen pool.old) (P.seen pool.new)) }
-    ensures owes { OnOk result (OwesAfter owner.old.state (Ordered command ∷ []) owner.new.state) }
-    ensures waits { OnErr result (0 < turns_before owner.old.state command) }
+    ensures owes { OnOk result (OwesAfter owner.old.state (item ∷ []) owner.new.state) }
+    ensures waits { OnErr result (0 < item_before owner.old.state item) }
     ensures halted { IfErr result (λ halt. IsHalted halt (P.seen pool.old) (P.seen pool.new)) }
     ensures number { owner.new.number ≡ user }
     ensures quota { owner.new.state.quota ≡ owner.old.state.quota }
     ensures own { P.for_others pool.new user ≡ P.for_others pool.old user }
 {
-    match owner.begin(command) {
-        Begin::Answered(reply) => Ok(reply),
-        Begin::Running => run(owner, user, pool, room),
+    match item {
+        Item::Command(command) => match owner.begin(command) {
+            Begin::Answered(reply) => Ok(reply),
+            Begin::Running => run(owner, user, pool, room),
+        },
+        Item::Bad(fault) | Item::Last(fault) => Ok(Reply::Refused(Refusal::from(fault))),
     }
 }
 

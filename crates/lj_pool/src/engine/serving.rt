@@ -17,10 +17,10 @@ ghost use Rattle.lj_pool.specs.Serving.{AnswersItem};
 ghost use Rattle.lj_pool.specs.Served.{Serves};
 
 use crate::engine::replies::put_reply;
-use crate::engine::running::{Halt, answer_over, work_ahead};
+use crate::engine::running::{Halt, answer, work_ahead};
 use crate::engine::served::{Served, ending_of};
 use crate::pool::{MAX_STRAYS, Pool};
-use lj_session::{Command, Owner, Refusal, Reply, UserState};
+use lj_session::{Command, Owner, UserState};
 use lj_tile::Task;
 use lj_wire::{Item, Line, LineReader, ReadFault, Sink, Source, WriteFault};
 use std::alloc::Global;
@@ -113,35 +113,4 @@ fn given_up(owner: Owner, halt: Halt) -> (Option<UserState>, Served)
 {
     owner.abandon();
     (None, Served::from(halt))
-}
-
-/// Answers an item.
-fn answer<P: Pool>(
-    owner: &mut Owner,
-    user: u8,
-    pool: &mut P,
-    item: Item,
-    room: &mut Task,
-) -> Result<Reply, Halt>
-    requires idle { owner.old.waiting ≡ None }
-    requires number { owner.old.number ≡ user }
-    requires gathers { Gathers owner.old (P.seen pool.old).owed }
-    ensures answered { IfOk result (λ reply. AnswersItem (user_in owner.old) item reply (user_in owner.new)) }
-    ensures settled { IfOk result (IsSettled owner.new.state) }
-    ensures idle { OnOk result (owner.new.waiting ≡ None) }
-    ensures gathers { OnOk result (Gathers owner.new (P.seen pool.new).owed) }
-    ensures counted { OnOk result (CountsRise
-        (item_tiles (user_in owner.old) item + tiles_to_come owner.old.state - tiles_to_come owner.new.state)
-        (P.seen pool.old) (P.seen pool.new)) }
-    ensures owes { OnOk result (OwesAfter owner.old.state (item ∷ []) owner.new.state) }
-    ensures waits { OnErr result (0 < item_before owner.old.state item) }
-    ensures halted { IfErr result (λ halt. IsHalted halt (P.seen pool.old) (P.seen pool.new)) }
-    ensures number { owner.new.number ≡ user }
-    ensures quota { owner.new.state.quota ≡ owner.old.state.quota }
-    ensures own { P.for_others pool.new user ≡ P.for_others pool.old user }
-{
-    match item {
-        Item::Command(command) => answer_over(owner, user, pool, command, room),
-        Item::Bad(fault) | Item::Last(fault) => Ok(Reply::Refused(Refusal::from(fault))),
-    }
 }

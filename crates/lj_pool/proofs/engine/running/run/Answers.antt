@@ -1,52 +1,35 @@
 use Rattle.std.proofs.Common.{◌≡◌, true, false, refl, arith, rules}
-use Rattle.lj_pool.proofs.Ending.{alike_some, ends_replied, ends_gathers, ends_counted, ends_owes, ends_rests, strays_none}
+use Rattle.lj_pool.proofs.Ending.{Ends, ends, alike_some, strays_none}
 use Rattle.lj_pool.proofs.Going.{goes_then, goes_turned, turned_fewer}
+use Rattle.lj_pool.proofs.engine.running.run.Given.{Over}
 use Rattle.lj_pool.proofs.engine.running.run.Goals as goal
 
-pub returns-in-Some-turn_session-clause-replied : goal.returns-in-Some-turn_session-clause-replied
-returns-in-Some-turn_session-clause-replied g c =
-    ends_replied c.args.owner.now (g.P.Pool.seen c.args.pool.now) c.loop-name.owner (g.P.Pool.seen c.loop-name.pool)
+-- the last turn
+ended : (g : Over) (c : goal.In-Some-turn_session g)
+    → Ends c.args.owner.now (g.P.Pool.seen c.args.pool.now) c.in-Some-turn_session.reply
+    c.turn_session.new.self (g.P.Pool.seen c.loop-name.pool)
+ended g c =
+    ends c.args.owner.now (g.P.Pool.seen c.args.pool.now) c.loop-name.owner (g.P.Pool.seen c.loop-name.pool)
     c.loop-name.invariant.goes c.in-Some.name c.in-Some.ensures.whole (c.in-Some-turn_session.ensures.last.0 refl)
     c.turn_session.new.self c.in-Some-turn_session.reply c.turn_session.ensures.number c.in-Some-turn_session.ensures.idle
     c.turn_session.ensures.others c.in-Some-turn_session.ensures.rests
     (alike_some c.args.owner.now c.loop-name.owner c.loop-name.invariant.goes.alike c.requires.waits)
     c.in-Some-turn_session.ensures.replied
+
+pub returns-in-Some-turn_session-clause-replied : goal.returns-in-Some-turn_session-clause-replied
+returns-in-Some-turn_session-clause-replied g c = (ended g c).replied
 
 pub returns-in-Some-turn_session-clause-gathers : goal.returns-in-Some-turn_session-clause-gathers
-returns-in-Some-turn_session-clause-gathers g c =
-    ends_gathers c.args.owner.now (g.P.Pool.seen c.args.pool.now) c.loop-name.owner (g.P.Pool.seen c.loop-name.pool)
-    c.loop-name.invariant.goes c.in-Some.name c.in-Some.ensures.whole (c.in-Some-turn_session.ensures.last.0 refl)
-    c.turn_session.new.self c.in-Some-turn_session.reply c.turn_session.ensures.number c.in-Some-turn_session.ensures.idle
-    c.turn_session.ensures.others c.in-Some-turn_session.ensures.rests
-    (alike_some c.args.owner.now c.loop-name.owner c.loop-name.invariant.goes.alike c.requires.waits)
-    c.in-Some-turn_session.ensures.replied
+returns-in-Some-turn_session-clause-gathers g c = (ended g c).gathers
 
 pub returns-in-Some-turn_session-clause-counted : goal.returns-in-Some-turn_session-clause-counted
-returns-in-Some-turn_session-clause-counted g c =
-    ends_counted c.args.owner.now (g.P.Pool.seen c.args.pool.now) c.loop-name.owner (g.P.Pool.seen c.loop-name.pool)
-    c.loop-name.invariant.goes c.in-Some.name c.in-Some.ensures.whole (c.in-Some-turn_session.ensures.last.0 refl)
-    c.turn_session.new.self c.in-Some-turn_session.reply c.turn_session.ensures.number c.in-Some-turn_session.ensures.idle
-    c.turn_session.ensures.others c.in-Some-turn_session.ensures.rests
-    (alike_some c.args.owner.now c.loop-name.owner c.loop-name.invariant.goes.alike c.requires.waits)
-    c.in-Some-turn_session.ensures.replied
+returns-in-Some-turn_session-clause-counted g c = (ended g c).counted
 
 pub returns-in-Some-turn_session-clause-no_more : goal.returns-in-Some-turn_session-clause-no_more
-returns-in-Some-turn_session-clause-no_more g c =
-    ends_owes c.args.owner.now (g.P.Pool.seen c.args.pool.now) c.loop-name.owner (g.P.Pool.seen c.loop-name.pool)
-    c.loop-name.invariant.goes c.in-Some.name c.in-Some.ensures.whole (c.in-Some-turn_session.ensures.last.0 refl)
-    c.turn_session.new.self c.in-Some-turn_session.reply c.turn_session.ensures.number c.in-Some-turn_session.ensures.idle
-    c.turn_session.ensures.others c.in-Some-turn_session.ensures.rests
-    (alike_some c.args.owner.now c.loop-name.owner c.loop-name.invariant.goes.alike c.requires.waits)
-    c.in-Some-turn_session.ensures.replied
+returns-in-Some-turn_session-clause-no_more g c = (ended g c).no_more
 
 pub returns-in-Some-turn_session-clause-rests : goal.returns-in-Some-turn_session-clause-rests
-returns-in-Some-turn_session-clause-rests g c =
-    ends_rests c.args.owner.now (g.P.Pool.seen c.args.pool.now) c.loop-name.owner (g.P.Pool.seen c.loop-name.pool)
-    c.loop-name.invariant.goes c.in-Some.name c.in-Some.ensures.whole (c.in-Some-turn_session.ensures.last.0 refl)
-    c.turn_session.new.self c.in-Some-turn_session.reply c.turn_session.ensures.number c.in-Some-turn_session.ensures.idle
-    c.turn_session.ensures.others c.in-Some-turn_session.ensures.rests
-    (alike_some c.args.owner.now c.loop-name.owner c.loop-name.invariant.goes.alike c.requires.waits)
-    c.in-Some-turn_session.ensures.replied
+returns-in-Some-turn_session-clause-rests g c = (ended g c).rests
 
 pub poll_next-requires : goal.poll_next-requires
 poll_next-requires g c = record {

@@ -24,15 +24,11 @@ items-init g c = record {
 
 pub returns-in-Err-clause-told : goal.returns-in-Err-clause-told
 returns-in-Err-clause-told g c =
-    let s = ahead_serving c.items.owner (g.P.Pool.seen c.items.pool) c.items.invariant.idle c.work_ahead.new.owner
-    (g.P.Pool.seen c.work_ahead.new.pool) c.work_ahead.ensures.goes_on c.args.state c.args.lines.now c.items.lines
-    (g.W.Sink.contents c.args.writer.now) (g.W.Sink.contents c.items.writer) (g.P.Pool.seen c.args.pool.now)
-    c.items.invariant.serving in
+    let s = ahead_serving c.items.invariant.idle c.work_ahead.ensures.goes_on c.items.invariant.serving in
     let stops = serving-stops c.args.state c.args.lines.now c.items.lines (g.W.Sink.contents c.args.writer.now)
     (g.W.Sink.contents c.items.writer) (g.P.Pool.seen c.args.pool.now) (g.P.Pool.seen c.work_ahead.new.pool)
     c.work_ahead.new.owner.state s c.in-Err.halt (g.P.Pool.seen c.work_ahead.new.pool) c.in-Err.ensures.many
-    (ahead_owes c.items.owner (g.P.Pool.seen c.items.pool) c.items.invariant.idle c.work_ahead.new.owner
-    (g.P.Pool.seen c.work_ahead.new.pool) c.work_ahead.ensures.goes_on c.in-Err.ensures.many) in
+    (ahead_owes c.items.invariant.idle c.work_ahead.ensures.goes_on c.in-Err.ensures.many) in
     subst (λ kind. Serves kind c.args.state c.args.lines.now.left c.items.lines.left (g.W.Sink.contents c.args.writer.now)
     (g.W.Sink.contents c.items.writer) (g.P.Pool.seen c.args.pool.now) (g.P.Pool.seen c.work_ahead.new.pool) c.given_up.result.0)
     (sym c.given_up.ensures.served)
@@ -43,12 +39,8 @@ returns-in-Err-clause-told g c =
 pub returns-in-Ok-None-clause-told : goal.returns-in-Ok-None-clause-told
 returns-in-Ok-None-clause-told g c =
     let none = rw c.in-Ok-None.field-0-is at c.in-Ok-None.ensures.none in
-    let s = ahead_serving c.items.owner (g.P.Pool.seen c.items.pool) c.items.invariant.idle c.work_ahead.new.owner
-    (g.P.Pool.seen c.work_ahead.new.pool) c.work_ahead.ensures.goes_on c.args.state c.args.lines.now c.items.lines
-    (g.W.Sink.contents c.args.writer.now) (g.W.Sink.contents c.items.writer) (g.P.Pool.seen c.args.pool.now)
-    c.items.invariant.serving in
-    let idle = ahead_idle c.items.owner (g.P.Pool.seen c.items.pool) c.items.invariant.idle c.work_ahead.new.owner
-    (g.P.Pool.seen c.work_ahead.new.pool) c.work_ahead.ensures.goes_on in
+    let s = ahead_serving c.items.invariant.idle c.work_ahead.ensures.goes_on c.items.invariant.serving in
+    let idle = ahead_idle c.items.invariant.idle c.work_ahead.ensures.goes_on in
     serving-ceases c.args.state c.args.lines.now c.items.lines (g.W.Sink.contents c.args.writer.now)
     (g.W.Sink.contents c.items.writer) (g.P.Pool.seen c.args.pool.now) (g.P.Pool.seen c.work_ahead.new.pool)
     c.work_ahead.new.owner.state s c.into_state.result c.into_state.ensures.user
@@ -59,18 +51,13 @@ returns-in-Ok-None-clause-told g c =
 pub returns-in-Ok-None-clause-none_owed : goal.returns-in-Ok-None-clause-none_owed
 returns-in-Ok-None-clause-none_owed g c =
     back_none c.work_ahead.new.owner (g.P.Pool.seen c.work_ahead.new.pool) c.work_ahead.ensures.goes_on.gathers
-    (ahead_idle c.items.owner (g.P.Pool.seen c.items.pool) c.items.invariant.idle c.work_ahead.new.owner
-    (g.P.Pool.seen c.work_ahead.new.pool) c.work_ahead.ensures.goes_on)
+    (ahead_idle c.items.invariant.idle c.work_ahead.ensures.goes_on)
     c.into_state.result c.into_state.ensures.state
 
 pub returns-in-Err-next-clause-told : goal.returns-in-Err-next-clause-told
 returns-in-Err-next-clause-told g c =
-    let s = ahead_serving c.items.owner (g.P.Pool.seen c.items.pool) c.items.invariant.idle c.work_ahead.new.owner
-    (g.P.Pool.seen c.work_ahead.new.pool) c.work_ahead.ensures.goes_on c.args.state c.args.lines.now c.items.lines
-    (g.W.Sink.contents c.args.writer.now) (g.W.Sink.contents c.items.writer) (g.P.Pool.seen c.args.pool.now)
-    c.items.invariant.serving in
-    let idle = ahead_idle c.items.owner (g.P.Pool.seen c.items.pool) c.items.invariant.idle c.work_ahead.new.owner
-    (g.P.Pool.seen c.work_ahead.new.pool) c.work_ahead.ensures.goes_on in
+    let s = ahead_serving c.items.invariant.idle c.work_ahead.ensures.goes_on c.items.invariant.serving in
+    let idle = ahead_idle c.items.invariant.idle c.work_ahead.ensures.goes_on in
     serving-fails c.args.state c.args.lines.now c.items.lines (g.W.Sink.contents c.args.writer.now)
     (g.W.Sink.contents c.items.writer) (g.P.Pool.seen c.args.pool.now) (g.P.Pool.seen c.work_ahead.new.pool)
     c.work_ahead.new.owner.state s c.into_state-in-Err-next.result c.into_state-in-Err-next.ensures.user
@@ -81,17 +68,13 @@ returns-in-Err-next-clause-told g c =
 pub returns-in-Err-next-clause-none_owed : goal.returns-in-Err-next-clause-none_owed
 returns-in-Err-next-clause-none_owed g c =
     back_none c.work_ahead.new.owner (g.P.Pool.seen c.work_ahead.new.pool) c.work_ahead.ensures.goes_on.gathers
-    (ahead_idle c.items.owner (g.P.Pool.seen c.items.pool) c.items.invariant.idle c.work_ahead.new.owner
-    (g.P.Pool.seen c.work_ahead.new.pool) c.work_ahead.ensures.goes_on)
+    (ahead_idle c.items.invariant.idle c.work_ahead.ensures.goes_on)
     c.into_state-in-Err-next.result c.into_state-in-Err-next.ensures.state
 
 pub returns-in-Err-answer-clause-told : goal.returns-in-Err-answer-clause-told
 returns-in-Err-answer-clause-told g c =
     let item = rw c.in-Ok-Some.field-0-is at c.in-Ok-Some.ensures.item in
-    let s = ahead_serving c.items.owner (g.P.Pool.seen c.items.pool) c.items.invariant.idle c.work_ahead.new.owner
-    (g.P.Pool.seen c.work_ahead.new.pool) c.work_ahead.ensures.goes_on c.args.state c.args.lines.now c.items.lines
-    (g.W.Sink.contents c.args.writer.now) (g.W.Sink.contents c.items.writer) (g.P.Pool.seen c.args.pool.now)
-    c.items.invariant.serving in
+    let s = ahead_serving c.items.invariant.idle c.work_ahead.ensures.goes_on c.items.invariant.serving in
     let halts = serving-halts c.args.state c.args.lines.now c.items.lines (g.W.Sink.contents c.args.writer.now)
     (g.W.Sink.contents c.items.writer) (g.P.Pool.seen c.args.pool.now) (g.P.Pool.seen c.work_ahead.new.pool)
     c.work_ahead.new.owner.state s c.next.new.self c.in-Ok-Some.item item
@@ -107,10 +90,7 @@ pub returns-in-Err-put_reply-clause-told : goal.returns-in-Err-put_reply-clause-
 returns-in-Err-put_reply-clause-told g c =
     let item = rw c.in-Ok-Some.field-0-is at c.in-Ok-Some.ensures.item in
     let begun = rw c.state.ensures at c.in-Err-put_reply.ensures.begun in
-    let s = ahead_serving c.items.owner (g.P.Pool.seen c.items.pool) c.items.invariant.idle c.work_ahead.new.owner
-    (g.P.Pool.seen c.work_ahead.new.pool) c.work_ahead.ensures.goes_on c.args.state c.args.lines.now c.items.lines
-    (g.W.Sink.contents c.args.writer.now) (g.W.Sink.contents c.items.writer) (g.P.Pool.seen c.args.pool.now)
-    c.items.invariant.serving in
+    let s = ahead_serving c.items.invariant.idle c.work_ahead.ensures.goes_on c.items.invariant.serving in
     serving-breaks c.args.state c.args.lines.now c.items.lines (g.W.Sink.contents c.args.writer.now)
     (g.W.Sink.contents c.items.writer) (g.P.Pool.seen c.args.pool.now) (g.P.Pool.seen c.work_ahead.new.pool)
     c.work_ahead.new.owner.state s c.next.new.self c.in-Ok-Some.item item
@@ -127,10 +107,7 @@ pub returns-in-Some-clause-told : goal.returns-in-Some-clause-told
 returns-in-Some-clause-told g c =
     let item = rw c.in-Ok-Some.field-0-is at c.in-Ok-Some.ensures.item in
     let written = rw c.state.ensures at c.in_default-put_reply.ensures.written in
-    let s = ahead_serving c.items.owner (g.P.Pool.seen c.items.pool) c.items.invariant.idle c.work_ahead.new.owner
-    (g.P.Pool.seen c.work_ahead.new.pool) c.work_ahead.ensures.goes_on c.args.state c.args.lines.now c.items.lines
-    (g.W.Sink.contents c.args.writer.now) (g.W.Sink.contents c.items.writer) (g.P.Pool.seen c.args.pool.now)
-    c.items.invariant.serving in
+    let s = ahead_serving c.items.invariant.idle c.work_ahead.ensures.goes_on c.items.invariant.serving in
     serving-ends c.args.state c.args.lines.now c.items.lines (g.W.Sink.contents c.args.writer.now)
     (g.W.Sink.contents c.items.writer) (g.P.Pool.seen c.args.pool.now) (g.P.Pool.seen c.work_ahead.new.pool)
     c.work_ahead.new.owner.state s c.next.new.self c.in-Ok-Some.item item
@@ -150,10 +127,7 @@ pub items-preserved : goal.items-preserved
 items-preserved g c =
     let item = rw c.in-Ok-Some.field-0-is at c.in-Ok-Some.ensures.item in
     let written = rw c.state.ensures at c.in_default-put_reply.ensures.written in
-    let s = ahead_serving c.items.owner (g.P.Pool.seen c.items.pool) c.items.invariant.idle c.work_ahead.new.owner
-    (g.P.Pool.seen c.work_ahead.new.pool) c.work_ahead.ensures.goes_on c.args.state c.args.lines.now c.items.lines
-    (g.W.Sink.contents c.args.writer.now) (g.W.Sink.contents c.items.writer) (g.P.Pool.seen c.args.pool.now)
-    c.items.invariant.serving in
+    let s = ahead_serving c.items.invariant.idle c.work_ahead.ensures.goes_on c.items.invariant.serving in
     record {
       serving =
           serving-more c.args.state c.args.lines.now c.items.lines (g.W.Sink.contents c.args.writer.now)

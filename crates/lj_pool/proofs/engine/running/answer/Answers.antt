@@ -1,39 +1,43 @@
 use Rattle.lj_pool.proofs.Ending.{begun_gathers, begun_counted, begun_owes, at_once_gathers, at_once_counted, at_once_owes, on_both}
-use Rattle.lj_pool.proofs.engine.running.answer_over.Goals as goal
+use Rattle.lj_pool.proofs.engine.running.answer.Goals as goal
 
 pub run-requires-clause-gathers : goal.run-requires-clause-gathers
 run-requires-clause-gathers g c =
-    begun_gathers c.args.owner.now (g.P.Pool.seen c.args.pool.now) c.requires.gathers c.requires.idle c.args.command
+    begun_gathers c.args.owner.now (g.P.Pool.seen c.args.pool.now) c.requires.gathers c.requires.idle c.in-Command.command
     c.begin.new.self c.in-Running.ensures.takes_turns c.in-Running.ensures.begun
 
 pub returns-in-Answered-clause-gathers : goal.returns-in-Answered-clause-gathers
 returns-in-Answered-clause-gathers g c =
-    at_once_gathers c.args.owner.now (g.P.Pool.seen c.args.pool.now) c.requires.gathers c.requires.idle c.args.command
+    at_once_gathers c.args.owner.now (g.P.Pool.seen c.args.pool.now) c.requires.gathers c.requires.idle c.in-Command.command
     c.begin.new.self c.in-Answered.reply c.begin.ensures.number c.in-Answered.ensures.idle c.in-Answered.ensures.at_once
     c.in-Answered.ensures.answered c.in-Answered.ensures.unchanged c.begin.ensures.others c.in-Answered.ensures.steps
 
 pub returns-in-Answered-clause-counted : goal.returns-in-Answered-clause-counted
 returns-in-Answered-clause-counted g c =
-    at_once_counted c.args.owner.now (g.P.Pool.seen c.args.pool.now) c.requires.gathers c.requires.idle c.args.command
+    rw c.in-Command.is
+    (at_once_counted c.args.owner.now (g.P.Pool.seen c.args.pool.now) c.requires.gathers c.requires.idle c.in-Command.command
     c.begin.new.self c.in-Answered.reply c.begin.ensures.number c.in-Answered.ensures.idle c.in-Answered.ensures.at_once
-    c.in-Answered.ensures.answered c.in-Answered.ensures.unchanged c.begin.ensures.others c.in-Answered.ensures.steps
+    c.in-Answered.ensures.answered c.in-Answered.ensures.unchanged c.begin.ensures.others c.in-Answered.ensures.steps)
 
 pub returns-in-Running-clause-counted : goal.returns-in-Running-clause-counted
 returns-in-Running-clause-counted g c =
-    on_both c.run.result
-    (begun_counted c.args.owner.now (g.P.Pool.seen c.args.pool.now) c.requires.gathers c.requires.idle c.args.command
+    rw c.in-Command.is
+    (on_both c.run.result
+    (begun_counted c.args.owner.now (g.P.Pool.seen c.args.pool.now) c.requires.gathers c.requires.idle c.in-Command.command
     c.begin.new.self c.in-Running.ensures.takes_turns c.in-Running.ensures.begun c.run.new.owner (g.P.Pool.seen c.run.new.pool))
-    c.run.ensures.idle c.run.ensures.counted
+    c.run.ensures.idle c.run.ensures.counted)
 
 pub returns-in-Answered-clause-owes : goal.returns-in-Answered-clause-owes
 returns-in-Answered-clause-owes g c =
-    at_once_owes c.args.owner.now (g.P.Pool.seen c.args.pool.now) c.requires.gathers c.requires.idle c.args.command
+    rw c.in-Command.is
+    (at_once_owes c.args.owner.now (g.P.Pool.seen c.args.pool.now) c.requires.gathers c.requires.idle c.in-Command.command
     c.begin.new.self c.in-Answered.reply c.begin.ensures.number c.in-Answered.ensures.idle c.in-Answered.ensures.at_once
-    c.in-Answered.ensures.answered c.in-Answered.ensures.unchanged c.begin.ensures.others c.in-Answered.ensures.steps
+    c.in-Answered.ensures.answered c.in-Answered.ensures.unchanged c.begin.ensures.others c.in-Answered.ensures.steps)
 
 pub returns-in-Running-clause-owes : goal.returns-in-Running-clause-owes
 returns-in-Running-clause-owes g c =
-    on_both c.run.result
-    (begun_owes c.args.owner.now (g.P.Pool.seen c.args.pool.now) c.requires.gathers c.requires.idle c.args.command
+    rw c.in-Command.is
+    (on_both c.run.result
+    (begun_owes c.args.owner.now (g.P.Pool.seen c.args.pool.now) c.requires.gathers c.requires.idle c.in-Command.command
     c.begin.new.self c.in-Running.ensures.takes_turns c.in-Running.ensures.begun c.run.new.owner.state)
-    c.run.ensures.no_more c.run.ensures.rests
+    c.run.ensures.no_more c.run.ensures.rests)
