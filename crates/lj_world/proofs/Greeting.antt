@@ -7,7 +7,8 @@ use Rattle.lj_world.specs.States.{State, Talk, Hand, IsConnection, talk_at, gree
 use Rattle.lj_world.specs.Happenings.{Happens}
 use Rattle.lj_world.specs.Runs.{Step}
 use Rattle.lj_world.specs.Machines.{IsMachine}
-use Rattle.lj_world.proofs.RowsKept.{changed_here, has_changed, put_talk}
+use Rattle.lj_world.proofs.RowLemmas.{row_changed}
+use Rattle.lj_world.proofs.RowsKept.{has_changed, put_talk}
 
 -- no connection has a number out of range
 pub greets_nowhere : (s : State) (connection : ℕ) (name token : List ℕ) → (IsConnection connection → ⊥)
@@ -82,7 +83,7 @@ pub greets_keeps : (rows : List Row) (talks : List (Option Talk)) (hands : List 
 greets_keeps rows talks hands connection name token ticket m within g =
     put_talk rows (changed ticket.user with_ticket rows) talks hands connection (greeted ticket.user ticket.number) m within (
       with_ticket r.0,
-      changed_here rows ticket.user with_ticket r.0 r.1,
+      row_changed rows ticket.user with_ticket r.0 r.1,
       record {
         granted = omega (arith, r.3);
         entered = λ i. let e = i.1 in cc;

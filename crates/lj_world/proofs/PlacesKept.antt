@@ -11,7 +11,8 @@ use Rattle.lj_world.specs.Attempts.{Acts}
 use Rattle.lj_world.specs.Kept.{HasRow, Stays}
 use Rattle.lj_world.specs.Machines.{IsMachine}
 use Rattle.lj_world.proofs.Moves.{Moves, stays, goes_in, goes_home, does_moves}
-use Rattle.lj_world.proofs.RowsKept.{changed_here, has_changed, stays_has, put_talk}
+use Rattle.lj_world.proofs.RowLemmas.{row_changed}
+use Rattle.lj_world.proofs.RowsKept.{has_changed, stays_has, put_talk}
 
 module _ (rows : List Row) (talks : List (Option Talk)) (hands : List (Option Hand)) (c : ℕ) (talk : Talk)
     (m : IsMachine rows talks hands) (within : c < length talks) (known : get_or talks c None ≡ Some talk) where
@@ -33,7 +34,7 @@ module _ (rows : List Row) (talks : List (Option Talk)) (hands : List (Option Ha
   enters_keeps owner row there may =
       put_talk rows (changed talk.user lent rows) talks hands c (with_stage (inside owner) talk) m within (
         lent row,
-        changed_here rows talk.user lent row there,
+        row_changed rows talk.user lent row there,
         record {
           granted = may.first.granted;
           entered = λ i. record { first = record { granted = may.first.granted; past = may.first.past }; lent = refl };
@@ -54,7 +55,7 @@ module _ (rows : List Row) (talks : List (Option Talk)) (hands : List (Option Ha
   leaves_keeps owner state owns =
       put_talk rows (changed talk.user (with_home state) rows) talks hands c (with_stage gone talk) m within (
         with_home state has.0,
-        changed_here rows talk.user (with_home state) has.0 has.1,
+        row_changed rows talk.user (with_home state) has.0 has.1,
         record {
           granted = has.2.granted;
           entered = λ i. let e = i.1 in cc;

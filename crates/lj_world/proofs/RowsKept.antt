@@ -5,33 +5,7 @@ use Rattle.lj_access.specs.Rows.{Row, HasEntered, changed, changed_to}
 use Rattle.lj_world.specs.States.{Talk, Hand}
 use Rattle.lj_world.specs.Kept.{IsRowOf, HasRow, Stays}
 use Rattle.lj_world.specs.Machines.{IsMachine}
-
-get_set_same : {A : Type 0} (xs : List A) (i : ℕ) (x y : A) → slice_get xs i ≡ Some x → slice_get (set xs i y) i ≡ Some y
-get_set_same [] i x y e = cc
-get_set_same (z ∷ xs) zero x y e = refl
-get_set_same (z ∷ xs) (suc i) x y e = get_set_same xs i x y e
-
-get_set_other : {A : Type 0} (xs : List A) (i j : ℕ) (y : A) → j ≢ i → slice_get (set xs i y) j ≡ slice_get xs j
-get_set_other [] i j y other = refl
-get_set_other (z ∷ xs) zero zero y other = absurd (other refl)
-get_set_other (z ∷ xs) zero (suc j) y other = refl
-get_set_other (z ∷ xs) (suc i) zero y other = refl
-get_set_other (z ∷ xs) (suc i) (suc j) y other = get_set_other xs i j y (λ e. other (ap suc e))
-
--- the row that changed
-pub changed_here : (rows : List Row) (user : ℕ) (change : Row → Row) (row : Row) → slice_get rows user ≡ Some row
-    → slice_get (changed user change rows) user ≡ Some (change row)
-changed_here rows user change row there =
-    ap (λ o. slice_get (changed_to user change o rows) user) there ∙ get_set_same rows user row (change row) there
-
--- a row that did not
-pub changed_elsewhere : (rows : List Row) (user other : ℕ) (change : Row → Row) → other ≢ user
-    → slice_get (changed user change rows) other ≡ slice_get rows other
-changed_elsewhere rows user other change apart = by (slice_get rows user)
-  where
-    by : (o : Option Row) → slice_get (changed_to user change o rows) other ≡ slice_get rows other
-    by None = refl
-    by (Some row) = get_set_other rows user other (change row) apart
+use Rattle.lj_world.proofs.RowLemmas.{row_changed, row_other}
 
 -- a connection whose row changes has the changed row, where that fits
 pub has_changed : (rows : List Row) (user : ℕ) (change : Row → Row) (talk : Talk) → HasRow rows talk
@@ -41,8 +15,8 @@ has_changed rows user change talk has fits =
     elim (cases_eq talk.user user) [
       | inl same ↦
           let there : slice_get rows user ≡ Some has.0 = ap (slice_get rows) (sym same) ∙ has.1 in
-          (change has.0, ap (slice_get (changed user change rows)) same ∙ changed_here rows user change has.0 there, fits has.0 there same has.2)
-      | inr other ↦ (has.0, changed_elsewhere rows user talk.user change other ∙ has.1, has.2)
+          (change has.0, ap (slice_get (changed user change rows)) same ∙ row_changed rows user change has.0 there, fits has.0 there same has.2)
+      | inr other ↦ (has.0, row_other rows user change talk.user (λ e. other (sym e)) ∙ has.1, has.2)
     ]
 
 -- a connection that has a row has it too where it stays
