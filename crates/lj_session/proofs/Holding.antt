@@ -13,7 +13,7 @@ use Rattle.lj_session.specs.declared.command.Command.{Command}
 use Rattle.lj_session.specs.Turns.{waits_for}
 use Rattle.lj_session.specs.Users.{Session, with_session}
 use Rattle.lj_session.specs.States.{Held, Owned, as_session, session_meant, user_of, names, held_in, held_at, owed_in, turns_before, with_held, changed}
-use Rattle.lj_session.specs.declared.sessions.Sessions.TheInside.{Inside}
+use Rattle.lj_session.specs.declared.state.UserState.TheInside.{Inside}
 use Rattle.lj_session.specs.Totals.{owned_of}
 use Rattle.lj_session.proofs.Entries.{named-seen, put-seen, taken-seen, put-same}
 use Rattle.lj_session.proofs.Owed.{meant-settled}

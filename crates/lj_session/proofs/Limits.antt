@@ -3,7 +3,7 @@ use Rattle.std.proofs.Common.{◌≡◌, ℕ, ◌+◌, ◌<◌, ◌≤◌, true,
 use Rattle.std.proofs.lemmas.Bool.{false≢true, lt-ltb, le-ltb, le-leb, lt-leb, ltb-true, leb-true, leb-false}
 use Rattle.lj_quota.specs.declared.Used.{Used}
 use Rattle.lj_quota.specs.declared.Over.{Over}
-use Rattle.lj_session.specs.declared.sessions.Sessions.TheInside.{Inside}
+use Rattle.lj_session.specs.declared.state.UserState.TheInside.{Inside}
 use Rattle.lj_session.specs.Totals.{owned_of}
 use Rattle.lj_session.specs.Users.{sessions_used, atoms_used, branches_used}
 use Rattle.lj_session.specs.States.{Owned, user_of, used_by}

@@ -1,5 +1,5 @@
 -- The last user of some commands, and of one command more.
-use Rattle.std.proofs.Common.{◌≡◌, Bool, false, List, [], ◌∷◌, ◌++◌, Result, Ok, Err, refl, sym, ap, ◌∙◌}
+use Rattle.std.proofs.Common.{◌≡◌, Bool, false, List, [], ◌∷◌, ◌++◌, Result, Ok, Err, refl, sym, ap, subst, ◌∙◌}
 use Rattle.std.specs.Prelude.{OnErr}
 use Rattle.lj_quota.specs.declared.Quota.{Quota}
 use Rattle.lj_session.specs.declared.command.Command.{Command}
@@ -8,6 +8,8 @@ use Rattle.lj_session.specs.declared.reply.Reply.{Reply}
 use Rattle.lj_session.specs.Users.{User, fresh}
 use Rattle.lj_session.specs.Answers.{answer, settled}
 use Rattle.lj_session.specs.States.{Owned, Reached, Performs, empty, user_of, user_after}
+use Rattle.lj_session.specs.Totals.{owned_of, IsState}
+use Rattle.lj_session.specs.declared.state.UserState.TheInside.{Inside}
 
 -- as many marks as commands: a missing one is not set
 abbrev full : List Command → List Bool → List Bool
@@ -58,3 +60,9 @@ reached-performs old new before command (Ok reply) performs quota stays =
     reached-answer old new before command performs.mark quota (ap (λ r. (settled (user_of old) r).1) performs.performs)
 reached-performs old new before command (Err refusal) performs quota stays =
     reached-same old new before (ap user_of stays)
+
+-- one that is done on the state of a user
+pub reached-done : (a : Inside) (old next : Owned) → owned_of a ≡ old → IsState a → (command : Command) (reply : Reply)
+    → Performs old command (Ok reply) next → next.quota ≡ old.quota → Reached next
+reached-done a old next view state command reply performs quota =
+    reached-performs old next (subst Reached view state.reached) command (Ok reply) performs quota tt

@@ -4,7 +4,7 @@ use Rattle.lj_quota.specs.declared.Used.{Used}
 use Rattle.lj_branch.specs.Named.{named, taken_out}
 use Rattle.lj_session.specs.Users.{Session, User, with_session, atoms_of, sessions_used, atoms_used, branches_used}
 use Rattle.lj_session.specs.States.{Held, Owned, session_meant, user_of, used_by, held_in, with_held}
-use Rattle.lj_session.specs.declared.sessions.Sessions.TheInside.{Inside}
+use Rattle.lj_session.specs.declared.state.UserState.TheInside.{Inside}
 use Rattle.lj_session.specs.Totals.{owned_of}
 use Rattle.lj_session.proofs.Entries.{length-put, length-new, length-taken, sum-put, sum-new, sum-taken}
 use Rattle.lj_session.proofs.Holding.{named-held, named-absent, user_of-put, user_of-taken}

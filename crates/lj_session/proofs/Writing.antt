@@ -1,16 +1,19 @@
 -- A session written through the map of names in the code: what is held then, its user, and the running totals.
-use Rattle.std.proofs.Common.{◌≡◌, ℕ, ◌+◌, ◌-◌, ◌<◌, ◌≤◌, ℤ, List, length, Option, Some, None, Ok, sym, ap, ◌∙◌, arith}
+use Rattle.std.proofs.Common.{◌≡◌, ℕ, ◌+◌, ◌-◌, ◌<◌, ◌≤◌, ℤ, List, length, Option, Some, None, Ok, false, sym, ap, subst, ◌∙◌, arith}
 use Rattle.std.specs.Str.{bytes_eq}
 use Rattle.std.specs.Map.{set_value}
 use Rattle.lj_branch.specs.Named.{named}
 use Rattle.lj_quota.specs.declared.Used.{Used}
 use Rattle.lj_session.specs.declared.command.Command.{Command}
 use Rattle.lj_session.specs.declared.reply.Reply.{Reply}
-use Rattle.lj_session.specs.declared.sessions.Sessions.TheInside.{Inside}
-use Rattle.lj_session.specs.States.{Held, Owned, Performs, as_session, session_meant, user_of, used_by, held_in, owed_in, with_held, changed}
-use Rattle.lj_session.specs.Totals.{owned_of}
+use Rattle.lj_session.specs.declared.state.UserState.TheInside.{Inside}
+use Rattle.lj_session.specs.States.{Held, Owned, Performs, Reached, as_session, session_meant, user_of, used_by, held_in, owed_in}
+use Rattle.lj_session.specs.States.{with_held, changed}
+use Rattle.lj_session.specs.Answers.{answer}
+use Rattle.lj_session.specs.Totals.{owned_of, IsState}
 use Rattle.lj_session.proofs.Entries.{put-same, set-put}
 use Rattle.lj_session.proofs.Holding.{named-held, named-settled, named-absent, owed-of, changed-some, user_of-kept}
+use Rattle.lj_session.proofs.Reaching.{reached-answer, reached-performs, reached-same}
 use Rattle.lj_session.proofs.Totals.{same_used, used-same, sessions-changed, atoms-changed, branches-changed}
 
 -- in the map a name is looked up as among what is held
@@ -50,18 +53,20 @@ pub record Writes (a : Inside) (old : Owned) (name : List ℕ) (held new : Held)
   pub found : held_in old name ≡ Some held
   pub is : next ≡ with_held name new old
   pub counted : a.used ≡ used_by old
+  pub reached : Reached old
 
-pub writes : (a : Inside) (old : Owned) → owned_of a ≡ old → a.used ≡ used_by (owned_of a)
+pub writes : (a : Inside) (old : Owned) → owned_of a ≡ old → IsState a
     → (name : List ℕ) (held : Held)
     → Some held ≡ named name a.sessions.entries → (entries : List (List ℕ × Held)) (new : Held)
     → entries ≡ set_value (bytes_eq name) a.sessions.entries new
     → Writes a old name held new (record { quota = a.quota; sessions = entries })
-writes a old view counted name held found entries new set = record {
+writes a old view state name held found entries new set = record {
   found = looked_up a old view name (Some held) found;
   is = ap (λ (es : List (List ℕ × Held)). record { quota = a.quota; sessions = es })
       (set ∙ set-put name a.sessions.entries held new (sym found))
       ∙ ap (with_held name new) view;
-  counted = counted ∙ ap used_by view;
+  counted = state.counted ∙ ap used_by view;
+  reached = subst Reached view state.reached;
 }
 
 module _ {a : Inside} {old : Owned} {name : List ℕ} {held new : Held} {next : Owned}
@@ -79,11 +84,31 @@ module _ {a : Inside} {old : Owned} {name : List ℕ} {held new : Held} {next : 
   pub user_kept : session_meant new ≡ session_meant held → user_of next ≡ user_of old
   user_kept same = ap user_of w.is ∙ user_of-kept old name held new w.found same
 
+  -- commands lead to the same user
+  pub reached_kept : session_meant new ≡ session_meant held → Reached next
+  reached_kept same = reached-same old next w.reached (user_kept same)
+
+  pub reached_unchanged : new ≡ held → Reached next
+  reached_unchanged same = reached_kept (ap session_meant same)
+
+  same_quota : next.quota ≡ old.quota
+  same_quota = ap (λ (o : Owned). o.quota) w.is
+
+  -- and one command more to the user after it
+  pub reached_answered : (command : Command) → user_of next ≡ (answer (user_of old) command false).1 → Reached next
+  reached_answered command is = reached-answer old next w.reached command false same_quota (sym is)
+
   -- a command that is done so
   pub done_as : (command : Command) (reply : Reply) (other : Held)
       → Performs old command (Ok reply) (with_held name other old) → new ≡ other
       → Performs old command (Ok reply) next
   done_as command reply other performs same = rw (w.is, same) performs
+
+  -- and it leads to the user after it
+  pub reached_as : (command : Command) (reply : Reply) (other : Held)
+      → Performs old command (Ok reply) (with_held name other old) → new ≡ other → Reached next
+  reached_as command reply other performs same =
+      reached-performs old next w.reached command (Ok reply) (done_as command reply other performs same) same_quota tt
 
   -- one whose reply names a step number, as the code reads it
   pub done_at : (command : Command) (made : ℤ → Reply) (step read : ℤ) (other : Held)

@@ -210,6 +210,10 @@ abbrev pub kind_owed : Option Command → List ℕ → Held → Option Kind
 kind_owed waiting name held =
     if nat_lt 0 held.owed then Some Force else (if is_measured waiting name then Some Energy else None)
 
+-- a session may go on by so many steps, after those that are owed to it
+abbrev pub MayAdvance : ℕ → Held → Type 0
+MayAdvance n held = can_advance (session_meant held) n ≡ true
+
 -- A step is open in each session that owes one, and in no other.
 abbrev pub IsAtWork : Option Command → Owned → Type 0
 IsAtWork waiting owned = (name : List ℕ) (held : Held) → held_in owned name ≡ Some held

@@ -11,7 +11,6 @@ mod refusal;
 mod reply;
 mod seconds;
 mod session;
-mod sessions;
 mod state;
 mod substance;
 

@@ -1,0 +1,141 @@
+use Rattle.std.proofs.Common.{◌≡◌, ◌+◌, false, length, refl, sym, ap, ◌∙◌}
+use Rattle.std.specs.Prelude.{is_some}
+use Rattle.lj_step.specs.Live.{Live}
+use Rattle.lj_branch.specs.Named.{named, put}
+use Rattle.lj_quota.specs.declared.Over.TheVariants.{Branches}
+use Rattle.lj_session.specs.Faults.{quota_refusal}
+use Rattle.lj_session.specs.declared.reply.Reply.TheVariants as reply
+use Rattle.lj_session.specs.States.{Held, keeping, as_session, user_of}
+use Rattle.lj_session.proofs.Entries.{length-new}
+use Rattle.lj_session.proofs.Limits.{over-limit, same_over, branches-over, branches-room}
+use Rattle.lj_session.proofs.Performing as performing
+use Rattle.lj_session.proofs.Outcomes as outcomes
+use Rattle.lj_session.proofs.Outcomes.{read-step}
+use Rattle.lj_session.proofs.Results.{performs-refused, performs-starved, on_err, none-of, not-saved, is_some-counted}
+use Rattle.lj_session.proofs.Writing.{Writes, not_there, writes, is_settled, none_owed, unchanged, totals_unchanged, totals_saved}
+use Rattle.lj_session.proofs.Writing.{reached_as, reached_unchanged, done_at}
+use Rattle.lj_session.proofs.state.UserState.branch.Goals.{In-Some, After-may_branch, After-save}
+use Rattle.lj_session.proofs.state.UserState.branch.Goals as goal
+
+-- what is written in the session
+written : (c : After-save) → Writes c.self.inside c.args.self.now c.args.name c.in-Some.session.now c.save.new.self
+    (record { quota = c.self.inside.quota; sessions = (c.get_mut.follows.lender c.save.new.self).entries })
+written c =
+    writes c.self.inside c.args.self.now c.self.view_is c.self.invariant c.args.name _ c.in-Some.ensures.value _
+    c.save.new.self (c.get_mut.follows.holds c.save.new.self).0
+
+-- the session is written once more as it was
+as_was : (c : In-Some) → Writes c.self.inside c.args.self.now c.args.name c.in-Some.session.now c.in-Some.session.now
+    (record { quota = c.self.inside.quota; sessions = (c.get_mut.follows.lender c.in-Some.session.now).entries })
+as_was c =
+    writes c.self.inside c.args.self.now c.self.view_is c.self.invariant c.args.name _ c.in-Some.ensures.value _
+    c.in-Some.session.now (c.get_mut.follows.holds c.in-Some.session.now).0
+
+-- nothing is saved under the name yet
+is_new : (c : After-may_branch) → is_some (named c.args.branch c.in-Some.session.now.saved) ≡ false
+is_new c =
+    let held = c.in-Some.session.now in
+    is_some-counted c.args.branch held.saved c.branches.result.now c.count_of.result c.branches.ensures
+    c.count_of.ensures ∙ (sym c.is_some.ensures ∙ c.if-is_some.false)
+
+pub returns-in_default-clause-performs : goal.returns-in_default-clause-performs
+returns-in_default-clause-performs c =
+    performing.refused c.args.self.now _ _ _ (performing.none (user_of c.args.self.now) _ false
+    (not_there c.self.inside c.args.self.now c.self.view_is c.args.name c.in_default.ensures.value))
+
+pub invariant_of-self-then-is_some : goal.invariant_of-self-then-is_some
+invariant_of-self-then-is_some c =
+    let wrote = as_was (goal.at.invariant_of-self-then-is_some c).In-Some in
+    record { counted = totals_unchanged wrote refl; reached = reached_unchanged wrote refl }
+
+pub returns-then-is_some-clause-performs : goal.returns-then-is_some-clause-performs
+returns-then-is_some-clause-performs c =
+    let held = c.in-Some.session.now in
+    performing.refused c.args.self.now _ _ _ (performing.branch-exists (user_of c.args.self.now)
+    c.args.name false (as_session held)
+    (is_settled c.self.inside c.args.self.now c.self.view_is c.args.name held c.in-Some.ensures.value c.requires) c.args.branch
+    (is_some-counted c.args.branch held.saved c.branches.result.now c.count_of.result c.branches.ensures
+    c.count_of.ensures ∙ (sym c.is_some.ensures ∙ c.if-is_some.true)))
+
+pub returns-then-is_some-clause-unchanged : goal.returns-then-is_some-clause-unchanged
+returns-then-is_some-clause-unchanged c =
+    unchanged (as_was (goal.at.returns-then-is_some-clause-unchanged c).In-Some) refl
+
+pub invariant_of-self-in_err-may_branch : goal.invariant_of-self-in_err-may_branch
+invariant_of-self-in_err-may_branch c =
+    let wrote = as_was (goal.at.invariant_of-self-in_err-may_branch c).In-Some in
+    record { counted = totals_unchanged wrote refl; reached = reached_unchanged wrote refl }
+
+pub returns-in_err-may_branch-clause-performs : goal.returns-in_err-may_branch-clause-performs
+returns-in_err-may_branch-clause-performs c =
+    let held = c.in-Some.session.now in
+    let over =
+    over-limit (c.self.inside.used.branches + 1) c.self.inside.quota.branches c.in_err-may_branch.ensures.may.1 in
+    let which = same_over c.in_err-may_branch.field-0.0 Branches (c.in_err-may_branch.ensures.over.1 over) in
+    performs-refused c.args.self.now _ _ c.from_residual.result (quota_refusal c.in_err-may_branch.field-0.0)
+    c.from_residual.ensures.1
+    (rw which (performing.refused c.args.self.now _ _ _
+    (performing.branch-over (user_of c.args.self.now) c.args.name false (as_session held)
+    (is_settled c.self.inside c.args.self.now c.self.view_is c.args.name held c.in-Some.ensures.value c.requires) c.args.branch
+    (is_new (goal.at.returns-in_err-may_branch-clause-performs c).After-may_branch)
+    (branches-over c.self.inside c.args.self.now c.self.view_is c.self.invariant.counted over))))
+
+pub returns-in_err-may_branch-clause-unchanged : goal.returns-in_err-may_branch-clause-unchanged
+returns-in_err-may_branch-clause-unchanged c =
+    on_err c.from_residual.result (unchanged (as_was (goal.at.returns-in_err-may_branch-clause-unchanged c).In-Some)
+    refl)
+
+pub invariant_of-self-in_err-save : goal.invariant_of-self-in_err-save
+invariant_of-self-in_err-save c =
+    let wrote = written (goal.at.invariant_of-self-in_err-save c).After-save in
+    record { counted = totals_unchanged wrote c.in_err-save.ensures.unchanged; reached = reached_unchanged wrote c.in_err-save.ensures.unchanged }
+
+pub returns-in_err-save-clause-performs : goal.returns-in_err-save-clause-performs
+returns-in_err-save-clause-performs c =
+    let held = c.in-Some.session.now in
+    let new = is_new (goal.at.returns-in_err-save-clause-performs c).After-may_branch in
+    performs-refused c.args.self.now _ _ c.from_residual-in_err-save.result _ c.from_residual-in_err-save.ensures.1
+    (performs-starved c.args.self.now _ _ _
+    (not-saved c.in_err-save.field-0.0 (is_some (named c.copy.result held.saved)) c.in_err-save.ensures.exists.0
+    (ap (λ b. is_some (named b held.saved)) c.copy.ensures ∙ new))
+    (performing.branch-memory (user_of c.args.self.now) c.args.name (as_session held)
+    (is_settled c.self.inside c.args.self.now c.self.view_is c.args.name held c.in-Some.ensures.value c.requires) c.args.branch new
+    (branches-room c.self.inside c.args.self.now c.self.view_is c.self.invariant.counted
+    (c.in_ok-may_branch.ensures.may.0 refl))))
+
+pub returns-in_err-save-clause-unchanged : goal.returns-in_err-save-clause-unchanged
+returns-in_err-save-clause-unchanged c =
+    on_err c.from_residual-in_err-save.result (unchanged
+    (written (goal.at.returns-in_err-save-clause-unchanged c).After-save)
+    c.in_err-save.ensures.unchanged)
+
+pub invariant_of-self-2 : goal.invariant_of-self-2
+invariant_of-self-2 c =
+    let held = c.in-Some.session.now in
+    let new = is_new (goal.at.invariant_of-self-2 c).After-may_branch in
+    let saved = c.in_ok-save.ensures.saved ∙ ap (λ b. keeping held (put b held.live.sim held.saved)) c.copy.ensures in
+    let wrote = written (goal.at.invariant_of-self-2 c).After-save in record {
+      counted = totals_saved wrote (ap (λ (h : Held). length h.live.sim.cur) saved)
+          (ap (λ (h : Held). length h.saved) saved
+          ∙ length-new c.args.branch held.saved held.live.sim (none-of (named c.args.branch held.saved) new));
+      reached = reached_as wrote _ _ _
+          (outcomes.branch c.args.self.now c.args.name held wrote.found
+          (none_owed c.self.inside c.args.self.now c.self.view_is c.args.name held c.in-Some.ensures.value c.requires)
+          c.args.branch new (branches-room c.self.inside c.args.self.now c.self.view_is c.self.invariant.counted
+          (c.in_ok-may_branch.ensures.may.0 refl))) saved;
+    }
+
+pub returns-clause-performs : goal.returns-clause-performs
+returns-clause-performs c =
+    let held = c.in-Some.session.now in
+    let wrote = written (goal.at.returns-clause-performs c).After-save in
+    let new = is_new (goal.at.returns-clause-performs c).After-may_branch in
+    let saved = c.in_ok-save.ensures.saved ∙ ap (λ b. keeping held (put b held.live.sim held.saved)) c.copy.ensures in
+    done_at wrote _ (reply.Branched c.args.name c.args.branch) _ _ _
+    (outcomes.branch c.args.self.now c.args.name held wrote.found
+    (none_owed c.self.inside c.args.self.now c.self.view_is c.args.name held c.in-Some.ensures.value c.requires) c.args.branch new
+    (branches-room c.self.inside c.args.self.now c.self.view_is c.self.invariant.counted
+    (c.in_ok-may_branch.ensures.may.0 refl)))
+    (read-step c.step-step.result c.step-step.ensures.most
+    ∙ (c.step-step.ensures.value ∙ ap (λ (l : Live). l.sim.step) c.sim.ensures
+    ∙ ap (λ (h : Held). h.live.sim.step) saved)) saved

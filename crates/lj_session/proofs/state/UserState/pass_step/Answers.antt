@@ -1,0 +1,36 @@
+use Rattle.std.proofs.Common.{◌≡◌, ◌<◌, length, ap, ◌∙◌}
+use Rattle.lj_session.specs.States.{Held, session_meant, step_passed}
+use Rattle.lj_session.proofs.Owed.{meant-passed, count-passed, saved-passed}
+use Rattle.lj_session.proofs.Writing.{Writes, writes, owes-some, changed_by, user_kept, totals_kept, reached_kept}
+use Rattle.lj_session.proofs.state.UserState.pass_step.Goals.{After-pass_step}
+use Rattle.lj_session.proofs.state.UserState.pass_step.Goals as goal
+
+-- what is written in the session
+written : (c : After-pass_step)
+    → Writes c.self.inside c.args.self.now c.args.name.now c.in-Some.session.now c.pass_step.new.self
+    (record { quota = c.self.inside.quota; sessions = (c.get_mut.follows.lender c.pass_step.new.self).entries })
+written c = writes c.self.inside c.args.self.now c.self.view_is c.self.invariant c.args.name.now _
+    c.in-Some.ensures.value _ c.pass_step.new.self (c.get_mut.follows.holds c.pass_step.new.self).0
+
+-- the session that is meant stays
+meant : (new held : Held) → new ≡ step_passed held → 0 < held.owed → session_meant new ≡ session_meant held
+meant new held is some = ap session_meant is ∙ meant-passed held some
+
+pub invariant_of-self-2 : goal.invariant_of-self-2
+invariant_of-self-2 c =
+    let held = c.in-Some.session.now in
+    let wrote = written (goal.at.invariant_of-self-2 c).After-pass_step in record {
+      counted = totals_kept wrote (ap (λ (h : Held). length h.live.sim.cur) c.pass_step.ensures ∙ count-passed held)
+          (ap (λ (h : Held). length h.saved) c.pass_step.ensures ∙ saved-passed held);
+      reached = reached_kept wrote (meant _ held c.pass_step.ensures (owes-some c.self.inside c.args.self.now c.self.view_is
+          c.args.name.now held c.in-Some.ensures.value c.requires.owed));
+    }
+
+pub returns-clause-passed : goal.returns-clause-passed
+returns-clause-passed c =
+    changed_by (written (goal.at.returns-clause-passed c).After-pass_step) step_passed c.pass_step.ensures
+
+pub returns-clause-user : goal.returns-clause-user
+returns-clause-user c =
+    user_kept (written (goal.at.returns-clause-user c).After-pass_step) (meant _ c.in-Some.session.now c.pass_step.ensures
+    (owes-some c.self.inside c.args.self.now c.self.view_is c.args.name.now c.in-Some.session.now c.in-Some.ensures.value c.requires.owed))

@@ -1,0 +1,79 @@
+use Rattle.std.proofs.Common.{false, length, refl, ap, ◌∙◌, arith}
+use Rattle.lj_step.specs.Live.{Live}
+use Rattle.lj_session.specs.declared.reply.Reply.TheVariants as reply
+use Rattle.lj_session.specs.States.{Held, as_session, user_of}
+use Rattle.lj_session.proofs.Performing as performing
+use Rattle.lj_session.proofs.Outcomes as outcomes
+use Rattle.lj_session.proofs.Outcomes.{read-step}
+use Rattle.lj_session.proofs.Writing.{Writes, not_there, writes, is_settled, none_owed, unchanged, totals_kept, totals_unchanged}
+use Rattle.lj_session.proofs.Writing.{reached_as, reached_unchanged, done_at}
+use Rattle.lj_session.proofs.state.UserState.tug.Goals.{In-Some, After-tug}
+use Rattle.lj_session.proofs.state.UserState.tug.Goals as goal
+
+-- what is written in the session
+written : (c : After-tug) → Writes c.self.inside c.args.self.now c.args.name c.in-Some.session.now c.tug.new.self
+    (record { quota = c.self.inside.quota; sessions = (c.get_mut.follows.lender c.tug.new.self).entries })
+written c =
+    writes c.self.inside c.args.self.now c.self.view_is c.self.invariant c.args.name _ c.in-Some.ensures.value _
+    c.tug.new.self (c.get_mut.follows.holds c.tug.new.self).0
+
+-- the session is written once more as it was
+as_was : (c : In-Some) → Writes c.self.inside c.args.self.now c.args.name c.in-Some.session.now c.in-Some.session.now
+    (record { quota = c.self.inside.quota; sessions = (c.get_mut.follows.lender c.in-Some.session.now).entries })
+as_was c =
+    writes c.self.inside c.args.self.now c.self.view_is c.self.invariant c.args.name _ c.in-Some.ensures.value _
+    c.in-Some.session.now (c.get_mut.follows.holds c.in-Some.session.now).0
+
+pub returns-in_default-clause-performs : goal.returns-in_default-clause-performs
+returns-in_default-clause-performs c =
+    performing.refused c.args.self.now _ _ _ (performing.none (user_of c.args.self.now) _ false
+    (not_there c.self.inside c.args.self.now c.self.view_is c.args.name c.in_default.ensures.value))
+
+pub invariant_of-self-then-atom-count : goal.invariant_of-self-then-atom-count
+invariant_of-self-then-atom-count c =
+    let wrote = as_was (goal.at.invariant_of-self-then-atom-count c).In-Some in
+    record { counted = totals_unchanged wrote refl; reached = reached_unchanged wrote refl }
+
+pub returns-then-atom-count-clause-performs : goal.returns-then-atom-count-clause-performs
+returns-then-atom-count-clause-performs c =
+    let held = c.in-Some.session.now in
+    performing.refused c.args.self.now _ _ _ (performing.tug-no_atom (user_of c.args.self.now)
+    c.args.name false (as_session held)
+    (is_settled c.self.inside c.args.self.now c.self.view_is c.args.name held c.in-Some.ensures.value c.requires)
+    c.args.atom c.args.by.x c.args.by.y c.args.by.z
+    (outcomes.past c.args.atom (length held.live.sim.cur)
+    (let n = c.count.ensures.value ∙ ap (λ (l : Live). length l.sim.cur)
+    c.sim.ensures in let t = c.if-atom-count.true in omega (arith, n, t))))
+
+pub returns-then-atom-count-clause-unchanged : goal.returns-then-atom-count-clause-unchanged
+returns-then-atom-count-clause-unchanged c =
+    unchanged (as_was (goal.at.returns-then-atom-count-clause-unchanged c).In-Some) refl
+
+pub invariant_of-self-2 : goal.invariant_of-self-2
+invariant_of-self-2 c =
+    let held = c.in-Some.session.now in
+    let wrote = written (goal.at.invariant_of-self-2 c).After-tug in record {
+      counted = totals_kept wrote (ap (λ (h : Held). length h.live.sim.cur) c.tug.ensures)
+          (ap (λ (h : Held). length h.saved) c.tug.ensures);
+      reached = reached_as wrote _ _ _
+          (outcomes.tug c.args.self.now c.args.name held wrote.found
+          (none_owed c.self.inside c.args.self.now c.self.view_is c.args.name held c.in-Some.ensures.value c.requires)
+          c.args.atom c.args.by.x c.args.by.y c.args.by.z
+          (outcomes.there c.args.atom (length held.live.sim.cur)
+          (let n = c.count.ensures.value ∙ ap (λ (l : Live). length l.sim.cur)
+          c.sim.ensures in let t = c.if-atom-count.false in omega (arith, n, t)))) c.tug.ensures;
+    }
+
+pub returns-clause-performs : goal.returns-clause-performs
+returns-clause-performs c =
+    let held = c.in-Some.session.now in
+    let wrote = written (goal.at.returns-clause-performs c).After-tug in
+    done_at wrote _ (reply.Tugged c.args.name c.args.atom) _ _ _
+    (outcomes.tug c.args.self.now c.args.name held wrote.found
+    (none_owed c.self.inside c.args.self.now c.self.view_is c.args.name held c.in-Some.ensures.value c.requires) c.args.atom c.args.by.x c.args.by.y c.args.by.z
+    (outcomes.there c.args.atom (length held.live.sim.cur)
+    (let n = c.count.ensures.value ∙ ap (λ (l : Live). length l.sim.cur)
+    c.sim.ensures in let t = c.if-atom-count.false in omega (arith, n, t))))
+    (read-step c.step-step.result c.step-step.ensures.most
+    ∙ (c.step-step.ensures.value ∙ ap (λ (l : Live). l.sim.step) c.sim-2.ensures
+    ∙ ap (λ (h : Held). h.live.sim.step) c.tug.ensures)) c.tug.ensures

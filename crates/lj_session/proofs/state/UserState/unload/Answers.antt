@@ -1,0 +1,77 @@
+use Rattle.std.proofs.Common.{◌≡◌, Some, None, Ok, false, length, refl, sym, ap, ◌∙◌, arith}
+use Rattle.lj_branch.specs.Named.{named, taken_out}
+use Rattle.lj_step.specs.Live.{Live}
+use Rattle.lj_session.proofs.Holding.{taken-of}
+use Rattle.lj_session.proofs.Writing.{looked_up, not_there, none_owed}
+use Rattle.lj_session.proofs.Performing as performing
+use Rattle.lj_session.proofs.Outcomes as outcomes
+use Rattle.lj_session.proofs.Outcomes.{written-to}
+use Rattle.lj_session.proofs.Totals.{used-less, atoms-within, saved-within}
+use Rattle.lj_session.proofs.Reaching.{reached-done}
+use Rattle.lj_session.specs.declared.command.Command.TheVariants.{Unload}
+use Rattle.lj_session.specs.declared.reply.Reply.TheVariants.{Unloaded}
+use Rattle.lj_session.specs.States.{Owned, Performs, user_of, held_in}
+use Rattle.lj_session.proofs.state.UserState.unload.Goals.{In-Some}
+use Rattle.lj_session.proofs.state.UserState.unload.Goals as goal
+
+-- the session that is taken out was held
+found : (c : In-Some) → held_in c.args.self.now c.args.name ≡ Some c.in-Some.session
+found c =
+    looked_up c.self.inside c.args.self.now c.self.view_is c.args.name (Some c.in-Some.session) c.in-Some.ensures.value
+
+-- and its name is gone
+gone : (c : In-Some) → named c.args.name (taken_out c.args.name c.args.self.now.sessions) ≡ None
+gone c =
+    ap (λ (o : Owned). named c.args.name (taken_out c.args.name o.sessions)) (sym c.self.view_is)
+    ∙ ap (named c.args.name) (sym c.in-Some.ensures.entries) ∙ c.in-Some.ensures.updates.1
+
+pub returns-in_default-clause-performs : goal.returns-in_default-clause-performs
+returns-in_default-clause-performs c =
+    let old = c.args.self.now in
+    performing.refused old _ _ _ (performing.none (user_of old) _ false
+    (not_there c.self.inside old c.self.view_is c.args.name c.in_default.ensures.value))
+
+pub overflow_sub-self-2 : goal.overflow_sub-self-2
+overflow_sub-self-2 c =
+    let old = c.args.self.now in
+    let held = c.in-Some.session in
+    let there = found (goal.at.overflow_sub-self-2 c).In-Some in
+    let most = atoms-within c.self.inside old c.self.view_is c.self.invariant.counted c.args.name held there old in
+    let n = c.count.ensures.value ∙ ap (λ (l : Live). length l.sim.cur) c.sim.ensures in
+    omega (arith, most, n)
+
+pub overflow_sub-self-3 : goal.overflow_sub-self-3
+overflow_sub-self-3 c =
+    let old = c.args.self.now in
+    let held = c.in-Some.session in
+    let there = found (goal.at.overflow_sub-self-3 c).In-Some in
+    let most = saved-within c.self.inside old c.self.view_is c.self.invariant.counted c.args.name held there old in
+    let n = c.len.ensures.value ∙ ap length c.branches.ensures in
+    omega (arith, most, n)
+
+-- the session is given up
+unloaded : (c : In-Some) → Performs c.args.self.now (Unload c.args.name) (Ok (Unloaded c.args.name))
+    (record { quota = c.self.inside.quota; sessions = c.shift_remove.new.self.entries })
+unloaded c =
+    let old = c.args.self.now in
+    let held = c.in-Some.session in
+    written-to old _ _ _ _ (outcomes.unload old c.args.name held (found c)
+    (none_owed c.self.inside old c.self.view_is c.args.name held c.in-Some.ensures.value c.requires) (gone c))
+    (taken-of c.self.inside old c.self.view_is c.args.name _ c.in-Some.ensures.entries)
+
+pub invariant_of-self-2 : goal.invariant_of-self-2
+invariant_of-self-2 c =
+    let old = c.args.self.now in
+    let held = c.in-Some.session in
+    let there = found (goal.at.invariant_of-self-2 c).In-Some in
+    let is_out = taken-of c.self.inside old c.self.view_is c.args.name _ c.in-Some.ensures.entries in record {
+      counted = used-less c.self.inside old c.self.view_is c.self.invariant.counted c.args.name held there _ is_out
+          1 c.count.result c.len.result refl
+          (c.count.ensures.value ∙ ap (λ (l : Live). length l.sim.cur) c.sim.ensures)
+          (c.len.ensures.value ∙ ap length c.branches.ensures);
+      reached = reached-done c.self.inside old _ c.self.view_is c.self.invariant (Unload c.args.name) _
+          (unloaded (goal.at.invariant_of-self-2 c).In-Some) (ap (λ (o : Owned). o.quota) is_out);
+    }
+
+pub returns-clause-performs : goal.returns-clause-performs
+returns-clause-performs c = unloaded (goal.at.returns-clause-performs c).In-Some

@@ -1,0 +1,166 @@
+//! The open steps of sessions.
+ghost use Rattle.std.specs.Prelude.{◌≡◌, ◌↔◌, ◌<◌, ℕ, List, Some, None, true, false, IsOk, IsSome, OnOk};
+ghost use Rattle.std.specs.Prelude.{OnErr, is_some, length, slice_get};
+ghost use Rattle.std.specs.List.{IsDistinct, find};
+ghost use Rattle.std.specs.Option.{ForSome, option_copied};
+ghost use Rattle.std.specs.Str.{bytes_eq};
+ghost use Rattle.lj_tile.specs.declared.names.Kind.TheVariants.{Force};
+ghost use Rattle.lj_step.specs.OpenSteps.{tile_number_of};
+ghost use Rattle.lj_session.specs.States.{IsWhole, IsAwaited, user_of, held_in, names, owed_in, changed};
+ghost use Rattle.lj_session.specs.States.{with_step, with_posted};
+ghost use Rattle.lj_session.specs.States.{with_tile_in, step_closed, step_passed, rested, is_whole_in};
+ghost use Rattle.lj_session.specs.States as states;
+
+use crate::state::UserState;
+use lj_step::NotAwaited;
+use lj_tile::{Done, Kind, Label, Name, Task};
+
+impl UserState {
+    /// Opens a step of a kind in a session. No tile of it is posted or in.
+    pub(crate) fn open_step(&mut self, name: &Name, kind: Kind)
+        ensures opened { self.new ≡ changed name.now (with_step kind) self.old }
+        ensures user { user_of self.new ≡ user_of self.old }
+    {
+        let Some(session) = self.sessions.get_mut(name) else {
+            return;
+        };
+        session.open_step(kind);
+    }
+
+    /// Closes the open step of a session.
+    pub(crate) fn close_step(&mut self, name: &Name)
+        ensures closed { self.new ≡ changed name.now step_closed self.old }
+        ensures user { user_of self.new ≡ user_of self.old }
+    {
+        let Some(session) = self.sessions.get_mut(name) else {
+            return;
+        };
+        session.close_step();
+    }
+
+    /// Begins each step anew: of a session to which steps are owed one is open, with no tile posted or in, and of every
+    /// other none.
+    pub(crate) fn rest(&mut self)
+        ensures rested { self.new ≡ rested self.old }
+        ensures user { user_of self.new ≡ user_of self.old }
+        ensures distinct { IsDistinct bytes_eq (names self.new) }
+    {
+        for i in 0..self.sessions.len() {
+            let Some(session) = self.sessions.get_index_mut(i) else {
+                return;
+            };
+            session.rest();
+        }
+    }
+
+    /// Makes `room` the task of the first tile of a session's open step that is neither posted nor in. False where there is
+    /// none; the room is as before then.
+    pub(crate) fn next_task_in(&self, label: &Label, room: &mut Task) -> bool
+        ensures some { result ≡ true → states.next_task self.now label.now ≡ Some room.new }
+        ensures none { result ≡ false → states.next_task self.now label.now ≡ None }
+        ensures unchanged { result ≡ false → room.new ≡ room.old }
+    {
+        match self.find(&label.session) {
+            Some(session) => session.next_task_in(label, room),
+            None => false,
+        }
+    }
+
+    /// Whether the open step of the i-th session has a tile that is neither posted nor in.
+    fn has_task_at(&self, i: usize) -> bool
+        requires within { i < length self.now.sessions }
+        requires distinct { IsDistinct bytes_eq (names self.now) }
+        ensures { (user : ℕ) (name : List ℕ) → slice_get (names self.now) i ≡ Some name
+            → result ≡ is_some (states.next_task self.now (record { user = user; session = name })) }
+    {
+        self.at(i).has_task()
+    }
+
+    /// The first session, in order of loading, whose open step has a tile that is neither posted nor in. The tasks are of
+    /// the user of this number.
+    pub(crate) fn next_session(&self, user: u8) -> Option<&Name>
+        ensures { option_copied result ≡ find (λ name. is_some
+            (states.next_task self.now (record { user = user; session = name }))) (names self.now) }
+    {
+        for i in 0..self.len() {
+            let name = self.name_at(i);
+            if self.has_task_at(i) {
+                return Some(name);
+            }
+        }
+        None
+    }
+
+    /// Notes the first tile of a session's open step that is neither posted nor in as posted.
+    pub(crate) fn post(&mut self, name: &Name)
+        ensures posted { self.new ≡ changed name.now with_posted self.old }
+        ensures user { user_of self.new ≡ user_of self.old }
+    {
+        let Some(session) = self.sessions.get_mut(name) else {
+            return;
+        };
+        session.post();
+    }
+
+    /// Takes in the result of a tile that a session's open step awaits. At another nothing changes.
+    pub(crate) fn take_in(&mut self, label: &Label, done: &Done) -> Result<(), NotAwaited>
+        ensures accepted { IsOk result ↔ IsAwaited self.old label.now done.now }
+        ensures taken { OnOk result
+            (self.new ≡ changed label.now.session (with_tile_in (tile_number_of done.now)) self.old) }
+        ensures user { user_of self.new ≡ user_of self.old }
+        ensures unchanged { OnErr result (self.new ≡ self.old) }
+    {
+        let Some(session) = self.sessions.get_mut(&label.session) else {
+            return Err(NotAwaited);
+        };
+        session.take_in(label, done)
+    }
+
+    /// Whether a step is open in a session and all its tiles are in.
+    pub(crate) fn is_whole(&self, name: &Name) -> bool
+        ensures { result ≡ is_whole_in self.now name.now }
+    {
+        match self.find(name) {
+            Some(session) => session.sim().is_whole(),
+            None => false,
+        }
+    }
+
+    /// Whether a step is open in the i-th session and all its tiles are in.
+    fn is_whole_at(&self, i: usize) -> bool
+        requires within { i < length self.now.sessions }
+        requires distinct { IsDistinct bytes_eq (names self.now) }
+        ensures { (name : List ℕ) → slice_get (names self.now) i ≡ Some name
+            → result ≡ is_whole_in self.now name }
+    {
+        self.at(i).sim().is_whole()
+    }
+
+    /// The first session, in order of loading, of which a step is open and all its tiles are in.
+    pub(crate) fn first_whole(&self) -> Option<&Name>
+        ensures { option_copied result ≡ find (is_whole_in self.now) (names self.now) }
+    {
+        for i in 0..self.len() {
+            let name = self.name_at(i);
+            if self.is_whole_at(i) {
+                return Some(name);
+            }
+        }
+        None
+    }
+
+    /// Turns the whole force step of a session, one that is owed: its motion goes one step on, and the next step is open
+    /// if one is owed.
+    pub(crate) fn pass_step(&mut self, name: &Name)
+        requires session { IsSome (held_in self.old name.now) }
+        requires owed { 0 < owed_in self.old name.now }
+        requires whole { ForSome (held_in self.old name.now) (IsWhole Force) }
+        ensures passed { self.new ≡ changed name.now step_passed self.old }
+        ensures user { user_of self.new ≡ user_of self.old }
+    {
+        let Some(session) = self.sessions.get_mut(name) else {
+            return;
+        };
+        session.pass_step();
+    }
+}
