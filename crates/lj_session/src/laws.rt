@@ -1,5 +1,6 @@
 //! Laws of owners and of what is answered: functions that do nothing, whose contracts are the laws.
-ghost use Rattle.lj_session.specs.Laws.{RestKeepsUser, PostedKeepsUser, AcceptKeepsUser, BegunWaitsAlike, ListedIsThere};
+ghost use Rattle.lj_session.specs.Laws.{RestKeepsUser, PostedKeepsUser, AcceptKeepsUser, BegunWaitsAlike};
+ghost use Rattle.lj_session.specs.Laws.{ListedIsThere};
 
 /// To begin each step anew leaves the user.
 pub fn rest_keeps_user()

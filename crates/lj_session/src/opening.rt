@@ -29,13 +29,14 @@ pub(crate) struct Opening {
 
 impl Opening {
     /// Reads what a mode asks for. Each atom of the first frame is to have one of the symbols, where two are given.
-    pub fn read(
+    pub(crate) fn read(
         alloc: Global,
         mode: Mode,
         symbols: Option<&SymbolPair>,
         body: &Body,
     ) -> Result<Opening, XyzError>
-        ensures { let frames = reading (option_copied symbols.entry) (reading_mode mode) (lines_of body.now) in
+        ensures { let asked = option_copied symbols.entry in
+            let frames = reading asked (reading_mode mode) (lines_of body.now) in
             Gives (λ opening. frames_of opening.first opening.second) result frames }
     {
         match mode {
@@ -54,7 +55,7 @@ impl Opening {
     }
 
     /// How many atoms there are, 1 to `MAX_ATOMS`.
-    pub fn count(&self) -> usize
+    pub(crate) fn count(&self) -> usize
         ensures value { result ≡ length self.now.first }
         ensures most { result ≤ MAX_ATOMS }
     {
@@ -63,7 +64,7 @@ impl Opening {
 
     /// The session that opens with these frames. Of one frame both are made, so that the atoms are at rest. Where
     /// symbols of two species are given, those of the first frame tell the species.
-    pub fn session(
+    pub(crate) fn session(
         self,
         alloc: Global,
         mix: Mix,
@@ -93,7 +94,8 @@ impl Opening {
         first: &[Place],
     ) -> Result<Vec<Place>, AllocError>
         requires { first.now ≡ places_in edge.now self.now.first }
-        ensures { IfOk result (λ places. places.items ≡ places_in edge.now (last_of self.now.first self.now.second)) }
+        ensures { let last = last_of self.now.first self.now.second in
+            IfOk result (λ places. places.items ≡ places_in edge.now last) }
     {
         match &self.second {
             Some(second) => places_of(alloc, second.as_slice(), edge),

@@ -1,13 +1,17 @@
 //! The owner of a user's state: a command is begun, and what takes time goes out as tasks that anyone may compute.
-ghost use Rattle.std.specs.Prelude.{◌≡◌, ◌↔◌, ◌<◌, ◌+◌, ℕ, Bool, true, false, Some, None, IsOk, IsSome, IfSome, IfErr, OnOk, OnErr, OnSome, IfNone, is_some};
+ghost use Rattle.std.specs.Prelude.{◌≡◌, ◌↔◌, ◌<◌, ◌+◌, ℕ, Bool, true, false, Some, None, IsOk, IsSome};
+ghost use Rattle.std.specs.Prelude.{IfSome, IfErr, OnOk, OnErr, OnSome, IfNone, is_some};
 ghost use Rattle.std.specs.List.{IsDistinct};
 ghost use Rattle.std.specs.Str.{bytes_eq};
 ghost use Rattle.lj_session.specs.Answers.{AnswersAlike};
-ghost use Rattle.lj_session.specs.States.{OthersKept, OtherSessionsKept, StepsFollow, IsIdleIn, is_measured, is_whole_in, names, rested};
+ghost use Rattle.lj_session.specs.States.{OthersKept, OtherSessionsKept, StepsFollow, IsIdleIn, is_measured};
+ghost use Rattle.lj_session.specs.States.{is_whole_in, names, rested};
 ghost use Rattle.lj_session.specs.States.{IsAtWork, index_waited_for, turns_before, user_of};
-ghost use Rattle.lj_session.specs.Owners.{IsAnswered, IsReplied, IsAwaitedIn, IsLastTurn, IsSettled, WaitsAlike};
+ghost use Rattle.lj_session.specs.Owners.{IsAnswered, IsReplied, IsAwaitedIn, IsLastTurn, IsSettled};
+ghost use Rattle.lj_session.specs.Owners.{WaitsAlike};
 ghost use Rattle.lj_session.specs.Owners.{begun_in, left_in};
-ghost use Rattle.lj_session.specs.Owners.{user_in, entered, owes, is_busy, turns_left, is_waited_for, begun, label_of, task_in, next_session};
+ghost use Rattle.lj_session.specs.Owners.{user_in, entered, owes, is_busy, turns_left, is_waited_for, begun};
+ghost use Rattle.lj_session.specs.Owners.{label_of, task_in, next_session};
 ghost use Rattle.lj_session.specs.Owners.{with_task_posted, with_task_in, ready_session, turned_from};
 ghost use Rattle.lj_session.specs.Begins.{IfAnswered, OnRunning, OnRefused, OnRefusal, reply_of};
 
@@ -72,7 +76,8 @@ impl Owner {
     pub fn begin(&mut self, command: Command) -> Begin
         requires idle { self.old.waiting ≡ None }
         ensures at_once { IfAnswered result (λ _. turns_before self.old.state command ≡ 0) }
-        ensures answered { IfAnswered result (λ reply. IsAnswered (user_in self.old) command reply (user_in self.new)) }
+        ensures answered { IfAnswered result (λ reply.
+            IsAnswered (user_in self.old) command reply (user_in self.new)) }
         ensures idle { IfAnswered result (λ _. self.new.waiting ≡ None) }
         ensures settled { IfAnswered result (IsSettled self.new.state) }
         ensures steps { IfAnswered result (λ _. StepsFollow command self.old.state self.new.state) }

@@ -14,7 +14,8 @@ pub(crate) fn seconds_of(
     symbols: Option<&SymbolPair>,
     rows: &[Row],
 ) -> Result<Vec<u64>, AllocError>
-    ensures { IfOk result (λ seconds. joined seconds.items ≡ seconds_of (option_copied symbols.entry) rows.now) }
+    ensures { IfOk result (λ seconds.
+        joined seconds.items ≡ seconds_of (option_copied symbols.entry) rows.now) }
 {
     match symbols {
         None => Ok(Vec::new(alloc)),

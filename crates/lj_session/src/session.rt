@@ -1,6 +1,8 @@
 //! A session as it is held.
-ghost use Rattle.std.specs.Prelude.{◌≡◌, ◌↔◌, ◌<◌, ◌+◌, ◌^◌, [], length, slice_get, Some, None, IsOk, IsSome, IsErrOf};
-ghost use Rattle.std.specs.Prelude.{IfSome, OnOk, OnErr, ◌≤◌, unsigned_abs, IfOk, true, false, is_some, nat_le, pos, ◌&&◌, ◌+ℤ◌, ◌*ℤ◌};
+ghost use Rattle.std.specs.Prelude.{◌≡◌, ◌↔◌, ◌<◌, ◌+◌, ◌^◌, [], length, slice_get, Some, None, IsOk, IsSome};
+ghost use Rattle.std.specs.Prelude.{IsErrOf};
+ghost use Rattle.std.specs.Prelude.{IfSome, OnOk, OnErr, ◌≤◌, unsigned_abs, IfOk, true, false, is_some};
+ghost use Rattle.std.specs.Prelude.{nat_le, pos, ◌&&◌, ◌+ℤ◌, ◌*ℤ◌};
 ghost use Rattle.lj_tile.specs.declared.names.Label.{Label as Labelled};
 ghost use Rattle.lj_tile.specs.declared.names.Kind.TheVariants.{Force};
 ghost use Rattle.lj_branch.specs.declared.faults.SaveFault.TheVariants.{Exists};
@@ -48,7 +50,7 @@ impl Model for Session {
 
 impl Session {
     /// A session of which nothing is saved, and to which no step is owed.
-    pub fn new(symbols: Vec<Symbol>, sim: Sim, branches: Branches) -> Session
+    pub(crate) fn new(symbols: Vec<Symbol>, sim: Sim, branches: Branches) -> Session
         requires symbols { length symbols.items ≡ length sim.sim.cur }
         requires branches { branches ≡ [] }
         ensures { result ≡ record { symbols = symbols.items; live = sim; passed = 0; saved = []; owed = 0 } }
@@ -64,21 +66,21 @@ impl Session {
     }
 
     /// The simulation.
-    pub fn sim(&self) -> &Sim
+    pub(crate) fn sim(&self) -> &Sim
         ensures { result.now ≡ self.now.live }
     {
         &self.sim
     }
 
     /// What is saved.
-    pub fn branches(&self) -> &Branches
+    pub(crate) fn branches(&self) -> &Branches
         ensures { result.now ≡ self.now.saved }
     {
         &self.branches
     }
 
     /// The symbol of an atom.
-    pub fn symbol(&self, atom: usize) -> &Symbol
+    pub(crate) fn symbol(&self, atom: usize) -> &Symbol
         requires { atom < length self.now.live.sim.cur }
         ensures { slice_get self.now.symbols atom ≡ Some result.now }
     {
@@ -86,7 +88,7 @@ impl Session {
     }
 
     /// How many steps are owed to it.
-    pub fn owed(&self) -> u64
+    pub(crate) fn owed(&self) -> u64
         ensures { result ≡ self.now.owed }
     {
         self.owed
@@ -94,7 +96,7 @@ impl Session {
 
     /// The step number that it is going to: the one after all steps that are owed to it.
     #[tactic(auto, using(crate::proofs::Owed::target_is))]
-    pub fn target(&self) -> i64
+    pub(crate) fn target(&self) -> i64
         ensures value { result ≡ (session_meant self.now).sim.step }
         ensures most { unsigned_abs result ≤ MAX_STEP_NUMBER }
     {
@@ -103,14 +105,14 @@ impl Session {
 
     /// Whether it may go on by so many steps, after those that are owed to it.
     #[tactic(auto, using(crate::proofs::Owed::dir_is))]
-    pub fn can_advance(&self, steps: u64) -> bool
+    pub(crate) fn can_advance(&self, steps: u64) -> bool
         ensures { result ≡ can_advance (session_meant self.now) steps }
     {
         leads_in_range(self.target(), self.sim.dir(), steps)
     }
 
     /// Owes it so many steps more. Where none were owed the first of them is open then.
-    pub fn owe(&mut self, steps: u64)
+    pub(crate) fn owe(&mut self, steps: u64)
         requires { can_advance (session_meant self.old) steps ≡ true }
         ensures { self.new ≡ states.owing steps self.old }
     {
@@ -125,7 +127,7 @@ impl Session {
     }
 
     /// Turns the motion back. No step is open then.
-    pub fn reverse(&mut self)
+    pub(crate) fn reverse(&mut self)
         requires { self.old.owed ≡ 0 }
         ensures value { self.new ≡ moved_to self.old (motion.reversed self.old.live.sim) }
         ensures count { length self.new.live.sim.cur ≡ length self.old.live.sim.cur }
@@ -135,7 +137,7 @@ impl Session {
     }
 
     /// Gives an atom a displacement more for each step. No step is open then.
-    pub fn tug(&mut self, atom: usize, by: Displacement)
+    pub(crate) fn tug(&mut self, atom: usize, by: Displacement)
         requires { atom < length self.old.live.sim.cur }
         ensures { let sim = motion.tugged atom (record { x = by.x; y = by.y; z = by.z }) self.old.live.sim in
             self.new ≡ moved_to self.old sim }
@@ -147,9 +149,10 @@ impl Session {
     ///
     /// # Errors
     /// `Exists` where the name is taken, else `Memory`. Nothing has changed then.
-    pub fn save(&mut self, branch: Name) -> Result<(), SaveFault>
+    pub(crate) fn save(&mut self, branch: Name) -> Result<(), SaveFault>
         ensures exists { IsErrOf result Exists ↔ IsSome (named branch self.old.saved) }
-        ensures saved { OnOk result (self.new ≡ keeping self.old (put branch self.old.live.sim self.old.saved)) }
+        ensures saved { OnOk result
+            (self.new ≡ keeping self.old (put branch self.old.live.sim self.old.saved)) }
         ensures unchanged { OnErr result (self.new ≡ self.old) }
     {
         self.branches.save(branch, &self.sim)
@@ -159,7 +162,7 @@ impl Session {
     ///
     /// # Errors
     /// `NoBranch` where nothing is saved under it. Nothing has changed then.
-    pub fn restore(&mut self, branch: &Name) -> Result<(), NoBranch>
+    pub(crate) fn restore(&mut self, branch: &Name) -> Result<(), NoBranch>
         requires { self.old.owed ≡ 0 }
         ensures found { IsOk result ↔ IsSome (named branch.now self.old.saved) }
         ensures restored { let saved = named branch.now self.old.saved in
@@ -176,7 +179,7 @@ impl Session {
     ///
     /// # Errors
     /// `NoBranch` where nothing is saved under it. Nothing has changed then.
-    pub fn forget(&mut self, branch: &Name) -> Result<(), NoBranch>
+    pub(crate) fn forget(&mut self, branch: &Name) -> Result<(), NoBranch>
         ensures found { IsOk result ↔ IsSome (named branch.now self.old.saved) }
         ensures taken { OnOk result (self.new ≡ keeping self.old (taken_out branch.now self.old.saved)) }
         ensures unchanged { OnErr result (self.new ≡ self.old) }
@@ -185,7 +188,7 @@ impl Session {
     }
 
     /// Opens a step of a kind. No tile of it is posted or in.
-    pub fn open_step(&mut self, kind: Kind)
+    pub(crate) fn open_step(&mut self, kind: Kind)
         ensures { self.new ≡ states.with_step kind self.old }
     {
         self.sim.open_step(kind);
@@ -193,7 +196,7 @@ impl Session {
     }
 
     /// Closes the step that is open. The motion stays.
-    pub fn close_step(&mut self)
+    pub(crate) fn close_step(&mut self)
         ensures { self.new ≡ states.step_closed self.old }
     {
         self.sim.close_step();
@@ -201,7 +204,7 @@ impl Session {
     }
 
     /// Begins its step anew where one is owed, so that no tile is posted or in; elsewhere none is open then.
-    pub fn rest(&mut self)
+    pub(crate) fn rest(&mut self)
         ensures { self.new ≡ states.at_rest self.old }
     {
         if self.owed > 0 {
@@ -226,7 +229,7 @@ impl Session {
 
     /// Makes `room` the task of the first tile that is neither posted nor in. False where there is none; the room is as
     /// before then.
-    pub fn next_task_in(&self, label: &Label, room: &mut Task) -> bool
+    pub(crate) fn next_task_in(&self, label: &Label, room: &mut Task) -> bool
         ensures some { result ≡ true → states.next_of label.now (Some self.now) ≡ Some room.new }
         ensures none { result ≡ false → states.next_of label.now (Some self.now) ≡ None }
         ensures unchanged { result ≡ false → room.new ≡ room.old }
@@ -238,14 +241,14 @@ impl Session {
     }
 
     /// Whether there is a tile that is neither posted nor in.
-    pub fn has_task(&self) -> bool
+    pub(crate) fn has_task(&self) -> bool
         ensures { (label : Labelled) → result ≡ is_some (states.next_of label (Some self.now)) }
     {
         self.next_tile().is_some()
     }
 
     /// Notes the first tile that is neither posted nor in as posted.
-    pub fn post(&mut self)
+    pub(crate) fn post(&mut self)
         ensures { self.new ≡ states.with_posted self.old }
     {
         let Some(i) = self.next_tile() else {
@@ -255,9 +258,10 @@ impl Session {
     }
 
     /// Takes in the result of a tile that the open step awaits. At another nothing changes.
-    pub fn take_in(&mut self, label: &Label, done: &Done) -> Result<(), NotAwaited>
+    pub(crate) fn take_in(&mut self, label: &Label, done: &Done) -> Result<(), NotAwaited>
         ensures accepted { IsOk result ↔ steps.IsAwaitedTask self.old.live label.now done.now }
-        ensures taken { OnOk result (self.new ≡ states.with_tile_in (steps.tile_number_of done.now) self.old) }
+        ensures taken { OnOk result
+            (self.new ≡ states.with_tile_in (steps.tile_number_of done.now) self.old) }
         ensures unchanged { OnErr result (self.new ≡ self.old) }
     {
         self.sim.take_in(label, done)
@@ -265,7 +269,7 @@ impl Session {
 
     /// Turns the whole force step, one that is owed: the motion goes one step on, and the next step is open if one is
     /// owed.
-    pub fn pass_step(&mut self)
+    pub(crate) fn pass_step(&mut self)
         requires whole { IsWhole Force self.old }
         requires owed { 0 < self.old.owed }
         ensures { self.new ≡ states.step_passed self.old }
@@ -285,7 +289,8 @@ impl Session {
 fn leads_in_range(step: i64, dir: i64, steps: u64) -> bool
     requires here { unsigned_abs step ≤ MAX_STEP_NUMBER }
     requires dir { unsigned_abs dir ≡ 1 }
-    ensures { result ≡ (nat_le steps MAX_STEPS && nat_le (unsigned_abs (step +ℤ dir *ℤ pos steps)) MAX_STEP_NUMBER) }
+    ensures { result ≡ (nat_le steps MAX_STEPS
+        && nat_le (unsigned_abs (step +ℤ dir *ℤ pos steps)) MAX_STEP_NUMBER) }
 {
     if steps > MAX_STEPS {
         return false;
