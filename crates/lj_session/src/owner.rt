@@ -155,8 +155,11 @@ impl Owner {
         ensures user { user_in self.new ≡ user_in self.old }
         ensures unchanged { OnErr result (self.new ≡ self.old) }
     {
-        let label = self.label(done.task().name().label.session.copy());
-        self.state.take_in(&label, done)
+        let label = &done.task().name().label;
+        if label.user != self.user {
+            return Err(NotAwaited);
+        }
+        self.state.take_in(label, done)
     }
 
     /// Whether some session owes a step.

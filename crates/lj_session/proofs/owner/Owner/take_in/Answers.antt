@@ -19,13 +19,13 @@ invariant_of-self c = either-way c.take_in.result c.take_in.ensures.taken c.take
     tile : Held → Held
     tile = with_tile_in (tile_number_of c.args.done.now)
 
-    taken : c.take_in.new.self ≡ changed c.label-label.result.session tile old
+    taken : c.take_in.new.self ≡ changed c.name.result.now.label.session tile old
         → IsOwner (record { state = c.take_in.new.self; user = c.self.inside.user; waiting = waiting })
     taken is = record {
       at_work = subst (λ (owned : Owned). IsAtWork waiting owned) (sym is)
-          (at_work-taken waiting old c.label-label.result.session (tile_number_of c.args.done.now) c.self.invariant.at_work);
+          (at_work-taken waiting old c.name.result.now.label.session (tile_number_of c.args.done.now) c.self.invariant.at_work);
       some = turns-some waiting old c.take_in.new.self (λ command w. turns-kept old c.take_in.new.self command c.take_in.ensures.user
-          (λ other waits. ap (λ (owned : Owned). owed_in owned other) is ∙ owed-changed old c.label-label.result.session tile (λ held. refl) other))
+          (λ other waits. ap (λ (owned : Owned). owed_in owned other) is ∙ owed-changed old c.name.result.now.label.session tile (λ held. refl) other))
           c.self.invariant.some;
     }
 
