@@ -1,18 +1,52 @@
 -- Values under names: a value put, set or taken out, and sums over them.
 use Rattle.std.proofs.Common.{◌≡◌, ◌≢◌, ◌∙◌, ℕ, suc, ◌+◌, Bool, true, false, List, [], ◌∷◌, ◌++◌, length, map, Some}
-use Rattle.std.proofs.Common.{None, refl, sym, ap, arith}
-use Rattle.std.specs.List.{sum_by}
+use Rattle.std.proofs.Common.{None, zero, slice_get, refl, sym, ap, arith}
+use Rattle.std.proofs.lemmas.Bool.{true≢false}
+use Rattle.std.specs.List.{AllByRecursion, IsDistinct, sum_by}
 use Rattle.std.proofs.lemmas.List.Sums.{sum_by-cons}
 use Rattle.std.specs.Option.{option_map}
 use Rattle.std.specs.Str.{bytes_eq}
 use Rattle.std.proofs.lemmas.Slice.Eq.{bytes_eq-Decides}
 use Rattle.std.specs.Map.{set_value}
+use Rattle.indexmap.specs.IndexMap.{set_value_at}
 use Rattle.lj_branch.specs.Named.{named, put, taken_out}
 
 -- a test that is known either way
 pub by_test : {P : Type 0} (b : Bool) → (b ≡ true → P) → (b ≡ false → P) → P
 by_test true t f = t refl
 by_test false t f = f refl
+
+-- a key that is none of some names is not the i-th
+apart_at : (key : List ℕ) (ks : List (List ℕ)) (i : ℕ) (name : List ℕ) → AllByRecursion (λ k. bytes_eq key k ≡ false) ks
+    → slice_get ks i ≡ Some name → bytes_eq key name ≡ false
+apart_at key [] i name all at = absurd (none_some at)
+  where
+    none_some : None ≡ Some name → ⊥
+    none_some e = cc
+apart_at key (k ∷ ks) zero name all at = ap (bytes_eq key) (sym (same k at)) ∙ all.0
+  where
+    same : (a : List ℕ) → Some a ≡ Some name → a ≡ name
+    same a e = cc
+apart_at key (k ∷ ks) (suc i) name all at = apart_at key ks i name all.1 at
+
+-- a value set at a place is set where the name that stands there is found
+pub set_at-name : {A : Type 0} (es : List (List ℕ × A)) (i : ℕ) (name : List ℕ) (w : A)
+    → IsDistinct bytes_eq (map (λ e. e.0) es) → slice_get (map (λ e. e.0) es) i ≡ Some name
+    → set_value_at es i w ≡ set_value (bytes_eq name) es w
+unfolding IsDistinct
+set_at-name [] i name w distinct at = absurd (none_some at)
+  where
+    none_some : None ≡ Some name → ⊥
+    none_some e = cc
+set_at-name (e ∷ es) zero name w distinct at =
+    let t = (bytes_eq-Decides name e.0).1 (sym (same e.0 at)) in rw t refl
+  where
+    same : (a : List ℕ) → Some a ≡ Some name → a ≡ name
+    same a k = cc
+set_at-name (e ∷ es) (suc i) name w distinct at = by_test (bytes_eq name e.0)
+    (λ t. absurd (true≢false (sym ((bytes_eq-Decides e.0 name).1 (sym ((bytes_eq-Decides name e.0).0 t)))
+    ∙ apart_at e.0 (map (λ e. e.0) es) i name distinct.0 at)))
+    (λ t. rw t (ap (λ l. e ∷ l) (set_at-name es i name w distinct.1 at)))
 
 -- two names are not both one key
 not_both : (name other : List ℕ) → name ≢ other → (key : List ℕ) → bytes_eq name key ≡ true

@@ -1,6 +1,7 @@
 pub mod Entries
 pub mod Counts
 pub mod Firsts
+pub mod NextTiles
 pub mod Owed
 pub mod Owing
 pub mod Reach

@@ -1,5 +1,5 @@
 -- What the code holds of a user, open steps and all, and the user of the definition that it stands for.
-use Rattle.std.specs.Prelude.{◌≡◌, ◌≢◌, OnOk, IsSomeAnd, ℕ, ◌+◌, ◌-◌, Bool, true, false, ◌&&◌, nat_le, nat_lt, List, []}
+use Rattle.std.specs.Prelude.{◌≡◌, ◌≢◌, ◌<◌, OnOk, IsSomeAnd, ℕ, ◌+◌, ◌-◌, is_some, Bool, true, false, ◌&&◌, nat_le, nat_lt, List, []}
 use Rattle.std.specs.Prelude.{◌∷◌, length, map, position, slice_get, Option, Some, None, Result, Ok, Err, if◌then◌else◌, ◌⊎◌}
 use Rattle.std.specs.Option.{option_map, option_map_or, option_and_then}
 use Rattle.std.specs.List.{find, range_with_len}
@@ -119,6 +119,23 @@ next_of label (Some held) = option_and_then (task_at held.live label) (next_tile
 -- that task of the session that a label names
 abbrev pub next_task : Owned → Label → Option Work
 next_task owned label = next_of label (held_in owned label.session)
+
+-- the first session, in order of loading, that has such a task of the user of a number
+abbrev pub first_with_task : Owned → ℕ → Option (List ℕ)
+first_with_task owned user =
+    find (λ name. is_some (next_task owned (record { user = user; session = name }))) (names owned)
+
+-- The tile of the next task is the one at position `k` in the cover of the session at index `i`.
+pub record IsNextTile (owned : Owned) (i k : ℕ) : Type 0 where
+  pub within : i < length owned.sessions
+  pub name : List ℕ
+  pub named : slice_get (names owned) i ≡ Some name
+  pub held : Held
+  pub at : held_at owned i ≡ Some held
+  pub there : held_in owned name ≡ Some held
+  pub tile : next_tile held ≡ Some k
+  pub below : k < tiles_of held.live
+  pub first : (user : ℕ) → first_with_task owned user ≡ Some name
 
 -- with the tiles passed up to a position and at it, if one is given
 abbrev pub passed_to : Option ℕ → Held → Held

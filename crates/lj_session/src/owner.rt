@@ -11,7 +11,7 @@ ghost use Rattle.lj_session.specs.Owners.{IsAnswered, IsReplied, IsAwaitedIn, Is
 ghost use Rattle.lj_session.specs.Owners.{WaitsAlike};
 ghost use Rattle.lj_session.specs.Owners.{begun_in, left_in};
 ghost use Rattle.lj_session.specs.Owners.{user_in, entered, owes, is_busy, turns_left, is_waited_for, begun};
-ghost use Rattle.lj_session.specs.Owners.{label_of, task_in, next_session};
+ghost use Rattle.lj_session.specs.Owners.{label_of, task_in};
 ghost use Rattle.lj_session.specs.Owners.{with_task_posted, with_task_in, ready_session, turned_from};
 ghost use Rattle.lj_session.specs.Begins.{IfAnswered, OnRunning, OnRefused, OnRefusal, reply_of};
 
@@ -117,10 +117,11 @@ impl Owner {
         ensures none { result ≡ false → task_in self.now ≡ None }
         ensures unchanged { result ≡ false → room.new ≡ room.old }
     {
-        match self.next_session() {
-            Some(name) => self.state.next_task_in(&self.label(name), room),
-            None => false,
-        }
+        let Some((i, k)) = self.state.next_tile() else {
+            return false;
+        };
+        let label = self.label(self.state.name_at(i).copy());
+        self.state.task_in(i, k, &label, room)
     }
 
     /// Notes the tile of the task that `next_task` returns as posted.
@@ -129,8 +130,8 @@ impl Owner {
         ensures noted { self.new ≡ with_task_posted self.old }
         ensures user { user_in self.new ≡ user_in self.old }
     {
-        if let Some(name) = self.next_session() {
-            self.state.post(&name);
+        if let Some((i, k)) = self.state.next_tile() {
+            self.state.post(i, k);
         }
     }
 
@@ -268,13 +269,6 @@ impl Owner {
         ensures quota { self.new.state.quota ≡ self.old.state.quota }
     {
         self.waiting = Some(take_up(&mut self.state, command));
-    }
-
-    /// The first session, in order of loading, that has a tile which is neither posted nor in.
-    fn next_session(&self) -> Option<Name>
-        ensures { result ≡ next_session self.now }
-    {
-        Some(self.state.next_session(self.user)?.copy())
     }
 
     /// Whether a session owes a step.

@@ -3,7 +3,6 @@ ghost use Rattle.std.specs.Prelude.{◌≡◌, ◌↔◌, ◌<◌, ◌+◌, ◌^
 ghost use Rattle.std.specs.Prelude.{IsErrOf};
 ghost use Rattle.std.specs.Prelude.{IfSome, OnOk, OnErr, ◌≤◌, unsigned_abs, IfOk, true, false, is_some};
 ghost use Rattle.std.specs.Prelude.{nat_le, pos, ◌&&◌, ◌+ℤ◌, ◌*ℤ◌};
-ghost use Rattle.lj_tile.specs.declared.names.Label.{Label as Labelled};
 ghost use Rattle.lj_tile.specs.declared.names.Kind.TheVariants.{Force};
 ghost use Rattle.lj_branch.specs.declared.faults.SaveFault.TheVariants.{Exists};
 ghost use Rattle.lj_step.specs.Motion as motion;
@@ -215,9 +214,9 @@ impl Session {
     }
 
     /// The position in the cover of the first tile that is neither posted nor in.
-    fn next_tile(&self) -> Option<usize>
+    pub(crate) fn next_tile(&self) -> Option<usize>
         ensures value { result ≡ states.next_tile self.now }
-        ensures small { IfSome result (λ i. i + 1 < 2 ^ 64) }
+        ensures below { IfSome result (λ i. i < steps.tiles_of self.now.live) }
     {
         for i in self.passed..self.sim.tiles() {
             if self.sim.awaits(i) {
@@ -227,33 +226,23 @@ impl Session {
         None
     }
 
-    /// Makes `room` the task of the first tile that is neither posted nor in. False where there is none; the room is as
-    /// before then.
-    pub(crate) fn next_task_in(&self, label: &Label, room: &mut Task) -> bool
+    /// Makes `room` the task of the first tile that is neither posted nor in, which is the i-th of the cover.
+    pub(crate) fn task_in(&self, i: usize, label: &Label, room: &mut Task) -> bool
+        requires { states.next_tile self.now ≡ Some i }
         ensures some { result ≡ true → states.next_of label.now (Some self.now) ≡ Some room.new }
         ensures none { result ≡ false → states.next_of label.now (Some self.now) ≡ None }
         ensures unchanged { result ≡ false → room.new ≡ room.old }
     {
-        match self.next_tile() {
-            Some(i) => self.sim.task_in(i, label, room),
-            None => false,
-        }
+        self.sim.task_in(i, label, room)
     }
 
-    /// Whether there is a tile that is neither posted nor in.
-    pub(crate) fn has_task(&self) -> bool
-        ensures { (label : Labelled) → result ≡ is_some (states.next_of label (Some self.now)) }
-    {
-        self.next_tile().is_some()
-    }
-
-    /// Notes the first tile that is neither posted nor in as posted.
-    pub(crate) fn post(&mut self)
+    /// Notes the first tile that is neither posted nor in, which is the i-th of the cover, as posted.
+    pub(crate) fn post(&mut self, i: usize)
+        requires next { states.next_tile self.old ≡ Some i }
+        requires below { i < steps.tiles_of self.old.live }
         ensures { self.new ≡ states.with_posted self.old }
     {
-        let Some(i) = self.next_tile() else {
-            return;
-        };
+        let _tiles = self.sim.tiles();
         self.passed = i + 1;
     }
 

@@ -1,13 +1,13 @@
 //! The open steps of sessions.
 ghost use Rattle.std.specs.Prelude.{◌≡◌, ◌↔◌, ◌<◌, ℕ, List, Some, None, true, false, IsOk, IsSome, OnOk};
-ghost use Rattle.std.specs.Prelude.{OnErr, is_some, length, slice_get};
+ghost use Rattle.std.specs.Prelude.{OnErr, IfSome, IfNone, length, slice_get};
 ghost use Rattle.std.specs.List.{IsDistinct, find};
 ghost use Rattle.std.specs.Option.{ForSome, option_copied};
 ghost use Rattle.std.specs.Str.{bytes_eq};
 ghost use Rattle.lj_tile.specs.declared.names.Kind.TheVariants.{Force};
 ghost use Rattle.lj_step.specs.OpenSteps.{tile_number_of};
 ghost use Rattle.lj_session.specs.States.{IsWhole, IsAwaited, user_of, held_in, names, owed_in, changed};
-ghost use Rattle.lj_session.specs.States.{with_step, with_posted};
+ghost use Rattle.lj_session.specs.States.{IsNextTile, first_with_task, with_step, with_posted};
 ghost use Rattle.lj_session.specs.States.{with_tile_in, step_closed, step_passed, rested, is_whole_in};
 ghost use Rattle.lj_session.specs.States as states;
 
@@ -53,53 +53,42 @@ impl UserState {
         }
     }
 
-    /// Makes `room` the task of the first tile of a session's open step that is neither posted nor in. False where there is
-    /// none; the room is as before then.
-    pub(crate) fn next_task_in(&self, label: &Label, room: &mut Task) -> bool
-        ensures some { result ≡ true → states.next_task self.now label.now ≡ Some room.new }
-        ensures none { result ≡ false → states.next_task self.now label.now ≡ None }
-        ensures unchanged { result ≡ false → room.new ≡ room.old }
-    {
-        match self.find(&label.session) {
-            Some(session) => session.next_task_in(label, room),
-            None => false,
-        }
-    }
-
-    /// Whether the open step of the i-th session has a tile that is neither posted nor in.
-    fn has_task_at(&self, i: usize) -> bool
-        requires within { i < length self.now.sessions }
-        requires distinct { IsDistinct bytes_eq (names self.now) }
-        ensures { (user : ℕ) (name : List ℕ) → slice_get (names self.now) i ≡ Some name
-            → result ≡ is_some (states.next_task self.now (record { user = user; session = name })) }
-    {
-        self.at(i).has_task()
-    }
-
-    /// The first session, in order of loading, whose open step has a tile that is neither posted nor in. The tasks are of
-    /// the user of this number.
-    pub(crate) fn next_session(&self, user: u8) -> Option<&Name>
-        ensures { option_copied result ≡ find (λ name. is_some
-            (states.next_task self.now (record { user = user; session = name }))) (names self.now) }
+    /// The first tile that is neither posted nor in of the first session, in order of loading, that has one: the index of
+    /// the session, and the tile's position in the cover of its open step.
+    pub(crate) fn next_tile(&self) -> Option<(usize, usize)>
+        ensures some { IfSome result (λ next. IsNextTile self.now next.0 next.1) }
+        ensures none { IfNone result ((user : ℕ) → first_with_task self.now user ≡ None) }
     {
         for i in 0..self.len() {
-            let name = self.name_at(i);
-            if self.has_task_at(i) {
-                return Some(name);
+            if let Some(k) = self.at(i).next_tile() {
+                return Some((i, k));
             }
         }
         None
     }
 
-    /// Notes the first tile of a session's open step that is neither posted nor in as posted.
-    pub(crate) fn post(&mut self, name: &Name)
-        ensures posted { self.new ≡ changed name.now with_posted self.old }
+    /// Makes `room` the task of the next tile, which is the k-th of the i-th session.
+    pub(crate) fn task_in(&self, i: usize, k: usize, label: &Label, room: &mut Task) -> bool
+        requires next { IsNextTile self.now i k }
+        requires label { slice_get (names self.now) i ≡ Some label.now.session }
+        ensures some { result ≡ true → states.next_task self.now label.now ≡ Some room.new }
+        ensures none { result ≡ false → states.next_task self.now label.now ≡ None }
+        ensures unchanged { result ≡ false → room.new ≡ room.old }
+    {
+        self.at(i).task_in(k, label, room)
+    }
+
+    /// Notes the next tile, which is the k-th of the i-th session, as posted.
+    pub(crate) fn post(&mut self, i: usize, k: usize)
+        requires { IsNextTile self.old i k }
+        ensures posted { (name : List ℕ) → slice_get (names self.old) i ≡ Some name
+            → self.new ≡ changed name with_posted self.old }
         ensures user { user_of self.new ≡ user_of self.old }
     {
-        let Some(session) = self.sessions.get_mut(name) else {
+        let Some(session) = self.sessions.get_index_mut(i) else {
             return;
         };
-        session.post();
+        session.post(k);
     }
 
     /// Takes in the result of a tile that a session's open step awaits. At another nothing changes.

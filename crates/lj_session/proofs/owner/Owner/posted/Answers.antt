@@ -1,4 +1,6 @@
-use Rattle.std.proofs.Common.{◌∙◌, ap, subst, sym}
+use Rattle.std.proofs.Common.{◌≡◌, ◌∙◌, ap, subst, sym}
+use Rattle.lj_session.specs.KeptOwners.{owning_of}
+use Rattle.lj_session.specs.Owners.{Owning, changed_in, with_state, with_task_posted}
 use Rattle.lj_session.specs.States.{Owned, IsAtWork, owed_in, with_posted}
 use Rattle.lj_session.proofs.AtWork.{at_work-posted, owed-posted}
 use Rattle.lj_session.proofs.Owing.{owed-changed, turns-kept, turns-some}
@@ -7,10 +9,26 @@ use Rattle.lj_session.proofs.owner.Owner.posted.Goals as goal
 pub invariant_of-self : goal.invariant_of-self
 invariant_of-self c =
     let old = c.self.inside.state in
-    let waiting = c.self.inside.waiting in record {
-      at_work = subst (λ (owned : Owned). IsAtWork waiting owned) (sym c.post.ensures.posted)
-          (at_work-posted waiting old c.in-Some.name c.self.invariant.at_work);
+    let waiting = c.self.inside.waiting in
+    let next = c.in-Some.ensures.some in
+    let posted = c.post.ensures.posted next.name next.named in record {
+      at_work = subst (λ (owned : Owned). IsAtWork waiting owned) (sym posted)
+          (at_work-posted waiting old next.name c.self.invariant.at_work);
       some = turns-some waiting old c.post.new.self (λ command is. turns-kept old c.post.new.self command c.post.ensures.user
-          (λ name waits. ap (λ (owned : Owned). owed_in owned name) c.post.ensures.posted
-          ∙ owed-changed old c.in-Some.name with_posted owed-posted name)) c.self.invariant.some;
+          (λ name waits. ap (λ (owned : Owned). owed_in owned name) posted
+          ∙ owed-changed old next.name with_posted owed-posted name)) c.self.invariant.some;
     }
+
+pub returns-in-Some-clause-noted : goal.returns-in-Some-clause-noted
+returns-in-Some-clause-noted c =
+    let old = c.self.inside in
+    let next = c.in-Some.ensures.some in
+    ap (λ (owned : Owned). with_state owned (owning_of old)) (c.post.ensures.posted next.name next.named
+    ∙ sym (ap (λ o. changed_in o with_posted old.state) (next.first old.user)))
+    ∙ ap with_task_posted c.self.view_is
+
+pub returns-in_default-clause-noted : goal.returns-in_default-clause-noted
+returns-in_default-clause-noted c =
+    let old = c.self.inside in
+    subst (λ (owner : Owning). owner ≡ with_task_posted owner) c.self.view_is
+    (sym (ap (λ o. with_state (changed_in o with_posted old.state) (owning_of old)) (c.in_default.ensures.none old.user)))

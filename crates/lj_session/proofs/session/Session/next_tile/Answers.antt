@@ -33,3 +33,6 @@ returns-then-awaits-clause-value c =
     let at = (goal.at.returns-then-awaits-clause-value c).After-awaits in
     find-here (awaits_tile now.live) c.loop-i.i (tiles_of now.live) (next_tile now) (below at)
     (awaited at ∙ c.if-awaits.true) c.loop-i.invariant
+
+pub returns-then-awaits-clause-below : goal.returns-then-awaits-clause-below
+returns-then-awaits-clause-below c = below (goal.at.returns-then-awaits-clause-below c).After-awaits

@@ -1,0 +1,96 @@
+-- The next tile: that of the first session, in order of loading, that has one which is neither posted nor in.
+use Rattle.std.proofs.Common.{◌≡◌, ℕ, ◌+◌, ◌<◌, List, length, slice_get, Option, Some, None, refl, sym, ap, ◌∙◌, subst}
+use Rattle.std.proofs.lemmas.List.{length-map}
+use Rattle.std.proofs.lemmas.Option.{slice_get-map}
+use Rattle.std.specs.Prelude.{Bool, is_some}
+use Rattle.std.specs.List.{IsDistinct}
+use Rattle.std.specs.Option.{option_map}
+use Rattle.std.specs.Str.{bytes_eq}
+use Rattle.lj_tile.specs.declared.names.Label.{Label}
+use Rattle.lj_step.specs.OpenSteps.{tiles_of}
+use Rattle.lj_session.specs.States.{Held, Owned, IsNextTile, first_with_task, names, held_at, held_in, next_of, next_task, next_tile}
+use Rattle.lj_session.proofs.Firsts.{NoneBefore, none-first, none-next, find-at, find-nowhere}
+use Rattle.lj_session.proofs.Holding.{held-there}
+use Rattle.lj_session.proofs.Tiles.{found-task}
+
+-- whether the session of a name has a task of a user
+abbrev pub has_task : Owned → ℕ → List ℕ → Bool
+has_task owned user name = is_some (next_task owned (record { user = user; session = name }))
+
+-- none of the first so many sessions has one, whatever the user
+abbrev pub NoTaskBefore : Owned → ℕ → Type 0
+NoTaskBefore owned i = (user : ℕ) → NoneBefore (has_task owned user) (names owned) i
+
+has-task : (owned : Owned) (user : ℕ) (name : List ℕ) (held : Held) → held_in owned name ≡ Some held
+    → has_task owned user name ≡ is_some (next_tile held)
+has-task owned user name held there =
+    let label : Label = record { user = user; session = name } in
+    ap (λ o. is_some (next_of label o)) there ∙ found-task held label
+
+-- where a session stands, its name does
+record Stands (owned : Owned) (i : ℕ) (held : Held) : Type 0 where
+  name : List ℕ
+  named : slice_get (names owned) i ≡ Some name
+  there : held_in owned name ≡ Some held
+
+module _ (owned : Owned) (distinct : IsDistinct bytes_eq (names owned)) (i : ℕ) (held : Held)
+    (at : held_at owned i ≡ Some held) where
+  stands : Stands owned i held
+  stands = by (slice_get owned.sessions i) refl
+    where
+      none_some : None ≡ Some held → ⊥
+      none_some e = cc
+
+      by : (o : Option (List ℕ × Held)) → slice_get owned.sessions i ≡ o → Stands owned i held
+      by None e = absurd (none_some (sym (ap (option_map (λ entry. entry.1)) e) ∙ at))
+      by (Some (key, value)) e =
+          let named = slice_get-map (λ entry. entry.0) owned.sessions i ∙ ap (option_map (λ entry. entry.0)) e in
+          record { name = key; named = named; there = held-there owned distinct i key held named at }
+
+  pub next-here : (k : ℕ) → i < length owned.sessions → next_tile held ≡ Some k → k < tiles_of held.live
+      → NoTaskBefore owned i → IsNextTile owned i k
+  next-here k within tile below before = record {
+    within = within;
+    name = stands.name;
+    named = stands.named;
+    held = held;
+    at = at;
+    there = stands.there;
+    tile = tile;
+    below = below;
+    first = λ user. find-at (has_task owned user) (names owned) i stands.name stands.named
+        (has-task owned user stands.name held stands.there ∙ ap is_some tile) (before user);
+  }
+
+  pub next-on : next_tile held ≡ None → NoTaskBefore owned i → NoTaskBefore owned (i + 1)
+  next-on none before user = none-next (has_task owned user) (names owned) i stands.name stands.named
+      (has-task owned user stands.name held stands.there ∙ ap is_some none) (before user)
+
+pub next-first : (owned : Owned) → NoTaskBefore owned 0
+next-first owned user = none-first (has_task owned user) (names owned)
+
+pub next-nowhere : (owned : Owned) (i : ℕ) → i ≡ length owned.sessions → NoTaskBefore owned i
+    → (user : ℕ) → first_with_task owned user ≡ None
+next-nowhere owned i end before user =
+    find-nowhere (has_task owned user) (names owned)
+    (subst (NoneBefore (has_task owned user) (names owned)) (end ∙ sym (length-map owned.sessions (λ entry. entry.0)))
+    (before user))
+
+module _ {owned : Owned} {i k : ℕ} (next : IsNextTile owned i k) where
+  pub next-held : (held : Held) → held_at owned i ≡ Some held → held ≡ next.held
+  next-held held at = same held next.held (sym at ∙ next.at)
+    where
+      same : (a b : Held) → Some a ≡ Some b → a ≡ b
+      same a b e = cc
+
+  pub next-name : (name : List ℕ) → slice_get (names owned) i ≡ Some name → next.name ≡ name
+  next-name name named = same next.name name (sym next.named ∙ named)
+    where
+      same : (a b : List ℕ) → Some a ≡ Some b → a ≡ b
+      same a b e = cc
+
+  -- the next task is that of the session that stands there
+  pub next-of : (held : Held) → held_at owned i ≡ Some held → (label : Label)
+      → slice_get (names owned) i ≡ Some label.session → next_task owned label ≡ next_of label (Some held)
+  next-of held at label named = ap (next_of label) (ap (held_in owned) (sym (next-name label.session named))
+      ∙ next.there ∙ ap (λ (h : Held). Some h) (sym (next-held held at)))
