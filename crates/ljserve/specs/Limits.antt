@@ -5,8 +5,8 @@ use Rattle.lj_pool.specs.declared.pool.TheConstants.{MAX_OWED}
 use Rattle.lj_queue.specs.declared.hall.TheConstants.{USERS}
 use Rattle.lj_queue.specs.declared.pool.TheConstants.{CONNECTIONS}
 use Rattle.lj_world.specs.declared.limits.TheConstants as world
-use Rattle.ljserve.specs.declared.limits.TheConstants.{MAX_ATOMS, MAX_BRANCHES, MAX_CONNECTIONS, MAX_SESSIONS, MAX_WORKERS}
-use Rattle.ljserve.specs.declared.seats.TheConstants.{MAX_OPEN}
+use Rattle.ljserve.specs.declared.option_limits.TheConstants.{MAX_ATOMS, MAX_BRANCHES, MAX_CONNECTIONS, MAX_SESSIONS, MAX_WORKERS}
+use Rattle.ljserve.specs.declared.serve.seats.TheConstants.{MAX_OPEN}
 
 -- a quota has at most 64 sessions
 most_sessions : MAX_SESSIONS ≡ 64

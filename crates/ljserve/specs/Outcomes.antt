@@ -4,18 +4,18 @@ use Rattle.lj_pool.specs.declared.engine.served.Served.{Served}
 use Rattle.lj_pool.specs.declared.engine.served.Served.TheVariants.{End, Bye, Ended, ReadFault, WriteFault, PoolClosed, TooManyStrays}
 use Rattle.clap.specs.declared.error.kind.ErrorKind.{ErrorKind}
 use Rattle.clap.specs.declared.error.kind.ErrorKind.TheVariants.{DisplayHelp, DisplayVersion, OutOfMemory}
-use Rattle.ljserve.specs.declared.fault.Fault.{Fault}
-use Rattle.ljserve.specs.declared.fault.Fault.TheVariants.{Run, Replay, Serve, Unreadable}
-use Rattle.ljserve.specs.declared.fault.ReplayFault.{ReplayFault}
-use Rattle.ljserve.specs.declared.fault.ReplayFault.TheVariants as replays
-use Rattle.ljserve.specs.declared.fault.ServeFault.{ServeFault}
-use Rattle.ljserve.specs.declared.fault.ServeFault.TheVariants as serves
-use Rattle.ljserve.specs.declared.fault.UsersFault.{UsersFault}
-use Rattle.ljserve.specs.declared.fault.UsersFault.TheVariants as users
-use Rattle.ljserve.specs.declared.fault.ScheduleFault.{ScheduleFault}
-use Rattle.ljserve.specs.declared.fault.ScheduleFault.TheVariants as schedules
-use Rattle.ljserve.specs.declared.fault.RunFault.{RunFault}
-use Rattle.ljserve.specs.declared.fault.RunFault.TheVariants.{Read, Write, Memory}
+use Rattle.ljserve.specs.declared.program_fault.Fault.{Fault}
+use Rattle.ljserve.specs.declared.program_fault.Fault.TheVariants.{Run, Replay, Serve, Unreadable}
+use Rattle.ljserve.specs.declared.program_fault.ReplayFault.{ReplayFault}
+use Rattle.ljserve.specs.declared.program_fault.ReplayFault.TheVariants as replays
+use Rattle.ljserve.specs.declared.program_fault.ServeFault.{ServeFault}
+use Rattle.ljserve.specs.declared.program_fault.ServeFault.TheVariants as serves
+use Rattle.ljserve.specs.declared.program_fault.UsersFault.{UsersFault}
+use Rattle.ljserve.specs.declared.program_fault.UsersFault.TheVariants as users
+use Rattle.ljserve.specs.declared.program_fault.ScheduleFault.{ScheduleFault}
+use Rattle.ljserve.specs.declared.program_fault.ScheduleFault.TheVariants as schedules
+use Rattle.ljserve.specs.declared.program_fault.RunFault.{RunFault}
+use Rattle.ljserve.specs.declared.program_fault.RunFault.TheVariants.{Read, Write, Memory}
 
 -- what a run comes to that has ended so, and whose replies are written; its pool never gives up
 abbrev pub ComesTo : Served → Result (Unit {0}) RunFault → Type 0

@@ -1,11 +1,11 @@
 //! The words of the command line.
 ghost use Rattle.std.specs.Prelude.{◌≡◌, ◌↔◌, codes, IfOk};
-ghost use Rattle.ljserve.specs.declared.hub.Kept.TheVariants.{Queue};
+ghost use Rattle.ljserve.specs.declared.serve.hub.Kept.TheVariants.{Queue};
 ghost use Rattle.clap.specs.Values.{kind_of};
 ghost use Rattle.clap.specs.declared.error.kind.ErrorKind.TheVariants.{InvalidValue};
 
-use crate::hub::Kept;
-use crate::limits::{MAX_ATOMS, MAX_BRANCHES, MAX_CONNECTIONS, MAX_SESSIONS, MAX_WORKERS};
+use crate::option_limits::{MAX_ATOMS, MAX_BRANCHES, MAX_CONNECTIONS, MAX_SESSIONS, MAX_WORKERS};
+use crate::serve::Kept;
 use clap::error::ErrorKind;
 use clap::{Arg, ArgMatches, Command, Error, value_parser};
 use lj_quota::Quota;

@@ -8,34 +8,26 @@ ghost use Rattle.clap.specs.declared.error.kind.ErrorKind.TheVariants.{OutOfMemo
 ghost use Rattle.ljserve.specs.Outcomes.{exit_of, usage_status};
 
 mod arguments;
-mod door;
-mod ends;
-mod fault;
-mod happening;
-mod hub;
-mod limits;
-mod lock_hub;
-mod queue_hub;
+mod held_replies;
+mod input;
+mod option_limits;
+mod program_fault;
 mod replay;
 mod run;
-mod schedule;
-mod seats;
-mod server;
-mod text;
-mod users;
-mod visit;
+mod serve;
 
 use arguments::{Job, Service, no_text, parse_arguments};
 use clap::Error;
 use clap::error::ErrorKind;
-use ends::Outlet;
-use fault::{Fault, ReplayFault, RunFault, ServeFault};
+use held_replies::Outlet;
+use input::read_users;
 use lj_quota::Quota;
 use log::sink::Discard;
 use log::{LevelFilter, Log, Logged};
+use program_fault::{Fault, ReplayFault, RunFault, ServeFault};
 use replay::replay;
 use run::run;
-use server::serve_on;
+use serve::serve_on;
 use std::alloc::{AllocError, Global};
 use std::net::{Net, TcpListener, TcpStream};
 use std::process::ExitCode;
@@ -43,7 +35,6 @@ use std::rt::{Clock, Files};
 use std::sync::Wait;
 use std::thread::Threads;
 use std::{env, fs, io};
-use users::read_users;
 
 fn main(rt: HostRuntime) -> ExitCode {
     let words: Vec<String> = match words_of(&rt) {

@@ -3,10 +3,13 @@ ghost use Rattle.std.specs.Prelude.{◌≡◌, ◌≢◌, ◌++◌, IfOk, IfErr,
 ghost use Rattle.lj_access.specs.Users as listed;
 ghost use Rattle.lj_wire.specs.Ends.{Rises};
 ghost use Rattle.ljserve.specs.Printed.{printed, printed_among, printed_entry, IsPrintedRun, WritesRun, BeginsRun};
-ghost use Rattle.ljserve.specs.declared.fault.ReplayFault.TheVariants.{Write as WriteFailed};
+ghost use Rattle.ljserve.specs.declared.program_fault.ReplayFault.TheVariants.{Write as WriteFailed};
 
-use crate::fault::ReplayFault;
-use crate::schedule::{Schedule, read_schedule};
+mod event_lines;
+mod schedule;
+
+use crate::program_fault::ReplayFault;
+use crate::replay::schedule::{Schedule, read_schedule};
 use bstr::ByteSlice;
 use itoa::Buffer;
 use lj_access::User;

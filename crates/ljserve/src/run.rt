@@ -4,8 +4,8 @@ ghost use Rattle.ljserve.specs.Conversations.{Converses};
 ghost use Rattle.ljserve.specs.Outcomes.{ComesTo};
 ghost use Rattle.lj_pool.specs.declared.engine.served.Served.TheVariants.{PoolClosed, TooManyStrays};
 
-use crate::ends::{Commands, Replies};
-use crate::fault::RunFault;
+use crate::held_replies::{Commands, Replies};
+use crate::program_fault::RunFault;
 use lj_pool::{InlinePool, Served, serve};
 use lj_quota::Quota;
 use lj_session::UserState;

@@ -1,5 +1,5 @@
 use Rattle.std.proofs.Common.{◌≤◌, ◌-◌, length}
-use Rattle.ljserve.proofs.users.read_users.Given as goal
+use Rattle.ljserve.proofs.replay.schedule.read_schedule.Given as goal
 
 abbrev pub invariant-loop-at : goal.invariant-loop-at
 invariant-loop-at l = l.at ≤ length l.bytes

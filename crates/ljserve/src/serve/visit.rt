@@ -2,10 +2,10 @@
 ghost use Rattle.std.specs.Prelude.{◌≡◌};
 ghost use Rattle.lj_wire.specs.declared.reader.phase.Phase.TheVariants.{Open};
 
-use crate::door::Door;
-use crate::ends::{Commands, Replies};
-use crate::hub::Hub;
-use crate::seats::Seats;
+use crate::held_replies::{Commands, Replies};
+use crate::serve::door::Door;
+use crate::serve::hub::Hub;
+use crate::serve::seats::Seats;
 use lj_access::{Denied, Directory, Ticket};
 use lj_pool::Served;
 use lj_session::{Refusal, UserState};

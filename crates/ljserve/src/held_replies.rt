@@ -1,9 +1,9 @@
 //! The ends of a conversation: what was replied is sent before more input is waited for.
 ghost use Rattle.std.specs.Prelude.{◌≡◌, ◌<◌, ◌≤◌, ℕ, [], None, length, take, IfOk, IfErr, OnOk, OnErr};
 ghost use Rattle.std.specs.Io.KnownBytes.{Appends, Keeps, append_known};
-ghost use Rattle.ljserve.specs.declared.fault.RunFault.TheVariants.{Memory};
+ghost use Rattle.ljserve.specs.declared.program_fault.RunFault.TheVariants.{Memory};
 
-use crate::fault::RunFault;
+use crate::program_fault::RunFault;
 use lj_wire::{ReadFault, Sink, Source, WriteFault, put_all};
 use std::alloc::Global;
 use std::cell::{Cell, RefCell};

@@ -1,5 +1,5 @@
 use Rattle.std.proofs.Common.{◌+◌}
-use Rattle.ljserve.proofs.server.serve_on.Given as goal
+use Rattle.ljserve.proofs.serve.server.serve_on.Given as goal
 
 abbrev pub ghosts-serve_by_lock : goal.ghosts-serve_by_lock
 ghosts-serve_by_lock g a = record { name = a.blank.name; parts = a.blank.parts }

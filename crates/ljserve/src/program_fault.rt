@@ -2,10 +2,10 @@
 ghost use Rattle.std.specs.Prelude.{◌≡◌};
 ghost use Rattle.ljserve.specs.Outcomes.{status_of, run_status_of, replay_status_of, replay_fault_of};
 ghost use Rattle.ljserve.specs.Outcomes.{serve_status_of, serve_fault_of};
-ghost use Rattle.ljserve.specs.declared.fault.Fault.TheVariants.{Run, Replay, Serve};
-ghost use Rattle.ljserve.specs.declared.fault.LineFault.TheVariants.{Memory as LineMemory};
-ghost use Rattle.ljserve.specs.declared.fault.ReplayFault.TheVariants.{Memory, Write};
-ghost use Rattle.ljserve.specs.declared.fault.ServeFault.TheVariants.{Memory as NoMemory};
+ghost use Rattle.ljserve.specs.declared.program_fault.Fault.TheVariants.{Run, Replay, Serve};
+ghost use Rattle.ljserve.specs.declared.program_fault.LineFault.TheVariants.{Memory as LineMemory};
+ghost use Rattle.ljserve.specs.declared.program_fault.ReplayFault.TheVariants.{Memory, Write};
+ghost use Rattle.ljserve.specs.declared.program_fault.ServeFault.TheVariants.{Memory as NoMemory};
 
 use lj_wire::WriteFault;
 use lj_world::OutOfMemory;

@@ -1,7 +1,7 @@
 use Rattle.std.proofs.Common.{arith, rules}
 use Rattle.std.proofs.lemmas.List.{length_push}
 use Rattle.lj_access.proofs.UserLemmas.{IsDistinct-names_push}
-use Rattle.ljserve.proofs.users.Users.add.Goals as goal
+use Rattle.ljserve.proofs.input.user_lines.Users.add.Goals as goal
 
 pub invariant_of-self-2 : goal.invariant_of-self-2
 invariant_of-self-2 c = rw (c.in_ok-push.ensures.items) record {

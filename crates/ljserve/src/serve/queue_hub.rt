@@ -1,7 +1,7 @@
 //! A pool with a queue as a server has it.
 ghost use Rattle.std.specs.Prelude.{◌≡◌, ◌+◌};
 
-use crate::hub::Hub;
+use crate::serve::hub::Hub;
 use lj_pool::{Served, Share, serve_lines};
 use lj_queue::{CONNECTIONS, PoolPass, QueueBlank, QueuePool, Room, Settled, gather, work_queue};
 use lj_session::UserState;

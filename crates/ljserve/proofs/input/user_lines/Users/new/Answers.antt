@@ -1,6 +1,6 @@
 use Rattle.std.proofs.Common.{arith}
 use Rattle.std.specs.List.{IsDistinct}
-use Rattle.ljserve.proofs.users.Users.new.Goals as goal
+use Rattle.ljserve.proofs.input.user_lines.Users.new.Goals as goal
 
 pub invariant_of-result : goal.invariant_of-result
 unfolding IsDistinct

@@ -2,10 +2,9 @@
 ghost use Rattle.std.specs.Prelude.{◌≤◌, ◌<◌, length, IfOk};
 ghost use Rattle.ljserve.specs.Named.{AreUsers};
 
-use crate::fault::{LineFault, ScheduleFault};
-use crate::happening::{parse_arrival, parse_event, parse_loss};
-use crate::text::{first_line, line_after, line_after_all};
-use crate::users::Users;
+use crate::input::{Users, first_line, line_after, line_after_all};
+use crate::program_fault::{LineFault, ScheduleFault};
+use crate::replay::event_lines::{parse_arrival, parse_event, parse_loss};
 use lj_access::User;
 use lj_session::{Body, Command, LoadBody};
 use lj_wire::{Item, LineReading, Words, read_line};

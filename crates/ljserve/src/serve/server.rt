@@ -2,11 +2,11 @@
 ghost use Rattle.std.specs.Prelude.{◌≡◌, ◌+◌, ◌≤◌, length};
 ghost use Rattle.ljserve.specs.Named.{AreUsers};
 
-use crate::hub::{Hub, Kept};
-use crate::lock_hub::LockHub;
-use crate::queue_hub::QueueHub;
-use crate::seats::MAX_OPEN;
-use crate::visit::Server;
+use crate::serve::hub::{Hub, Kept};
+use crate::serve::lock_hub::LockHub;
+use crate::serve::queue_hub::QueueHub;
+use crate::serve::seats::MAX_OPEN;
+use crate::serve::visit::Server;
 use lj_access::{Directory, User};
 use lj_queue::{CONNECTIONS, QueueBlank, Room};
 use lj_world::OutOfMemory;

@@ -1,7 +1,7 @@
 //! A pool behind a lock as a server has it.
 ghost use Rattle.std.specs.Prelude.{◌≡◌};
 
-use crate::hub::Hub;
+use crate::serve::hub::Hub;
 use lj_book::Counts;
 use lj_pool::{LockPool, Served, Share, gather, serve_lines, work};
 use lj_session::UserState;

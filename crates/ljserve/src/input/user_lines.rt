@@ -2,9 +2,9 @@
 ghost use Rattle.std.specs.Prelude.{◌≡◌, ◌↔◌, ◌≤◌, [], length, IsTrue, IfOk, IfSome, OnErr};
 ghost use Rattle.ljserve.specs.Named.{AreUsers};
 
-use crate::fault::{LineFault, UsersFault};
-use crate::limits::{MAX_ATOMS, MAX_BRANCHES, MAX_SESSIONS};
-use crate::text::{first_line, line_after, line_after_all};
+use crate::input::text::{first_line, line_after, line_after_all};
+use crate::option_limits::{MAX_ATOMS, MAX_BRANCHES, MAX_SESSIONS};
+use crate::program_fault::{LineFault, UsersFault};
 use lj_access::{MAX_USERS, Token, User, is_named};
 use lj_fixed::parse_number;
 use lj_quota::Quota;
