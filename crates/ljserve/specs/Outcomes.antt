@@ -1,24 +1,18 @@
 -- How a run of the program comes out, and its exit status.
 use Rattle.std.specs.Prelude.{◌≡◌, ℕ, Result, Ok, Err}
 use Rattle.lj_pool.specs.declared.engine.served.Served.{Served}
-use Rattle.lj_pool.specs.declared.engine.served.Served.TheVariants.{End, Bye, Ended, ReadFault, WriteFault, PoolClosed, TooManyStrays}
+use Rattle.lj_pool.specs.declared.engine.served.Served.TheVariants.{End, Bye, Ended, ReadFault, WriteFault}
+use Rattle.lj_pool.specs.declared.engine.served.Served.TheVariants.{PoolClosed, TooManyStrays}
 use Rattle.clap.specs.declared.error.kind.ErrorKind.{ErrorKind}
 use Rattle.clap.specs.declared.error.kind.ErrorKind.TheVariants.{DisplayHelp, DisplayVersion, OutOfMemory}
+use Rattle.ljserve.specs.declared.input.text.TextFault.{TextFault}
+use Rattle.ljserve.specs.declared.input.text.TextFault.TheVariants as texts
 use Rattle.ljserve.specs.declared.program_fault.Fault.{Fault}
-use Rattle.ljserve.specs.declared.program_fault.Fault.TheVariants.{Run, Replay, Serve, Unreadable}
-use Rattle.ljserve.specs.declared.program_fault.ReplayFault.{ReplayFault}
-use Rattle.ljserve.specs.declared.program_fault.ReplayFault.TheVariants as replays
-use Rattle.ljserve.specs.declared.program_fault.ServeFault.{ServeFault}
-use Rattle.ljserve.specs.declared.program_fault.ServeFault.TheVariants as serves
-use Rattle.ljserve.specs.declared.program_fault.UsersFault.{UsersFault}
-use Rattle.ljserve.specs.declared.program_fault.UsersFault.TheVariants as users
-use Rattle.ljserve.specs.declared.program_fault.ScheduleFault.{ScheduleFault}
-use Rattle.ljserve.specs.declared.program_fault.ScheduleFault.TheVariants as schedules
-use Rattle.ljserve.specs.declared.program_fault.RunFault.{RunFault}
-use Rattle.ljserve.specs.declared.program_fault.RunFault.TheVariants.{Read, Write, Memory}
+use Rattle.ljserve.specs.declared.program_fault.Fault.TheVariants.{Read, Write, Listen, Memory}
+use Rattle.ljserve.specs.declared.program_fault.Fault.TheVariants.{Unreadable, ScheduleLine, UsersLine}
 
 -- what a run comes to that has ended so, and whose replies are written; its pool never gives up
-abbrev pub ComesTo : Served → Result (Unit {0}) RunFault → Type 0
+abbrev pub ComesTo : Served → Result (Unit {0}) Fault → Type 0
 ComesTo End outcome = outcome ≡ Ok tt
 ComesTo Bye outcome = outcome ≡ Ok tt
 ComesTo Ended outcome = outcome ≡ Ok tt
@@ -27,31 +21,15 @@ ComesTo WriteFault outcome = outcome ≡ Err Write
 ComesTo PoolClosed outcome = ⊥
 ComesTo TooManyStrays outcome = ⊥
 
--- the exit status of a run that failed
-abbrev pub run_status_of : RunFault → ℕ
-run_status_of Read = 1
-run_status_of Write = 1
-run_status_of Memory = 3
-
--- the exit status of a replay that failed
-abbrev pub replay_status_of : ReplayFault → ℕ
-replay_status_of (replays.Line number) = 2
-replay_status_of replays.Memory = 3
-replay_status_of replays.Write = 1
-
--- the exit status of a server that failed
-abbrev pub serve_status_of : ServeFault → ℕ
-serve_status_of (serves.Line number) = 2
-serve_status_of serves.Memory = 3
-serve_status_of serves.Listen = 1
-serve_status_of serves.Write = 1
-
 -- the exit status of a program that failed
 abbrev pub status_of : Fault → ℕ
-status_of (Run fault) = run_status_of fault
-status_of (Replay fault) = replay_status_of fault
-status_of (Serve fault) = serve_status_of fault
+status_of Read = 1
+status_of Write = 1
+status_of Listen = 1
 status_of (Unreadable file) = 2
+status_of (ScheduleLine number) = 2
+status_of (UsersLine number) = 2
+status_of Memory = 3
 
 -- the exit status of the program
 abbrev pub exit_of : Result (Unit {0}) Fault → ℕ
@@ -59,14 +37,43 @@ exit_of (Ok done) = 0
 exit_of (Err fault) = status_of fault
 
 -- why a schedule is not replayed that is not read
-abbrev pub replay_fault_of : ScheduleFault → ReplayFault
-replay_fault_of (schedules.Line number) = replays.Line number
-replay_fault_of schedules.Memory = replays.Memory
+abbrev pub schedule_fault_of : TextFault → Fault
+schedule_fault_of (texts.Line number) = ScheduleLine number
+schedule_fault_of texts.Memory = Memory
 
 -- why a server does not serve whose users are not read
-abbrev pub serve_fault_of : UsersFault → ServeFault
-serve_fault_of (users.Line number) = serves.Line number
-serve_fault_of users.Memory = serves.Memory
+abbrev pub users_fault_of : TextFault → Fault
+users_fault_of (texts.Line number) = UsersLine number
+users_fault_of texts.Memory = Memory
+
+-- of this a run can fail
+abbrev pub IsOfRun : Fault → Type 0
+IsOfRun Read = Unit {0}
+IsOfRun Write = Unit {0}
+IsOfRun Memory = Unit {0}
+IsOfRun _ = ⊥
+
+-- of this a replay can fail whose file is read
+abbrev pub IsOfReplay : Fault → Type 0
+IsOfReplay (ScheduleLine number) = Unit {0}
+IsOfReplay Write = Unit {0}
+IsOfReplay Memory = Unit {0}
+IsOfReplay _ = ⊥
+
+-- of this a server can fail
+abbrev pub IsOfServer : Fault → Type 0
+IsOfServer (Unreadable file) = Unit {0}
+IsOfServer (UsersLine number) = Unit {0}
+IsOfServer Listen = Unit {0}
+IsOfServer Write = Unit {0}
+IsOfServer Memory = Unit {0}
+IsOfServer _ = ⊥
+
+-- of this the reading of a file can fail
+abbrev pub IsOfFile : Fault → Type 0
+IsOfFile (Unreadable file) = Unit {0}
+IsOfFile Memory = Unit {0}
+IsOfFile _ = ⊥
 
 -- the exit status where the words of the command line are no commands to run: 0 where help or the version is asked for,
 -- 3 where there is no memory, and 2 at a usage fault

@@ -1,9 +1,9 @@
 //! The ends of a conversation: what was replied is sent before more input is waited for.
 ghost use Rattle.std.specs.Prelude.{◌≡◌, ◌<◌, ◌≤◌, ℕ, [], None, length, take, IfOk, IfErr, OnOk, OnErr};
 ghost use Rattle.std.specs.Io.KnownBytes.{Appends, Keeps, append_known};
-ghost use Rattle.ljserve.specs.declared.program_fault.RunFault.TheVariants.{Memory};
+ghost use Rattle.ljserve.specs.declared.program_fault.Fault.TheVariants.{Memory};
 
-use crate::program_fault::RunFault;
+use crate::program_fault::Fault;
 use lj_wire::{ReadFault, Sink, Source, WriteFault, put_all};
 use std::alloc::Global;
 use std::cell::{Cell, RefCell};
@@ -110,7 +110,7 @@ impl<W: Write + Drop> Replies<W> {
     ///
     /// # Errors
     /// `Memory` where there is none for the replies that are held back.
-    pub fn new(alloc: Global, writer: W) -> Result<Self, RunFault>
+    pub fn new(alloc: Global, writer: W) -> Result<Self, Fault<'static>>
         ensures { IfErr result (λ fault. fault ≡ Memory) }
     {
         match Vec::with_capacity(alloc, MAX_HELD_BYTES) {
@@ -121,7 +121,7 @@ impl<W: Write + Drop> Replies<W> {
                 }),
                 failed: Cell::new(false),
             }),
-            Err(_) => Err(RunFault::Memory),
+            Err(_) => Err(Fault::Memory),
         }
     }
 

@@ -1,6 +1,6 @@
-//! Files of lines, and the users that lines give.
+//! Texts of lines, and the users that lines give.
 mod text;
 mod user_lines;
 
-pub use text::{first_line, line_after, line_after_all};
+pub use text::{FromLines, LineFault, TextFault, first_line, read_lines, without_user};
 pub use user_lines::{Users, read_users};

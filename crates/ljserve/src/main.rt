@@ -5,7 +5,7 @@ ghost use Rattle.std.specs.Prelude.{◌≡◌, ◌≢◌, ◌⊎◌, IfErr};
 ghost use Rattle.std.specs.Process.{exit_status};
 ghost use Rattle.clap.specs.Values.{kind_of};
 ghost use Rattle.clap.specs.declared.error.kind.ErrorKind.TheVariants.{OutOfMemory, InvalidValue};
-ghost use Rattle.ljserve.specs.Outcomes.{exit_of, usage_status};
+ghost use Rattle.ljserve.specs.Outcomes.{exit_of, usage_status, IsOfFile, IsOfServer};
 
 mod arguments;
 mod held_replies;
@@ -24,7 +24,7 @@ use input::read_users;
 use lj_quota::Quota;
 use log::sink::Discard;
 use log::{LevelFilter, Log, Logged};
-use program_fault::{Fault, ReplayFault, RunFault, ServeFault};
+use program_fault::Fault;
 use replay::replay;
 use run::run;
 use serve::serve_on;
@@ -53,17 +53,16 @@ fn main(rt: HostRuntime) -> ExitCode {
 }
 
 /// Answers the commands of standard input on standard output.
-fn run_input<'a>(rt: &HostRuntime, quota: Quota) -> Result<(), Fault<'a>> {
-    run(rt.alloc(), quota, rt.reader(), io::writer(rt))?;
-    Ok(())
+fn run_input(rt: &HostRuntime, quota: Quota) -> Result<(), Fault<'static>> {
+    run(rt.alloc(), quota, rt.reader(), io::writer(rt))
 }
 
 /// Replays the schedule in the file of this name on standard output.
 fn replay_file<'a>(rt: &HostRuntime, file: &'a str) -> Result<(), Fault<'a>> {
-    let bytes = read_file(rt, file, Fault::Replay(ReplayFault::Memory))?;
+    let bytes = read_file(rt, file)?;
     let mut outlet = Outlet::new(io::writer(rt));
     replay(rt.alloc(), bytes.as_slice(), &mut outlet)?;
-    outlet.flush().map_err(ReplayFault::from)?;
+    outlet.flush()?;
     Ok(())
 }
 
@@ -79,6 +78,7 @@ where
         + Clock
         + Log
         + Sync,
+    ensures { IfErr result IsOfServer }
 {
     let Service {
         address,
@@ -87,9 +87,9 @@ where
         connections,
         kept,
     } = service;
-    let bytes = read_file(rt, users, Fault::Serve(ServeFault::Memory))?;
-    let users = read_users(rt.alloc(), bytes.as_slice()).map_err(ServeFault::from)?;
-    let listener = TcpListener::bind(rt, address).map_err(|_| ServeFault::Listen)?;
+    let bytes = read_file(rt, users)?;
+    let users = read_users(rt.alloc(), bytes.as_slice()).map_err(Fault::of_users)?;
+    let listener = TcpListener::bind(rt, address).map_err(|_| Fault::Listen)?;
     let tiles = serve_on(
         rt,
         rt.alloc(),
@@ -98,21 +98,18 @@ where
         workers as usize,
         connections,
         kept,
-    )
-    .map_err(ServeFault::from)?;
-    println!(rt; "served {connections} connections, {tiles} tiles").map_err(|_| ServeFault::Write)?;
+    )?;
+    println!(rt; "served {connections} connections, {tiles} tiles").map_err(|_| Fault::Write)?;
     Ok(())
 }
 
-/// The bytes of a file, or this fault where there is no memory for them.
-fn read_file<'a, R: Files + Alloc<A = Global>>(
-    rt: &R,
-    file: &'a str,
-    no_memory: Fault<'a>,
-) -> Result<Vec<u8>, Fault<'a>> {
+/// The bytes of a file.
+fn read_file<'a, R: Files + Alloc<A = Global>>(rt: &R, file: &'a str) -> Result<Vec<u8>, Fault<'a>>
+    ensures { IfErr result IsOfFile }
+{
     match fs::read(rt, file) {
         Ok(bytes) => Ok(bytes),
-        Err(error) if error.kind() == io::ErrorKind::OutOfMemory => Err(no_memory),
+        Err(error) if error.kind() == io::ErrorKind::OutOfMemory => Err(Fault::Memory),
         Err(_) => Err(Fault::Unreadable(file)),
     }
 }
@@ -134,11 +131,11 @@ fn usage(rt: &(impl Print + Eprint), error: &Error) -> ExitCode
     ensures memory { kind_of error.now ≡ OutOfMemory → exit_status result ≡ 3 }
 {
     if error.kind() == ErrorKind::OutOfMemory {
-        return ended(rt, Err(Fault::Run(RunFault::Memory)));
+        return ended(rt, Err(Fault::Memory));
     }
     match error.print(rt) {
         Ok(()) => ExitCode::from(if error.use_stderr() { 2 } else { 0 }),
-        Err(_) => ended(rt, Err(Fault::Run(RunFault::Write))),
+        Err(_) => ended(rt, Err(Fault::Write)),
     }
 }
 

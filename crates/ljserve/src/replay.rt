@@ -2,13 +2,15 @@
 ghost use Rattle.std.specs.Prelude.{◌≡◌, ◌≢◌, ◌++◌, IfOk, IfErr, OnOk};
 ghost use Rattle.lj_access.specs.Users as listed;
 ghost use Rattle.lj_wire.specs.Ends.{Rises};
-ghost use Rattle.ljserve.specs.Printed.{printed, printed_among, printed_entry, IsPrintedRun, WritesRun, BeginsRun};
-ghost use Rattle.ljserve.specs.declared.program_fault.ReplayFault.TheVariants.{Write as WriteFailed};
+ghost use Rattle.ljserve.specs.Outcomes.{IsOfReplay};
+ghost use Rattle.ljserve.specs.Printed.{printed, printed_among, printed_entry};
+ghost use Rattle.ljserve.specs.Printed.{IsPrintedRun, WritesRun, BeginsRun};
+ghost use Rattle.ljserve.specs.declared.program_fault.Fault.TheVariants.{Write};
 
 mod event_lines;
 mod schedule;
 
-use crate::program_fault::ReplayFault;
+use crate::program_fault::Fault;
 use crate::replay::schedule::{Schedule, read_schedule};
 use bstr::ByteSlice;
 use itoa::Buffer;
@@ -22,13 +24,15 @@ use std::alloc::{AllocError, Global};
 /// number of its connection.
 ///
 /// # Errors
-/// `Line` at the first bad line of the schedule, or `Memory`: nothing was written then. `Write` where a write fails: a
-/// front of what is printed may have been written.
-pub fn replay<W: Sink>(alloc: Global, bytes: &[u8], writer: &mut W) -> Result<(), ReplayFault>
+/// `ScheduleLine` at the first bad line of the schedule, or `Memory`: nothing was written then. `Write` if a write
+/// fails: a front of what is printed may have been written.
+pub fn replay<W: Sink>(alloc: Global, bytes: &[u8], writer: &mut W) -> Result<(), Fault<'static>>
     ensures told { OnOk result (WritesRun (W.contents writer.old) (W.contents writer.new)) }
-    ensures nothing { IfErr result (λ fault. fault ≢ WriteFailed → writer.new ≡ writer.old) }
-    ensures begun { IfErr result (λ fault. fault ≡ WriteFailed → BeginsRun (W.contents writer.old) (W.contents writer.new)) }
-    ensures risen { IfErr result (λ fault. fault ≡ WriteFailed → Rises (W.faults writer.old) (W.faults writer.new)) }
+    ensures kind { IfErr result IsOfReplay }
+    ensures nothing { IfErr result (λ fault. fault ≢ Write → writer.new ≡ writer.old) }
+    ensures begun { IfErr result (λ fault. fault ≡ Write →
+        BeginsRun (W.contents writer.old) (W.contents writer.new)) }
+    ensures risen { IfErr result (λ fault. fault ≡ Write → Rises (W.faults writer.old) (W.faults writer.new)) }
 {
     let printed = printed_run(alloc, bytes)?;
     put_all(writer, printed.as_slice())?;
@@ -36,11 +40,12 @@ pub fn replay<W: Sink>(alloc: Global, bytes: &[u8], writer: &mut W) -> Result<()
 }
 
 /// What a run of a schedule prints.
-fn printed_run(alloc: Global, bytes: &[u8]) -> Result<Vec<u8>, ReplayFault>
+fn printed_run(alloc: Global, bytes: &[u8]) -> Result<Vec<u8>, Fault<'static>>
     ensures run { IfOk result (λ printed. IsPrintedRun printed.items) }
-    ensures fault { IfErr result (λ fault. fault ≢ WriteFailed) }
+    ensures kind { IfErr result IsOfReplay }
+    ensures fault { IfErr result (λ fault. fault ≢ Write) }
 {
-    let Schedule { users, events } = read_schedule(alloc, bytes)?;
+    let Schedule { users, events } = read_schedule(alloc, bytes).map_err(Fault::of_schedule)?;
     let names = names(alloc, users.as_slice())?;
     let transcript = World::run(alloc, users, events)?;
     Ok(told(alloc, names.as_slice(), transcript.entries())?)

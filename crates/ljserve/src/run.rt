@@ -1,11 +1,11 @@
 //! One user served over a reader and a writer.
-ghost use Rattle.std.specs.Prelude.{◌≡◌};
+ghost use Rattle.std.specs.Prelude.{◌≡◌, IfErr};
 ghost use Rattle.ljserve.specs.Conversations.{Converses};
-ghost use Rattle.ljserve.specs.Outcomes.{ComesTo};
+ghost use Rattle.ljserve.specs.Outcomes.{ComesTo, IsOfRun};
 ghost use Rattle.lj_pool.specs.declared.engine.served.Served.TheVariants.{PoolClosed, TooManyStrays};
 
 use crate::held_replies::{Commands, Replies};
-use crate::program_fault::RunFault;
+use crate::program_fault::Fault;
 use lj_pool::{InlinePool, Served, serve};
 use lj_quota::Quota;
 use lj_session::UserState;
@@ -27,12 +27,14 @@ pub fn run<R: Read + Drop, W: Write + Drop>(
     quota: Quota,
     reader: R,
     writer: W,
-) -> Result<(), RunFault> {
+) -> Result<(), Fault<'static>>
+    ensures { IfErr result IsOfRun }
+{
     let replies = Replies::new(alloc, writer)?;
     let commands = Commands::new(reader, &replies);
     let (served, _) = converse(alloc, quota, commands, &replies);
     if replies.flush().is_err() || replies.has_failed() {
-        return Err(RunFault::Write);
+        return Err(Fault::Write);
     }
     outcome(served)
 }
@@ -54,15 +56,15 @@ fn converse<R: Source + Drop, W: Sink>(
 }
 
 /// What a run comes to that has ended so, and whose replies are written.
-fn outcome(served: Served) -> Result<(), RunFault>
+fn outcome(served: Served) -> Result<(), Fault<'static>>
     requires never_closed { served ≡ PoolClosed → ⊥ }
     requires few_strays { served ≡ TooManyStrays → ⊥ }
     ensures { ComesTo served result }
 {
     match served {
         Served::End | Served::Bye | Served::Ended => Ok(()),
-        Served::ReadFault => Err(RunFault::Read),
-        Served::WriteFault => Err(RunFault::Write),
+        Served::ReadFault => Err(Fault::Read),
+        Served::WriteFault => Err(Fault::Write),
         Served::PoolClosed | Served::TooManyStrays => unreachable!(),
     }
 }

@@ -2,9 +2,8 @@
 ghost use Rattle.std.specs.Prelude.{◌≡◌, ◌↔◌, ◌≤◌, [], length, IsTrue, IfOk, IfSome, OnErr};
 ghost use Rattle.ljserve.specs.Named.{AreUsers};
 
-use crate::input::text::{first_line, line_after, line_after_all};
+use crate::input::text::{FromLines, LineFault, TextFault, first_line, read_lines, without_user};
 use crate::option_limits::{MAX_ATOMS, MAX_BRANCHES, MAX_SESSIONS};
-use crate::program_fault::{LineFault, UsersFault};
 use lj_access::{MAX_USERS, Token, User, is_named};
 use lj_fixed::parse_number;
 use lj_quota::Quota;
@@ -19,23 +18,14 @@ use std::marker::Model;
 ///
 /// # Errors
 /// The number of the first bad line, counted from 1; that after the last line where there is no user; or out of memory.
-pub fn read_users(alloc: Global, bytes: &[u8]) -> Result<Vec<User>, UsersFault>
+pub fn read_users(alloc: Global, bytes: &[u8]) -> Result<Vec<User>, TextFault>
     ensures users { IfOk result (λ users. AreUsers users.items) }
     ensures some { IfOk result (λ users. 1 ≤ length users.items) }
 {
     let mut users = Users::new(alloc);
-    let mut at = 0;
-    while at < bytes.len() {
-        let (before, rest) = bytes.split_at(at);
-        let (line, after) = first_line(rest);
-        match users.read(line) {
-            Ok(()) => at = bytes.len() - after.len(),
-            Err(LineFault::Form) => return Err(UsersFault::Line(line_after(before))),
-            Err(LineFault::Memory) => return Err(UsersFault::Memory),
-        }
-    }
+    read_lines(&mut users, bytes)?;
     if users.is_empty() {
-        return Err(UsersFault::Line(line_after_all(bytes)));
+        return Err(without_user(bytes));
     }
     Ok(users.into_vec())
 }
@@ -76,7 +66,7 @@ impl Users {
     }
 
     /// Adds the user that a line says, unless it has no word or begins with `#`.
-    fn read(&mut self, line: &[u8]) -> Result<(), LineFault> {
+    fn read_line(&mut self, line: &[u8]) -> Result<(), LineFault> {
         if line.starts_with(b"#") || split_word(line).is_none() {
             return Ok(());
         }
@@ -107,6 +97,14 @@ impl Users {
     {
         let Users { users } = self;
         users
+    }
+}
+
+impl FromLines for Users {
+    fn read(&mut self, bytes: &[u8]) -> Result<usize, LineFault> {
+        let (line, after) = first_line(bytes);
+        self.read_line(line)?;
+        Ok(bytes.len() - after.len())
     }
 }
 

@@ -2,8 +2,7 @@
 ghost use Rattle.std.specs.Prelude.{◌≤◌, ◌<◌, length, IfOk};
 ghost use Rattle.ljserve.specs.Named.{AreUsers};
 
-use crate::input::{Users, first_line, line_after, line_after_all};
-use crate::program_fault::{LineFault, ScheduleFault};
+use crate::input::{FromLines, LineFault, TextFault, Users, first_line, read_lines, without_user};
 use crate::replay::event_lines::{parse_arrival, parse_event, parse_loss};
 use lj_access::User;
 use lj_session::{Body, Command, LoadBody};
@@ -24,22 +23,14 @@ pub struct Schedule {
 /// # Errors
 /// The number of the first bad line, counted from 1 with the lines of bodies; that after the last line where there is
 /// no user; or out of memory.
-pub fn read_schedule(alloc: Global, bytes: &[u8]) -> Result<Schedule, ScheduleFault>
+pub fn read_schedule(alloc: Global, bytes: &[u8]) -> Result<Schedule, TextFault>
     ensures users { IfOk result (λ schedule. AreUsers schedule.users.items) }
     ensures some { IfOk result (λ schedule. 1 ≤ length schedule.users.items) }
 {
     let mut draft = Draft::new(alloc);
-    let mut at = 0;
-    while at < bytes.len() {
-        let (before, rest) = bytes.split_at(at);
-        match draft.read(rest) {
-            Ok(taken) => at += taken,
-            Err(LineFault::Form) => return Err(ScheduleFault::Line(line_after(before))),
-            Err(LineFault::Memory) => return Err(ScheduleFault::Memory),
-        }
-    }
+    read_lines(&mut draft, bytes)?;
     if draft.users.is_empty() {
-        return Err(ScheduleFault::Line(line_after_all(bytes)));
+        return Err(without_user(bytes));
     }
     Ok(Schedule {
         users: draft.users.into_vec(),
@@ -62,17 +53,6 @@ impl Draft {
             users: Users::new(alloc),
             events: Vec::new(alloc),
         }
-    }
-
-    /// Reads the first line of some bytes, with the body that it announces, and answers how many bytes these are.
-    fn read(&mut self, bytes: &[u8]) -> Result<usize, LineFault>
-        requires { 1 ≤ length bytes.now }
-        ensures bound { IfOk result (λ taken. taken ≤ length bytes.now) }
-        ensures some { IfOk result (λ taken. 0 < taken) }
-    {
-        let (line, after) = first_line(bytes);
-        let body = self.read_line(line, after)?;
-        Ok(bytes.len() - after.len() + body)
     }
 
     /// Reads a line, and answers how many of the bytes that follow it are its body.
@@ -122,6 +102,14 @@ impl Draft {
         let act = Act::Arrive(with_bytes(self.alloc, item, bytes)?);
         self.events.push(Event::At { connection, act })?;
         Ok(body)
+    }
+}
+
+impl FromLines for Draft {
+    fn read(&mut self, bytes: &[u8]) -> Result<usize, LineFault> {
+        let (line, after) = first_line(bytes);
+        let body = self.read_line(line, after)?;
+        Ok(bytes.len() - after.len() + body)
     }
 }
 
