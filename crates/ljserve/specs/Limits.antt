@@ -5,7 +5,8 @@ use Rattle.lj_pool.specs.declared.pool.TheConstants.{MAX_OWED}
 use Rattle.lj_queue.specs.declared.hall.TheConstants.{USERS}
 use Rattle.lj_queue.specs.declared.pool.TheConstants.{CONNECTIONS}
 use Rattle.lj_world.specs.declared.limits.TheConstants as world
-use Rattle.ljserve.specs.declared.option_limits.TheConstants.{MAX_ATOMS, MAX_BRANCHES, MAX_CONNECTIONS, MAX_SESSIONS, MAX_WORKERS}
+use Rattle.ljserve.specs.declared.option_limits.TheConstants.{MAX_ACCEPTED, MAX_ATOMS, MAX_BRANCHES}
+use Rattle.ljserve.specs.declared.option_limits.TheConstants.{MAX_SESSIONS, MAX_WORKERS}
 use Rattle.ljserve.specs.declared.serve.seats.TheConstants.{MAX_OPEN}
 
 -- a quota has at most 64 sessions
@@ -28,9 +29,9 @@ most_workers = refl
 most_workers_of_world : MAX_WORKERS ≡ world.MAX_WORKERS
 most_workers_of_world = refl
 
--- it accepts at most a million connections
-most_connections : MAX_CONNECTIONS ≡ 10 ^ 6
-most_connections = refl
+-- it accepts at most a million connections before it ends
+most_accepted : MAX_ACCEPTED ≡ 10 ^ 6
+most_accepted = refl
 
 -- at most 64 of them are open at once
 most_open : MAX_OPEN ≡ 64

@@ -4,7 +4,7 @@ ghost use Rattle.ljserve.specs.declared.serve.hub.Kept.TheVariants.{Queue};
 ghost use Rattle.clap.specs.Values.{kind_of};
 ghost use Rattle.clap.specs.declared.error.kind.ErrorKind.TheVariants.{InvalidValue};
 
-use crate::option_limits::{MAX_ATOMS, MAX_BRANCHES, MAX_CONNECTIONS, MAX_SESSIONS, MAX_WORKERS};
+use crate::option_limits::{MAX_ACCEPTED, MAX_ATOMS, MAX_BRANCHES, MAX_SESSIONS, MAX_WORKERS};
 use crate::serve::Kept;
 use clap::error::ErrorKind;
 use clap::{Arg, ArgMatches, Command, Error, value_parser};
@@ -134,7 +134,7 @@ fn serve_command<'a>(alloc: Global) -> Result<Command<'a>, AllocError> {
         )?
         .arg(
             required(alloc, "connections", "N")
-                .value_parser(value_parser!(u64).range(1..=MAX_CONNECTIONS as i64))
+                .value_parser(value_parser!(u64).range(1..=MAX_ACCEPTED as i64))
                 .help("How many connections are accepted before the server ends, 1 to 1000000"),
         )?
         .arg(

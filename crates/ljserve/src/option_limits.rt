@@ -1,4 +1,4 @@
-//! The most that a user or a server may be given.
+//! The most that an option of the command line, or a line of a user, may say.
 
 /// Sessions.
 pub const MAX_SESSIONS: u64 = 64;
@@ -12,5 +12,5 @@ pub const MAX_BRANCHES: u64 = 256;
 /// Threads of a server that compute.
 pub const MAX_WORKERS: u64 = 16;
 
-/// Connections that a server accepts.
-pub const MAX_CONNECTIONS: u64 = 1_000_000;
+/// Connections that a server accepts before it ends.
+pub const MAX_ACCEPTED: u64 = 1_000_000;
