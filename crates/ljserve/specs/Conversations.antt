@@ -11,8 +11,8 @@ use Rattle.lj_pool.specs.Gathering.{NoneOwed}
 use Rattle.lj_pool.specs.Counting.{StraysRise}
 use Rattle.lj_pool.specs.Served.{Serves}
 
--- What was written is the dialogue of what was read, from a user of this quota without sessions, and it ended so; at the
--- end of the input all was read. The pool never gives up.
+-- What was written is the dialogue of what was read, from a user of this quota without sessions, and it ended so;
+-- at the end of the input all was read. The pool never gives up.
 pub record Converses (served : Served) (quota : Quota) (left was is : Option (List ℕ)) : Type 0 where
   pub rest : Option (List ℕ)
   pub seen : Seen
@@ -22,9 +22,11 @@ pub record Converses (served : Served) (quota : Quota) (left was is : Option (Li
   pub never_closed : served ≡ PoolClosed → ⊥
   pub few_strays : served ≡ TooManyStrays → ⊥
 
--- What was written is the dialogue of what was read, from this state on, over an end of a pool to which nothing was owed at
--- first, and it ended so. The end then owes nothing where no step is owed to a session of the state that is handed back.
-pub record Attends (served : Served) (state : Owned) (left rest was is : Option (List ℕ)) (next : Option Owned) : Type 0 where
+-- What was written is the dialogue of what was read, from this state on, over an end of a pool to which nothing was
+-- owed at first, and it ended so. The end then owes nothing if no step is owed to a session of the state that is
+-- handed back.
+pub record Attends (served : Served) (state : Owned) (left rest was is : Option (List ℕ))
+    (next : Option Owned) : Type 0 where
   pub seen : Seen
   pub serves : Serves served state left rest was is unseen seen next
   pub closed : served ≡ PoolClosed → seen.closed ≡ true

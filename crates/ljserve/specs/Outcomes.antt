@@ -75,8 +75,8 @@ IsOfFile (Unreadable file) = Unit {0}
 IsOfFile Memory = Unit {0}
 IsOfFile _ = ⊥
 
--- the exit status where the words of the command line are no commands to run: 0 where help or the version is asked for,
--- 3 where there is no memory, and 2 at a usage fault
+-- the exit status if the words of the command line are no commands to run: 0 if help or the version is asked for,
+-- 3 if there is no memory, and 2 at a usage fault
 abbrev pub usage_status : ErrorKind → ℕ
 usage_status DisplayHelp = 0
 usage_status DisplayVersion = 0

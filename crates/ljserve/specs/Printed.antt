@@ -32,8 +32,8 @@ printed_among names entry = option_map_or (λ name. printed_entry name entry) (s
 abbrev pub printed : List (List ℕ) → List Entry → List ℕ
 printed names entries = flat_map (printed_among names) entries
 
--- These bytes are the printed transcript of a run from some users over some events, and of this run the headline holds
--- against every other.
+-- These bytes are the printed transcript of a run from some users over some events, and of this run the headline
+-- holds against every other.
 pub record IsPrintedRun (bytes : List ℕ) : Type 0 where
   pub users : List User
   pub events : List Event

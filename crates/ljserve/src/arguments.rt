@@ -174,7 +174,7 @@ fn service_of<'a>(matches: &ArgMatches<'a>) -> Option<Service<'a>> {
     })
 }
 
-/// Where tasks are kept that are kept as this word says, which is one of `POOLS`.
+/// Where tasks are kept, as this word says, which is one of `POOLS`.
 fn kept_as(word: &str) -> Kept
     ensures { (result ≡ Queue) ↔ (word.now ≡ codes "queue") }
 {

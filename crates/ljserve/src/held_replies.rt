@@ -59,8 +59,8 @@ struct Held<W> {
 }
 
 impl<W: Write> Held<W> {
-    /// Holds back some of `bytes`, and answers how many: 0 only where there are none. Where there is no room, what is
-    /// held back is sent first.
+    /// Holds back some of `bytes`, and returns how many: 0 only if there are none. If there is no room, what is held
+    /// back is sent first.
     fn hold(&mut self, bytes: &[u8]) -> Result<usize, WriteFault>
         ensures bound { IfOk result (λ n. n ≤ length bytes.now) }
         ensures some { IfOk result (λ n. 0 < length bytes.now → 0 < n) }
@@ -83,10 +83,11 @@ impl<W: Write> Held<W> {
     /// Writes what is held back, and flushes the writer. Nothing is held back then, nor after a fault.
     fn send(&mut self) -> Result<(), WriteFault>
         ensures none { self.new.bytes.items ≡ [] }
-        ensures sent { OnOk result
-            (Appends (W.contents self.old.outlet.writer) (W.contents self.new.outlet.writer) self.old.bytes.items) }
-        ensures begun { OnErr result ((n : ℕ) × (n ≤ length self.old.bytes.items) × Appends
-            (W.contents self.old.outlet.writer) (W.contents self.new.outlet.writer) (take n self.old.bytes.items)) }
+        ensures sent { OnOk result (Appends (W.contents self.old.outlet.writer)
+            (W.contents self.new.outlet.writer) self.old.bytes.items) }
+        ensures begun { OnErr result ((n : ℕ) × (n ≤ length self.old.bytes.items)
+            × Appends (W.contents self.old.outlet.writer)
+            (W.contents self.new.outlet.writer) (take n self.old.bytes.items)) }
     {
         if self.bytes.is_empty() {
             return Ok(());
@@ -109,7 +110,7 @@ impl<W: Write + Drop> Replies<W> {
     /// Writes nothing.
     ///
     /// # Errors
-    /// `Memory` where there is none for the replies that are held back.
+    /// `Memory` if there is none for the replies that are held back.
     pub fn new(alloc: Global, writer: W) -> Result<Self, Fault<'static>>
         ensures { IfErr result (λ fault. fault ≡ Memory) }
     {

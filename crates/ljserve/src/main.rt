@@ -114,7 +114,7 @@ fn read_file<'a, R: Files + Alloc<A = Global>>(rt: &R, file: &'a str) -> Result<
     }
 }
 
-/// The words of the command line. They fail where there is no memory, or where one is no text.
+/// The words of the command line. They fail if there is no memory, or if one is no text.
 fn words_of(rt: &HostRuntime) -> Result<Vec<String>, Error>
     ensures { IfErr result (λ error. (kind_of error ≡ OutOfMemory) ⊎ (kind_of error ≡ InvalidValue)) }
 {
@@ -125,7 +125,7 @@ fn words_of(rt: &HostRuntime) -> Result<Vec<String>, Error>
     }
 }
 
-/// Prints what the words of the command line are answered. Where that can't be printed, the status is 1.
+/// Prints what the words of the command line are answered. If that can't be printed, the status is 1.
 fn usage(rt: &(impl Print + Eprint), error: &Error) -> ExitCode
     ensures printed { exit_status result ≢ 1 → exit_status result ≡ usage_status (kind_of error.now) }
     ensures memory { kind_of error.now ≡ OutOfMemory → exit_status result ≡ 3 }

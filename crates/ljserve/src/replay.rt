@@ -20,19 +20,20 @@ use lj_wire::{Sink, put_all};
 use lj_world::{Entry, World};
 use std::alloc::{AllocError, Global};
 
-/// Runs a schedule in a world of its users, and prints what is replied: each line after the name of its user and the
-/// number of its connection.
+/// Runs a schedule in a world of its users, and prints what is replied: each line after the name of its user and
+/// the number of its connection.
 ///
 /// # Errors
-/// `ScheduleLine` at the first bad line of the schedule, or `Memory`: nothing was written then. `Write` if a write
-/// fails: a front of what is printed may have been written.
+/// `ScheduleLine` at the first bad line of the schedule, or `Memory`: nothing was written then. `Write` if a
+/// write fails: a front of what is printed may have been written.
 pub fn replay<W: Sink>(alloc: Global, bytes: &[u8], writer: &mut W) -> Result<(), Fault<'static>>
     ensures told { OnOk result (WritesRun (W.contents writer.old) (W.contents writer.new)) }
     ensures kind { IfErr result IsOfReplay }
     ensures nothing { IfErr result (λ fault. fault ≢ Write → writer.new ≡ writer.old) }
     ensures begun { IfErr result (λ fault. fault ≡ Write →
         BeginsRun (W.contents writer.old) (W.contents writer.new)) }
-    ensures risen { IfErr result (λ fault. fault ≡ Write → Rises (W.faults writer.old) (W.faults writer.new)) }
+    ensures risen { IfErr result (λ fault. fault ≡ Write →
+        Rises (W.faults writer.old) (W.faults writer.new)) }
 {
     let printed = printed_run(alloc, bytes)?;
     put_all(writer, printed.as_slice())?;

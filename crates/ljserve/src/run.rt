@@ -17,8 +17,8 @@ use std::io::{Read, Write};
 /// The number of the one user.
 const ONLY_USER: u8 = 0;
 
-/// Answers the commands of `reader` on `writer`, as those of one user with this quota and no sessions, until the input
-/// or the connection ends. What was replied is written before more input is waited for.
+/// Answers the commands of `reader` on `writer`, as those of one user with this quota and no sessions, until the
+/// input or the connection ends. What was replied is written before more input is waited for.
 ///
 /// # Errors
 /// `Memory` comes before anything is read.
@@ -39,8 +39,8 @@ pub fn run<R: Read + Drop, W: Write + Drop>(
     outcome(served)
 }
 
-/// Answers the items of a source on a sink, as those of one user with this quota and no sessions, until the input or
-/// the connection ends.
+/// Answers the items of a source on a sink, as those of one user with this quota and no sessions, until the input
+/// or the connection ends.
 fn converse<R: Source + Drop, W: Sink>(
     alloc: Global,
     quota: Quota,

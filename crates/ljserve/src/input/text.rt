@@ -54,7 +54,8 @@ impl<T: Drop> From<AllocFailed<T>> for LineFault {
 
 /// What is read from a text, line by line.
 pub trait FromLines {
-    /// Reads the first line of some bytes, with the body that it announces, and returns how many bytes these are.
+    /// Reads the first line of some bytes, with the body that it announces, and returns how many bytes these
+    /// are.
     fn read(&mut self, bytes: &[u8]) -> Result<usize, LineFault>
         requires { 1 ≤ length bytes.now }
         ensures bound { IfOk result (λ taken. taken ≤ length bytes.now) }
@@ -84,7 +85,8 @@ fn line_after(before: &[u8]) -> u64
     before.iter().filter(|byte| **byte == b'\n').count() as u64 + 1
 }
 
-/// The fault of a text that says no user: the number after that of its last line, which may end without a line feed.
+/// The fault of a text that says no user: the number after that of its last line, which may end without a line
+/// feed.
 pub fn without_user(bytes: &[u8]) -> TextFault {
     TextFault::Line(match bytes.last() {
         Some(b'\n') | None => line_after(bytes),
@@ -92,7 +94,8 @@ pub fn without_user(bytes: &[u8]) -> TextFault {
     })
 }
 
-/// The first line of some bytes, without its line feed, and what follows it. The last line may have no line feed.
+/// The first line of some bytes, without its line feed, and what follows it. The last line may have no line
+/// feed.
 pub fn first_line(bytes: &[u8]) -> (&[u8], &[u8])
     requires { 1 ≤ length bytes.now }
     ensures { length result.1.now < length bytes.now }

@@ -13,11 +13,11 @@ use lj_xyz::split_word;
 use std::alloc::Global;
 use std::marker::Model;
 
-/// Reads the users of a server: a line for each, with a name, a token, and how many sessions, atoms and branches. Lines
-/// without a word, and lines that begin with `#`, are passed over.
+/// Reads the users of a server: a line for each, with a name, a token, and how many sessions, atoms and branches.
+/// Lines without a word, and lines that begin with `#`, are passed over.
 ///
 /// # Errors
-/// The number of the first bad line, counted from 1; that after the last line where there is no user; or out of memory.
+/// The number of the first bad line, counted from 1; that after the last line if there is no user; or out of memory.
 pub fn read_users(alloc: Global, bytes: &[u8]) -> Result<Vec<User>, TextFault>
     ensures users { IfOk result (λ users. AreUsers users.items) }
     ensures some { IfOk result (λ users. 1 ≤ length users.items) }
@@ -77,7 +77,7 @@ impl Users {
     /// branches.
     ///
     /// # Errors
-    /// `Form` where the words say no user, the name is taken, or there are `MAX_USERS` already. Nothing has changed
+    /// `Form` if the words say no user, the name is taken, or there are `MAX_USERS` already. Nothing has changed
     /// after an error.
     pub fn add(&mut self, words: Words) -> Result<(), LineFault>
         ensures { OnErr result (self.new ≡ self.old) }
@@ -122,7 +122,7 @@ fn parse_user(mut words: Words) -> Option<User> {
     Some(user)
 }
 
-/// The number that a word says, where it is at most `most`.
+/// The number that a word says, if it is at most `most`.
 fn parse_limited(word: &[u8], most: u64) -> Option<u64>
     ensures { IfSome result (λ number. number ≤ most) }
 {

@@ -53,7 +53,7 @@ fn parse_act(verb: &[u8], mut words: Words) -> Option<Event> {
     Some(Event::At { connection, act })
 }
 
-/// The session that the next word names, or `Some(None)` where no word is left. None of a word that is no name.
+/// The session that the next word names, or `Some(None)` if no word is left. None of a word that is no name.
 fn parse_session(words: &mut Words) -> Option<Option<Name>> {
     match words.next() {
         Some(word) => Some(Some(Name::parse(word)?)),
@@ -77,14 +77,15 @@ fn parse_deed(verb: &[u8], mut words: Words) -> Option<Event> {
     Some(Event::By { worker, deed })
 }
 
-/// The connection at which an item arrives, and the line of the item: what follows the one blank after the connection.
+/// The connection at which an item arrives, and the line of the item: what follows the one blank after the
+/// connection.
 pub fn parse_arrival(words: &[u8]) -> Option<(u8, &[u8])> {
     let (connection, rest) = split_word(words)?;
     let (_blank, line) = rest.split_first()?;
     Some((parse_numbered(connection, MAX_CONNECTIONS)?, line))
 }
 
-/// The arrival of a load whose body was lost for want of memory. None where another line follows the connection.
+/// The arrival of a load whose body was lost for want of memory. None if another line follows the connection.
 pub fn parse_loss(words: &[u8]) -> Option<Event> {
     let (connection, line) = parse_arrival(words)?;
     let act = Act::Arrive(lost_load(line)?);
@@ -107,7 +108,7 @@ fn parse_pick(word: &[u8]) -> Option<usize> {
     Some(parse_number(word)? as usize)
 }
 
-/// The number that a word says, where it is one from 1 to `most`.
+/// The number that a word says, if it is one from 1 to `most`.
 fn parse_numbered(word: &[u8], most: u8) -> Option<u8>
     ensures least { IfSome result (λ number. 1 ≤ number) }
     ensures most { IfSome result (λ number. number ≤ most) }

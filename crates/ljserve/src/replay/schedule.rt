@@ -18,10 +18,11 @@ pub struct Schedule {
     pub events: Vec<Event>,
 }
 
-/// Reads a schedule: lines of users, and after these a line for each event. Lines without a word are passed over.
+/// Reads a schedule: lines of users, and after these a line for each event. Lines without a word are passed
+/// over.
 ///
 /// # Errors
-/// The number of the first bad line, counted from 1 with the lines of bodies; that after the last line where there is
+/// The number of the first bad line, counted from 1 with the lines of bodies; that after the last line if there is
 /// no user; or out of memory.
 pub fn read_schedule(alloc: Global, bytes: &[u8]) -> Result<Schedule, TextFault>
     ensures users { IfOk result (λ schedule. AreUsers schedule.users.items) }
@@ -55,7 +56,7 @@ impl Draft {
         }
     }
 
-    /// Reads a line, and answers how many of the bytes that follow it are its body.
+    /// Reads a line, and returns how many of the bytes that follow it are its body.
     fn read_line(&mut self, line: &[u8], after: &[u8]) -> Result<usize, LineFault>
         ensures { IfOk result (λ body. body ≤ length after.now) }
     {
@@ -88,8 +89,8 @@ impl Draft {
         self.users.add(words)
     }
 
-    /// An item arrives: its line stands after the connection, and its body in the next lines. Answers how many bytes the
-    /// body has.
+    /// An item arrives: its line stands after the connection, and its body in the next lines. Returns how many bytes
+    /// the body has.
     fn arrive(&mut self, words: &[u8], after: &[u8]) -> Result<usize, LineFault>
         ensures { IfOk result (λ body. body ≤ length after.now) }
     {
@@ -113,7 +114,7 @@ impl FromLines for Draft {
     }
 }
 
-/// The item with a copy of these bytes as its body, where it is a load.
+/// The item with a copy of these bytes as its body, if it is a load.
 fn with_bytes(alloc: Global, item: Item, bytes: &[u8]) -> Result<Item, AllocError> {
     if !matches!(&item, Item::Command(Command::Load(_))) {
         return Ok(item);

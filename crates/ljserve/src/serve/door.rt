@@ -38,7 +38,7 @@ impl Door {
         self.hall.lock(rt).directory.hello(name, token)
     }
 
-    /// The state of the ticket's user, once the ticket may enter. None where the door is closed.
+    /// The state of the ticket's user, once the ticket may enter. None if the door is closed.
     pub fn enter<R: Wait>(&self, rt: &R, ticket: &Ticket) -> Option<UserState> {
         let mut hall = self.hall.lock(rt);
         for _ in rt.forever() {

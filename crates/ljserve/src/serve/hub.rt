@@ -26,7 +26,8 @@ pub trait Hub: Drop {
     /// What a worker counts its results by.
     type Tools: Send + Drop;
 
-    /// Answers the lines of a user's connection over an end of the pool, and then drops what the pool has of the user.
+    /// Answers the lines of a user's connection over an end of the pool, and then drops what the pool has of the
+    /// user.
     fn serve<R: Wait, S: Source, W: Sink>(
         &self,
         rt: &R,

@@ -40,7 +40,7 @@ impl<L: Ledger> LockHub<L> {
     /// How many results the pool was given, by the tools of all its workers. Notes what became of the tasks.
     ///
     /// # Errors
-    /// Out of memory where some tools are lost, since a worker had no thread.
+    /// Out of memory if some tools are lost, since a worker had no thread.
     pub fn gather<R: Wait + Log>(
         self,
         rt: &R,

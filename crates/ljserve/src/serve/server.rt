@@ -21,12 +21,13 @@ use std::thread;
 use std::thread::Threads;
 use std::time::Duration;
 
-/// How long nothing is accepted after a connection that could not be, so that descriptors or memory may become free.
+/// How long nothing is accepted after a connection that could not be, so that descriptors or memory may become
+/// free.
 const PAUSE_MILLIS: u64 = 100;
 
-/// Serves these users on a listener, with so many workers and the tasks kept so. Each connection is served in a thread of
-/// its own, at most 64 at once; one more is closed without a byte. After `connections`, with those that were closed so,
-/// no more are accepted. Answers, once all have ended, how many tiles were computed for them.
+/// Serves these users on a listener, with so many workers and the tasks kept so. Each connection is served in a
+/// thread of its own, at most 64 at once; one more is closed without a byte. After `connections`, with those that
+/// were closed so, no more are accepted. Returns how many tiles were computed for them, once all have ended.
 ///
 /// # Errors
 /// Out of memory before anything is accepted, or no thread for a worker.
@@ -104,8 +105,8 @@ fn serve_by_queue<L: Room + Send + Sync, R: Threads + Wait + Clock + Log + Sync>
     server.hub.gather(rt, workers, tools)
 }
 
-/// Answers connections while workers compute, and then closes the pool. Answers the workers' tools; where not every
-/// worker has a thread nothing is accepted, and some tools are lost.
+/// Answers connections while workers compute, and then closes the pool. Returns the workers' tools; if a worker has
+/// no thread, nothing is accepted, and some tools are lost.
 fn run_workers<'a, H: Hub + Sync, R: Threads + Wait + Clock + Log + Sync>(
     rt: &'a R,
     server: &'a Server<H>,

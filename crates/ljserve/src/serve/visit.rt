@@ -175,8 +175,8 @@ fn tell(replies: &Written<'_>, line: &Line) -> Result<(), WriteFault> {
     replies.flush()
 }
 
-/// Tells the other end that no more is written, and waits for a while until it writes no more, so that it can read what
-/// was written last: where input was left unread, closing would take that back.
+/// Tells the other end that no more is written, and waits for a while until it writes no more, so that it can read
+/// what was written last: if input was left unread, closing would take that back.
 fn linger<R: Clock>(rt: &R, stream: &TcpStream) {
     let Ok(start) = rt.monotonic() else {
         return;

@@ -5,6 +5,8 @@ use Rattle.ljserve.proofs.input.user_lines.Users.add.Goals as goal
 
 pub invariant_of-self-2 : goal.invariant_of-self-2
 invariant_of-self-2 c = rw (c.in_ok-push.ensures.items) record {
-  most = rw (length_push c.self.inside.users.items c.in_ok-user.user) omega (arith, c.if-len-ge-MAX_USERS.false, c.len.ensures);
-  distinct = IsDistinct-names_push c.self.inside.users.items c.in_ok-user.user c.self.invariant.distinct (search rules);
+  most = rw (length_push c.self.inside.users.items c.in_ok-user.user)
+      omega (arith, c.if-len-ge-MAX_USERS.false, c.len.ensures);
+  distinct = IsDistinct-names_push c.self.inside.users.items c.in_ok-user.user
+      c.self.invariant.distinct (search rules);
 }
