@@ -36,44 +36,21 @@ pub(crate) fn parse_words(verb: Verb, words: Words) -> Option<Command>
     match verb {
         Verb::Load => parse_load(words),
         Verb::LoadMix => parse_load_mix(words),
-        Verb::Advance => {
-            let (name, steps) = name_and_number(words)?;
-            Some(Command::Advance { name, steps })
-        }
-        Verb::Start => {
-            let (name, steps) = name_and_number(words)?;
-            Some(Command::Start { name, steps })
-        }
-        Verb::Reverse => Some(Command::Reverse {
-            name: one_name(words)?,
+        Verb::Advance => name_and_number(words).map(|(name, steps)| Command::Advance {
+            name,
+            steps,
         }),
-        Verb::Branch => {
-            let (name, branch) = two_names(words)?;
-            Some(Command::Branch { name, branch })
-        }
-        Verb::Restore => {
-            let (name, branch) = two_names(words)?;
-            Some(Command::Restore { name, branch })
-        }
-        Verb::Forget => {
-            let (name, branch) = two_names(words)?;
-            Some(Command::Forget { name, branch })
-        }
+        Verb::Start => name_and_number(words).map(|(name, steps)| Command::Start { name, steps }),
+        Verb::Reverse => one_name(words).map(|name| Command::Reverse { name }),
+        Verb::Branch => two_names(words).map(|(name, branch)| Command::Branch { name, branch }),
+        Verb::Restore => two_names(words).map(|(name, branch)| Command::Restore { name, branch }),
+        Verb::Forget => two_names(words).map(|(name, branch)| Command::Forget { name, branch }),
         Verb::Tug => parse_tug(words),
-        Verb::Measure => Some(Command::Measure {
-            name: one_name(words)?,
-        }),
-        Verb::Show => {
-            let (name, atom) = name_and_number(words)?;
-            Some(Command::Show { name, atom })
-        }
-        Verb::Dump => Some(Command::Dump {
-            name: one_name(words)?,
-        }),
+        Verb::Measure => one_name(words).map(|name| Command::Measure { name }),
+        Verb::Show => name_and_number(words).map(|(name, atom)| Command::Show { name, atom }),
+        Verb::Dump => one_name(words).map(|name| Command::Dump { name }),
         Verb::List => parse_list(words),
-        Verb::Unload => Some(Command::Unload {
-            name: one_name(words)?,
-        }),
+        Verb::Unload => one_name(words).map(|name| Command::Unload { name }),
         Verb::Bye => parse_bye(words),
     }
 }
