@@ -102,7 +102,7 @@ impl Pool for InlinePool {
     fn full(&self) -> bool
         ensures { result ≡ true ↔ IsSome self.now.held }
     {
-        self.owed() == 1
+        self.is_held
     }
 
     fn closed(&self) -> bool
