@@ -7,7 +7,7 @@ use Rattle.std.proofs.Math.Seq.{map-set_same}
 use Rattle.std.proofs.lemmas.List.{length-set, length-map}
 use Rattle.std.proofs.lemmas.Simd.{map-map}
 use Rattle.lj_access.specs.declared.user.User.{User}
-use Rattle.lj_access.specs.Rows.{Row, opening, changed, changed_to}
+use Rattle.lj_access.specs.Rows.{Row, first_row, with_row_changed, with_row_changed_to}
 use Rattle.lj_access.specs.Directories.{IsDirectory}
 
 -- a fact of the row that there is holds of the row that is found
@@ -36,10 +36,10 @@ slice_get-read rows user row new change w = slice_get_read rows (length rows) us
 
 -- then the row of the user is changed
 pub changed-written : (rows : List Row) (user : ℕ) (row new : Row) (change : Row → Row) → Writes rows user row new change
-    → slice_set rows user new ≡ changed user change rows
+    → slice_set rows user new ≡ with_row_changed user change rows
 changed-written rows user row new change w =
     ap (slice_set rows user) w.written
-    ∙ sym (ap (λ o. changed_to user change o rows) (slice_get-read rows user row new change w))
+    ∙ sym (ap (λ o. with_row_changed_to user change o rows) (slice_get-read rows user row new change w))
 
 -- where the name stays, a directory stays one
 pub IsDirectory-written : (rows : List Row) (user : ℕ) (row new : Row) (change : Row → Row) → Writes rows user row new change
@@ -56,9 +56,9 @@ IsDirectory-written rows user row new change w same kept =
 
 -- users of distinct names, as they begin
 pub IsDirectory-opening : (users : List User) → 1 ≤ length users → length users ≤ 64
-    → IsDistinct bytes_eq (map (λ user. user.name) users) → IsDirectory (map opening users)
+    → IsDistinct bytes_eq (map (λ user. user.name) users) → IsDirectory (map first_row users)
 IsDirectory-opening users some most distinct = record {
-  some = omega (arith, length-map users opening);
-  most = omega (arith, length-map users opening);
-  distinct = subst (IsDistinct bytes_eq) (sym (map-map (λ (row : Row). row.name) opening users)) distinct;
+  some = omega (arith, length-map users first_row);
+  most = omega (arith, length-map users first_row);
+  distinct = subst (IsDistinct bytes_eq) (sym (map-map (λ (row : Row). row.name) first_row users)) distinct;
 }

@@ -1,7 +1,7 @@
 -- How many users there may be, how many tickets one has, and the size of a token.
 use Rattle.std.specs.Prelude.{◌≡◌, ◌^◌, refl}
 use Rattle.lj_access.specs.declared.directory.TheConstants.{MAX_USERS}
-use Rattle.lj_access.specs.declared.row.TheConstants.{MAX_TICKETS}
+use Rattle.lj_access.specs.declared.user_row.TheConstants.{MAX_TICKETS}
 use Rattle.lj_access.specs.declared.user.TheConstants.{TOKEN_BYTES}
 
 -- a directory has at most 64 users

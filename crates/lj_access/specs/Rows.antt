@@ -2,9 +2,9 @@
 use Rattle.std.specs.Prelude.{◌≡◌, ℕ, ◌+◌, ◌<◌, Bool, ◌&&◌, List, slice_get, slice_set, position, Option, Some, None, IsSome}
 use Rattle.std.specs.Option.{option_map, option_and_then}
 use Rattle.std.specs.Str.{bytes_eq}
-use Rattle.lj_session.specs.States.{Owned, empty}
+use Rattle.lj_session.specs.UserState.{UserState, empty_state}
 use Rattle.lj_access.specs.declared.user.User.{User}
-use Rattle.lj_access.specs.declared.row.TheConstants.{MAX_TICKETS}
+use Rattle.lj_access.specs.declared.user_row.TheConstants.{MAX_TICKETS}
 
 -- A user: the name, the token, how many tickets were granted, how many of them have left, and the state while it is at
 -- home. The tickets of a user are numbered from 0 in the order in which they were granted.
@@ -13,16 +13,16 @@ pub record Row : Type 0 where
   pub token : List ℕ
   pub granted : ℕ
   pub past : ℕ
-  pub home : Option Owned
+  pub home : Option UserState
 
 -- a ticket: the number of its user's row, and its number among this user's tickets
-pub record Pass : Type 0 where
+pub record Ticket : Type 0 where
   pub user : ℕ
   pub number : ℕ
 
 -- a user without tickets, whose state has no sessions
-abbrev pub opening : User → Row
-opening user = record { name = user.name; token = user.token; granted = 0; past = 0; home = Some (empty user.quota) }
+abbrev pub first_row : User → Row
+first_row user = record { name = user.name; token = user.token; granted = 0; past = 0; home = Some (empty_state user.quota) }
 
 -- whether the row is that of a user with this name and this token
 abbrev pub is_of : List ℕ → List ℕ → Row → Bool
@@ -41,7 +41,7 @@ abbrev pub next_number : List Row → ℕ → Option ℕ
 next_number rows user = option_map (λ row. row.granted) (slice_get rows user)
 
 -- the state of a user, while it is at home
-abbrev pub home_of : List Row → ℕ → Option Owned
+abbrev pub home_of : List Row → ℕ → Option UserState
 home_of rows user = option_and_then (λ row. row.home) (slice_get rows user)
 
 -- of the granted tickets that have not left, the one of this number is the first
@@ -64,17 +64,17 @@ abbrev pub with_ticket : Row → Row
 with_ticket row = record row { granted = row.granted + 1 }
 
 -- the state is not at home
-abbrev pub lent : Row → Row
-lent row = record row { home = None }
+abbrev pub without_home : Row → Row
+without_home row = record row { home = None }
 
 -- one ticket more has left, and this state is at home
-abbrev pub with_home : Owned → Row → Row
+abbrev pub with_home : UserState → Row → Row
 with_home state row = record row { past = row.past + 1; home = Some state }
 
-abbrev pub changed_to : ℕ → (Row → Row) → Option Row → List Row → List Row
-changed_to user change None rows = rows
-changed_to user change (Some row) rows = slice_set rows user (change row)
+abbrev pub with_row_changed_to : ℕ → (Row → Row) → Option Row → List Row → List Row
+with_row_changed_to user change None rows = rows
+with_row_changed_to user change (Some row) rows = slice_set rows user (change row)
 
 -- with the row of a user changed, and every other as it was
-abbrev pub changed : ℕ → (Row → Row) → List Row → List Row
-changed user change rows = changed_to user change (slice_get rows user) rows
+abbrev pub with_row_changed : ℕ → (Row → Row) → List Row → List Row
+with_row_changed user change rows = with_row_changed_to user change (slice_get rows user) rows

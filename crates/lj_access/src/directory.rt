@@ -3,13 +3,13 @@ ghost use Rattle.std.specs.Prelude.{◌≡◌, ◌↔◌, ◌<◌, ◌≤◌, le
 ghost use Rattle.std.specs.List.{IsDistinct};
 ghost use Rattle.std.specs.Option.{ForSome, option_map, option_copied};
 ghost use Rattle.std.specs.Str.{bytes_eq};
-ghost use Rattle.lj_session.specs.States.{Reached};
+ghost use Rattle.lj_session.specs.UserState.{Reached};
 ghost use Rattle.lj_access.specs.Users.{names};
-ghost use Rattle.lj_access.specs.Rows.{opening, user_with, HasTicketLeft, next_number, home_of, CanEnter, HasEntered, with_ticket, lent, with_home, changed};
+ghost use Rattle.lj_access.specs.Rows.{first_row, user_with, HasTicketLeft, next_number, home_of, CanEnter, HasEntered, with_ticket, without_home, with_home, with_row_changed};
 
-use crate::row::Row;
 use crate::ticket::{Denied, NotEntered, Ticket};
 use crate::user::User;
+use crate::user_row::Row;
 use lj_session::UserState;
 use lj_tile::Name;
 use std::alloc::{AllocError, Global};
@@ -46,7 +46,7 @@ impl Directory {
         requires some { 1 ≤ length users.items }
         requires most { length users.items ≤ MAX_USERS }
         requires distinct { IsDistinct bytes_eq (names users.items) }
-        ensures { IfOk result (λ directory. directory ≡ map opening users.items) }
+        ensures { IfOk result (λ directory. directory ≡ map first_row users.items) }
     {
         let rows = opening_rows(alloc, users)?;
         Ok(Directory { rows })
@@ -79,7 +79,8 @@ impl Directory {
             (λ user. IsSomeAnd (slice_get self.old user) HasTicketLeft) }
         ensures user { IfOk result (λ ticket. user_with self.old name.now token.now ≡ Some ticket.user) }
         ensures number { IfOk result (λ ticket. next_number self.old ticket.user ≡ Some ticket.number) }
-        ensures counted { IfOk result (λ ticket. self.new ≡ changed ticket.user with_ticket self.old) }
+        ensures counted { IfOk result
+            (λ ticket. self.new ≡ with_row_changed ticket.user with_ticket self.old) }
         ensures unchanged { OnErr result (self.new ≡ self.old) }
     {
         let user = self.user_with(name, token).ok_or(Denied)?;
@@ -93,10 +94,11 @@ impl Directory {
     /// The state of the ticket's user, where the ticket is the user's first one that has not left and the state is at
     /// home. The state is then lent to this ticket.
     pub fn try_enter(&mut self, ticket: &Ticket) -> Option<UserState>
-        ensures enters { IsSome result ↔ IsSomeAnd (slice_get self.old ticket.now.user) (CanEnter ticket.now.number) }
+        ensures enters { IsSome result
+            ↔ IsSomeAnd (slice_get self.old ticket.now.user) (CanEnter ticket.now.number) }
         ensures state { IfSome result (λ state. home_of self.old ticket.now.user ≡ Some state) }
         ensures reached { IfSome result Reached }
-        ensures lent { OnSome result (self.new ≡ changed ticket.now.user lent self.old) }
+        ensures lent { OnSome result (self.new ≡ with_row_changed ticket.now.user without_home self.old) }
         ensures unchanged { IfNone result (self.new ≡ self.old) }
     {
         if !self.can_enter(ticket) {
@@ -111,8 +113,9 @@ impl Directory {
     /// # Errors
     /// The ticket has not entered, or has already left. Both are handed back, and nothing has changed.
     pub fn leave(&mut self, ticket: Ticket, state: UserState) -> Result<(), NotEntered>
-        ensures entered { IsOk result ↔ IsSomeAnd (slice_get self.old ticket.user) (HasEntered ticket.number) }
-        ensures home { OnOk result (self.new ≡ changed ticket.user (with_home state) self.old) }
+        ensures entered { IsOk result
+            ↔ IsSomeAnd (slice_get self.old ticket.user) (HasEntered ticket.number) }
+        ensures home { OnOk result (self.new ≡ with_row_changed ticket.user (with_home state) self.old) }
         ensures ticket { IfErr result (λ refused. refused.ticket ≡ ticket) }
         ensures state { IfErr result (λ refused. refused.state ≡ state) }
         ensures unchanged { OnErr result (self.new ≡ self.old) }
@@ -132,7 +135,8 @@ impl Directory {
     }
 
     fn can_enter(&self, ticket: &Ticket) -> bool
-        ensures { IsTrue result ↔ IsSomeAnd (slice_get self.now ticket.now.user) (CanEnter ticket.now.number) }
+        ensures { IsTrue result
+            ↔ IsSomeAnd (slice_get self.now ticket.now.user) (CanEnter ticket.now.number) }
     {
         match self.rows.get(usize::from(ticket.user())) {
             Some(row) => row.can_enter(ticket.number()),
@@ -141,7 +145,8 @@ impl Directory {
     }
 
     fn has_entered(&self, ticket: &Ticket) -> bool
-        ensures { IsTrue result ↔ IsSomeAnd (slice_get self.now ticket.now.user) (HasEntered ticket.now.number) }
+        ensures { IsTrue result
+            ↔ IsSomeAnd (slice_get self.now ticket.now.user) (HasEntered ticket.now.number) }
     {
         match self.rows.get(usize::from(ticket.user())) {
             Some(row) => row.has_entered(ticket.number()),
@@ -151,7 +156,7 @@ impl Directory {
 }
 
 fn opening_rows(alloc: Global, users: Vec<User>) -> Result<Vec<Row>, AllocError>
-    ensures { IfOk result (λ rows. rows.items ≡ map opening users.items) }
+    ensures { IfOk result (λ rows. rows.items ≡ map first_row users.items) }
 {
     users
         .into_iter()

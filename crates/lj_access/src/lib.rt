@@ -2,12 +2,12 @@
 #![tactic(auto)]
 
 mod directory;
-mod row;
 mod ticket;
 mod user;
+mod user_row;
 
 pub use directory::{Directory, MAX_USERS};
 pub use lj_tile::Name;
-pub use row::MAX_TICKETS;
 pub use ticket::{Denied, NotEntered, Ticket};
 pub use user::{TOKEN_BYTES, Token, User, is_named};
+pub use user_row::MAX_TICKETS;

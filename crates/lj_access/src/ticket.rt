@@ -14,9 +14,9 @@ pub struct Ticket {
 }
 
 impl Model for Ticket {
-    ghost use Rattle.lj_access.specs.Rows.{Pass};
+    ghost use Rattle.lj_access.specs.Rows.{Ticket};
 
-    ghost Value = { Pass };
+    ghost Value = { Ticket };
 
     ghost view = { λ ticket. record { user = ticket.user; number = ticket.number } };
 }

@@ -7,7 +7,7 @@ use Rattle.slab.specs.Slab.{Slab, Updates, get, slab_len}
 use Rattle.lj_book.specs.declared.entries.TheConstants.{MAX_ENTRIES}
 use Rattle.lj_book.specs.declared.marks.Mark.{Mark}
 use Rattle.lj_book.specs.declared.marks.Mark.TheVariants.{Vacant}
-use Rattle.lj_book.specs.Held.{Entry, IsBook, mark_of, waiting}
+use Rattle.lj_book.specs.Book.{Entry, IsBook, mark_of, waiting_count}
 use Rattle.lj_book.specs.Marks.{HasMark, mark_at}
 use Rattle.lj_book.specs.Picks.{IsPick}
 
@@ -47,7 +47,7 @@ module _ (slab : Slab Entry) (marks : List Mark) (marked : (k : ℕ) → mark_at
 
     pub changed_book : length marks ≡ slab.capacity → MAX_ENTRIES ≤ slab.capacity → new.capacity ≡ slab.capacity
         → (posted given fetched withdrawn : ℕ) → posted ≡ fetched + withdrawn + slab_len new
-        → given + waiting new.slots ≤ posted → slab_len new ≤ MAX_ENTRIES
+        → given + waiting_count new.slots ≤ posted → slab_len new ≤ MAX_ENTRIES
         → IsBook new (slice_set marks key mark) posted given fetched withdrawn
     changed_book keys room capacity posted given fetched withdrawn balance waits most = record {
       balance = balance;

@@ -1,5 +1,5 @@
 pub mod Picks
 pub mod Marks
-pub mod Held
+pub mod Book
 pub mod Rooms
 pub mod Limits

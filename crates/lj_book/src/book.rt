@@ -1,11 +1,11 @@
 //! The book.
 ghost use Rattle.std.specs.Prelude.{◌≡◌, true, false, ◌≤◌, ◌<◌, ◌+◌, ◌-◌, ◌^◌, ◌↔◌, ◌⊎◌, ℕ, List, [], Some, IsOk, OnOk, OnErr, IfOk, IfErr, IfSome, IfNone, IsTrue};
 ghost use Rattle.lj_book.specs.Picks.{IsPick};
-ghost use Rattle.lj_book.specs.Held.{Held, Entry, at, standing, IsOpenAt, IsDoneAt, Posts, Takes, Gives, HandsBack, Fetches, Withdraws, WithdrawsAt};
+ghost use Rattle.lj_book.specs.Book.{Book, Entry, entry_at, entry_count, IsOpenAt, IsDoneAt, Posts, Takes, Gives, HandsBack, Fetches, Withdraws, WithdrawsAt};
 
+use crate::book_faults::{Full, NoRoom, NotOut};
 use crate::entries::Entries;
 pub use crate::entries::MAX_ENTRIES;
-use crate::faults::{Full, NoRoom, NotOut};
 use crate::marks::{Mark, Marks};
 use lj_tile::{Done, Task};
 use std::alloc::{AllocError, Global};
@@ -45,9 +45,9 @@ pub struct Book {
 }
 
 impl Model for Book {
-    ghost use Rattle.lj_book.specs.Held.{Held, IsBook};
+    ghost use Rattle.lj_book.specs.Book.{Book, IsBook};
 
-    ghost Value = { Held };
+    ghost Value = { Book };
 
     ghost view = { λ b. record {
       slots = b.entries.slots;
@@ -86,7 +86,7 @@ impl Book {
     /// # Errors
     /// `NoRoom` where `MAX_ENTRIES` entries stand or 2^64 - 1 tasks have been posted. Nothing has changed then.
     pub fn post_from(&mut self, task: &Task) -> Result<(), NoRoom>
-        ensures room { IsOk result ↔ ((standing self.old < MAX_ENTRIES) × (self.old.posted < 2 ^ 64 - 1)) }
+        ensures room { IsOk result ↔ ((entry_count self.old < MAX_ENTRIES) × (self.old.posted < 2 ^ 64 - 1)) }
         ensures posts { OnOk result ((key : ℕ) × Posts self.old self.new task.now key) }
         ensures unchanged { OnErr result (self.new ≡ self.old) }
     {
@@ -104,7 +104,7 @@ impl Book {
     /// # Errors
     /// `Full`, with the task, where `MAX_ENTRIES` entries stand or 2^64 - 1 tasks have been posted.
     pub fn post(&mut self, task: Task) -> Result<(), Full>
-        ensures room { IsOk result ↔ ((standing self.old < MAX_ENTRIES) × (self.old.posted < 2 ^ 64 - 1)) }
+        ensures room { IsOk result ↔ ((entry_count self.old < MAX_ENTRIES) × (self.old.posted < 2 ^ 64 - 1)) }
         ensures posts { OnOk result ((key : ℕ) × Posts self.old self.new task key) }
         ensures handed_back { IfErr result (λ full. full.task ≡ task) }
         ensures unchanged { OnErr result (self.new ≡ self.old) }
@@ -147,7 +147,7 @@ impl Book {
     /// # Errors
     /// `NotOut` where that very task is not out under that key. Nothing has changed then.
     pub fn give_from(&mut self, key: Key, done: &Done) -> Result<(), NotOut>
-        ensures given { IsOk result ↔ (at self.old key ≡ Some (Entry.Out done.now)) }
+        ensures given { IsOk result ↔ (entry_at self.old key ≡ Some (Entry.Out done.now)) }
         ensures gives { OnOk result (Gives self.old self.new key done.now) }
         ensures unchanged { OnErr result (self.new ≡ self.old) }
     {
@@ -166,7 +166,7 @@ impl Book {
     /// # Errors
     /// The result, where that very task is not out under that key. Nothing has changed then.
     pub fn give(&mut self, key: Key, done: Done) -> Result<(), Done>
-        ensures given { IsOk result ↔ (at self.old key ≡ Some (Entry.Out done)) }
+        ensures given { IsOk result ↔ (entry_at self.old key ≡ Some (Entry.Out done)) }
         ensures gives { OnOk result (Gives self.old self.new key done) }
         ensures handed_back { IfErr result (λ refused. refused ≡ done) }
         ensures unchanged { OnErr result (self.new ≡ self.old) }
@@ -182,7 +182,7 @@ impl Book {
     /// # Errors
     /// `NotOut` where that very task is not out under that key. Nothing has changed then.
     pub fn hand_back(&mut self, key: Key, task: &Task) -> Result<(), NotOut>
-        ensures was_out { IsOk result ↔ (at self.old key ≡ Some (Entry.Out task.now)) }
+        ensures was_out { IsOk result ↔ (entry_at self.old key ≡ Some (Entry.Out task.now)) }
         ensures hands_back { OnOk result (HandsBack self.old self.new key task.now) }
         ensures unchanged { OnErr result (self.new ≡ self.old) }
     {
@@ -252,7 +252,7 @@ impl Book {
         ensures given { result.given ≡ self.now.given }
         ensures fetched { result.fetched ≡ self.now.fetched }
         ensures withdrawn { result.withdrawn ≡ self.now.withdrawn }
-        ensures entries { result.entries ≡ standing self.now }
+        ensures entries { result.entries ≡ entry_count self.now }
         ensures balance { result.posted ≡ result.fetched + result.withdrawn + result.entries }
         ensures given_posted { result.given ≤ result.posted }
     {

@@ -3,7 +3,7 @@ ghost use Rattle.std.specs.Prelude.{◌≡◌, ◌≤◌, ◌<◌, ◌+◌, ◌�
 ghost use Rattle.std.specs.Option.{option_copied};
 ghost use Rattle.slab.specs.Slab.{get, ContainsKey, HasRoomFor, Updates, slab_len};
 ghost use Rattle.lj_book.specs.declared.marks.Mark.TheVariants.{ToTake, ToFetch};
-ghost use Rattle.lj_book.specs.Held.{Entry, is_of, mark_of, waiting, weight, work_at};
+ghost use Rattle.lj_book.specs.Book.{Entry, is_of, mark_of, waiting_count, weight, task_at};
 
 use lj_tile::{Done, Task};
 use slab::Slab;
@@ -35,12 +35,12 @@ pub(crate) struct Entries {
 
 impl Model for Entries {
     ghost use Rattle.slab.specs.Slab.{Slab};
-    ghost use Rattle.lj_book.specs.Held.{Entry};
-    ghost use Rattle.lj_book.specs.Rooms.{shown, HasRooms};
+    ghost use Rattle.lj_book.specs.Book.{Entry};
+    ghost use Rattle.lj_book.specs.Rooms.{slab_in_rooms, HasRooms};
 
     ghost Value = { Slab Entry };
 
-    ghost view = { λ e. shown e.stages e.tasks.items e.results.items };
+    ghost view = { λ e. slab_in_rooms e.stages e.tasks.items e.results.items };
 
     ghost invariant = { λ e. HasRooms e.stages e.tasks.items e.results.items };
 }
@@ -85,7 +85,7 @@ impl Entries {
 
     /// The task of what stands under the key.
     fn task(&self, key: usize) -> Option<&Task>
-        ensures { option_copied result ≡ work_at (get self.now key) }
+        ensures { option_copied result ≡ task_at (get self.now key) }
     {
         match self.stages.get(key)? {
             Stage::Open | Stage::Out => Some(&self.tasks[key]),
@@ -109,7 +109,7 @@ impl Entries {
         ensures was_vacant { get self.old result ≡ None }
         ensures updates { Updates self.old self.new result (Some (Entry.Open task.now)) }
         ensures len { slab_len self.new ≡ slab_len self.old + 1 }
-        ensures waiting { waiting self.new.slots ≡ waiting self.old.slots + 1 }
+        ensures waiting { waiting_count self.new.slots ≡ waiting_count self.old.slots + 1 }
         ensures key_in_range { result < self.new.capacity }
         ensures capacity { self.new.capacity ≡ self.old.capacity }
     {
@@ -125,7 +125,7 @@ impl Entries {
         ensures value { get self.old key ≡ Some (Entry.Open room.new) }
         ensures updates { Updates self.old self.new key (Some (Entry.Out room.new)) }
         ensures len { slab_len self.new ≡ slab_len self.old }
-        ensures waiting { waiting self.new.slots ≡ waiting self.old.slots }
+        ensures waiting { waiting_count self.new.slots ≡ waiting_count self.old.slots }
         ensures capacity { self.new.capacity ≡ self.old.capacity }
     {
         room.copy_from(&self.tasks[key]);
@@ -137,7 +137,7 @@ impl Entries {
         requires { get self.old key ≡ Some (Entry.Out task.now) }
         ensures updates { Updates self.old self.new key (Some (Entry.Open task.now)) }
         ensures len { slab_len self.new ≡ slab_len self.old }
-        ensures waiting { waiting self.new.slots ≡ waiting self.old.slots }
+        ensures waiting { waiting_count self.new.slots ≡ waiting_count self.old.slots }
         ensures capacity { self.new.capacity ≡ self.old.capacity }
     {
         set_stage(&mut self.stages, key, Stage::Open);
@@ -148,7 +148,7 @@ impl Entries {
         requires { get self.old key ≡ Some (Entry.Out done.now) }
         ensures updates { Updates self.old self.new key (Some (Entry.Done done.now)) }
         ensures len { slab_len self.new ≡ slab_len self.old }
-        ensures waiting { waiting self.new.slots + 1 ≡ waiting self.old.slots }
+        ensures waiting { waiting_count self.new.slots + 1 ≡ waiting_count self.old.slots }
         ensures capacity { self.new.capacity ≡ self.old.capacity }
     {
         self.results[key].copy_from(done);
@@ -161,7 +161,7 @@ impl Entries {
         ensures value { get self.old key ≡ Some (Entry.Done room.new) }
         ensures updates { Updates self.old self.new key None }
         ensures len { slab_len self.new + 1 ≡ slab_len self.old }
-        ensures waiting { waiting self.new.slots ≡ waiting self.old.slots }
+        ensures waiting { waiting_count self.new.slots ≡ waiting_count self.old.slots }
         ensures capacity { self.new.capacity ≡ self.old.capacity }
     {
         room.copy_from(&self.results[key]);
@@ -173,7 +173,8 @@ impl Entries {
         requires { ContainsKey self.old key }
         ensures updates { Updates self.old self.new key None }
         ensures len { slab_len self.new + 1 ≡ slab_len self.old }
-        ensures waiting { waiting self.new.slots + weight (get self.old key) ≡ waiting self.old.slots }
+        ensures waiting { waiting_count self.new.slots + weight (get self.old key)
+            ≡ waiting_count self.old.slots }
         ensures capacity { self.new.capacity ≡ self.old.capacity }
     {
         self.stages.remove(key);

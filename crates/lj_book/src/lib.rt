@@ -2,9 +2,9 @@
 #![tactic(auto)]
 
 mod book;
+mod book_faults;
 mod entries;
-mod faults;
 mod marks;
 
 pub use book::{Book, Counts, Key, MAX_ENTRIES};
-pub use faults::{Full, NoRoom, NotOut};
+pub use book_faults::{Full, NoRoom, NotOut};

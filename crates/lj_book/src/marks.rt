@@ -178,7 +178,8 @@ fn least_in(
     requires within { GROUP * group ≤ length marks.now }
     requires group { group < length groups.now }
     requires covers { Covers marks.now groups.now }
-    ensures some { IfSome result (λ key. IsLeast marks.now mark (max from (GROUP * group)) (length marks.now) key) }
+    ensures some { IfSome result
+        (λ key. IsLeast marks.now mark (max from (GROUP * group)) (length marks.now) key) }
     ensures none { IfNone result (HasNone marks.now mark (max from (GROUP * group)) (GROUP * group + GROUP)) }
 {
     let kinds = &groups[group];

@@ -1,7 +1,7 @@
 -- What is printed of what saving and restoring can fail by.
 use Rattle.std.specs.Prelude.{ℕ, List, codes}
-use Rattle.lj_branch.specs.declared.faults.SaveFault.{SaveFault}
-use Rattle.lj_branch.specs.declared.faults.SaveFault.TheVariants.{Exists, Memory}
+use Rattle.lj_branch.specs.declared.branch_faults.SaveFault.{SaveFault}
+use Rattle.lj_branch.specs.declared.branch_faults.SaveFault.TheVariants.{Exists, Memory}
 
 -- why a simulation was not saved
 abbrev pub save_text : SaveFault → List ℕ

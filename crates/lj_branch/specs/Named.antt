@@ -5,13 +5,13 @@ use Rattle.std.specs.Map.{lookup, remove_entry}
 use Rattle.indexmap.specs.IndexMap.{insert_entry}
 
 -- what stands under a name
-abbrev pub named : {A : Type 0} → List ℕ → List (List ℕ × A) → Option A
-named name entries = lookup (bytes_eq name) entries
+abbrev pub value_named : {A : Type 0} → List ℕ → List (List ℕ × A) → Option A
+value_named name entries = lookup (bytes_eq name) entries
 
 -- a value put under a name: where the name stands already it keeps its place, and a new one goes last
-abbrev pub put : {A : Type 0} → List ℕ → A → List (List ℕ × A) → List (List ℕ × A)
-put name value entries = insert_entry bytes_eq entries name value
+abbrev pub with_value : {A : Type 0} → List ℕ → A → List (List ℕ × A) → List (List ℕ × A)
+with_value name value entries = insert_entry bytes_eq entries name value
 
 -- a name taken out, with what stands under it: the others keep their order
-abbrev pub taken_out : {A : Type 0} → List ℕ → List (List ℕ × A) → List (List ℕ × A)
-taken_out name entries = remove_entry (bytes_eq name) entries
+abbrev pub without_value : {A : Type 0} → List ℕ → List (List ℕ × A) → List (List ℕ × A)
+without_value name entries = remove_entry (bytes_eq name) entries

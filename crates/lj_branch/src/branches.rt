@@ -4,12 +4,12 @@ ghost use Rattle.std.specs.Prelude.{IsOk, OnOk, OnErr, IsErrOf, option_map};
 ghost use Rattle.std.specs.List.{IsDistinct};
 ghost use Rattle.std.specs.Option.{ForSome};
 ghost use Rattle.std.specs.Str.{bytes_eq};
-ghost use Rattle.lj_step.specs.OpenSteps.{closed};
-ghost use Rattle.lj_branch.specs.Named.{named, put, taken_out};
+ghost use Rattle.lj_step.specs.OpenSteps.{with_step_closed};
+ghost use Rattle.lj_branch.specs.Named.{value_named, with_value, without_value};
 ghost use Rattle.lj_branch.specs.Saved.{names, step_numbers};
-ghost use Rattle.lj_branch.specs.declared.faults.SaveFault.TheVariants.{Exists};
+ghost use Rattle.lj_branch.specs.declared.branch_faults.SaveFault.TheVariants.{Exists};
 
-use crate::faults::{NoBranch, SaveFault};
+use crate::branch_faults::{NoBranch, SaveFault};
 use indexmap::IndexMap;
 use lj_step::{Sim, Snapshot};
 use lj_tile::Name;
@@ -47,8 +47,8 @@ impl Branches {
     /// # Errors
     /// `Exists` where the name is taken, else `Memory` where there is none for the copy. Nothing is saved then.
     pub fn save(&mut self, name: Name, sim: &Sim) -> Result<(), SaveFault>
-        ensures exists { IsErrOf result Exists ↔ IsSome (named name self.old) }
-        ensures saved { OnOk result (self.new ≡ put name sim.now.sim self.old) }
+        ensures exists { IsErrOf result Exists ↔ IsSome (value_named name self.old) }
+        ensures saved { OnOk result (self.new ≡ with_value name sim.now.sim self.old) }
         ensures last { OnOk result (self.new ≡ self.old ++ (name, sim.now.sim) ∷ []) }
         ensures unchanged { OnErr result (self.new ≡ self.old) }
     {
@@ -67,9 +67,10 @@ impl Branches {
     /// # Errors
     /// `NoBranch` where nothing is saved under it. The simulation is unchanged then.
     pub fn restore_into(&self, name: &Name, sim: &mut Sim) -> Result<(), NoBranch>
-        requires { ForSome (named name.now self.now) (λ s. length s.cur ≡ length sim.old.sim.cur) }
-        ensures found { IsOk result ↔ IsSome (named name.now self.now) }
-        ensures restored { OnOk result (IfSome (named name.now self.now) (λ s. sim.new ≡ closed sim.old s)) }
+        requires { ForSome (value_named name.now self.now) (λ s. length s.cur ≡ length sim.old.sim.cur) }
+        ensures found { IsOk result ↔ IsSome (value_named name.now self.now) }
+        ensures restored { OnOk result
+            (IfSome (value_named name.now self.now) (λ s. sim.new ≡ with_step_closed sim.old s)) }
         ensures unchanged { OnErr result (sim.new ≡ sim.old) }
     {
         let copy = self.saved.get(name).ok_or(NoBranch)?;
@@ -82,8 +83,8 @@ impl Branches {
     /// # Errors
     /// `NoBranch` where nothing is saved under it. Nothing has changed then.
     pub fn forget(&mut self, name: &Name) -> Result<(), NoBranch>
-        ensures found { IsOk result ↔ IsSome (named name.now self.old) }
-        ensures taken { OnOk result (self.new ≡ taken_out name.now self.old) }
+        ensures found { IsOk result ↔ IsSome (value_named name.now self.old) }
+        ensures taken { OnOk result (self.new ≡ without_value name.now self.old) }
         ensures unchanged { OnErr result (self.new ≡ self.old) }
     {
         self.saved.shift_remove(name).ok_or(NoBranch)?;
@@ -92,7 +93,7 @@ impl Branches {
 
     /// How many atoms what is saved under a name has; None where nothing is.
     pub fn count_of(&self, name: &Name) -> Option<usize>
-        ensures { result ≡ option_map (λ s. length s.cur) (named name.now self.now) }
+        ensures { result ≡ option_map (λ s. length s.cur) (value_named name.now self.now) }
     {
         Some(self.saved.get(name)?.count())
     }

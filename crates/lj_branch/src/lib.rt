@@ -1,8 +1,8 @@
 //! Branches: simulations saved under names, in order of saving.
 #![tactic(auto)]
 
+mod branch_faults;
 mod branches;
-mod faults;
 
+pub use branch_faults::{NoBranch, SaveFault};
 pub use branches::Branches;
-pub use faults::{NoBranch, SaveFault};

@@ -19,12 +19,12 @@ use Rattle.std.specs.Str.Parse.{digits_value, digits_value_after, without_leadin
 use Rattle.std.specs.Prelude.{nat_abs}
 use Rattle.lj_fixed.specs.declared.numbers.NumberFault.{NumberFault}
 use Rattle.lj_fixed.specs.declared.numbers.NumberFault.TheVariants.{BadNumber, OutOfRange}
-use Rattle.lj_fixed.specs.declared.words.Numeral.{Numeral}
+use Rattle.lj_fixed.specs.declared.decimal_words.Numeral.{Numeral}
 use Rattle.lj_fixed.specs.declared.numbers.TheConstants.{MAX_NANO}
 use Rattle.lj_fixed.specs.Decimal.{Decimal, is_exponent_letter, is_short_number, is_exponent, exponent_of, decimal_of}
-use Rattle.lj_fixed.specs.Decimal.{rounded, places_up, places_down, nano_size, nano_or_fault, nano_of, with_sign}
-use Rattle.lj_fixed.specs.Reading.{Leads, within_limit, whole_of, behind_whole, fraction_at, fraction_of, tail_of}
-use Rattle.lj_fixed.specs.Reading.{begins_exponent}
+use Rattle.lj_fixed.specs.Decimal.{rounded_quotient, places_up, places_down, nano_size, nano_or_fault, nano_of, signed_number}
+use Rattle.lj_fixed.specs.Reading.{Leads, number_within_limit, whole_of, rest_behind_whole, fraction_at, fraction_of, tail_of}
+use Rattle.lj_fixed.specs.Reading.{is_exponent_start}
 use Rattle.lj_fixed.specs.StandsFor.{StandsFor, AreAlike}
 use Rattle.lj_fixed.proofs.Grammar.{read_digits, decimal_with, decimal_of-read, decimal_of-tail, after_first-stop}
 use Rattle.lj_fixed.proofs.Leading.{digits_value_after-append}
@@ -38,7 +38,7 @@ pub read_digits-value : (text : List ℕ) (count : ℕ) → count ≡ prefix_len
     → digits_value_after 10 (digits_value_after 10 0 (take count text))
     (fraction_at (take (length text - count) (drop count text))) ≡ digits_value 10 (read_digits text)
 read_digits-value text count e =
-    let rest : take (length text - count) (drop count text) ≡ behind_whole text =
+    let rest : take (length text - count) (drop count text) ≡ rest_behind_whole text =
     rest_of count text ∙ ap (λ (k : ℕ). drop k text) e in
     ap (λ (ys : List ℕ). digits_value_after 10 (digits_value_after 10 0 (take count text)) (fraction_at ys)) rest
     ∙ ap (λ (k : ℕ). digits_value_after 10 (digits_value_after 10 0 (take k text)) (fraction_of text)) e
@@ -103,42 +103,42 @@ abbrev power_of : List ℕ → Option ℤ
 power_of text = cond (is_exponent text) (Some (signed_digits_value 10 text)) None
 
 pub exponent_behind : (tail : List ℕ) → 1 ≤ length tail → is_exponent_letter (get_or tail 0 0) ≡ true
-    → power_of (take (length tail - 1) (drop 1 tail)) ≡ cond (begins_exponent tail) (exponent_of tail) None
+    → power_of (take (length tail - 1) (drop 1 tail)) ≡ cond (is_exponent_start tail) (exponent_of tail) None
 exponent_behind [] some letter = absurd (omega arith)
 exponent_behind (c ∷ more) some letter =
     let behind : after_first is_exponent_letter (c ∷ more) ≡ more = after_first-stop is_exponent_letter c more letter in
-    let begins : begins_exponent (c ∷ more) ≡ true =
+    let begins : is_exponent_start (c ∷ more) ≡ true =
     or_right (eqb (length (c ∷ more)) 0) (is_exponent_letter c) letter in
     let exponent : exponent_of (c ∷ more) ≡ power_of more =
     cond-true (list_any is_exponent_letter (c ∷ more)) (power_of (after_first is_exponent_letter (c ∷ more)))
     (Some (pos 0)) (or_left (is_exponent_letter c) (list_any is_exponent_letter more) letter)
     ∙ ap power_of behind in
-    ap power_of (rest_of 1 (c ∷ more)) ∙ sym (cond-true (begins_exponent (c ∷ more))
+    ap power_of (rest_of 1 (c ∷ more)) ∙ sym (cond-true (is_exponent_start (c ∷ more))
     (exponent_of (c ∷ more)) None begins ∙ exponent)
 
 -- what is moved up by an exponent that is not below zero
 pub size_up : (digits behind : ℕ) (exponent : ℤ) → pos 0 ≤ℤ exponent
-    → rounded (digits * 10 ^ (nat_abs exponent + 9)) (10 ^ behind)
-    ≡ rounded (digits * 10 ^ places_up exponent * 10 ^ 9) (10 ^ (behind + places_down exponent))
+    → rounded_quotient (digits * 10 ^ (nat_abs exponent + 9)) (10 ^ behind)
+    ≡ rounded_quotient (digits * 10 ^ places_up exponent * 10 ^ 9) (10 ^ (behind + places_down exponent))
 size_up digits behind (pos n) h =
     let above : digits * 10 ^ (n + 9) ≡ digits * 10 ^ n * 10 ^ 9 =
     ap (λ (x : ℕ). digits * x) (pow-add 10 n 9) ∙ sym (mul_assoc digits (10 ^ n) (10 ^ 9)) in
     let below : behind ≡ behind + 0 = omega arith in
-    ap (λ (x : ℕ). rounded x (10 ^ behind)) above ∙ ap (λ (k : ℕ). rounded (digits * 10 ^ n * 10 ^ 9) (10 ^ k)) below
+    ap (λ (x : ℕ). rounded_quotient x (10 ^ behind)) above ∙ ap (λ (k : ℕ). rounded_quotient (digits * 10 ^ n * 10 ^ 9) (10 ^ k)) below
 size_up digits behind (negsuc n) h = absurd (omega (arith, ints))
 
 -- a word without an exponent that can be read is no decimal, and one with it is the decimal of its parts
 abbrev pub Exponent : List ℕ → Option ℤ
-Exponent tail = cond (begins_exponent tail) (exponent_of tail) None
+Exponent tail = cond (is_exponent_start tail) (exponent_of tail) None
 
 pub decimal_of-no_exponent : (word : List ℕ) → length word ≤ 40 → 0 < length (read_digits (without_leading_sign word))
     → None ≡ Exponent (tail_of (without_leading_sign word)) → decimal_of word ≡ None
 decimal_of-no_exponent word short some h =
     let text = without_leading_sign word in
-    elim (cases_Bool (begins_exponent (tail_of text))) [
+    elim (cases_Bool (is_exponent_start (tail_of text))) [
       | inl begins ↦
           let none : exponent_of (tail_of text) ≡ None =
-          sym (h ∙ cond-true (begins_exponent (tail_of text)) (exponent_of (tail_of text)) None begins) in
+          sym (h ∙ cond-true (is_exponent_start (tail_of text)) (exponent_of (tail_of text)) None begins) in
           decimal_of-read word short some begins ∙ ap (option_map (decimal_with word text)) none
       | inr none ↦ decimal_of-tail word none
     ]
@@ -149,14 +149,14 @@ pub decimal_of-exponent : (word : List ℕ) (exponent : ℤ) → length word ≤
     → decimal_of word ≡ Some (decimal_with word (without_leading_sign word) exponent)
 decimal_of-exponent word exponent short some h =
     let text = without_leading_sign word in
-    elim (cases_Bool (begins_exponent (tail_of text))) [
+    elim (cases_Bool (is_exponent_start (tail_of text))) [
       | inl begins ↦
           let is : exponent_of (tail_of text) ≡ Some exponent =
-          sym (h ∙ cond-true (begins_exponent (tail_of text)) (exponent_of (tail_of text)) None begins) in
+          sym (h ∙ cond-true (is_exponent_start (tail_of text)) (exponent_of (tail_of text)) None begins) in
           decimal_of-read word short some begins ∙ ap (option_map (decimal_with word text)) is
       | inr none ↦
           let nothing : Some exponent ≡ None =
-          h ∙ cond-false (begins_exponent (tail_of text)) (exponent_of (tail_of text)) None none in
+          h ∙ cond-false (is_exponent_start (tail_of text)) (exponent_of (tail_of text)) None none in
           cc
     ]
 
@@ -170,7 +170,7 @@ bad_decimal o (Some numeral) e alike h = cc
 -- a size, and whether it is within the limit
 beyond_at : (b negative : Bool) (size : ℕ) (s : Option ℕ) (e : NumberFault) → s ≡ cond b (Some size) None
     → (◌≡◌ {A = Result ℕ NumberFault} (Err e) (ok_or s OutOfRange))
-    → Err e ≡ cond b (Ok (with_sign negative size)) (Err OutOfRange)
+    → Err e ≡ cond b (Ok (signed_number negative size)) (Err OutOfRange)
 beyond_at true negative size s e is h =
     let wrong : ◌≡◌ {A = Result ℕ NumberFault} (Err e) (Ok size) = h ∙ ap (λ (o : Option ℕ). ok_or o OutOfRange) is in
     cc
@@ -182,12 +182,12 @@ beyond_at false negative size s e is h =
 
 within_at : (b negative : Bool) (size size' : ℕ) (s : Option ℕ) → s ≡ cond b (Some size) None
     → (◌≡◌ {A = Result ℕ NumberFault} (Ok size') (ok_or s OutOfRange))
-    → Ok (with_sign negative size') ≡ cond b (Ok (with_sign negative size)) (Err OutOfRange)
+    → Ok (signed_number negative size') ≡ cond b (Ok (signed_number negative size)) (Err OutOfRange)
 within_at true negative size size' s is h =
     let right : ◌≡◌ {A = Result ℕ NumberFault} (Ok size') (Ok size) =
     h ∙ ap (λ (o : Option ℕ). ok_or o OutOfRange) is in
     let same : size' ≡ size = cc in
-    ap (λ (n : ℕ). Ok (with_sign negative n)) same
+    ap (λ (n : ℕ). Ok (signed_number negative n)) same
 within_at false negative size size' s is h =
     let wrong : ◌≡◌ {A = Result ℕ NumberFault} (Ok size') (Err OutOfRange) =
     h ∙ ap (λ (o : Option ℕ). ok_or o OutOfRange) is in
@@ -195,7 +195,7 @@ within_at false negative size size' s is h =
 
 beyond_decimal : (o : Option Decimal) (r : Option Numeral) (numeral : Numeral) (s : Option ℕ) (e : NumberFault)
     → AreAlike r o → (◌≡◌ {A = Result Numeral NumberFault} (Ok numeral) (ok_or r BadNumber))
-    → ((d : Decimal) → StandsFor numeral d → s ≡ within_limit (nano_size d))
+    → ((d : Decimal) → StandsFor numeral d → s ≡ number_within_limit (nano_size d))
     → (◌≡◌ {A = Result ℕ NumberFault} (Err e) (ok_or s OutOfRange)) → Err e ≡ nano_or_fault o
 beyond_decimal o None numeral s e alike read size h = cc
 beyond_decimal None (Some r) numeral s e alike read size h = absurd alike
@@ -206,14 +206,14 @@ beyond_decimal (Some d) (Some r) numeral s e alike read size h =
 
 within_decimal : (o : Option Decimal) (r : Option Numeral) (numeral : Numeral) (s : Option ℕ) (n : ℕ) → AreAlike r o
     → (◌≡◌ {A = Result Numeral NumberFault} (Ok numeral) (ok_or r BadNumber))
-    → ((d : Decimal) → StandsFor numeral d → s ≡ within_limit (nano_size d))
-    → (◌≡◌ {A = Result ℕ NumberFault} (Ok n) (ok_or s OutOfRange)) → Ok (with_sign numeral.negative n) ≡ nano_or_fault o
+    → ((d : Decimal) → StandsFor numeral d → s ≡ number_within_limit (nano_size d))
+    → (◌≡◌ {A = Result ℕ NumberFault} (Ok n) (ok_or s OutOfRange)) → Ok (signed_number numeral.negative n) ≡ nano_or_fault o
 within_decimal o None numeral s n alike read size h = cc
 within_decimal None (Some r) numeral s n alike read size h = absurd alike
 within_decimal (Some d) (Some r) numeral s n alike read size h =
     let same : r ≡ numeral = cc in
     let stands : StandsFor numeral d = subst (λ (m : Numeral). StandsFor m d) same alike in
-    ap (λ (b : Bool). Ok (with_sign b n)) stands.negative
+    ap (λ (b : Bool). Ok (signed_number b n)) stands.negative
     ∙ within_at (nat_le (nano_size d) MAX_NANO) d.negative (nano_size d) n s (size d stands) h
 
 -- the same of a word
@@ -224,14 +224,14 @@ nano_of-bad word r e alike h = bad_decimal (decimal_of word) r e alike h
 
 pub nano_of-beyond : (word : List ℕ) (r : Option Numeral) (numeral : Numeral) (s : Option ℕ) (e : NumberFault)
     → AreAlike r (decimal_of word) → (◌≡◌ {A = Result Numeral NumberFault} (Ok numeral) (ok_or r BadNumber))
-    → ((d : Decimal) → StandsFor numeral d → s ≡ within_limit (nano_size d))
+    → ((d : Decimal) → StandsFor numeral d → s ≡ number_within_limit (nano_size d))
     → (◌≡◌ {A = Result ℕ NumberFault} (Err e) (ok_or s OutOfRange)) → Err e ≡ nano_of word
 unfolding nano_of
 nano_of-beyond word r numeral s e alike read size h = beyond_decimal (decimal_of word) r numeral s e alike read size h
 
 pub nano_of-within : (word : List ℕ) (r : Option Numeral) (numeral : Numeral) (s : Option ℕ) (n : ℕ)
     → AreAlike r (decimal_of word) → (◌≡◌ {A = Result Numeral NumberFault} (Ok numeral) (ok_or r BadNumber))
-    → ((d : Decimal) → StandsFor numeral d → s ≡ within_limit (nano_size d))
-    → (◌≡◌ {A = Result ℕ NumberFault} (Ok n) (ok_or s OutOfRange)) → Ok (with_sign numeral.negative n) ≡ nano_of word
+    → ((d : Decimal) → StandsFor numeral d → s ≡ number_within_limit (nano_size d))
+    → (◌≡◌ {A = Result ℕ NumberFault} (Ok n) (ok_or s OutOfRange)) → Ok (signed_number numeral.negative n) ≡ nano_of word
 unfolding nano_of
 nano_of-within word r numeral s n alike read size h = within_decimal (decimal_of word) r numeral s n alike read size h

@@ -12,7 +12,7 @@ use Rattle.std.specs.Option.{option_map}
 use Rattle.std.specs.Str.{all_ascii_digits}
 use Rattle.std.specs.Str.Parse.{digits_value, starts_with_minus, without_leading_sign}
 use Rattle.lj_fixed.specs.Decimal.{Decimal, is_point, is_exponent_letter, exponent_of, decimal_of}
-use Rattle.lj_fixed.specs.Reading.{whole_of, behind_whole, fraction_of, tail_of, begins_exponent}
+use Rattle.lj_fixed.specs.Reading.{whole_of, rest_behind_whole, fraction_of, tail_of, is_exponent_start}
 
 -- a cut at the first element that passes goes over those in front that do not
 before_first-clean : (p : ℕ → Bool) (front tail : List ℕ) → list_any p front ≡ false
@@ -88,16 +88,16 @@ no_digits_at [] c ys h = and_left _ _ h
 no_digits_at (x ∷ xs) c ys h = and_right _ _ (no_digits_at xs c ys h)
 
 -- the digits at the front of a text are digits, and no digit stands after them
-pub whole_of-digits : (text : List ℕ) → all_ascii_digits (whole_of text) ≡ true
-whole_of-digits [] = refl
-whole_of-digits (x ∷ xs) =
+pub is_whole_session-digits : (text : List ℕ) → all_ascii_digits (whole_of text) ≡ true
+is_whole_session-digits [] = refl
+is_whole_session-digits (x ∷ xs) =
     elim (cases_Bool (is_ascii_digit x)) [
       | inl digit ↦ ap all_ascii_digits (take_while-cons is_ascii_digit x xs ∙ cond-true _ _ _ digit)
-          ∙ and_from _ _ digit (whole_of-digits xs)
+          ∙ and_from _ _ digit (is_whole_session-digits xs)
       | inr none ↦ ap all_ascii_digits (take_while-cons is_ascii_digit x xs ∙ cond-false _ _ _ none)
     ]
 
-no_digit_behind : (text : List ℕ) → is_ascii_digit (get_or (behind_whole text) 0 0) ≡ false
+no_digit_behind : (text : List ℕ) → is_ascii_digit (get_or (rest_behind_whole text) 0 0) ≡ false
 no_digit_behind [] = refl
 no_digit_behind (x ∷ xs) =
     elim (cases_Bool (is_ascii_digit x)) [
@@ -114,7 +114,7 @@ abbrev digits_of : List ℕ → List ℕ
 digits_of mantissa = before_first is_point mantissa ++ after_first is_point mantissa
 
 -- a mantissa with no letter stands before the first letter of what it begins
-cut_at_letter : (front tail : List ℕ) → list_any is_exponent_letter front ≡ false → begins_exponent tail ≡ true
+cut_at_letter : (front tail : List ℕ) → list_any is_exponent_letter front ≡ false → is_exponent_start tail ≡ true
     → before_first is_exponent_letter (front ++ tail) ≡ front
 cut_at_letter front [] h b = before_first-clean is_exponent_letter front [] h ∙ append-nil front
 cut_at_letter front (c ∷ more) h b =
@@ -130,7 +130,7 @@ same_exponent front tail h =
     rw (list_any-clean is_exponent_letter front tail h, after_first-clean is_exponent_letter front tail h)
 
 -- what stands after a mantissa and is no exponent belongs to no decimal
-no_letter_first : (tail : List ℕ) → begins_exponent tail ≡ false → (c : ℕ) × (more : List ℕ) × (tail ≡ c ∷ more)
+no_letter_first : (tail : List ℕ) → is_exponent_start tail ≡ false → (c : ℕ) × (more : List ℕ) × (tail ≡ c ∷ more)
     × (is_exponent_letter c ≡ false)
 no_letter_first [] b = absurd (true≢false b)
 no_letter_first (c ∷ more) b = (c, more, refl, (or_parts (eqb (length (c ∷ more)) 0) (is_exponent_letter c) b).1)
@@ -208,27 +208,27 @@ record IsCutAlike (text : List ℕ) : Type 0 where
 abbrev AreSpoiled : List ℕ → Type 0
 AreSpoiled text = all_ascii_digits (digits_of (before_first is_exponent_letter text)) ≡ false
 
-plain_text : (text : List ℕ) → is_point (get_or (behind_whole text) 0 0) ≡ false
-    → (fraction_of text ≡ []) × (tail_of text ≡ behind_whole text)
+plain_text : (text : List ℕ) → is_point (get_or (rest_behind_whole text) 0 0) ≡ false
+    → (fraction_of text ≡ []) × (tail_of text ≡ rest_behind_whole text)
 plain_text text p = (cond-false _ _ _ p, cond-false _ _ _ p)
 
-split_text : (text : List ℕ) → whole_of text ++ behind_whole text ≡ text
+split_text : (text : List ℕ) → whole_of text ++ rest_behind_whole text ≡ text
 split_text text = take-append-drop (prefix_len is_ascii_digit text) text
 
-cut_plain : (text : List ℕ) → is_point (get_or (behind_whole text) 0 0) ≡ false
-    → begins_exponent (tail_of text) ≡ true → IsCutAlike text
+cut_plain : (text : List ℕ) → is_point (get_or (rest_behind_whole text) 0 0) ≡ false
+    → is_exponent_start (tail_of text) ≡ true → IsCutAlike text
 cut_plain text p b =
-    let d = whole_of-digits text in
+    let d = is_whole_session-digits text in
     let parts = plain_text text p in
-    let b' : begins_exponent (behind_whole text) ≡ true = ap begins_exponent (sym parts.1) ∙ b in
+    let b' : is_exponent_start (rest_behind_whole text) ≡ true = ap is_exponent_start (sym parts.1) ∙ b in
     let mantissa : before_first is_exponent_letter text ≡ whole_of text =
     ap (before_first is_exponent_letter) (sym (split_text text))
-    ∙ cut_at_letter (whole_of text) (behind_whole text) (whole_clean (whole_of text) d) b' in
+    ∙ cut_at_letter (whole_of text) (rest_behind_whole text) (whole_clean (whole_of text) d) b' in
     record {
       whole = ap (before_first is_point) mantissa ∙ before_point_plain (whole_of text) d;
       fraction = ap (after_first is_point) mantissa ∙ after_point_plain (whole_of text) d ∙ sym parts.0;
       exponent = ap exponent_of (sym (split_text text))
-          ∙ same_exponent (whole_of text) (behind_whole text) (whole_clean (whole_of text) d)
+          ∙ same_exponent (whole_of text) (rest_behind_whole text) (whole_clean (whole_of text) d)
           ∙ ap exponent_of (sym parts.1);
     }
 
@@ -241,27 +241,27 @@ record IsPointed (text : List ℕ) : Type 0 where
   digits : all_ascii_digits (fraction_of text) ≡ true
   stop : is_ascii_digit (get_or (tail_of text) 0 0) ≡ false
 
-pointed_text : (text : List ℕ) → is_point (get_or (behind_whole text) 0 0) ≡ true → IsPointed text
+pointed_text : (text : List ℕ) → is_point (get_or (rest_behind_whole text) 0 0) ≡ true → IsPointed text
 pointed_text text p =
-    let behind = drop 1 (behind_whole text) in
+    let behind = drop 1 (rest_behind_whole text) in
     let is_fraction : fraction_of text ≡ whole_of behind = cond-true _ _ _ p in
-    let is_tail : tail_of text ≡ behind_whole behind = cond-true _ _ _ p in
-    let inner : whole_of behind ++ behind_whole behind ≡ behind = split_text behind in
+    let is_tail : tail_of text ≡ rest_behind_whole behind = cond-true _ _ _ p in
+    let inner : whole_of behind ++ rest_behind_whole behind ≡ behind = split_text behind in
     let outer : whole_of text ++ 46 ∷ behind ≡ text =
-    ap (λ (ys : List ℕ). whole_of text ++ ys) (sym (point_first (behind_whole text) p)) ∙ split_text text in
+    ap (λ (ys : List ℕ). whole_of text ++ ys) (sym (point_first (rest_behind_whole text) p)) ∙ split_text text in
     record {
       split = sym (append_assoc (whole_of text) (46 ∷ fraction_of text) (tail_of text)
           ∙ ap (λ (ys : List ℕ). whole_of text ++ 46 ∷ (ys ++ tail_of text)) is_fraction
           ∙ ap (λ (ys : List ℕ). whole_of text ++ 46 ∷ (whole_of behind ++ ys)) is_tail
           ∙ ap (λ (ys : List ℕ). whole_of text ++ 46 ∷ ys) inner ∙ outer);
-      digits = ap all_ascii_digits is_fraction ∙ whole_of-digits behind;
+      digits = ap all_ascii_digits is_fraction ∙ is_whole_session-digits behind;
       stop = ap (λ (ys : List ℕ). is_ascii_digit (get_or ys 0 0)) is_tail ∙ no_digit_behind behind;
     }
 
-cut_pointed : (text : List ℕ) → is_point (get_or (behind_whole text) 0 0) ≡ true
-    → begins_exponent (tail_of text) ≡ true → IsCutAlike text
+cut_pointed : (text : List ℕ) → is_point (get_or (rest_behind_whole text) 0 0) ≡ true
+    → is_exponent_start (tail_of text) ≡ true → IsCutAlike text
 cut_pointed text p b =
-    let d = whole_of-digits text in
+    let d = is_whole_session-digits text in
     let t = pointed_text text p in
     let front = whole_of text ++ 46 ∷ fraction_of text in
     let clean : list_any is_exponent_letter front ≡ false =
@@ -274,19 +274,19 @@ cut_pointed text p b =
       exponent = ap exponent_of t.split ∙ same_exponent front (tail_of text) clean;
     }
 
-cut_alike : (text : List ℕ) → begins_exponent (tail_of text) ≡ true → IsCutAlike text
+cut_alike : (text : List ℕ) → is_exponent_start (tail_of text) ≡ true → IsCutAlike text
 cut_alike text b =
-    elim (cases_Bool (is_point (get_or (behind_whole text) 0 0)))
+    elim (cases_Bool (is_point (get_or (rest_behind_whole text) 0 0)))
     [ inl p ↦ cut_pointed text p b | inr p ↦ cut_plain text p b ]
 
-tail_spoils : (text : List ℕ) → begins_exponent (tail_of text) ≡ false → AreSpoiled text
+tail_spoils : (text : List ℕ) → is_exponent_start (tail_of text) ≡ false → AreSpoiled text
 tail_spoils text b =
-    let d = whole_of-digits text in
+    let d = is_whole_session-digits text in
     let first = no_letter_first (tail_of text) b in
     let c = first.0 in
     let more = first.1 in
     let tail_is : tail_of text ≡ c ∷ more = first.2 in
-    elim (cases_Bool (is_point (get_or (behind_whole text) 0 0))) [
+    elim (cases_Bool (is_point (get_or (rest_behind_whole text) 0 0))) [
       | inl p ↦
           let t = pointed_text text p in
           let text_is : text ≡ (whole_of text ++ 46 ∷ fraction_of text) ++ c ∷ more =
@@ -296,7 +296,7 @@ tail_spoils text b =
           (ap (λ (ys : List ℕ). is_ascii_digit (get_or ys 0 0)) (sym tail_is) ∙ t.stop)
       | inr p ↦
           let parts = plain_text text p in
-          let behind_is : behind_whole text ≡ c ∷ more = sym parts.1 ∙ tail_is in
+          let behind_is : rest_behind_whole text ≡ c ∷ more = sym parts.1 ∙ tail_is in
           let text_is : text ≡ whole_of text ++ c ∷ more =
           sym (split_text text) ∙ ap (λ (ys : List ℕ). whole_of text ++ ys) behind_is in
           ap (λ (ys : List ℕ). all_ascii_digits (digits_of (before_first is_exponent_letter ys))) text_is
@@ -310,8 +310,8 @@ abbrev pub read_digits : List ℕ → List ℕ
 read_digits text = whole_of text ++ fraction_of text
 
 pub read_digits-digits : (text : List ℕ) → all_ascii_digits (read_digits text) ≡ true
-read_digits-digits text = digits-append (whole_of text) (fraction_of text) (whole_of-digits text)
-    (elim (cases_Bool (is_point (get_or (behind_whole text) 0 0))) [
+read_digits-digits text = digits-append (whole_of text) (fraction_of text) (is_whole_session-digits text)
+    (elim (cases_Bool (is_point (get_or (rest_behind_whole text) 0 0))) [
       | inl p ↦ (pointed_text text p).digits
       | inr p ↦ ap all_ascii_digits (plain_text text p).0
     ])
@@ -329,7 +329,7 @@ pub decimal_of-long : (word : List ℕ) → 40 < length word → decimal_of word
 unfolding decimal_of
 decimal_of-long word h = cond-false _ _ _ (and_left _ _ (and_left _ _ (lt-leb (length word) 40 h)))
 
-pub decimal_of-tail : (word : List ℕ) → begins_exponent (tail_of (without_leading_sign word)) ≡ false
+pub decimal_of-tail : (word : List ℕ) → is_exponent_start (tail_of (without_leading_sign word)) ≡ false
     → decimal_of word ≡ None
 unfolding decimal_of
 decimal_of-tail word b = cond-false _ _ _ (and_right _ _ (tail_spoils (without_leading_sign word) b))
@@ -338,7 +338,7 @@ pub decimal_of-empty : (word : List ℕ) → length (read_digits (without_leadin
 unfolding decimal_of
 decimal_of-empty word h =
     let text = without_leading_sign word in
-    elim (cases_Bool (begins_exponent (tail_of text))) [
+    elim (cases_Bool (is_exponent_start (tail_of text))) [
       | inl b ↦
           let alike = cut_alike text b in
           let same : digits_of (before_first is_exponent_letter text) ≡ read_digits text =
@@ -351,7 +351,7 @@ decimal_of-empty word h =
     ]
 
 pub decimal_of-read : (word : List ℕ) → length word ≤ 40 → 0 < length (read_digits (without_leading_sign word))
-    → begins_exponent (tail_of (without_leading_sign word)) ≡ true
+    → is_exponent_start (tail_of (without_leading_sign word)) ≡ true
     → decimal_of word ≡ option_map (decimal_with word (without_leading_sign word))
     (exponent_of (tail_of (without_leading_sign word)))
 unfolding decimal_of

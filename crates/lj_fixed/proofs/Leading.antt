@@ -11,8 +11,8 @@ use Rattle.std.specs.Bool.{then_some}
 use Rattle.std.specs.Char.{is_ascii_digit, digit_value}
 use Rattle.std.specs.Str.Parse.{digits_value_after}
 use Rattle.lj_fixed.specs.declared.numbers.TheConstants.{MAX_NANO}
-use Rattle.lj_fixed.specs.Decimal.{rounded}
-use Rattle.lj_fixed.specs.Reading.{Leads, within_limit}
+use Rattle.lj_fixed.specs.Decimal.{rounded_quotient}
+use Rattle.lj_fixed.specs.Reading.{Leads, number_within_limit}
 use Rattle.lj_fixed.proofs.Rounding.{ten-pow_pos, ten-pow-suc, rounded_tenths, rounded_whole, rounded_cancel}
 use Rattle.lj_fixed.proofs.Rounding.{le-rounded, rounded_small}
 
@@ -48,7 +48,7 @@ leads_dropped number dropped n digit long h l =
 
 -- where places are left to be rounded away, the front is enough
 pub rounded_below : (number dropped n up low : ℕ) → Leads number dropped n
-    → rounded (n * 10 ^ up) (10 ^ (up + dropped + (low + 1))) ≡ rounded number (10 ^ (low + 1))
+    → rounded_quotient (n * 10 ^ up) (10 ^ (up + dropped + (low + 1))) ≡ rounded_quotient number (10 ^ (low + 1))
 rounded_below number dropped n up low l =
     let both : 10 ^ (up + dropped + (low + 1)) ≡ 10 * (10 ^ dropped * 10 ^ low) * 10 ^ up =
     let places : up + dropped + (low + 1) ≡ (dropped + low) + 1 + up = omega arith in
@@ -60,14 +60,14 @@ rounded_below number dropped n up low l =
     subst (λ (x : ℕ). 0 < x) (pow-add 10 dropped low) (ten-pow_pos (dropped + low)) in
     let divided : n / (10 ^ dropped * 10 ^ low) ≡ number / 10 ^ low =
     sym (div-div-eq-div-mul n (10 ^ dropped) (10 ^ low)) ∙ ap (λ (x : ℕ). x / 10 ^ low) (sym l.quotient) in
-    ap (λ (d : ℕ). rounded (n * 10 ^ up) d) both
+    ap (λ (d : ℕ). rounded_quotient (n * 10 ^ up) d) both
     ∙ rounded_cancel n (10 * (10 ^ dropped * 10 ^ low)) (10 ^ up) (ten-pow_pos up)
     ∙ rounded_tenths n (10 ^ dropped * 10 ^ low) pos
     ∙ ap (λ (x : ℕ). (x + 5) / 10) divided
-    ∙ sym (ap (λ (d : ℕ). rounded number d) (ten-pow-suc low) ∙ rounded_tenths number (10 ^ low) (ten-pow_pos low))
+    ∙ sym (ap (λ (d : ℕ). rounded_quotient number d) (ten-pow-suc low) ∙ rounded_tenths number (10 ^ low) (ten-pow_pos low))
 
 -- a size above the limit is no nano
-pub within_limit_above : (x : ℕ) → MAX_NANO < x → within_limit x ≡ None
+pub within_limit_above : (x : ℕ) → MAX_NANO < x → number_within_limit x ≡ None
 within_limit_above x h = ap (λ (b : Bool). cond b (Some x) None) (lt-leb x MAX_NANO h)
 
 -- the test of the limit, as a program makes it
@@ -75,24 +75,24 @@ then_some-cond : (b : Bool) (x : ℕ) → then_some b x ≡ cond b (Some x) None
 then_some-cond true x = refl
 then_some-cond false x = refl
 
-pub then_some_within : (x : ℕ) → then_some (nat_le x MAX_NANO) x ≡ within_limit x
+pub then_some_within : (x : ℕ) → then_some (nat_le x MAX_NANO) x ≡ number_within_limit x
 then_some_within x = then_some-cond (nat_le x MAX_NANO) x
 
 -- a number that was read whole, times a power of ten
-rounded_above_whole : (n down over : ℕ) → rounded (n * 10 ^ (down + over)) (10 ^ down) ≡ n * 10 ^ over
+rounded_above_whole : (n down over : ℕ) → rounded_quotient (n * 10 ^ (down + over)) (10 ^ down) ≡ n * 10 ^ over
 rounded_above_whole n down over =
     let e : n * 10 ^ (down + over) ≡ n * 10 ^ over * 10 ^ down =
     ap (λ (x : ℕ). n * x) (pow-add 10 down over) ∙ omega arith in
-    ap (λ (x : ℕ). rounded x (10 ^ down)) e ∙ rounded_whole (n * 10 ^ over) (10 ^ down) (ten-pow_pos down)
+    ap (λ (x : ℕ). rounded_quotient x (10 ^ down)) e ∙ rounded_whole (n * 10 ^ over) (10 ^ down) (ten-pow_pos down)
 
 -- where none are left, and digits were dropped, both are out of range; else they are one
 pub rounded_above : (number dropped n up down over : ℕ) → Leads number dropped n → up + dropped ≡ down + over
-    → within_limit (number * 10 ^ over) ≡ within_limit (rounded (n * 10 ^ up) (10 ^ down))
+    → number_within_limit (number * 10 ^ over) ≡ number_within_limit (rounded_quotient (n * 10 ^ up) (10 ^ down))
 rounded_above number zero n up down over l e =
     let same : number ≡ n = l.quotient ∙ div-one n in
     let places : up ≡ down + over = omega arith in
-    ap within_limit (ap (λ (x : ℕ). x * 10 ^ over) same
-    ∙ sym (ap (λ (i : ℕ). rounded (n * 10 ^ i) (10 ^ down)) places ∙ rounded_above_whole n down over))
+    ap number_within_limit (ap (λ (x : ℕ). x * 10 ^ over) same
+    ∙ sym (ap (λ (i : ℕ). rounded_quotient (n * 10 ^ i) (10 ^ down)) places ∙ rounded_above_whole n down over))
 rounded_above number (suc k) n up down over l e =
     let long : 10 ^ 17 ≤ number = l.long (omega arith) in
     let low : number * 10 ^ suc k ≤ n =
@@ -106,24 +106,24 @@ rounded_above number (suc k) n up down over l e =
     mul_assoc number (10 ^ over) (10 ^ down) ∙ ap (λ (x : ℕ). number * x)
     (left ∙ ap (λ (i : ℕ). 10 ^ i) places ∙ sym right) ∙ sym (mul_assoc number (10 ^ suc k) (10 ^ up)) in
     let at_most : number * 10 ^ suc k * 10 ^ up ≤ n * 10 ^ up = mul-le-mul_right (10 ^ up) low in
-    let beyond : number * 10 ^ over ≤ rounded (n * 10 ^ up) (10 ^ down) =
+    let beyond : number * 10 ^ over ≤ rounded_quotient (n * 10 ^ up) (10 ^ down) =
     le-rounded _ _ _ (ten-pow_pos down) (omega arith) in
     within_limit_above _ (omega arith) ∙ sym (within_limit_above _ (omega arith))
 
 -- both, with the places that are left over as a difference
 pub rounded_above_sub : (number dropped n up down : ℕ) → Leads number dropped n → down ≤ up + dropped
-    → within_limit (number * 10 ^ (up + dropped - down)) ≡ within_limit (rounded (n * 10 ^ up) (10 ^ down))
+    → number_within_limit (number * 10 ^ (up + dropped - down)) ≡ number_within_limit (rounded_quotient (n * 10 ^ up) (10 ^ down))
 rounded_above_sub number dropped n up down l h =
     rounded_above number dropped n up down (up + dropped - down) l (omega arith)
 
 pub rounded_below_sub : (number dropped n up down : ℕ) → Leads number dropped n → up + dropped < down
-    → rounded number (10 ^ (down - (up + dropped))) ≡ rounded (n * 10 ^ up) (10 ^ down)
+    → rounded_quotient number (10 ^ (down - (up + dropped))) ≡ rounded_quotient (n * 10 ^ up) (10 ^ down)
 rounded_below_sub number dropped n up down l h =
     let low = down - (up + dropped) - 1 in
     let one : down - (up + dropped) ≡ low + 1 = omega arith in
     let all : up + dropped + (low + 1) ≡ down = omega arith in
-    ap (λ (i : ℕ). rounded number (10 ^ i)) one ∙ sym (rounded_below number dropped n up low l)
-    ∙ ap (λ (i : ℕ). rounded (n * 10 ^ up) (10 ^ i)) all
+    ap (λ (i : ℕ). rounded_quotient number (10 ^ i)) one ∙ sym (rounded_below number dropped n up low l)
+    ∙ ap (λ (i : ℕ). rounded_quotient (n * 10 ^ up) (10 ^ i)) all
 
 -- any number at all, times twenty tens, is beyond the limit
 pub twenty_tens : (number power : ℕ) → 0 < number → 20 ≤ power → MAX_NANO < number * 10 ^ power
@@ -134,19 +134,19 @@ twenty_tens number power some many =
 
 -- a division by the power below, and then by ten
 pub lowered_is : (number power divisor : ℕ) → 0 < power → divisor ≡ 10 ^ (power - 1)
-    → (number / divisor + 5) / 10 ≡ rounded number (10 ^ power)
+    → (number / divisor + 5) / 10 ≡ rounded_quotient number (10 ^ power)
 lowered_is number power divisor h e =
     let next : power ≡ power - 1 + 1 = omega arith in
-    ap (λ (d : ℕ). (number / d + 5) / 10) e ∙ sym (ap (λ (i : ℕ). rounded number (10 ^ i)) next
-    ∙ ap (λ (d : ℕ). rounded number d) (ten-pow-suc (power - 1))
+    ap (λ (d : ℕ). (number / d + 5) / 10) e ∙ sym (ap (λ (i : ℕ). rounded_quotient number (10 ^ i)) next
+    ∙ ap (λ (d : ℕ). rounded_quotient number d) (ten-pow-suc (power - 1))
     ∙ rounded_tenths number (10 ^ (power - 1)) (ten-pow_pos (power - 1)))
 
 -- a number of eighteen digits over more than twenty tens
-pub lowered_away : (number power : ℕ) → number < 10 ^ 18 → 20 ≤ power - 1 → 0 ≡ rounded number (10 ^ power)
+pub lowered_away : (number power : ℕ) → number < 10 ^ 18 → 20 ≤ power - 1 → 0 ≡ rounded_quotient number (10 ^ power)
 lowered_away number power short many =
     let next : power ≡ power - 1 + 1 = omega arith in
     let most : 10 ^ 20 ≤ 10 ^ (power - 1) = pow-le-pow_right (omega arith) many in
-    sym (ap (λ (i : ℕ). rounded number (10 ^ i)) next ∙ ap (λ (d : ℕ). rounded number d) (ten-pow-suc (power - 1))
+    sym (ap (λ (i : ℕ). rounded_quotient number (10 ^ i)) next ∙ ap (λ (d : ℕ). rounded_quotient number d) (ten-pow-suc (power - 1))
     ∙ rounded_small number (10 ^ (power - 1)) (omega arith))
 
 -- what a digit's byte is worth

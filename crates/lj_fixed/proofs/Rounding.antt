@@ -3,7 +3,7 @@ use Rattle.std.proofs.Common.{◌≡◌, ℕ, zero, suc, ◌+◌, ◌*◌, ◌/�
 use Rattle.std.proofs.Math.Nat.{mul-div-mul_left, add-mul-div_right, div-div-eq-div-mul, div-eq_of_lt-le, div-eq_of_lt}
 use Rattle.std.proofs.Math.Nat.{pow-succ'}
 use Rattle.std.proofs.lemmas.Nat.{le-div}
-use Rattle.lj_fixed.specs.Decimal.{rounded}
+use Rattle.lj_fixed.specs.Decimal.{rounded_quotient}
 
 -- ten to a power is not 0
 pub ten-pow_pos : (k : ℕ) → 0 < 10 ^ k
@@ -18,10 +18,10 @@ doubled : (n d : ℕ) → (2 * n) / (2 * d) ≡ n / d
 doubled n d = mul-div-mul_left n d (omega arith)
 
 -- a fraction over ten times p: the tenths decide
-pub rounded_tenths : (n p : ℕ) → 0 < p → rounded n (10 * p) ≡ (n / p + 5) / 10
+pub rounded_tenths : (n p : ℕ) → 0 < p → rounded_quotient n (10 * p) ≡ (n / p + 5) / 10
 rounded_tenths n p h =
     let whole : 2 * n + 10 * p ≡ 2 * (n + 5 * p) = omega arith in
-    let halved : rounded n (10 * p) ≡ (n + 5 * p) / (10 * p) =
+    let halved : rounded_quotient n (10 * p) ≡ (n + 5 * p) / (10 * p) =
     ap (λ (x : ℕ). x / (2 * (10 * p))) whole ∙ doubled (n + 5 * p) (10 * p) in
     let swapped : 10 * p ≡ p * 10 = omega arith in
     let split : (n + 5 * p) / p / 10 ≡ (n + 5 * p) / (p * 10) = div-div-eq-div-mul (n + 5 * p) p 10 in
@@ -29,11 +29,11 @@ rounded_tenths n p h =
     halved ∙ ap (λ (x : ℕ). (n + 5 * p) / x) swapped ∙ sym split ∙ ap (λ (x : ℕ). x / 10) inner
 
 -- a whole number
-pub rounded_whole : (x k : ℕ) → 0 < k → rounded (x * k) k ≡ x
+pub rounded_whole : (x k : ℕ) → 0 < k → rounded_quotient (x * k) k ≡ x
 rounded_whole x k h = div-eq_of_lt-le {k = x} (2 * k) {m = 2 * (x * k) + k} (omega arith) (omega arith)
 
 -- a common factor
-pub rounded_cancel : (x y k : ℕ) → 0 < k → rounded (x * k) (y * k) ≡ rounded x y
+pub rounded_cancel : (x y k : ℕ) → 0 < k → rounded_quotient (x * k) (y * k) ≡ rounded_quotient x y
 rounded_cancel x y k h =
     let above : 2 * (x * k) + y * k ≡ k * (2 * x + y) = omega arith in
     let below : 2 * (y * k) ≡ k * (2 * y) = omega arith in
@@ -41,11 +41,11 @@ rounded_cancel x y k h =
     ∙ mul-div-mul_left (2 * x + y) (2 * y) h
 
 -- a fraction of at least x is rounded to at least x
-pub le-rounded : (x n d : ℕ) → 0 < d → x * d ≤ n → x ≤ rounded n d
+pub le-rounded : (x n d : ℕ) → 0 < d → x * d ≤ n → x ≤ rounded_quotient n d
 le-rounded x n d h le = le-div x (2 * n + d) (2 * d) (omega arith) (omega arith)
 
 -- a number below p is less than a tenth of ten times p
-pub rounded_small : (n p : ℕ) → n < p → rounded n (10 * p) ≡ 0
+pub rounded_small : (n p : ℕ) → n < p → rounded_quotient n (10 * p) ≡ 0
 rounded_small n p h =
     let none : n / p ≡ 0 = div-eq_of_lt h in
     rounded_tenths n p (omega arith) ∙ ap (λ (q : ℕ). (q + 5) / 10) none

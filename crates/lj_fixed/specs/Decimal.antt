@@ -6,7 +6,7 @@ use Rattle.std.specs.Option.{option_map}
 use Rattle.std.specs.Str.{all_ascii_digits}
 use Rattle.std.specs.Str.Parse.{digits_value, starts_with_minus, without_leading_sign, signed_digits_value}
 use Rattle.lj_fixed.specs.declared.numbers.TheConstants.{MAX_NANO}
-use Rattle.lj_fixed.specs.declared.words.TheConstants.{MAX_EXPONENT_DIGITS, MAX_WORD_BYTES, NANO_PLACES}
+use Rattle.lj_fixed.specs.declared.decimal_words.TheConstants.{MAX_EXPONENT_DIGITS, MAX_WORD_BYTES, NANO_PLACES}
 use Rattle.lj_fixed.specs.declared.numbers.NumberFault.{NumberFault}
 use Rattle.lj_fixed.specs.declared.numbers.NumberFault.TheVariants.{BadNumber, OutOfRange}
 
@@ -77,22 +77,22 @@ abbrev pub denominator : Decimal → ℕ
 denominator d = 10 ^ (d.behind + places_down d.exponent)
 
 -- the whole number nearest to n / d, and of two the larger: halves go away from zero
-abbrev pub rounded : ℕ → ℕ → ℕ
-rounded n d = (2 * n + d) / (2 * d)
+abbrev pub rounded_quotient : ℕ → ℕ → ℕ
+rounded_quotient n d = (2 * n + d) / (2 * d)
 
 -- the size of a decimal's value in billionths
 abbrev pub nano_size : Decimal → ℕ
-nano_size d = rounded (numerator d * 10 ^ NANO_PLACES) (denominator d)
+nano_size d = rounded_quotient (numerator d * 10 ^ NANO_PLACES) (denominator d)
 
 -- n or -n
-abbrev pub with_sign : Bool → ℕ → ℤ
-with_sign negative n = if negative then neg_ℤ (pos n) else pos n
+abbrev pub signed_number : Bool → ℕ → ℤ
+signed_number negative n = if negative then neg_ℤ (pos n) else pos n
 
 -- the nano of a decimal, if there is one
 abbrev pub nano_or_fault : Option Decimal → Result ℤ NumberFault
 nano_or_fault None = Err BadNumber
 nano_or_fault (Some d) =
-    if nat_le (nano_size d) MAX_NANO then Ok (with_sign d.negative (nano_size d)) else Err OutOfRange
+    if nat_le (nano_size d) MAX_NANO then Ok (signed_number d.negative (nano_size d)) else Err OutOfRange
 
 -- the nano that a word writes: `BadNumber` outside the grammar, and `OutOfRange` beyond the limit
 unfoldable pub nano_of : List ℕ → Result ℤ NumberFault

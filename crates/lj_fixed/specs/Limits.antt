@@ -3,7 +3,7 @@ use Rattle.std.specs.Prelude.{◌≡◌, ◌^◌, refl}
 use Rattle.lj_fixed.specs.declared.numbers.TheConstants.{MAX_NANO}
 use Rattle.lj_fixed.specs.declared.printing.TheConstants.{MAX_MICRO_BYTES}
 use Rattle.lj_fixed.specs.declared.whole.TheConstants.{MAX_DIGITS}
-use Rattle.lj_fixed.specs.declared.words.TheConstants.{MAX_EXPONENT_DIGITS, MAX_WORD_BYTES, NANO_PLACES}
+use Rattle.lj_fixed.specs.declared.decimal_words.TheConstants.{MAX_EXPONENT_DIGITS, MAX_WORD_BYTES, NANO_PLACES}
 
 -- a decimal word has at most 40 bytes
 most_word_bytes : MAX_WORD_BYTES ≡ 40

@@ -12,30 +12,30 @@ pub record Leads (number dropped n : ℕ) : Type 0 where
   pub long : 0 < dropped → 10 ^ 17 ≤ number
 
 -- the size of a nano, if it is one
-abbrev pub within_limit : ℕ → Option ℕ
-within_limit size = if nat_le size MAX_NANO then Some size else None
+abbrev pub number_within_limit : ℕ → Option ℕ
+number_within_limit size = if nat_le size MAX_NANO then Some size else None
 
 -- the digits at the front of a text, and what stands after them
 abbrev pub whole_of : List ℕ → List ℕ
 whole_of text = take_while is_ascii_digit text
 
-abbrev pub behind_whole : List ℕ → List ℕ
-behind_whole text = drop (prefix_len is_ascii_digit text) text
+abbrev pub rest_behind_whole : List ℕ → List ℕ
+rest_behind_whole text = drop (prefix_len is_ascii_digit text) text
 
 -- the digits after a point, if it comes next, and what stands after them
 abbrev pub fraction_at : List ℕ → List ℕ
 fraction_at rest = if is_point (slice_index rest 0) then whole_of (drop 1 rest) else []
 
 abbrev pub tail_at : List ℕ → List ℕ
-tail_at rest = if is_point (slice_index rest 0) then behind_whole (drop 1 rest) else rest
+tail_at rest = if is_point (slice_index rest 0) then rest_behind_whole (drop 1 rest) else rest
 
 -- the same after the digits at the front of a text
 abbrev pub fraction_of : List ℕ → List ℕ
-fraction_of text = fraction_at (behind_whole text)
+fraction_of text = fraction_at (rest_behind_whole text)
 
 abbrev pub tail_of : List ℕ → List ℕ
-tail_of text = tail_at (behind_whole text)
+tail_of text = tail_at (rest_behind_whole text)
 
 -- nothing, or a letter first
-abbrev pub begins_exponent : List ℕ → Bool
-begins_exponent tail = length tail == 0 || is_exponent_letter (slice_index tail 0)
+abbrev pub is_exponent_start : List ℕ → Bool
+is_exponent_start tail = length tail == 0 || is_exponent_letter (slice_index tail 0)

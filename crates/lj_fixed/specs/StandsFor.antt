@@ -2,7 +2,7 @@
 use Rattle.std.specs.Prelude.{◌≡◌, Option, Some, None}
 use Rattle.lj_fixed.specs.Decimal.{Decimal}
 use Rattle.lj_fixed.specs.Reading.{Leads}
-use Rattle.lj_fixed.specs.declared.words.Numeral.{Numeral}
+use Rattle.lj_fixed.specs.declared.decimal_words.Numeral.{Numeral}
 
 -- the numeral says what the decimal says, but for digits that were dropped
 pub record StandsFor (numeral : Numeral) (d : Decimal) : Type 0 where

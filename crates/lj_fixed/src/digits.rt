@@ -3,8 +3,8 @@ ghost use Rattle.std.specs.Prelude.{◌≡◌, ℕ, ◌+◌, ◌*◌, ◌^◌, �
 ghost use Rattle.std.specs.Char.{is_ascii_digit};
 ghost use Rattle.std.specs.List.{prefix_len};
 ghost use Rattle.std.specs.Str.Parse.{digits_value_after};
-ghost use Rattle.lj_fixed.specs.Decimal.{rounded};
-ghost use Rattle.lj_fixed.specs.Reading.{Leads, within_limit};
+ghost use Rattle.lj_fixed.specs.Decimal.{rounded_quotient};
+ghost use Rattle.lj_fixed.specs.Reading.{Leads, number_within_limit};
 
 use crate::numbers::MAX_NANO;
 
@@ -56,7 +56,7 @@ fn raised(number: u64, power: u32) -> Option<u64>
 fn lowered(number: u64, power: u32) -> u64
     requires power { 0 < power }
     requires number { number < 10 ^ 18 }
-    ensures { result ≡ rounded number (10 ^ power) }
+    ensures { result ≡ rounded_quotient number (10 ^ power) }
 {
     match power_of_ten(power - 1) {
         Some(divisor) => (number / divisor + 5) / 10,
@@ -127,7 +127,7 @@ impl Significand {
     pub fn scaled(self, up: u32, down: u32) -> Option<u64>
         requires { self.dropped + up < 2 ^ 32 }
         ensures { (n : ℕ) → Leads self.number self.dropped n
-            → result ≡ within_limit (rounded (n * 10 ^ up) (10 ^ down)) }
+            → result ≡ number_within_limit (rounded_quotient (n * 10 ^ up) (10 ^ down)) }
     {
         let up = up + self.dropped;
         let size = if up >= down {

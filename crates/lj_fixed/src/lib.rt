@@ -1,13 +1,13 @@
 //! Decimal words as whole billionths of a file unit, millionths as text, and whole numbers as words.
 #![tactic(auto)]
 
+mod decimal_words;
 mod digits;
 mod numbers;
 mod printing;
 mod whole;
-mod words;
 
+pub use decimal_words::parse_nano;
 pub use numbers::{MAX_NANO, Nano, NumberFault};
 pub use printing::{MAX_MICRO_BYTES, micro_text};
 pub use whole::parse_number;
-pub use words::parse_nano;

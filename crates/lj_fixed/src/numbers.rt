@@ -1,6 +1,6 @@
 //! Numbers in billionths of a file unit.
 ghost use Rattle.std.specs.Prelude.{◌≡◌, ◌≤◌, ◌^◌, ◌↔◌, IsSome, IfSome, unsigned_abs};
-ghost use Rattle.lj_fixed.specs.Decimal.{with_sign};
+ghost use Rattle.lj_fixed.specs.Decimal.{signed_number};
 
 use std::fmt;
 use std::marker::Model;
@@ -73,7 +73,7 @@ impl Nano {
     // The number of a sign and a size.
     pub(crate) fn with_sign(negative: bool, size: u64) -> Nano
         requires { size ≤ MAX_NANO }
-        ensures { result ≡ with_sign negative size }
+        ensures { result ≡ signed_number negative size }
     {
         let size = size as i64;
         Nano(if negative { -size } else { size })

@@ -5,10 +5,10 @@ use Rattle.std.specs.Io.KnownBytes.{prepend_known, Consumes, IsAtEnd}
 use Rattle.std.proofs.KnownBytes.{Consumes-trans}
 use Rattle.std.proofs.lemmas.List.{append_assoc, append-nil}
 use Rattle.lj_session.specs.Users.{User}
-use Rattle.lj_session.specs.States.{Owned, user_of}
+use Rattle.lj_session.specs.UserState.{UserState, user_of}
 use Rattle.lj_wire.specs.Progress.{Progress}
 use Rattle.lj_wire.specs.declared.item.Item.{Item}
-use Rattle.lj_wire.specs.Items.{ends}
+use Rattle.lj_wire.specs.Items.{is_ending}
 use Rattle.lj_wire.specs.Streams.{Splits}
 use Rattle.lj_pool.specs.declared.engine.served.Served.{Served}
 use Rattle.lj_pool.specs.declared.engine.served.Served.TheVariants.{End, Bye, Ended, ReadFault, WriteFault, PoolClosed}
@@ -19,7 +19,7 @@ use Rattle.lj_pool.specs.Served.{Serves}
 use Rattle.lj_pool.proofs.Dialogues.{Takes-on}
 
 -- items of which the last ends the connection are so whatever comes after them
-Splits-on : (n : ℕ) (bytes : List ℕ) (earlier : List Item) (last : Item) (rest more : List ℕ) → ends last ≡ true
+Splits-on : (n : ℕ) (bytes : List ℕ) (earlier : List Item) (last : Item) (rest more : List ℕ) → is_ending last ≡ true
     → Splits n bytes (earlier ++ last ∷ []) rest → Splits n (bytes ++ more) (earlier ++ last ∷ []) (rest ++ more)
 Splits-on n bytes [] last rest more over s = (
   s.0,
@@ -38,7 +38,7 @@ Splits-on n bytes (item ∷ earlier) last rest more over s = (
   (λ e. Splits-on (n + 1) s.1 earlier last rest more over (s.5 e)),
 )
 
-module _ (state : Owned) (read written : List ℕ) (old new : Seen) (held : List ℕ) where
+module _ (state : UserState) (read written : List ℕ) (old new : Seen) (held : List ℕ) where
   abbrev user : User
   user = user_of state
 
@@ -66,9 +66,9 @@ module _ (state : Owned) (read written : List ℕ) (old new : Seen) (held : List
     is_item = r.is_item;
   }
 
-  ended-on : (Ending : List Item → Type 0) (next : Owned) (a : AnswersAll Ending state read written old new next)
+  ended-on : (Ending : List Item → Type 0) (next : UserState) (a : AnswersAll Ending state read written old new next)
       (earlier : List Item) (last : Item)
-      → a.dialogue.items ≡ earlier ++ last ∷ [] → ends last ≡ true
+      → a.dialogue.items ≡ earlier ++ last ∷ [] → is_ending last ≡ true
       → AnswersAll Ending state (read ++ held) written old new next
   ended-on Ending next a earlier last items_are over = record {
     dialogue = record {
@@ -106,7 +106,7 @@ module _ (state : Owned) (read written : List ℕ) (old new : Seen) (held : List
   same-read : held ≡ [] → read ≡ read ++ held
   same-read none = sym (ap (λ h. read ++ h) none ∙ append-nil read)
 
-  served-on : (served : Served) (next : Option Owned) → (served ≡ End → held ≡ []) → (served ≡ ReadFault → held ≡ [])
+  served-on : (served : Served) (next : Option UserState) → (served ≡ End → held ≡ []) → (served ≡ ReadFault → held ≡ [])
       → IsServed served state read written old new next → IsServed served state (read ++ held) written old new next
   served-on End (Some next) at_end at_fault s =
       subst (λ r. AnswersAll NoneEnds state r written old new next) (same-read (at_end refl)) s
@@ -141,7 +141,7 @@ none_at_end : (held rest : List ℕ) → held ++ rest ≡ [] → held ≡ []
 none_at_end [] rest e = refl
 none_at_end (x ∷ held) rest e = cc
 
-module _ (served : Served) (state : Owned) (left was is : Option (List ℕ)) (old new : Seen) (next : Option Owned) where
+module _ (served : Served) (state : UserState) (left was is : Option (List ℕ)) (old new : Seen) (next : Option UserState) where
   -- what is told of the bytes that are left is told of those that the source has left
   pub serves-all : (rest unread : Option (List ℕ)) (held : List ℕ) → rest ≡ prepend_known held unread
       → (served ≡ End → IsAtEnd rest) → (served ≡ ReadFault → held ≡ [])

@@ -10,26 +10,26 @@ use Rattle.std.proofs.lemmas.List.Elements.{Contains-push}
 use Rattle.std.proofs.lemmas.Option.{none-some, same_Some}
 use Rattle.std.proofs.lemmas.Slice.Eq.{bytes_eq-Decides}
 use Rattle.lj_tile.specs.declared.names.Label.{Label}
-use Rattle.lj_tile.specs.Tasks.{Work}
-use Rattle.lj_step.specs.Motion.{stepped}
+use Rattle.lj_tile.specs.Task.{Task}
+use Rattle.lj_step.specs.Motion.{next_simulation}
 use Rattle.lj_step.specs.OpenSteps.{kind_of}
 use Rattle.lj_session.specs.declared.command.Command.{Command}
 use Rattle.lj_session.specs.declared.command.Command.TheVariants.{Start}
 use Rattle.lj_session.specs.declared.reply.Reply.{Reply}
 use Rattle.lj_session.specs.declared.reply.Reply.TheVariants.{Refused}
-use Rattle.lj_session.specs.Answers.{session_named, performed}
+use Rattle.lj_session.specs.Answers.{session_named, command_result}
 use Rattle.lj_session.specs.Turns.{turns, waits_for}
 use Rattle.lj_session.specs.Begins.{OnRefusal}
-use Rattle.lj_session.specs.States.{Held, Owned, IsAtWork, IsIdleIn, StepsAfter, StepsFollow, OthersKept}
-use Rattle.lj_session.specs.States.{OtherSessionsKept, session_meant, held_in, owed_in, names, changed, started, steps_before, turns_before}
-use Rattle.lj_session.specs.States.{is_whole_in, is_measured, kind_owed}
-use Rattle.lj_session.specs.Owners.{Owning, IsAnswered, user_in, label_of, is_waited_for, IsLastTurn}
+use Rattle.lj_session.specs.UserState.{HeldSession, UserState, IsAtWork, IsIdleIn, StepsAfter, StepsFollow, OthersKept}
+use Rattle.lj_session.specs.UserState.{OtherSessionsKept, session_meant, held_session, owed_in, names, with_session_changed, with_start, steps_before, turns_before}
+use Rattle.lj_session.specs.UserState.{is_whole_in, is_measured, kind_owed}
+use Rattle.lj_session.specs.Owner.{Owner, IsAnswered, user_in, label_of, is_waited_for, IsLastTurn}
 use Rattle.lj_session.proofs.AtWork.{at_work-follows, kind-none}
 use Rattle.lj_session.proofs.Entries.{by_test}
 use Rattle.lj_session.proofs.Holding.{named-held, named-absent}
 use Rattle.lj_session.proofs.Passing.{unmeasured}
 use Rattle.lj_wire.specs.declared.item.Item.TheVariants.{Command as Ordered}
-use Rattle.lj_pool.specs.Gathering.{posted_of, IsGathered, IsOpenFor, Gathers}
+use Rattle.lj_pool.specs.Gathering.{tasks_posted_of, IsGathered, IsOpenFor, Gathers}
 use Rattle.lj_pool.specs.Counting.{steps_tiles, advance_tiles, command_tiles}
 use Rattle.lj_pool.specs.Coming.{tiles_of_session, tiles_after, waiting_tiles_of, tiles_to_come, tiles_coming, OwesNoMore, OwesNoneWhereWaited}
 use Rattle.lj_pool.specs.Owing.{MayOwe, OwesAfter}
@@ -41,54 +41,54 @@ use Rattle.lj_session.proofs.Waiting.{same_name}
 use Rattle.lj_pool.proofs.Begun.{start-waits, whole-open, whole-left, whole-owes}
 
 -- what is posted, and how many tiles are to come, of one session before and after
-pub record Settles (old new : Owned) (posted : (o : Option Held) → List Work) (name : List ℕ) : Type 0 where
-  pub posted_is : posted (held_in new name) ≡ posted (held_in old name)
-  pub gathered : (held : Held) → held_in new name ≡ Some held → IsGathered held
+pub record Settles (old new : UserState) (posted : (o : Option HeldSession) → List Task) (name : List ℕ) : Type 0 where
+  pub posted_is : posted (held_session new name) ≡ posted (held_session old name)
+  pub gathered : (held : HeldSession) → held_session new name ≡ Some held → IsGathered held
 
-module _ (owner : Owning) (owed : List Work) (t : Gathers owner owed) (next : Owning) (number : next.number ≡ owner.number) where
-  posted_next : (name : List ℕ) (o : Option Held) → posted_of (label_of next name) o ≡ posted_of (label_of owner name) o
-  posted_next name o = ap (λ n. posted_of (record { user = n; session = name }) o) number
+module _ (owner : Owner) (owed : List Task) (t : Gathers owner owed) (next : Owner) (number : next.number ≡ owner.number) where
+  posted_next : (name : List ℕ) (o : Option HeldSession) → tasks_posted_of (label_of next name) o ≡ tasks_posted_of (label_of owner name) o
+  posted_next name o = ap (λ n. tasks_posted_of (record { user = n; session = name }) o) number
 
   -- what an owner to whom nothing waits is owed
   pub gathers_settled : next.waiting ≡ None → IsAtWork None next.state → IsDistinct bytes_eq (names next.state)
-      → ((name : List ℕ) → Settles owner.state next.state (posted_of (label_of owner name)) name) → Gathers next owed
+      → ((name : List ℕ) → Settles owner.state next.state (tasks_posted_of (label_of owner name)) name) → Gathers next owed
   gathers_settled idle work distinct settles = record {
     at_work = subst (λ w. IsAtWork w next.state) (sym idle) work;
     waits = subst (λ w. IfSome w (IsOpenFor next.state)) (sym idle) tt;
     distinct = distinct;
     gathered = λ name. (settles name).gathered;
-    each = λ name. t.each name ∙ sym (posted_next name (held_in next.state name) ∙ (settles name).posted_is);
+    each = λ name. t.each name ∙ sym (posted_next name (held_session next.state name) ∙ (settles name).posted_is);
   }
 
-  settles_same : (name : List ℕ) → held_in next.state name ≡ held_in owner.state name
-      → Settles owner.state next.state (posted_of (label_of owner name)) name
+  settles_same : (name : List ℕ) → held_session next.state name ≡ held_session owner.state name
+      → Settles owner.state next.state (tasks_posted_of (label_of owner name)) name
   settles_same name same = record {
-    posted_is = ap (posted_of (label_of owner name)) same;
+    posted_is = ap (tasks_posted_of (label_of owner name)) same;
     gathered = λ held found. t.gathered name held (sym same ∙ found);
   }
 
-idle_posted : (owned : Owned) (name : List ℕ) (label : Label) → IsIdleIn owned name → posted_of label (held_in owned name) ≡ []
-idle_posted owned name label idle = by (held_in owned name) refl
+idle_posted : (owned : UserState) (name : List ℕ) (label : Label) → IsIdleIn owned name → tasks_posted_of label (held_session owned name) ≡ []
+idle_posted owned name label idle = by (held_session owned name) refl
   where
-    by : (o : Option Held) → held_in owned name ≡ o → posted_of label (held_in owned name) ≡ []
-    by None e = ap (posted_of label) e
-    by (Some held) e = ap (posted_of label) e ∙ closed-posted held label (closed-part held.live.part (idle held e).closed)
+    by : (o : Option HeldSession) → held_session owned name ≡ o → tasks_posted_of label (held_session owned name) ≡ []
+    by None e = ap (tasks_posted_of label) e
+    by (Some held) e = ap (tasks_posted_of label) e ∙ closed-posted held label (closed-part held.live.part (idle held e).closed)
 
 -- a number of a session, if it is there
-abbrev number_in : (Held → ℕ) → Owned → List ℕ → ℕ
-number_in f owned name = option_map_or f (held_in owned name) 0
+abbrev number_in : (HeldSession → ℕ) → UserState → List ℕ → ℕ
+number_in f owned name = option_map_or f (held_session owned name) 0
 
 -- none is owed to an idle session
-idle_owed : (owned : Owned) (name : List ℕ) → IsIdleIn owned name → owed_in owned name ≡ 0
-idle_owed owned name idle = by (held_in owned name) refl
+idle_owed : (owned : UserState) (name : List ℕ) → IsIdleIn owned name → owed_in owned name ≡ 0
+idle_owed owned name idle = by (held_session owned name) refl
   where
-    by : (o : Option Held) → held_in owned name ≡ o → owed_in owned name ≡ 0
-    by None e = ap (λ o. option_map_or (λ (h : Held). h.owed) o 0) e
-    by (Some held) e = ap (λ o. option_map_or (λ (h : Held). h.owed) o 0) e ∙ (idle held e).owed
+    by : (o : Option HeldSession) → held_session owned name ≡ o → owed_in owned name ≡ 0
+    by None e = ap (λ o. option_map_or (λ (h : HeldSession). h.owed) o 0) e
+    by (Some held) e = ap (λ o. option_map_or (λ (h : HeldSession). h.owed) o 0) e ∙ (idle held e).owed
 
 -- a command that is answered at once
-module _ (owner : Owning) (owed : List Work) (t : Gathers owner owed) (idle : owner.waiting ≡ None)
-    (command : Command) (reply : Reply) (next : Owning) (number : next.number ≡ owner.number) (done : next.waiting ≡ None)
+module _ (owner : Owner) (owed : List Task) (t : Gathers owner owed) (idle : owner.waiting ≡ None)
+    (command : Command) (reply : Reply) (next : Owner) (number : next.number ≡ owner.number) (done : next.waiting ≡ None)
     (at_once : turns_before owner.state command ≡ 0)
     (answered : IsAnswered (user_in owner) command reply (user_in next))
     (unchanged : OnRefusal reply (next ≡ owner)) (others : OthersKept command owner.state next.state)
@@ -100,14 +100,14 @@ module _ (owner : Owning) (owed : List Work) (t : Gathers owner owed) (idle : ow
   unchanged_state = by reply unchanged
     where
       by : (r : Reply) → OnRefusal r (next ≡ owner) → OnRefusal r (next.state ≡ owner.state)
-      by (Refused refusal) h = ap (λ (o : Owning). o.state) h
+      by (Refused refusal) h = ap (λ (o : Owner). o.state) h
       by _ h = tt
 
   outcome_of : (name : List ℕ) → session_named command ≡ Some name → Outcome owner.state next.state command name
   outcome_of name is = outcome owner.state next.state command reply work answered unchanged_state steps at_once name is
 
   -- each session is that of the command, or another, which is kept
-  of_each : {P : List ℕ → Type 0} → ((name : List ℕ) → held_in next.state name ≡ held_in owner.state name → P name)
+  of_each : {P : List ℕ → Type 0} → ((name : List ℕ) → held_session next.state name ≡ held_session owner.state name → P name)
       → ((name : List ℕ) → session_named command ≡ Some name → P name) → (name : List ℕ) → P name
   of_each {P} other own name = by (session_named command) refl
     where
@@ -118,32 +118,32 @@ module _ (owner : Owning) (owed : List Work) (t : Gathers owner owed) (idle : ow
           (λ b. other name (others name (λ same. true≢false (sym ((bytes_eq-Decides session name).1
           (same_name_of session name (sym e ∙ same))) ∙ b))))
 
-  work_of : (name : List ℕ) (held : Held) → held_in owner.state name ≡ Some held → kind_of held.live.part ≡ kind_owed None [] held
+  work_of : (name : List ℕ) (held : HeldSession) → held_session owner.state name ≡ Some held → kind_of held.live.part ≡ kind_owed None [] held
   work_of name held found = work name held found
 
-  settles : (name : List ℕ) → Settles owner.state next.state (posted_of (label_of owner name)) name
-  settles name = of_each {P = λ name. Settles owner.state next.state (posted_of (label_of owner name)) name}
+  settles : (name : List ℕ) → Settles owner.state next.state (tasks_posted_of (label_of owner name)) name
+  settles name = of_each {P = λ name. Settles owner.state next.state (tasks_posted_of (label_of owner name)) name}
       (settles_same owner owed t next number) (λ name is. by name (outcome_of name is)) name
     where
       by : (name : List ℕ) → Outcome owner.state next.state command name
-          → Settles owner.state next.state (posted_of (label_of owner name)) name
+          → Settles owner.state next.state (tasks_posted_of (label_of owner name)) name
       by name (inl rests) = record {
         posted_is = idle_posted next.state name (label_of owner name) rests.after
             ∙ sym (idle_posted owner.state name (label_of owner name) rests.before);
         gathered = λ held found. idle-gathered held (rests.after held found);
       }
       by name (inr (inl s)) = record {
-        posted_is = ap (posted_of (label_of owner name)) s.is
+        posted_is = ap (tasks_posted_of (label_of owner name)) s.is
             ∙ same-posted s.before s.after s.same.live s.same.passed s.same.owed (label_of owner name)
-            ∙ sym (ap (posted_of (label_of owner name)) s.was);
+            ∙ sym (ap (tasks_posted_of (label_of owner name)) s.was);
         gathered = λ held found. subst IsGathered (same_Some s.after held (sym s.is ∙ found))
             (same-gathered s.before s.after s.same.live s.same.passed s.same.owed (t.gathered name s.before s.was));
       }
       by name (inr (inr s)) = record {
-        posted_is = ap (posted_of (label_of owner name)) s.is
+        posted_is = ap (tasks_posted_of (label_of owner name)) s.is
             ∙ started-posted s.before s.n (work_of name s.before s.was) (label_of owner name)
-            ∙ sym (ap (posted_of (label_of owner name)) s.was);
-        gathered = λ held found. subst IsGathered (same_Some (started s.n s.before) held (sym s.is ∙ found))
+            ∙ sym (ap (tasks_posted_of (label_of owner name)) s.was);
+        gathered = λ held found. subst IsGathered (same_Some (with_start s.n s.before) held (sym s.is ∙ found))
             (started-gathered s.before s.n (work_of name s.before s.was) (t.gathered name s.before s.was));
       }
 
@@ -156,15 +156,15 @@ module _ (owner : Owning) (owed : List Work) (t : Gathers owner owed) (idle : ow
   -- steps are owed where some were, and after a START
   pub answered_owes : OwesAfter owner.state (Ordered command ∷ []) next.state
   answered_owes name = of_each {P = λ name. 0 < owed_in next.state name → MayOwe owner.state (Ordered command ∷ []) name}
-      (λ name same more. inl (subst (λ o. 0 < option_map_or (λ (h : Held). h.owed) o 0) same more))
+      (λ name same more. inl (subst (λ o. 0 < option_map_or (λ (h : HeldSession). h.owed) o 0) same more))
       (λ name is. by name (outcome_of name is)) name
     where
       by : (name : List ℕ) → Outcome owner.state next.state command name → 0 < owed_in next.state name
           → MayOwe owner.state (Ordered command ∷ []) name
       by name (inl rests) more = let none = idle_owed next.state name rests.after in absurd (omega (arith, none, more))
       by name (inr (inl s)) more =
-          let before = ap (λ o. option_map_or (λ (h : Held). h.owed) o 0) s.was in
-          let after = ap (λ o. option_map_or (λ (h : Held). h.owed) o 0) s.is in
+          let before = ap (λ o. option_map_or (λ (h : HeldSession). h.owed) o 0) s.was in
+          let after = ap (λ o. option_map_or (λ (h : HeldSession). h.owed) o 0) s.is in
           let same = s.same.owed in
           inl (omega (arith, before, after, same, more))
       by name (inr (inr s)) more = inr (
@@ -173,15 +173,15 @@ module _ (owner : Owning) (owed : List Work) (t : Gathers owner owed) (idle : ow
       )
 
   -- the tiles of each session
-  tiles_below : ((name : List ℕ) (n : ℕ) → command ≡ Start name n → ⊥) → (name : List ℕ) (held : Held)
-      → held_in owner.state name ≡ Some held → tiles_of_session held ≤ number_in tiles_of_session next.state name
-  tiles_below no_start name held found = of_each {P = λ name. (held : Held) → held_in owner.state name ≡ Some held
+  tiles_below : ((name : List ℕ) (n : ℕ) → command ≡ Start name n → ⊥) → (name : List ℕ) (held : HeldSession)
+      → held_session owner.state name ≡ Some held → tiles_of_session held ≤ number_in tiles_of_session next.state name
+  tiles_below no_start name held found = of_each {P = λ name. (held : HeldSession) → held_session owner.state name ≡ Some held
       → tiles_of_session held ≤ number_in tiles_of_session next.state name}
       (λ name same held found. let is = ap (λ o. option_map_or tiles_of_session o 0) (same ∙ found) in omega (arith, is))
       (λ name is. by name (outcome_of name is)) name held found
     where
-      by : (name : List ℕ) → Outcome owner.state next.state command name → (held : Held)
-          → held_in owner.state name ≡ Some held → tiles_of_session held ≤ number_in tiles_of_session next.state name
+      by : (name : List ℕ) → Outcome owner.state next.state command name → (held : HeldSession)
+          → held_session owner.state name ≡ Some held → tiles_of_session held ≤ number_in tiles_of_session next.state name
       by name (inl rests) held found = let none = idle-tiles held (rests.before held found) in omega (arith, none)
       by name (inr (inl s)) held found =
           let same = same-tiles s.before s.after s.same.live s.same.passed s.same.owed in
@@ -203,69 +203,69 @@ module _ (owner : Owning) (owed : List Work) (t : Gathers owner owed) (idle : ow
     session_is : session_named command ≡ Some session
     session_is = ap session_named which
 
-    abbrev given : Owned
-    given = changed session (started n) owner.state
+    abbrev given : UserState
+    given = with_session_changed session (with_start n) owner.state
 
-    kept_else : (name : List ℕ) → (session ≡ name → ⊥) → held_in next.state name ≡ held_in owner.state name
+    kept_else : (name : List ℕ) → (session ≡ name → ⊥) → held_session next.state name ≡ held_session owner.state name
     kept_else name apart = others name (λ same. apart (same_name_of session name (sym session_is ∙ same)))
 
-    start_tiles_is : (held : Held) → held_in owner.state session ≡ Some held
+    start_tiles_is : (held : HeldSession) → held_session owner.state session ≡ Some held
         → command_tiles (user_in owner) (Start session n) ≡ advance_tiles (Some (session_meant held)) n
     unfolding command_tiles
     start_tiles_is held found = ap (λ o. advance_tiles o n) (named-held owner.state session held found)
 
-    start_tiles_none : held_in owner.state session ≡ None → command_tiles (user_in owner) (Start session n) ≡ 0
+    start_tiles_none : held_session owner.state session ≡ None → command_tiles (user_in owner) (Start session n) ≡ 0
     unfolding command_tiles
     start_tiles_none absent = ap (λ o. advance_tiles o n) (named-absent owner.state session absent)
 
-    answered_start_at : (before : Held) → held_in owner.state session ≡ Some before
-        → held_in next.state session ≡ Some (started n before)
+    answered_start_at : (before : HeldSession) → held_session owner.state session ≡ Some before
+        → held_session next.state session ≡ Some (with_start n before)
         → tiles_to_come owner.state + command_tiles (user_in owner) command ≤ tiles_to_come next.state
     answered_start_at before was is =
-        let sum = sum-changed owner.state session (started n) tiles_of_session before was in
+        let sum = sum-changed owner.state session (with_start n) tiles_of_session before was in
         let more = started-tiles before n (work_of session before was) in
         let tiles : command_tiles (user_in owner) command ≡ advance_tiles (Some (session_meant before)) n =
         ap (command_tiles (user_in owner)) which ∙ start_tiles_is before was in
-        let distinct = subst (IsDistinct bytes_eq) (sym (names-changed owner.state session (started n))) t.distinct in
+        let distinct = subst (IsDistinct bytes_eq) (sym (names-changed owner.state session (with_start n))) t.distinct in
         let below = sum-below tiles_of_session given.sessions next.state.sessions distinct below_each in
         omega (arith, sum, more, tiles, below)
       where
-        lookup_is : (name : List ℕ) → held_in given name ≡ held_in next.state name
+        lookup_is : (name : List ℕ) → held_session given name ≡ held_session next.state name
         lookup_is name = by_test (bytes_eq session name)
             (λ b. let same = (bytes_eq-Decides session name).0 b in
-            subst (λ (m : List ℕ). held_in given m ≡ held_in next.state m) same
-            (there-changed owner.state session (started n) before was ∙ sym is))
+            subst (λ (m : List ℕ). held_session given m ≡ held_session next.state m) same
+            (there-changed owner.state session (with_start n) before was ∙ sym is))
             (λ b. let apart : session ≡ name → ⊥ = λ same. true≢false (sym ((bytes_eq-Decides session name).1 same) ∙ b) in
-            other-changed owner.state session (started n) name apart ∙ sym (kept_else name apart))
+            other-changed owner.state session (with_start n) name apart ∙ sym (kept_else name apart))
 
-        below_each : (name : List ℕ) (held : Held) → held_in given name ≡ Some held
+        below_each : (name : List ℕ) (held : HeldSession) → held_session given name ≡ Some held
             → tiles_of_session held ≤ number_in tiles_of_session next.state name
         below_each name held found =
             let is = ap (λ o. option_map_or tiles_of_session o 0) (sym (lookup_is name) ∙ found) in omega (arith, is)
 
     answered_start : tiles_to_come owner.state + command_tiles (user_in owner) command ≤ tiles_to_come next.state
-    answered_start = by (held_in owner.state session) refl (outcome_of session session_is)
+    answered_start = by (held_session owner.state session) refl (outcome_of session session_is)
       where
-        by : (o : Option Held) → held_in owner.state session ≡ o → Outcome owner.state next.state command session
+        by : (o : Option HeldSession) → held_session owner.state session ≡ o → Outcome owner.state next.state command session
             → tiles_to_come owner.state + command_tiles (user_in owner) command ≤ tiles_to_come next.state
         by None w o =
             let none : command_tiles (user_in owner) command ≡ 0 = ap (command_tiles (user_in owner)) which ∙ start_tiles_none w in
             let below = sum-below tiles_of_session owner.state.sessions next.state.sessions t.distinct (λ name held found.
-            let same = kept_else name (λ is. none-some held (sym w ∙ ap (held_in owner.state) is ∙ found)) in
+            let same = kept_else name (λ is. none-some held (sym w ∙ ap (held_session owner.state) is ∙ found)) in
             let is = ap (λ o. option_map_or tiles_of_session o 0) (same ∙ found) in omega (arith, is)) in
             omega (arith, none, below)
-        by (Some before) w o = answered_start_at before w (started_by (held_in next.state session) refl)
+        by (Some before) w o = answered_start_at before w (started_by (held_session next.state session) refl)
           where
-            started_by : (p : Option Held) → held_in next.state session ≡ p → held_in next.state session ≡ Some (started n before)
+            started_by : (p : Option HeldSession) → held_session next.state session ≡ p → held_session next.state session ≡ Some (with_start n before)
             started_by None e = absurd (staying owner.state next.state command reply work answered unchanged_state steps at_once
-                session session_is (λ held found. still-there (user_in owner) session (performed (user_in owner) command answered.mark)
+                session session_is (λ held found. still-there (user_in owner) session (command_result (user_in owner) command answered.mark)
                 (ap is_some (named-held owner.state session held found))
-                (subst (λ (k : Command). Stays session (performed (user_in owner) k answered.mark)) (sym which)
+                (subst (λ (k : Command). Stays session (command_result (user_in owner) k answered.mark)) (sym which)
                 (start_stays (user_in owner) session n answered.mark))) before w e)
             started_by (Some after) e =
-                let s : StepsAfter (Start session n) (held_in owner.state session) after =
-                subst (λ (k : Command). StepsAfter k (held_in owner.state session) after) which (steps session after session_is e) in
-                e ∙ ap (λ (h : Held). Some h) (subst (λ o. IsSomeAnd o (λ held. after ≡ started n held)) w s)
+                let s : StepsAfter (Start session n) (held_session owner.state session) after =
+                subst (λ (k : Command). StepsAfter k (held_session owner.state session) after) which (steps session after session_is e) in
+                e ∙ ap (λ (h : HeldSession). Some h) (subst (λ o. IsSomeAnd o (λ held. after ≡ with_start n held)) w s)
 
   pub answered_tiles : tiles_to_come owner.state + command_tiles (user_in owner) command ≤ tiles_to_come next.state
   answered_tiles = by command refl
@@ -275,8 +275,8 @@ module _ (owner : Owning) (owed : List Work) (t : Gathers owner owed) (idle : ow
       by k e = answered_quiet (λ name n is. let differ = sym e ∙ is in cc)
 
 -- the turn at which what waited is answered
-module _ (owner : Owning) (owed : List Work) (t : Gathers owner owed) (name : List ℕ)
-    (whole : is_whole_in owner.state name ≡ true) (last : IsLastTurn name owner) (next : Owning)
+module _ (owner : Owner) (owed : List Task) (t : Gathers owner owed) (name : List ℕ)
+    (whole : is_whole_in owner.state name ≡ true) (last : IsLastTurn name owner) (next : Owner)
     (number : next.number ≡ owner.number) (done : next.waiting ≡ None)
     (others : OtherSessionsKept name owner.state next.state) (rests : IsIdleIn next.state name)
     (distinct : IsDistinct bytes_eq (names next.state)) where
@@ -303,7 +303,7 @@ module _ (owner : Owning) (owed : List Work) (t : Gathers owner owed) (name : Li
 
   work_next : IsAtWork None next.state
   work_next other held found =
-      of_each_session {P = λ other. (held : Held) → held_in next.state other ≡ Some held
+      of_each_session {P = λ other. (held : HeldSession) → held_session next.state other ≡ Some held
       → kind_of held.live.part ≡ kind_owed None other held}
       (λ held found. let i = rests held found in i.closed ∙ sym (kind-none None name held i.owed refl))
       (λ other apart held found.
@@ -314,10 +314,10 @@ module _ (owner : Owning) (owed : List Work) (t : Gathers owner owed) (name : Li
 
   pub ended_gathers : Gathers next owed
   ended_gathers = gathers_settled owner owed t next number done work_next distinct
-      (of_each_session {P = λ other. Settles owner.state next.state (posted_of (label_of owner other)) other}
+      (of_each_session {P = λ other. Settles owner.state next.state (tasks_posted_of (label_of owner other)) other}
       (record {
         posted_is = idle_posted next.state name (label_of owner name) rests
-            ∙ sym (ap (posted_of (label_of owner name)) (whole-open owner owed t name whole).there
+            ∙ sym (ap (tasks_posted_of (label_of owner name)) (whole-open owner owed t name whole).there
             ∙ whole-owes owner owed t name whole);
         gathered = λ held found. idle-gathered held (rests held found);
       })
@@ -327,7 +327,7 @@ module _ (owner : Owning) (owed : List Work) (t : Gathers owner owed) (name : Li
   pub ended_owes : OwesNoMore owner next.state
   ended_owes other quiet = of_each_session {P = λ other. owed_in next.state other ≤ owed_in owner.state other}
       (let none = idle_owed next.state name rests in omega (arith, none))
-      (λ other apart. let same = ap (λ o. option_map_or (λ (h : Held). h.owed) o 0) (others other apart) in omega (arith, same))
+      (λ other apart. let same = ap (λ o. option_map_or (λ (h : HeldSession). h.owed) o 0) (others other apart) in omega (arith, same))
       other
 
   pub ended_rests : OwesNoneWhereWaited owner next.state
@@ -337,19 +337,19 @@ module _ (owner : Owning) (owed : List Work) (t : Gathers owner owed) (name : Li
       (idle_owed next.state name rests)
 
   -- no tile of the session was to come
-  none_here : (held : Held) → held_in owner.state name ≡ Some held → tiles_of_session held ≡ 0
+  none_here : (held : HeldSession) → held_session owner.state name ≡ Some held → tiles_of_session held ≡ 0
   none_here held found =
       let open_there = whole-open owner owed t name whole in
       let same = same_Some open_there.held held (sym open_there.there ∙ found) in
       let left = whole-left owner owed t name whole in
       let owed : held.owed ≤ 1 =
       let steps = ap (λ o. option_map_or (owed_in owner.state) o 0) waited.waits in
-      let is = ap (λ o. option_map_or (λ (h : Held). h.owed) o 0) found in
+      let is = ap (λ o. option_map_or (λ (h : HeldSession). h.owed) o 0) found in
       let few = one in omega (arith, steps, is, few) in
       let later : tiles_after held ≡ 0 =
-      ap (λ n. steps_tiles held.live.composition n (stepped held.live.composition held.live.sim))
+      ap (λ n. steps_tiles held.live.composition n (next_simulation held.live.composition held.live.sim))
       (let none : held.owed - 1 ≡ 0 = omega (arith, owed) in none) in
-      subst (λ (h : Held). tiles_after h ≡ 0 → tiles_of_session h ≡ 0) same (λ l. omega (arith, left, l)) later
+      subst (λ (h : HeldSession). tiles_after h ≡ 0 → tiles_of_session h ≡ 0) same (λ l. omega (arith, left, l)) later
 
   own_none : waiting_tiles_of owner owner.waiting ≡ 0
   own_none = ap (waiting_tiles_of owner) waited.is ∙ by_test (nat_lt 0 (steps_before owner.state waited.command))
@@ -361,7 +361,7 @@ module _ (owner : Owning) (owed : List Work) (t : Gathers owner owed) (name : Li
   pub ended_tiles : tiles_coming owner ≤ tiles_coming next
   ended_tiles =
       let below = sum-below tiles_of_session owner.state.sessions next.state.sessions t.distinct
-      (of_each_session {P = λ other. (held : Held) → held_in owner.state other ≡ Some held
+      (of_each_session {P = λ other. (held : HeldSession) → held_session owner.state other ≡ Some held
       → tiles_of_session held ≤ number_in tiles_of_session next.state other}
       (λ held found. let none = none_here held found in omega (arith, none))
       (λ other apart held found. let is = ap (λ o. option_map_or tiles_of_session o 0) (others other apart ∙ found) in

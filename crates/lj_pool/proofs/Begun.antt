@@ -10,20 +10,20 @@ use Rattle.std.proofs.lemmas.Option.{none-some}
 use Rattle.std.proofs.lemmas.Slice.Eq.{bytes_eq-Decides}
 use Rattle.lj_tile.specs.declared.names.Kind.{Kind}
 use Rattle.lj_tile.specs.declared.names.Kind.TheVariants.{Force, Energy}
-use Rattle.lj_tile.specs.Tasks.{Work}
-use Rattle.lj_step.specs.Live.{OpenStep}
+use Rattle.lj_tile.specs.Task.{Task}
+use Rattle.lj_step.specs.Sim.{OpenStep}
 use Rattle.lj_step.specs.OpenSteps.{kind_of}
-use Rattle.lj_branch.specs.Named.{named}
+use Rattle.lj_branch.specs.Named.{value_named}
 use Rattle.lj_session.specs.declared.command.Command.{Command}
 use Rattle.lj_session.specs.declared.command.Command.TheVariants.{Advance, Start}
 use Rattle.lj_session.specs.declared.command.Command.TheVariants.{Measure}
 use Rattle.lj_session.specs.Users.{Session, User}
 use Rattle.lj_session.specs.Answers.{can_advance}
 use Rattle.lj_session.specs.Turns.{turns, waits_for, advance_turns}
-use Rattle.lj_session.specs.States.{Held, Owned, IsAtWork, IsIdle, user_of, session_meant, held_in, owed_in, changed, owing, with_step}
-use Rattle.lj_session.specs.States.{step_passed, steps_before, turns_before, is_whole_in, is_measured}
-use Rattle.lj_session.specs.Owners.{Owning, user_in, begun, taken_up, rest_of, label_of, with_state, is_waited_for, turned_from}
-use Rattle.lj_session.specs.Owners.{IsLastTurn}
+use Rattle.lj_session.specs.UserState.{HeldSession, UserState, IsAtWork, IsIdle, user_of, session_meant, held_session, owed_in, with_session_changed, with_more_owed, with_step}
+use Rattle.lj_session.specs.UserState.{with_step_passed, steps_before, turns_before, is_whole_in, is_measured}
+use Rattle.lj_session.specs.Owner.{Owner, user_in, owner_begun, state_taking_up, rest_of, label_of, with_state, is_waited_for, owner_turned}
+use Rattle.lj_session.specs.Owner.{IsLastTurn}
 use Rattle.lj_session.proofs.AtWork.{at_work-changed, at_work-waits, at_work-measured, kind-owing, kind-some, kind-none, kind-passed}
 use Rattle.lj_session.proofs.Entries.{by_test}
 use Rattle.lj_session.proofs.Holding.{named-held, owed-of}
@@ -31,7 +31,7 @@ use Rattle.lj_session.proofs.Owed.{owed-owing}
 use Rattle.lj_session.proofs.Passing.{Open, opens, energies, measured_last, measures, at_work-passed}
 use Rattle.lj_session.proofs.Turning.{advance-turns-near, measure-turns-one, no-turns}
 use Rattle.lj_session.proofs.Waiting.{Goes, goes, measured_there, passed_user, passed_turns, same_name}
-use Rattle.lj_pool.specs.Gathering.{is_of, left_in, posted_of, IsOpenFor, Gathers}
+use Rattle.lj_pool.specs.Gathering.{is_of, tiles_left_in, tasks_posted_of, IsOpenFor, Gathers}
 use Rattle.lj_pool.specs.Counting.{steps_tiles, advance_tiles, measure_tiles, frame_tiles, command_tiles, sum_over}
 use Rattle.lj_pool.specs.Coming.{tiles_of_session, posts_of_session, tiles_after, waiting_tiles, waiting_tiles_of, turns_coming}
 use Rattle.lj_pool.specs.Coming.{tiles_to_come, tiles_coming, posts_coming, OwesNoMore}
@@ -51,12 +51,12 @@ some-open : (part : Option OpenStep) (kind : Kind) → kind_of part ≡ Some kin
 some-open part kind e = let s = some-part part kind e in subst IsSome (sym s.1) refl
 
 -- where steps are owed to the session that a command waits for, one is open there
-pub open-owed : (waiting : Option Command) (owned : Owned) (command : Command) → IsAtWork waiting owned
+pub open-owed : (waiting : Option Command) (owned : UserState) (command : Command) → IsAtWork waiting owned
     → 0 < steps_before owned command → IsOpenFor owned command
 open-owed waiting owned command work some = by (waits_for command) refl
   where
-    at : (name : List ℕ) → 0 < owed_in owned name → (o : Option Held) → held_in owned name ≡ o
-        → IsSomeAnd (held_in owned name) (λ held. IsSome held.live.part)
+    at : (name : List ℕ) → 0 < owed_in owned name → (o : Option HeldSession) → held_session owned name ≡ o
+        → IsSomeAnd (held_session owned name) (λ held. IsSome held.live.part)
     at name more None e = absurd (let none = rw e at more in omega (arith, none))
     at name more (Some held) e =
         subst (λ o. IsSomeAnd o (λ held. IsSome held.live.part)) (sym e)
@@ -65,23 +65,23 @@ open-owed waiting owned command work some = by (waits_for command) refl
     by : (o : Option (List ℕ)) → waits_for command ≡ o → IsOpenFor owned command
     by None e = absurd (let none = ap (λ o. option_map_or (owed_in owned) o 0) e in omega (arith, none, some))
     by (Some name) e =
-        subst (λ o. IsSomeAnd o (λ name. IsSomeAnd (held_in owned name) (λ held. IsSome held.live.part))) (sym e)
-        (at name (subst (λ o. 0 < option_map_or (owed_in owned) o 0) e some) (held_in owned name) refl)
+        subst (λ o. IsSomeAnd o (λ name. IsSomeAnd (held_session owned name) (λ held. IsSome held.live.part))) (sym e)
+        (at name (subst (λ o. 0 < option_map_or (owed_in owned) o 0) e some) (held_session owned name) refl)
 
 -- the tiles of a command that takes steps
-pub advance-tiles-is : (owned : Owned) (name : List ℕ) (n : ℕ) (held : Held) → held_in owned name ≡ Some held
+pub advance-tiles-is : (owned : UserState) (name : List ℕ) (n : ℕ) (held : HeldSession) → held_session owned name ≡ Some held
     → command_tiles (user_of owned) (Advance name n) ≡ advance_tiles (Some (session_meant held)) n
 unfolding command_tiles
 advance-tiles-is owned name n held found = ap (λ o. advance_tiles o n) (named-held owned name held found)
 
-measure-tiles-is : (owned : Owned) (name : List ℕ) (held : Held) → held_in owned name ≡ Some held
+measure-tiles-is : (owned : UserState) (name : List ℕ) (held : HeldSession) → held_session owned name ≡ Some held
     → command_tiles (user_of owned) (Measure name) ≡ measure_tiles (Some (session_meant held))
 unfolding command_tiles
 measure-tiles-is owned name held found = ap measure_tiles (named-held owned name held found)
 
 none-tiles : (user : User) (name : List ℕ) → command_tiles user (Advance name 0) ≡ 0
 unfolding command_tiles
-none-tiles user name = by (named name user.sessions)
+none-tiles user name = by (value_named name user.sessions)
   where
     by : (o : Option Session) → advance_tiles o 0 ≡ 0
     by None = refl
@@ -89,7 +89,7 @@ none-tiles user name = by (named name user.sessions)
 
 none-turns : (user : User) (name : List ℕ) → turns user (Advance name 0) ≡ 0
 unfolding turns
-none-turns user name = by (named name user.sessions)
+none-turns user name = by (value_named name user.sessions)
   where
     by : (o : Option Session) → advance_turns o 0 ≡ 0
     by None = refl
@@ -100,18 +100,18 @@ if-none true n e = e
 if-none false n e = refl
 
 -- what begins to wait
-pub record Begins (base : Owning) (owed : List Work) (command : Command) (next : Owning) : Type 0 where
+pub record Begins (base : Owner) (owed : List Task) (command : Command) (next : Owner) : Type 0 where
   pub gathers : Gathers next owed
   pub tiles : tiles_coming next ≡ tiles_to_come base.state + command_tiles (user_in base) command
   pub posts : posts_coming next ≡ sum_over posts_of_session base.state + command_tiles (user_in base) command
   pub turns : turns_coming next ≡ sum_over (λ held. held.owed) base.state + turns (user_in base) command
 
-module _ (base : Owning) (owed : List Work) (t : Gathers base owed) (idle : base.waiting ≡ None) where
+module _ (base : Owner) (owed : List Task) (t : Gathers base owed) (idle : base.waiting ≡ None) where
   work : IsAtWork None base.state
   work = subst (λ w. IsAtWork w base.state) idle t.at_work
 
   -- for steps that are owed
-  begins-off : (command : Command) → 0 < steps_before base.state command → Begins base owed command (begun command base)
+  begins-off : (command : Command) → 0 < steps_before base.state command → Begins base owed command (owner_begun command base)
   begins-off command some =
       let b : nat_lt 0 (steps_before base.state command) ≡ true = lt-ltb 0 (steps_before base.state command) some in
       rw b (record {
@@ -128,36 +128,36 @@ module _ (base : Owning) (owed : List Work) (t : Gathers base owed) (idle : base
       })
 
   -- the session of a command that takes steps of its own
-  idle-held : (name : List ℕ) (held : Held) → held_in base.state name ≡ Some held → owed_in base.state name ≡ 0 → IsIdle held
+  idle-held : (name : List ℕ) (held : HeldSession) → held_session base.state name ≡ Some held → owed_in base.state name ≡ 0 → IsIdle held
   idle-held name held there none =
       let n = owed-of base.state name held there none in
       record { owed = n; closed = work name held there ∙ kind-none None name held n refl }
 
-  no-posted : (name : List ℕ) (held : Held) → held_in base.state name ≡ Some held → IsIdle held
+  no-posted : (name : List ℕ) (held : HeldSession) → held_session base.state name ≡ Some held → IsIdle held
       → filter (is_of name) owed ≡ []
   no-posted name held there i =
-      t.each name ∙ ap (posted_of (label_of base name)) there
+      t.each name ∙ ap (tasks_posted_of (label_of base name)) there
       ∙ closed-posted held (label_of base name) (closed-part held.live.part i.closed)
 
-  meant-sim : (held : Held) → held.owed ≡ 0 → (session_meant held).sim ≡ held.live.sim
+  meant-sim : (held : HeldSession) → held.owed ≡ 0 → (session_meant held).sim ≡ held.live.sim
   meant-sim held none = rw none refl
 
   begins-advance : (name : List ℕ) (n : ℕ) → owed_in base.state name ≡ 0 → 0 < n → Goes base.state name n
       → Begins base owed (Advance name n)
-      (record { state = changed name (owing n) base.state; number = base.number; waiting = Some (Advance name 0) })
+      (record { state = with_session_changed name (with_more_owed n) base.state; number = base.number; waiting = Some (Advance name 0) })
   unfolding waits_for
   begins-advance name n none some g =
       let i = idle-held name g.held g.there none in
-      let next : Owning = record { state = changed name (owing n) base.state; number = base.number; waiting = Some (Advance name 0) } in
-      let sum = sum-changed base.state name (owing n) in
-      let after = there-changed base.state name (owing n) g.held g.there in
+      let next : Owner = record { state = with_session_changed name (with_more_owed n) base.state; number = base.number; waiting = Some (Advance name 0) } in
+      let sum = sum-changed base.state name (with_more_owed n) in
+      let after = there-changed base.state name (with_more_owed n) g.held g.there in
       let tiles : command_tiles (user_in base) (Advance name n) ≡ steps_tiles g.held.live.composition n g.held.live.sim =
       advance-tiles-is base.state name n g.held g.there
       ∙ ap (λ b. if b then steps_tiles g.held.live.composition n (session_meant g.held).sim else 0) g.near
       ∙ ap (steps_tiles g.held.live.composition n) (meant-sim g.held i.owed) in
       let own : waiting_tiles next ≡ 0 =
-      if-none (nat_lt 0 (steps_before (changed name (owing n) base.state) (Advance name 0))) _
-      (none-tiles (user_of (changed name (owing n) base.state)) name) in
+      if-none (nat_lt 0 (steps_before (with_session_changed name (with_more_owed n) base.state) (Advance name 0))) _
+      (none-tiles (user_of (with_session_changed name (with_more_owed n) base.state)) name) in
       let tiles_before = idle-tiles g.held i in
       let tiles_then = owing-tiles g.held i n some in
       let tiles_sum = sum tiles_of_session g.held g.there in
@@ -166,12 +166,12 @@ module _ (base : Owning) (owed : List Work) (t : Gathers base owed) (idle : base
       let posts_sum = sum posts_of_session g.held g.there in
       let owed_then = owed-owing n g.held in
       let owed_sum = sum (λ held. held.owed) g.held g.there in
-      let turns_then = none-turns (user_of (changed name (owing n) base.state)) name in
+      let turns_then = none-turns (user_of (with_session_changed name (with_more_owed n) base.state)) name in
       let turns_before = advance-turns-near (user_in base) name n (session_meant g.held)
       (named-held base.state name g.held g.there) g.near in
       record {
-        gathers = gathers_changed base owed t name g.held g.there (owing n) (Some (Advance name 0)) owed
-            (at_work-changed None base.state name (owing n)
+        gathers = gathers_changed base owed t name g.held g.there (with_more_owed n) (Some (Advance name 0)) owed
+            (at_work-changed None base.state name (with_more_owed n)
             (λ held e. kind-owing None name n held refl (work name held e)) work)
             (subst (λ o. IsSomeAnd o (λ held. IsSome held.live.part)) (sym after)
             (subst IsSome (sym (owing-open g.held i n some)) refl))
@@ -183,20 +183,20 @@ module _ (base : Owning) (owed : List Work) (t : Gathers base owed) (idle : base
         turns = omega (arith, owed_then, owed_sum, turns_then, turns_before);
       }
 
-  begins-measure : (name : List ℕ) (held : Held) → held_in base.state name ≡ Some held → owed_in base.state name ≡ 0
+  begins-measure : (name : List ℕ) (held : HeldSession) → held_session base.state name ≡ Some held → owed_in base.state name ≡ 0
       → Begins base owed (Measure name)
-      (record { state = changed name (with_step Energy) base.state; number = base.number; waiting = Some (Measure name) })
+      (record { state = with_session_changed name (with_step Energy) base.state; number = base.number; waiting = Some (Measure name) })
   unfolding waits_for
   begins-measure name held there none =
       let i = idle-held name held there none in
-      let next : Owning = record { state = changed name (with_step Energy) base.state; number = base.number; waiting = Some (Measure name) } in
+      let next : Owner = record { state = with_session_changed name (with_step Energy) base.state; number = base.number; waiting = Some (Measure name) } in
       let sum = sum-changed base.state name (with_step Energy) in
       let after = there-changed base.state name (with_step Energy) held there in
       let tiles : command_tiles (user_in base) (Measure name) ≡ frame_tiles held.live.composition held.live.sim =
       measure-tiles-is base.state name held there
       ∙ ap (frame_tiles held.live.composition) (meant-sim held i.owed) in
-      let no_steps : steps_before (changed name (with_step Energy) base.state) (Measure name) ≡ 0 =
-      ap (λ o. option_map_or (λ (h : Held). h.owed) o 0) after ∙ i.owed in
+      let no_steps : steps_before (with_session_changed name (with_step Energy) base.state) (Measure name) ≡ 0 =
+      ap (λ o. option_map_or (λ (h : HeldSession). h.owed) o 0) after ∙ i.owed in
       let own : waiting_tiles next ≡ 0 =
       ap (λ n. if nat_lt 0 n then command_tiles (user_in next) (Measure name) else 0) no_steps in
       let later : tiles_after held ≡ 0 = rw i.owed refl in
@@ -223,8 +223,8 @@ module _ (base : Owning) (owed : List Work) (t : Gathers base owed) (idle : base
 
   -- or for its own
   begins-on : (command : Command) → steps_before base.state command ≡ 0 → 0 < turns (user_in base) command
-      → Begins base owed command (begun command base)
-  unfolding taken_up rest_of waits_for
+      → Begins base owed command (owner_begun command base)
+  unfolding state_taking_up rest_of waits_for
   begins-on (Advance name n) none some =
       let g = goes base.state name n some in
       let n_is = advance-turns-near (user_in base) name n (session_meant g.held)
@@ -236,7 +236,7 @@ module _ (base : Owning) (owed : List Work) (t : Gathers base owed) (idle : base
   begins-on command none some =
       let no = no-turns (user_in base) command (λ name n e. cc) (λ name e. cc) in absurd (omega (arith, no, some))
 
-  pub begins : (command : Command) → 0 < turns_before base.state command → Begins base owed command (begun command base)
+  pub begins : (command : Command) → 0 < turns_before base.state command → Begins base owed command (owner_begun command base)
   begins command some = by_test (nat_lt 0 (steps_before base.state command))
       (λ b. begins-off command (ltb-true 0 (steps_before base.state command) b))
       (λ b. let few = ltb-false 0 (steps_before base.state command) b in
@@ -262,57 +262,57 @@ unfolding rest_of waits_for
 rest-waits (Advance session n) name = refl
 rest-waits command name = refl
 
-pub begun-waits : (command : Command) (owner : Owning) (name : List ℕ)
-    → is_waited_for (begun command owner).waiting name ≡ is_waited_for (Some command) name
+pub begun-waits : (command : Command) (owner : Owner) (name : List ℕ)
+    → is_waited_for (owner_begun command owner).waiting name ≡ is_waited_for (Some command) name
 begun-waits command owner name = by_test (nat_lt 0 (steps_before owner.state command))
     (λ t. rw t refl)
     (λ t. rw t (rest-waits command name))
 
 -- as many steps are owed to every other session
-taken-owes : (command : Command) (owned : Owned) (name : List ℕ) → is_waited_for (Some command) name ≡ false
-    → owed_in (taken_up command owned) name ≡ owed_in owned name
-unfolding taken_up waits_for
+taken-owes : (command : Command) (owned : UserState) (name : List ℕ) → is_waited_for (Some command) name ≡ false
+    → owed_in (state_taking_up command owned) name ≡ owed_in owned name
+unfolding state_taking_up waits_for
 taken-owes (Advance session n) owned name apart =
-    ap (λ o. option_map_or (λ (h : Held). h.owed) o 0)
-    (other-changed owned session (owing n) name (λ is. true≢false (sym ((bytes_eq-Decides session name).1 is) ∙ apart)))
+    ap (λ o. option_map_or (λ (h : HeldSession). h.owed) o 0)
+    (other-changed owned session (with_more_owed n) name (λ is. true≢false (sym ((bytes_eq-Decides session name).1 is) ∙ apart)))
 taken-owes (Measure session) owned name apart = owed-changed owned session (with_step Energy) (λ held. refl) name
 taken-owes command owned name apart = refl
 
-pub begun-owes : (command : Command) (owner : Owning) (name : List ℕ) → is_waited_for (Some command) name ≡ false
-    → owed_in (begun command owner).state name ≡ owed_in owner.state name
+pub begun-owes : (command : Command) (owner : Owner) (name : List ℕ) → is_waited_for (Some command) name ≡ false
+    → owed_in (owner_begun command owner).state name ≡ owed_in owner.state name
 begun-owes command owner name apart = by_test (nat_lt 0 (steps_before owner.state command))
     (λ t. rw t refl)
     (λ t. rw t (taken-owes command owner.state name apart))
 
 -- a turn: the step of its session is passed, and what waits for the session begins again
-abbrev passed_in : List ℕ → Owning → Owning
-passed_in name owner = with_state (changed name step_passed owner.state) owner
+abbrev passed_in : List ℕ → Owner → Owner
+passed_in name owner = with_state (with_session_changed name with_step_passed owner.state) owner
 
-turned-passed : (name : List ℕ) (owner : Owning) → is_waited_for owner.waiting name ≡ false → turned_from name owner ≡ passed_in name owner
+turned-passed : (name : List ℕ) (owner : Owner) → is_waited_for owner.waiting name ≡ false → owner_turned name owner ≡ passed_in name owner
 turned-passed name owner other = rw other refl
 
-turned-begun : (name : List ℕ) (owner : Owning) (command : Command) → owner.waiting ≡ Some command
-    → is_waited_for (Some command) name ≡ true → turned_from name owner ≡ begun command (passed_in name owner)
+turned-begun : (name : List ℕ) (owner : Owner) (command : Command) → owner.waiting ≡ Some command
+    → is_waited_for (Some command) name ≡ true → owner_turned name owner ≡ owner_begun command (passed_in name owner)
 turned-begun name owner command is waited = rw (is, waited) refl
 
-turned-either : (P : Owning → Type 0) (name : List ℕ) (owner : Owning) → P (passed_in name owner)
-    → ((command : Command) → owner.waiting ≡ Some command → P (begun command (passed_in name owner))) → P (turned_from name owner)
+turned-either : (P : Owner → Type 0) (name : List ℕ) (owner : Owner) → P (passed_in name owner)
+    → ((command : Command) → owner.waiting ≡ Some command → P (owner_begun command (passed_in name owner))) → P (owner_turned name owner)
 turned-either P name owner passes begins_again = by owner.waiting refl
   where
-    by : (w : Option Command) → owner.waiting ≡ w → P (turned_from name owner)
+    by : (w : Option Command) → owner.waiting ≡ w → P (owner_turned name owner)
     by None e = subst P (sym (turned-passed name owner (ap (λ w. is_waited_for w name) e))) passes
     by (Some command) e = by_test (is_waited_for (Some command) name)
         (λ t. subst P (sym (turned-begun name owner command e t)) (begins_again command e))
         (λ t. subst P (sym (turned-passed name owner (ap (λ w. is_waited_for w name) e ∙ t))) passes)
 
-pub turned-waits : (name : List ℕ) (owner : Owning) (other : List ℕ)
-    → is_waited_for (turned_from name owner).waiting other ≡ is_waited_for owner.waiting other
-turned-waits name owner other = turned-either (λ (o : Owning). is_waited_for o.waiting other ≡ is_waited_for owner.waiting other)
+pub turned-waits : (name : List ℕ) (owner : Owner) (other : List ℕ)
+    → is_waited_for (owner_turned name owner).waiting other ≡ is_waited_for owner.waiting other
+turned-waits name owner other = turned-either (λ (o : Owner). is_waited_for o.waiting other ≡ is_waited_for owner.waiting other)
     name owner refl
     (λ command is. begun-waits command (passed_in name owner) other ∙ sym (ap (λ w. is_waited_for w other) is))
 
-pub turned-owes : (name : List ℕ) (owner : Owning) → OwesNoMore owner (turned_from name owner).state
-turned-owes name owner other apart = turned-either (λ (o : Owning). owed_in o.state other ≤ owed_in owner.state other)
+pub turned-owes : (name : List ℕ) (owner : Owner) → OwesNoMore owner (owner_turned name owner).state
+turned-owes name owner other apart = turned-either (λ (o : Owner). owed_in o.state other ≤ owed_in owner.state other)
     name owner passes
     (λ command is.
     let same = begun-owes command (passed_in name owner) other (sym (ap (λ w. is_waited_for w other) is) ∙ apart) in
@@ -320,10 +320,10 @@ turned-owes name owner other apart = turned-either (λ (o : Owning). owed_in o.s
     omega (arith, same, fewer))
   where
     passes : owed_in (passed_in name owner).state other ≤ owed_in owner.state other
-    passes = owed-lowered owner.state name step_passed (λ held. let one_less = passed-owed held in omega (arith, one_less)) other
+    passes = owed-lowered owner.state name with_step_passed (λ held. let one_less = passed-owed held in omega (arith, one_less)) other
 
 -- a session that is whole, over a pool
-module _ (owner : Owning) (owed : List Work) (t : Gathers owner owed) (name : List ℕ)
+module _ (owner : Owner) (owed : List Task) (t : Gathers owner owed) (name : List ℕ)
     (whole : is_whole_in owner.state name ≡ true) where
   pub whole-open : Open owner.waiting owner.state name
   whole-open = opens owner.waiting owner.state name whole t.at_work
@@ -335,62 +335,62 @@ module _ (owner : Owning) (owed : List Work) (t : Gathers owner owed) (name : Li
   step_of_it = some-part o.held.live.part o.kind o.is
 
   -- none of its tiles is to come
-  pub whole-left : left_in o.held.live.part ≡ 0
+  pub whole-left : tiles_left_in o.held.live.part ≡ 0
   whole-left = whole_none o.held (label_of owner name) step_of_it.0 step_of_it.1 (t.gathered name o.held o.there) o.whole
 
-  pub whole-owes : posted_of (label_of owner name) (Some o.held) ≡ []
+  pub whole-owes : tasks_posted_of (label_of owner name) (Some o.held) ≡ []
   whole-owes = whole_posted o.held (label_of owner name) step_of_it.0 step_of_it.1 (t.gathered name o.held o.there) o.whole
 
   owed-there : owed_in owner.state name ≡ o.held.owed
-  owed-there = ap (λ h. option_map_or (λ (h : Held). h.owed) h 0) o.there
+  owed-there = ap (λ h. option_map_or (λ (h : HeldSession). h.owed) h 0) o.there
 
   -- its step is passed
   module _ (some : 0 < owed_in owner.state name) where
-    pub passed-gathers : (waiting : Option Command) → IsAtWork waiting (changed name step_passed owner.state)
-        → IfSome waiting (IsOpenFor (changed name step_passed owner.state))
-        → Gathers (record { state = changed name step_passed owner.state; number = owner.number; waiting = waiting }) owed
+    pub passed-gathers : (waiting : Option Command) → IsAtWork waiting (with_session_changed name with_step_passed owner.state)
+        → IfSome waiting (IsOpenFor (with_session_changed name with_step_passed owner.state))
+        → Gathers (record { state = with_session_changed name with_step_passed owner.state; number = owner.number; waiting = waiting }) owed
     passed-gathers waiting work waits =
-        gathers_changed owner owed t name o.held o.there step_passed waiting owed work waits
+        gathers_changed owner owed t name o.held o.there with_step_passed waiting owed work waits
         (passed-gathered o.held)
-        (t.each name ∙ ap (posted_of (label_of owner name)) o.there ∙ whole-owes
+        (t.each name ∙ ap (tasks_posted_of (label_of owner name)) o.there ∙ whole-owes
         ∙ sym (passed-posted o.held (label_of owner name)))
         (λ other apart. refl)
 
-    pub passed-tiles-sum : tiles_to_come (changed name step_passed owner.state) ≡ tiles_to_come owner.state
+    pub passed-tiles-sum : tiles_to_come (with_session_changed name with_step_passed owner.state) ≡ tiles_to_come owner.state
     passed-tiles-sum =
-        let sum = sum-changed owner.state name step_passed tiles_of_session o.held o.there in
+        let sum = sum-changed owner.state name with_step_passed tiles_of_session o.held o.there in
         let passed = passed-tiles o.held in
         let left = whole-left in
         omega (arith, sum, passed, left)
 
-    pub passed-posts-sum : sum_over posts_of_session (changed name step_passed owner.state) ≤ sum_over posts_of_session owner.state
+    pub passed-posts-sum : sum_over posts_of_session (with_session_changed name with_step_passed owner.state) ≤ sum_over posts_of_session owner.state
     passed-posts-sum =
-        let sum = sum-changed owner.state name step_passed posts_of_session o.held o.there in
+        let sum = sum-changed owner.state name with_step_passed posts_of_session o.held o.there in
         let passed = passed-posts o.held in
         omega (arith, sum, passed)
 
-    pub passed-owed-sum : sum_over (λ held. held.owed) (changed name step_passed owner.state) + 1 ≡ sum_over (λ held. held.owed) owner.state
+    pub passed-owed-sum : sum_over (λ held. held.owed) (with_session_changed name with_step_passed owner.state) + 1 ≡ sum_over (λ held. held.owed) owner.state
     passed-owed-sum =
-        let sum = sum-changed owner.state name step_passed (λ held. held.owed) o.held o.there in
+        let sum = sum-changed owner.state name with_step_passed (λ held. held.owed) o.held o.there in
         let passed = passed-owed o.held in
         let more = owed-there in
         omega (arith, sum, passed, more, some)
 
 -- what a turn that answers nothing leaves
-pub record Turns (owner : Owning) (owed : List Work) (next : Owning) : Type 0 where
+pub record Turns (owner : Owner) (owed : List Task) (next : Owner) : Type 0 where
   pub gathers : Gathers next owed
   pub tiles : tiles_coming next ≡ tiles_coming owner
   pub posts : posts_coming next ≤ posts_coming owner
   pub turns : turns_coming next + 1 ≡ turns_coming owner
 
-module _ (owner : Owning) (owed : List Work) (t : Gathers owner owed) (name : List ℕ)
+module _ (owner : Owner) (owed : List Task) (t : Gathers owner owed) (name : List ℕ)
     (whole : is_whole_in owner.state name ≡ true) where
-  same_user : 0 < owed_in owner.state name → user_of (changed name step_passed owner.state) ≡ user_in owner
+  same_user : 0 < owed_in owner.state name → user_of (with_session_changed name with_step_passed owner.state) ≡ user_in owner
   same_user some = passed_user owner.state name some
 
   -- nothing waits for the session
   turns-other : is_waited_for owner.waiting name ≡ false → 0 < owed_in owner.state name
-      → Turns owner owed (with_state (changed name step_passed owner.state) owner)
+      → Turns owner owed (with_state (with_session_changed name with_step_passed owner.state) owner)
   turns-other other some =
       let user = same_user some in
       let tiles = passed-tiles-sum owner owed t name whole some in
@@ -400,7 +400,7 @@ module _ (owner : Owning) (owed : List Work) (t : Gathers owner owed) (name : Li
       let turns_same = ap (λ u. option_map_or (turns u) owner.waiting 0) user in
       record {
         gathers = passed-gathers owner owed t name whole some owner.waiting
-            (at_work-changed owner.waiting owner.state name step_passed (λ held e. kind-passed owner.waiting name held quiet) t.at_work)
+            (at_work-changed owner.waiting owner.state name with_step_passed (λ held e. kind-passed owner.waiting name held quiet) t.at_work)
             (still owner.waiting refl t.waits);
         tiles = omega (arith, tiles, own);
         posts = omega (arith, posts, own);
@@ -425,34 +425,34 @@ module _ (owner : Owning) (owed : List Work) (t : Gathers owner owed) (name : Li
           true≢false (sym t ∙ ap (λ w. is_waited_for w name) (sym e) ∙ other)
 
       still : (w : Option Command) → owner.waiting ≡ w → IfSome w (IsOpenFor owner.state)
-          → IfSome w (IsOpenFor (changed name step_passed owner.state))
+          → IfSome w (IsOpenFor (with_session_changed name with_step_passed owner.state))
       still None e h = tt
       still (Some command) e h = by (waits_for command) refl
         where
-          by : (w : Option (List ℕ)) → waits_for command ≡ w → IsOpenFor (changed name step_passed owner.state) command
-          by None w = absurd (subst (λ o. IsSomeAnd o (λ name. IsSomeAnd (held_in owner.state name) (λ held. IsSome held.live.part))) w h)
+          by : (w : Option (List ℕ)) → waits_for command ≡ w → IsOpenFor (with_session_changed name with_step_passed owner.state) command
+          by None w = absurd (subst (λ o. IsSomeAnd o (λ name. IsSomeAnd (held_session owner.state name) (λ held. IsSome held.live.part))) w h)
           by (Some session) w =
-              subst (λ o. IsSomeAnd o (λ session. IsSomeAnd (held_in (changed name step_passed owner.state) session) (λ held. IsSome held.live.part)))
+              subst (λ o. IsSomeAnd o (λ session. IsSomeAnd (held_session (with_session_changed name with_step_passed owner.state) session) (λ held. IsSome held.live.part)))
               (sym w)
               (subst (λ o. IsSomeAnd o (λ held. IsSome held.live.part))
-              (sym (other-changed owner.state name step_passed session (apart command e session w)))
-              (subst (λ o. IsSomeAnd o (λ name. IsSomeAnd (held_in owner.state name) (λ held. IsSome held.live.part))) w h))
+              (sym (other-changed owner.state name with_step_passed session (apart command e session w)))
+              (subst (λ o. IsSomeAnd o (λ name. IsSomeAnd (held_session owner.state name) (λ held. IsSome held.live.part))) w h))
 
       waiting_same : (w : Option Command) → owner.waiting ≡ w
-          → waiting_tiles_of (with_state (changed name step_passed owner.state) owner) w ≡ waiting_tiles_of owner w
+          → waiting_tiles_of (with_state (with_session_changed name with_step_passed owner.state) owner) w ≡ waiting_tiles_of owner w
       waiting_same None e = refl
       waiting_same (Some command) e =
-          ap (λ n. if nat_lt 0 n then command_tiles (user_of (changed name step_passed owner.state)) command else 0)
+          ap (λ n. if nat_lt 0 n then command_tiles (user_of (with_session_changed name with_step_passed owner.state)) command else 0)
           (before (waits_for command) refl)
           ∙ ap (λ u. if nat_lt 0 (steps_before owner.state command) then command_tiles u command else 0) (same_user some)
         where
           before : (w : Option (List ℕ)) → waits_for command ≡ w
-              → steps_before (changed name step_passed owner.state) command ≡ steps_before owner.state command
-          before None w = ap (λ o. option_map_or (owed_in (changed name step_passed owner.state)) o 0) w
+              → steps_before (with_session_changed name with_step_passed owner.state) command ≡ steps_before owner.state command
+          before None w = ap (λ o. option_map_or (owed_in (with_session_changed name with_step_passed owner.state)) o 0) w
               ∙ sym (ap (λ o. option_map_or (owed_in owner.state) o 0) w)
-          before (Some session) w = ap (λ o. option_map_or (owed_in (changed name step_passed owner.state)) o 0) w
-              ∙ ap (λ o. option_map_or (λ (h : Held). h.owed) o 0)
-              (other-changed owner.state name step_passed session (apart command e session w))
+          before (Some session) w = ap (λ o. option_map_or (owed_in (with_session_changed name with_step_passed owner.state)) o 0) w
+              ∙ ap (λ o. option_map_or (λ (h : HeldSession). h.owed) o 0)
+              (other-changed owner.state name with_step_passed session (apart command e session w))
               ∙ sym (ap (λ o. option_map_or (owed_in owner.state) o 0) w)
 
   -- a command waits for it
@@ -460,11 +460,11 @@ module _ (owner : Owning) (owed : List Work) (t : Gathers owner owed) (name : Li
     work_waiting : IsAtWork (Some command) owner.state
     work_waiting = subst (λ w. IsAtWork w owner.state) waiting t.at_work
 
-    abbrev base : Owning
-    base = record { state = changed name step_passed owner.state; number = owner.number; waiting = None }
+    abbrev base : Owner
+    base = record { state = with_session_changed name with_step_passed owner.state; number = owner.number; waiting = None }
 
-    turns-waited : 0 < owed_in owner.state name → 0 < turns_before (changed name step_passed owner.state) command
-        → Turns owner owed (begun command base)
+    turns-waited : 0 < owed_in owner.state name → 0 < turns_before (with_session_changed name with_step_passed owner.state) command
+        → Turns owner owed (owner_begun command base)
     turns-waited some more =
         let passed = passed-gathers owner owed t name whole some None
         (at_work-passed command owner.state name waits some work_waiting) tt in
@@ -491,13 +491,13 @@ module _ (owner : Owning) (owed : List Work) (t : Gathers owner owed) (name : Li
           turns = omega (arith, bu, fewer, own_turns, same_turns);
         }
 
-  pub turned : (IsLastTurn name owner → ⊥) → Turns owner owed (turned_from name owner)
+  pub turned : (IsLastTurn name owner → ⊥) → Turns owner owed (owner_turned name owner)
   turned more = by owner.waiting refl
     where
       owed_some : (owed_in owner.state name ≡ 0 → ⊥) → 0 < owed_in owner.state name
       owed_some some = omega (arith, some)
 
-      other : is_waited_for owner.waiting name ≡ false → 0 < owed_in owner.state name → Turns owner owed (turned_from name owner)
+      other : is_waited_for owner.waiting name ≡ false → 0 < owed_in owner.state name → Turns owner owed (owner_turned name owner)
       other e some = rw e (turns-other e some)
 
       none_measured : (w : Option Command) → owner.waiting ≡ w → is_waited_for w name ≡ false → owed_in owner.state name ≡ 0 → ⊥
@@ -509,23 +509,23 @@ module _ (owner : Owning) (owed : List Work) (t : Gathers owner owed) (name : Li
           by_w None e m n = true≢false (sym m)
           by_w (Some command) e m n = true≢false (sym (waited-measure command name (measures command name m)) ∙ n)
 
-      by : (w : Option Command) → owner.waiting ≡ w → Turns owner owed (turned_from name owner)
+      by : (w : Option Command) → owner.waiting ≡ w → Turns owner owed (owner_turned name owner)
       by None e = other (ap (λ w. is_waited_for w name) e) (owed_some (none_measured None e refl))
       by (Some command) e = by_test (is_waited_for (Some command) name) waited not_waited
         where
-          not_waited : is_waited_for (Some command) name ≡ false → Turns owner owed (turned_from name owner)
+          not_waited : is_waited_for (Some command) name ≡ false → Turns owner owed (owner_turned name owner)
           not_waited n = other (ap (λ w. is_waited_for w name) e ∙ n) (owed_some (none_measured (Some command) e n))
 
-          waited : is_waited_for (Some command) name ≡ true → Turns owner owed (turned_from name owner)
+          waited : is_waited_for (Some command) name ≡ true → Turns owner owed (owner_turned name owner)
           waited y =
               let waits = same_name command name y in
               let work = subst (λ w. IsAtWork w owner.state) e t.at_work in
               let some : 0 < owed_in owner.state name = owed_some (λ none.
               last (measured_last command owner.state name (energies (Some command) owner.state name whole work none))) in
               let fewer = passed_turns owner.state name command waits some in
-              let left : 0 < turns_before (changed name step_passed owner.state) command =
+              let left : 0 < turns_before (with_session_changed name with_step_passed owner.state) command =
               omega (arith, fewer, last) in
-              subst (λ (o : Owning). Turns owner owed o) (sym (turned-begun name owner command e y)) (turns-waited command e waits some left)
+              subst (λ (o : Owner). Turns owner owed o) (sym (turned-begun name owner command e y)) (turns-waited command e waits some left)
             where
               last : turns_before owner.state command ≡ 1 → ⊥
               last one = more (record { waited = rw e y; last = rw e one })

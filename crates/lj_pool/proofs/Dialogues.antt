@@ -13,23 +13,23 @@ use Rattle.lj_session.specs.declared.command.Command.TheVariants.{Bye as ByeComm
 use Rattle.lj_session.specs.declared.reply.Reply.{Reply}
 use Rattle.lj_session.specs.declared.command.Command.{Command as Order}
 use Rattle.lj_session.specs.declared.command.Command.TheVariants.{Advance, Start, Measure}
-use Rattle.lj_branch.specs.Named.{named}
+use Rattle.lj_branch.specs.Named.{value_named}
 use Rattle.lj_session.specs.Turns.{turns, waits_for, advance_turns, measure_turns}
 use Rattle.lj_session.specs.Users.{Session, User}
-use Rattle.lj_session.specs.States.{Held, Owned, user_of, rested, held_in, owed_in, steps_before, turns_before}
+use Rattle.lj_session.specs.UserState.{HeldSession, UserState, user_of, state_at_rest, held_session, owed_in, steps_before, turns_before}
 use Rattle.lj_session.proofs.Entries.{by_test}
 use Rattle.lj_session.proofs.Holding.{named-held}
 use Rattle.lj_session.proofs.Waiting.{rested_user}
 use Rattle.lj_wire.specs.declared.item.Item.{Item}
 use Rattle.lj_wire.specs.declared.item.Item.TheVariants.{Command, Bad, Last}
 use Rattle.lj_wire.specs.declared.reader.phase.Phase.TheVariants.{Open, Over, Failed}
-use Rattle.lj_wire.specs.Items.{ends}
+use Rattle.lj_wire.specs.Items.{is_ending}
 use Rattle.lj_wire.specs.Texts.{text, is_memory}
-use Rattle.lj_wire.specs.Told.{answered, told, texts, last_user}
+use Rattle.lj_wire.specs.Told.{item_reply, item_text, texts, last_user}
 use Rattle.lj_wire.specs.Runs.{item_before}
 use Rattle.lj_wire.specs.Streams.{IsItem, IsPart}
 use Rattle.lj_wire.specs.Progress.{Takes}
-use Rattle.lj_wire.specs.Standings.{Standing, IsLost, IsHandedOut, HandsOut, Ceases, Fails, HandsNone, HasFailed}
+use Rattle.lj_wire.specs.LineReader.{LineReader, IsLost, IsHandedOut, HandsOut, Ceases, Fails, HandsNone, HasFailed}
 use Rattle.lj_wire.proofs.Marks.{marked}
 use Rattle.lj_wire.proofs.Handed.{lost_answered, ends_alike}
 use Rattle.lj_wire.proofs.Progressing.{Takes-more, Splits-part, Splits-end, Added, added, marks-length, texts-length}
@@ -76,7 +76,7 @@ tiles-more user [] [] item mark h = omega arith
 tiles-more user [] (next ∷ marks) item mark h = absurd (omega (arith, h))
 tiles-more user (first ∷ items) [] item mark h = absurd (omega (arith, h))
 tiles-more user (first ∷ items) (next ∷ marks) item mark h =
-    let rest = tiles-more (told user first next).1 items marks item mark (omega (arith, h)) in
+    let rest = tiles-more (item_text user first next).1 items marks item mark (omega (arith, h)) in
     omega (arith, rest)
 
 -- one that takes steps of its own has its session
@@ -89,25 +89,25 @@ measures None h = absurd (omega (arith, h))
 measures (Some session) h = refl
 
 -- A command waits for a session of the user, and takes turns of its own or may wait for others.
-abbrev Waits : Owned → (List ℕ → Type 0) → Order → Type 0
+abbrev Waits : UserState → (List ℕ → Type 0) → Order → Type 0
 Waits owned Others command = IsSomeAnd (waits_for command)
-    (λ name. IsSome (named name (user_of owned).sessions) × ((0 < turns (user_of owned) command) ⊎ Others name))
+    (λ name. IsSome (value_named name (user_of owned).sessions) × ((0 < turns (user_of owned) command) ⊎ Others name))
 
-own_there : (owned : Owned) (Others : List ℕ → Type 0) (command : Order) → 0 < turns (user_of owned) command → Waits owned Others command
+own_there : (owned : UserState) (Others : List ℕ → Type 0) (command : Order) → 0 < turns (user_of owned) command → Waits owned Others command
 unfolding turns waits_for
-own_there owned Others (Advance name n) more = (advances n (named name (user_of owned).sessions) more, inl more)
-own_there owned Others (Measure name) more = (measures (named name (user_of owned).sessions) more, inl more)
+own_there owned Others (Advance name n) more = (advances n (value_named name (user_of owned).sessions) more, inl more)
+own_there owned Others (Measure name) more = (measures (value_named name (user_of owned).sessions) more, inl more)
 own_there owned Others command more = absurd (omega (arith, more))
 
 -- so does one before which turns come
-waits_there : (owned : Owned) (Others : List ℕ → Type 0) → ((name : List ℕ) → 0 < owed_in owned name → Others name)
+waits_there : (owned : UserState) (Others : List ℕ → Type 0) → ((name : List ℕ) → 0 < owed_in owned name → Others name)
     → (command : Order) → 0 < turns_before owned command → Waits owned Others command
 waits_there owned Others may command some = by_test (nat_lt 0 (steps_before owned command))
     (λ t. for_steps (waits_for command) refl (ltb-true 0 (steps_before owned command) t))
     (λ t. let none = ltb-false 0 (steps_before owned command) t in own_there owned Others command (omega (arith, some, none)))
   where
-    there : (name : List ℕ) → 0 < owed_in owned name → (o : Option Held) → held_in owned name ≡ o
-        → IsSome (named name (user_of owned).sessions)
+    there : (name : List ℕ) → 0 < owed_in owned name → (o : Option HeldSession) → held_session owned name ≡ o
+        → IsSome (value_named name (user_of owned).sessions)
     there name more None e = absurd (let none = rw e at more in omega (arith, none))
     there name more (Some held) e = ap is_some (named-held owned name held e)
 
@@ -115,16 +115,16 @@ waits_there owned Others may command some = by_test (nat_lt 0 (steps_before owne
     for_steps None e more = absurd (let none = ap (λ o. option_map_or (owed_in owned) o 0) e in omega (arith, none, more))
     for_steps (Some name) e more =
         let owed : 0 < owed_in owned name = subst (λ o. 0 < option_map_or (owed_in owned) o 0) e more in
-        subst (λ o. IsSomeAnd o (λ name. IsSome (named name (user_of owned).sessions)
+        subst (λ o. IsSomeAnd o (λ name. IsSome (value_named name (user_of owned).sessions)
         × ((0 < turns (user_of owned) command) ⊎ Others name))) (sym e)
-        (there name owed (held_in owned name) refl, inr (may name owed))
+        (there name owed (held_session owned name) refl, inr (may name owed))
 
 -- a load takes no turns, and none come before it
-lost_before : (owned : Owned) (found item : Item) → IsLost found item → item_before owned item ≡ 0
+lost_before : (owned : UserState) (found item : Item) → IsLost found item → item_before owned item ≡ 0
 unfolding turns waits_for
 lost_before owned found item l = ap (item_before owned) l.item_is
 
-may_wait : (start : Owned) (before : List Item) (owned : Owned) (found item : Item) → OwesAfter start before owned
+may_wait : (start : UserState) (before : List Item) (owned : UserState) (found item : Item) → OwesAfter start before owned
     → IsHandedOut found item → 0 < item_before owned item → MayWait start before (user_of owned) found
 may_wait start before owned found item owes (inl same) some = of found (subst (λ i. 0 < item_before owned i) same some)
   where
@@ -147,7 +147,7 @@ start_found found item name n handed there = by handed (Contains-push_cases [] i
     by (inr l) (inr is) = absurd (let differ = sym l.item_is ∙ is in cc)
 
 -- steps may be owed after one item more where they are owed after it
-owes-more : (start : Owned) (items : List Item) (owned : Owned) (found item : Item) (last : Owned) → OwesAfter start items owned
+owes-more : (start : UserState) (items : List Item) (owned : UserState) (found item : Item) (last : UserState) → OwesAfter start items owned
     → IsHandedOut found item → OwesAfter owned (item ∷ []) last → OwesAfter start (items ++ found ∷ []) last
 owes-more start items owned found item last before handed after name more = by (after name more)
   where
@@ -177,7 +177,7 @@ endings_alike found item (inl same) = ap ending_of same
 endings_alike found item (inr l) = ap ending_of l.item_is ∙ sym (ap ending_of l.found_is)
 
 -- how serving ends with an item
-goes_on : (item : Item) → ending_of item ≡ None → ends item ≡ false
+goes_on : (item : Item) → ending_of item ≡ None → is_ending item ≡ false
 goes_on (Command ByeCommand) e = absurd (cc)
 goes_on (Command command) e = refl
 goes_on (Bad fault) e = refl
@@ -186,32 +186,32 @@ goes_on (Last fault) e = absurd (cc)
 -- what an item is told, under the mark that it tells
 record Told (between next : User) (found : Item) (words : List ℕ) : Type 0 where
   mark : Bool
-  tells : told between found mark ≡ (words, next)
-  only : mark ≡ true → is_memory (told between found mark).0 ≡ true
+  tells : item_text between found mark ≡ (words, next)
+  only : mark ≡ true → is_memory (item_text between found mark).0 ≡ true
 
 told_of : (between next : User) (found item : Item) (reply : Reply) → IsHandedOut found item
     → AnswersItem between item reply next → Told between next found (text next reply)
 told_of between next found item reply handed answers = by_found handed
   where
-    with_mark : (mark : Bool) → answered between found mark ≡ (reply, next) → Told between next found (text next reply)
+    with_mark : (mark : Bool) → item_reply between found mark ≡ (reply, next) → Told between next found (text next reply)
     with_mark mark is =
-        let first : told between found mark ≡ (text next reply, next) = ap (λ a. (text a.1 a.0, a.1)) is in
-        let same : told between found (is_memory (told between found mark).0) ≡ told between found mark =
+        let first : item_text between found mark ≡ (text next reply, next) = ap (λ a. (text a.1 a.0, a.1)) is in
+        let same : item_text between found (is_memory (item_text between found mark).0) ≡ item_text between found mark =
         sym (marked between found mark) in
         record {
-          mark = is_memory (told between found mark).0;
+          mark = is_memory (item_text between found mark).0;
           tells = same ∙ first;
           only = λ marks. ap (λ t. is_memory t.0) same ∙ marks;
         }
 
     by_found : IsHandedOut found item → Told between next found (text next reply)
-    by_found (inl same) = with_mark answers.0 (ap (λ i. answered between i answers.0) (sym same) ∙ answers.1)
+    by_found (inl same) = with_mark answers.0 (ap (λ i. item_reply between i answers.0) (sym same) ∙ answers.1)
     by_found (inr l) = with_mark true (sym (lost_answered between found item answers.0 l) ∙ answers.1)
 
 -- serving begins with nothing read
-pub serving-start : (start : Owned) (first : Standing) (was : Option (List ℕ)) (old : Seen)
+pub serving-start : (start : UserState) (first : LineReader) (was : Option (List ℕ)) (old : Seen)
     → first.items ≡ 0 → first.phase ≡ Open
-    → Serving start first first was was old old (rested start)
+    → Serving start first first was was old old (state_at_rest start)
 serving-start start first was old none is_open = record {
   read = [];
   written = [];
@@ -224,20 +224,20 @@ serving-start start first was old none is_open = record {
   are_marks = tt;
   written_is = refl;
   next_is = rested_user start;
-  counted = rises_none old old (0 + tiles_owed start - tiles_to_come (rested start)) refl refl
+  counted = rises_none old old (0 + tiles_owed start - tiles_to_come (state_at_rest start)) refl refl
       (let all = rested-tiles start in omega (arith, all));
   owes = λ name more. inl (let same = rested-owes start name in omega (arith, same, more));
   phase = is_open;
   errors = refl;
 }
 
-module _ (start : Owned) (first now : Standing) (was is : Option (List ℕ)) (old new : Seen) (owned : Owned)
+module _ (start : UserState) (first now : LineReader) (was is : Option (List ℕ)) (old new : Seen) (owned : UserState)
     (s : Serving start first now was is old new owned) where
   abbrev user : User
   user = user_of start
 
   -- the work goes on
-  pub serving-goes : (next : Owned) (newer : Seen) → user_of next ≡ user_of owned
+  pub serving-goes : (next : UserState) (newer : Seen) → user_of next ≡ user_of owned
       → CountsRise (tiles_to_come owned - tiles_to_come next) new newer → ((name : List ℕ) → owed_in next name ≤ owed_in owned name)
       → Serving start first now was is old newer next
   serving-goes next newer same risen fewer = record {
@@ -264,7 +264,7 @@ module _ (start : Owned) (first now : Standing) (was is : Option (List ℕ)) (ol
   number_is = omega (arith, s.items_are)
 
   -- bytes more are read, and what is written is as it was
-  serves-on : (ending : Served) (last : Standing) (part : List ℕ) (newer : Seen) (state : Option Owned)
+  serves-on : (ending : Served) (last : LineReader) (part : List ℕ) (newer : Seen) (state : Option UserState)
       → Consumes now.left last.left part
       → IsServed ending start (s.read ++ part) s.written old newer state
       → Serves ending start first.left last.left was is old newer state
@@ -306,7 +306,7 @@ module _ (start : Owned) (first now : Standing) (was is : Option (List ℕ)) (ol
           record { read = s.read; written = s.written; taken = s.taken; appends = s.appends; is_served = short }
 
   -- the state is handed back
-  module _ (back : Owned) (same : user_of back ≡ user_of owned) (few : tiles_to_come owned ≤ tiles_owed back) where
+  module _ (back : UserState) (same : user_of back ≡ user_of owned) (few : tiles_to_come owned ≤ tiles_owed back) where
     serving-part : (part : List ℕ) → IsPart now.items part
         → AnswersAll NoneEnds start (s.read ++ part) s.written old new back
     serving-part part p = record {
@@ -327,17 +327,17 @@ module _ (start : Owned) (first now : Standing) (was is : Option (List ℕ)) (ol
     }
 
     -- the input has ended
-    pub serving-ceases : (last : Standing) → Ceases now last
+    pub serving-ceases : (last : LineReader) → Ceases now last
         → Serves served.End start first.left last.left was is old new (Some back)
     serving-ceases last c = serves-on served.End last c.part new (Some back) c.taken (serving-part c.part c.is_part)
 
     -- a read has failed
-    pub serving-fails : (last : Standing) → Fails now last
+    pub serving-fails : (last : LineReader) → Fails now last
         → Serves served.ReadFault start first.left last.left was is old new (Some back)
     serving-fails last f = serves-on served.ReadFault last f.part new (Some back) f.taken (serving-part f.part f.is_part)
 
   -- an item comes
-  module _ (after : Standing) (item : Item) (h : HandsOut now after item) where
+  module _ (after : LineReader) (item : Item) (h : HandsOut now after item) where
     taken_more : Consumes first.left after.left (s.read ++ h.front)
     taken_more = Consumes-trans first.left now.left after.left s.read h.front s.taken h.taken
 
@@ -384,7 +384,7 @@ module _ (start : Owned) (first now : Standing) (was is : Option (List ℕ)) (ol
         serves-on served.TooManyStrays after h.front newer None h.taken (stops newer waits)
 
     -- something is written for it
-    serves-more : (ending : Served) (more : List ℕ) (now_is : Option (List ℕ)) (newer : Seen) (state : Option Owned)
+    serves-more : (ending : Served) (more : List ℕ) (now_is : Option (List ℕ)) (newer : Seen) (state : Option UserState)
         → Appends is now_is more
         → IsServed ending start (s.read ++ h.front) (s.written ++ more) old newer state
         → Serves ending start first.left after.left was now_is old newer state
@@ -397,7 +397,7 @@ module _ (start : Owned) (first now : Standing) (was is : Option (List ℕ)) (ol
     }
 
     -- it is answered
-    module _ (reply : Reply) (last : Owned) (answers : AnswersItem (user_of owned) item reply (user_of last)) where
+    module _ (reply : Reply) (last : UserState) (answers : AnswersItem (user_of owned) item reply (user_of last)) where
       abbrev words : List ℕ
       words = text (user_of last) reply
 
@@ -405,7 +405,7 @@ module _ (start : Owned) (first now : Standing) (was is : Option (List ℕ)) (ol
       t = told_of (user_of owned) (user_of last) h.found item reply h.is_found answers
 
       -- and the text is not written to its end
-      pub serving-breaks : (n : ℕ) (now_is : Option (List ℕ)) (newer : Seen) (back : Owned) → user_of back ≡ user_of last
+      pub serving-breaks : (n : ℕ) (now_is : Option (List ℕ)) (newer : Seen) (back : UserState) → user_of back ≡ user_of last
           → n ≤ length words → Appends is now_is (take n words)
           → Serves served.WriteFault start first.left after.left was now_is old newer (Some back)
       serving-breaks n now_is newer back same within appends =
@@ -417,9 +417,9 @@ module _ (start : Owned) (first now : Standing) (was is : Option (List ℕ)) (ol
             mark = t.mark;
             only_memory = t.only;
             bytes = n;
-            within = subst (λ told. n ≤ length told.0) (sym t.tells) within;
-            written_is = ap (λ told. s.written ++ take n told.0) (sym t.tells);
-            next_is = same ∙ ap (λ told. told.1) (sym t.tells);
+            within = subst (λ item_text. n ≤ length item_text.0) (sym t.tells) within;
+            written_is = ap (λ item_text. s.written ++ take n item_text.0) (sym t.tells);
+            next_is = same ∙ ap (λ item_text. item_text.1) (sym t.tells);
           })
 
       -- and the text is written
@@ -436,19 +436,19 @@ module _ (start : Owned) (first now : Standing) (was is : Option (List ℕ)) (ol
 
         more : Added user s.items s.marks h.found t.mark
         more = added user s.items s.marks h.found t.mark s.are_marks
-            (subst (λ u. t.mark ≡ true → is_memory (told u h.found t.mark).0 ≡ true) s.next_is t.only)
+            (subst (λ u. t.mark ≡ true → is_memory (item_text u h.found t.mark).0 ≡ true) s.next_is t.only)
 
-        tells_last : told (last_user user s.items s.marks) h.found t.mark ≡ (words, user_of last)
-        tells_last = ap (λ u. told u h.found t.mark) (sym s.next_is) ∙ t.tells
+        tells_last : item_text (last_user user s.items s.marks) h.found t.mark ≡ (words, user_of last)
+        tells_last = ap (λ u. item_text u h.found t.mark) (sym s.next_is) ∙ t.tells
 
         written_more : s.written ++ words ≡ concat (texts user items_more marks_more)
         written_more =
             ap (λ w. w ++ words) s.written_is
-            ∙ ap (λ told. concat (texts user s.items s.marks) ++ told.0) (sym tells_last)
+            ∙ ap (λ item_text. concat (texts user s.items s.marks) ++ item_text.0) (sym tells_last)
             ∙ more.written_is
 
         next_more : user_of last ≡ last_user user items_more marks_more
-        next_more = ap (λ told. told.1) (sym tells_last) ∙ more.next_is
+        next_more = ap (λ item_text. item_text.1) (sym tells_last) ∙ more.next_is
 
         counted_more : CountsRise (tiles user items_more marks_more + tiles_owed start - tiles_to_come last) old newer
         counted_more =
@@ -463,7 +463,7 @@ module _ (start : Owned) (first now : Standing) (was is : Option (List ℕ)) (ol
 
         pub serving-more : ending_of item ≡ None → OwesAfter owned (item ∷ []) last → Serving start first after was now_is old newer last
         serving-more none owes =
-            let goes : ends item ≡ false = goes_on item none in
+            let goes : is_ending item ≡ false = goes_on item none in
             record {
               read = s.read ++ h.front;
               written = s.written ++ words;
@@ -484,8 +484,8 @@ module _ (start : Owned) (first now : Standing) (was is : Option (List ℕ)) (ol
             }
 
         -- and the connection ends with it
-        module _ (back : Owned) (same_back : user_of back ≡ user_of last) (few : tiles_to_come last ≤ tiles_owed back) where
-          ended : (Ending : List Item → Type 0) → Ending items_more → ends item ≡ true
+        module _ (back : UserState) (same_back : user_of back ≡ user_of last) (few : tiles_to_come last ≤ tiles_owed back) where
+          ended : (Ending : List Item → Type 0) → Ending items_more → is_ending item ≡ true
               → AnswersAll Ending start (s.read ++ h.front) (s.written ++ words) old newer back
           ended Ending ending over = record {
             dialogue = record {
@@ -509,11 +509,11 @@ module _ (start : Owned) (first now : Standing) (was is : Option (List ℕ)) (ol
           serving-ends_by (Command ByeCommand) served.Bye is e =
               serves-more served.Bye words now_is newer (Some back) appends
               (ended EndsByBye (s.items, ap (λ i. s.items ++ i ∷ []) is)
-              (ends_alike h.found item h.is_found ∙ ap ends is))
+              (ends_alike h.found item h.is_found ∙ ap is_ending is))
           serving-ends_by (Last fault) served.Ended is e =
               serves-more served.Ended words now_is newer (Some back) appends
               (ended EndsByFault (s.items, fault, ap (λ i. s.items ++ i ∷ []) is)
-              (ends_alike h.found item h.is_found ∙ ap ends is))
+              (ends_alike h.found item h.is_found ∙ ap is_ending is))
           serving-ends_by found kind is e = absurd (cc)
 
           pub serving-ends : (kind : Served) → ending_of item ≡ Some kind
@@ -521,10 +521,10 @@ module _ (start : Owned) (first now : Standing) (was is : Option (List ℕ)) (ol
           serving-ends kind e = serving-ends_by h.found kind refl (sym (endings_alike h.found item h.is_found) ∙ e)
 
 -- a reader that goes on hands out none only where the input has ended, and fails only where a read does
-pub ceases_open : (old new : Standing) → old.phase ≡ Open → HandsNone old new → Ceases old new
+pub ceases_open : (old new : LineReader) → old.phase ≡ Open → HandsNone old new → Ceases old new
 ceases_open old new is_open (inl over) = absurd (let differ : Open ≡ Over = sym is_open ∙ over.0 in cc)
 ceases_open old new is_open (inr ceases) = ceases
 
-pub fails_open : (old new : Standing) → old.phase ≡ Open → HasFailed old new → Fails old new
+pub fails_open : (old new : LineReader) → old.phase ≡ Open → HasFailed old new → Fails old new
 fails_open old new is_open (inl failed) = absurd (let differ : Open ≡ Failed = sym is_open ∙ failed.0 in cc)
 fails_open old new is_open (inr fails) = fails

@@ -9,8 +9,8 @@ use Rattle.lj_session.specs.declared.reply.Reply.{Reply}
 use Rattle.lj_session.specs.Users.{User}
 use Rattle.lj_session.specs.Answers.{AnswersAlike}
 use Rattle.lj_session.specs.Begins.{OnRefusal}
-use Rattle.lj_session.specs.States.{Owned, IsIdleIn, OthersKept, OtherSessionsKept, StepsFollow, is_whole_in, names, owed_in, turns_before}
-use Rattle.lj_session.specs.Owners.{Owning, IsAnswered, IsReplied, IsLastTurn, WaitsAlike, WaitsAlikeFor, begun, is_waited_for, user_in}
+use Rattle.lj_session.specs.UserState.{UserState, IsIdleIn, OthersKept, OtherSessionsKept, StepsFollow, is_whole_in, names, owed_in, turns_before}
+use Rattle.lj_session.specs.Owner.{Owner, IsAnswered, IsReplied, IsLastTurn, WaitsAlike, WaitsAlikeFor, owner_begun, is_waited_for, user_in}
 use Rattle.lj_session.proofs.Entries.{by_test}
 use Rattle.lj_wire.specs.declared.item.Item.TheVariants.{Command as Ordered}
 use Rattle.lj_pool.specs.declared.engine.running.Halt.{Halt}
@@ -27,7 +27,7 @@ use Rattle.lj_pool.proofs.Answered.{answered_gathers, answered_owes, answered_ti
 use Rattle.lj_pool.proofs.Going.{rises_more, rises_none, replied_alike}
 
 -- what waits goes on waiting, and where nothing waits nothing does
-pub alike_some : (a b : Owning) → WaitsAlike a b → IsSome a.waiting → IsSome b.waiting
+pub alike_some : (a b : Owner) → WaitsAlike a b → IsSome a.waiting → IsSome b.waiting
 alike_some a b alike some = by a.waiting b.waiting alike some
   where
     by : (x y : Option Command) → WaitsAlikeFor x y (user_in a) (user_in b) → IsSome x → IsSome y
@@ -35,7 +35,7 @@ alike_some a b alike some = by a.waiting b.waiting alike some
     by (Some c) None p s = absurd p
     by (Some c) (Some d) p s = refl
 
-pub alike_none : (a b : Owning) → WaitsAlike a b → a.waiting ≡ None → (b.waiting ≡ None) × (user_in b ≡ user_in a)
+pub alike_none : (a b : Owner) → WaitsAlike a b → a.waiting ≡ None → (b.waiting ≡ None) × (user_in b ≡ user_in a)
 alike_none a b alike none = by b.waiting refl (subst (λ x. WaitsAlikeFor x b.waiting (user_in a) (user_in b)) none alike)
   where
     by : (y : Option Command) → b.waiting ≡ y → WaitsAlikeFor None y (user_in a) (user_in b)
@@ -44,10 +44,10 @@ alike_none a b alike none = by b.waiting refl (subst (λ x. WaitsAlikeFor x b.wa
     by (Some d) e p = absurd p
 
 -- where nothing waits no turn is the last
-pub none_last : (name : List ℕ) (owner : Owning) → owner.waiting ≡ None → IsLastTurn name owner → ⊥
+pub none_last : (name : List ℕ) (owner : Owner) → owner.waiting ≡ None → IsLastTurn name owner → ⊥
 none_last name owner none last = true≢false (sym last.waited ∙ rw none refl)
 
-distinct_replied : (now next : Owning) (reply : Reply) → IsSome now.waiting → IsReplied now reply (user_in next)
+distinct_replied : (now next : Owner) (reply : Reply) → IsSome now.waiting → IsReplied now reply (user_in next)
     → IsDistinct bytes_eq (names now.state) → IsDistinct bytes_eq (names next.state)
 distinct_replied now next reply some replied distinct = by now.waiting some replied
   where
@@ -57,7 +57,7 @@ distinct_replied now next reply some replied distinct = by now.waiting some repl
     by (Some command) s r = distinct-answered now.state next.state command r.mark reply r.answers distinct
 
 -- what is so once what waited is answered: of an owner and what its pool has been seen to do, since some work began
-pub record Ends (start : Owning) (before : Seen) (reply : Reply) (next : Owning) (after : Seen) : Type 0 where
+pub record Ends (start : Owner) (before : Seen) (reply : Reply) (next : Owner) (after : Seen) : Type 0 where
   pub replied : IsReplied start reply (user_in next)
   pub gathers : Gathers next after.owed
   pub counted : CountsRise (tiles_coming start - tiles_coming next) before after
@@ -65,8 +65,8 @@ pub record Ends (start : Owning) (before : Seen) (reply : Reply) (next : Owning)
   pub rests : OwesNoneWhereWaited start next.state
 
 -- the last turn
-module _ (start : Owning) (before : Seen) (now : Owning) (after : Seen) (goes : GoesOn start before now after) (name : List ℕ)
-    (whole : is_whole_in now.state name ≡ true) (last : IsLastTurn name now) (next : Owning) (reply : Reply)
+module _ (start : Owner) (before : Seen) (now : Owner) (after : Seen) (goes : GoesOn start before now after) (name : List ℕ)
+    (whole : is_whole_in now.state name ≡ true) (last : IsLastTurn name now) (next : Owner) (reply : Reply)
     (number : next.number ≡ now.number) (done : next.waiting ≡ None)
     (others : OtherSessionsKept name now.state next.state) (rests : IsIdleIn next.state name)
     (some : IsSome now.waiting) (replied : IsReplied now reply (user_in next)) where
@@ -107,21 +107,21 @@ module _ (start : Owning) (before : Seen) (now : Owning) (after : Seen) (goes : 
   }
 
 -- a command that begins
-module _ (owner : Owning) (seen : Seen) (t : Gathers owner seen.owed) (idle : owner.waiting ≡ None) (command : Command)
-    (next : Owning) where
+module _ (owner : Owner) (seen : Seen) (t : Gathers owner seen.owed) (idle : owner.waiting ≡ None) (command : Command)
+    (next : Owner) where
   -- and waits
-  module _ (takes : 0 < turns_before owner.state command) (is : next ≡ begun command owner) where
-    its : Begins owner seen.owed command (begun command owner)
+  module _ (takes : 0 < turns_before owner.state command) (is : next ≡ owner_begun command owner) where
+    its : Begins owner seen.owed command (owner_begun command owner)
     its = begins owner seen.owed t idle command takes
 
     pub begun_gathers : Gathers next seen.owed
-    begun_gathers = subst (λ (o : Owning). Gathers o seen.owed) (sym is) its.gathers
+    begun_gathers = subst (λ (o : Owner). Gathers o seen.owed) (sym is) its.gathers
 
     pub begun_tiles : tiles_coming next ≡ tiles_to_come owner.state + command_tiles (user_in owner) command
     begun_tiles = ap tiles_coming is ∙ its.tiles
 
     pub begun_some : IsSome next.waiting
-    begun_some = ap (λ (o : Owning). is_some o.waiting) is
+    begun_some = ap (λ (o : Owner). is_some o.waiting) is
 
     -- an answer to what is left is one to the command
     pub begun_answered : (reply : Reply) (last : User) → IfSome next.waiting (λ left. AnswersAlike (user_in next) left (user_in owner) command)
@@ -134,7 +134,7 @@ module _ (owner : Owning) (seen : Seen) (t : Gathers owner seen.owed) (idle : ow
         by (Some left) s a r = record { mark = r.mark; answers = r.answers ∙ a r.mark; only_memory = r.only_memory }
 
     -- and its tiles are counted
-    pub begun_counted : (last : Owning) (after : Seen) → last.waiting ≡ None
+    pub begun_counted : (last : Owner) (after : Seen) → last.waiting ≡ None
         → CountsRise (tiles_coming next - tiles_coming last) seen after
         → CountsRise (command_tiles (user_in owner) command + tiles_to_come owner.state - tiles_to_come last.state) seen after
     begun_counted last after done counted =
@@ -146,12 +146,12 @@ module _ (owner : Owning) (seen : Seen) (t : Gathers owner seen.owed) (idle : ow
         (rises_none after after 0 refl refl (omega arith)) (omega (arith, first, none))
 
     -- and steps are owed after it only where some were
-    pub begun_owes : (last : Owned) → OwesNoMore next last → OwesNoneWhereWaited next last → OwesAfter owner.state (Ordered command ∷ []) last
+    pub begun_owes : (last : UserState) → OwesNoMore next last → OwesNoneWhereWaited next last → OwesAfter owner.state (Ordered command ∷ []) last
     begun_owes last no_more rests name more = by_test (is_waited_for next.waiting name)
         (λ t. let none = rests name t in absurd (omega (arith, none, more)))
         (λ t.
-        let waits = ap (λ (o : Owning). is_waited_for o.waiting name) is ∙ begun-waits command owner name in
-        let begins_with = ap (λ (o : Owning). owed_in o.state name) is ∙ begun-owes command owner name (sym waits ∙ t) in
+        let waits = ap (λ (o : Owner). is_waited_for o.waiting name) is ∙ begun-waits command owner name in
+        let begins_with = ap (λ (o : Owner). owed_in o.state name) is ∙ begun-owes command owner name (sym waits ∙ t) in
         let few = no_more name t in
         inl (omega (arith, begins_with, few, more)))
 

@@ -10,20 +10,20 @@ use Rattle.std.proofs.lemmas.List.Elements.{filter-append, Contains-append_right
 use Rattle.std.proofs.lemmas.Option.{none-some, same_Some}
 use Rattle.std.proofs.lemmas.Slice.Eq.{bytes_eq-Decides}
 use Rattle.lj_tile.specs.declared.names.Label.{Label}
-use Rattle.lj_tile.specs.Tasks.{Work}
-use Rattle.lj_step.specs.Live.{OpenStep}
+use Rattle.lj_tile.specs.Task.{Task}
+use Rattle.lj_step.specs.Sim.{OpenStep}
 use Rattle.lj_step.specs.OpenSteps.{is_whole, tile_number_of, with_tile, IsAwaitedTask, IsAwaitedTaskIn}
 use Rattle.lj_session.specs.declared.command.Command.{Command}
 use Rattle.lj_session.specs.Turns.{waits_for}
-use Rattle.lj_session.specs.States.{Held, Owned, IsAtWork, held_in, names, changed, with_posted, with_tile_in, passed_to}
-use Rattle.lj_session.specs.States.{next_tile, next_of, is_whole_in}
-use Rattle.lj_session.specs.Owners.{Owning, label_of, task_of_session, next_session, task_in, with_task_posted, with_task_in}
-use Rattle.lj_session.specs.Owners.{IsAwaitedIn, ready_session}
+use Rattle.lj_session.specs.UserState.{HeldSession, UserState, IsAtWork, held_session, names, with_session_changed, with_posted, with_tile_in, with_passed_to}
+use Rattle.lj_session.specs.UserState.{next_tile, next_of, is_whole_in}
+use Rattle.lj_session.specs.Owner.{Owner, label_of, task_of_session, next_session, task_in, with_task_posted, with_task_in}
+use Rattle.lj_session.specs.Owner.{IsAwaitedIn, ready_session}
 use Rattle.lj_session.proofs.AtWork.{at_work-posted, at_work-taken}
 use Rattle.lj_session.proofs.Entries.{by_test}
 use Rattle.lj_session.proofs.Tiles.{find-passes, found-task, posted-live}
 use Rattle.lj_pool.specs.Seen.{Seen, TakesOff, IsHandedOut}
-use Rattle.lj_pool.specs.Gathering.{posted_in, posted_of, is_of, IsGathered, IsOpenFor, Gathers}
+use Rattle.lj_pool.specs.Gathering.{tasks_posted_in, tasks_posted_of, is_of, IsGathered, IsOpenFor, Gathers}
 use Rattle.lj_pool.proofs.Gathering.{posted_some, posted_more, next_label, gathered_posted, posted_wanted, gathered_taken}
 use Rattle.lj_pool.proofs.Gathering.{taken_off, taken_stray}
 use Rattle.lj_pool.proofs.Sessions.{same_name, there-changed, other-changed, names-changed, find-none-named}
@@ -62,21 +62,21 @@ filter-with p x passes front behind =
     filter-append p front (x ∷ behind)
     ∙ ap (λ b. filter p front ++ cond b (x ∷ filter p behind) (filter p behind)) passes
 
-of_other : (name : List ℕ) (work : Work) → (work.name.label.session ≡ name → ⊥) → is_of name work ≡ false
+of_other : (name : List ℕ) (work : Task) → (work.name.label.session ≡ name → ⊥) → is_of name work ≡ false
 of_other name work apart = by_test (is_of name work)
     (λ t. absurd (apart (sym ((bytes_eq-Decides name work.name.label.session).0 t))))
     (λ t. t)
 
 -- one session changed, and what it is owed
-module _ (owner : Owning) (owed : List Work) (t : Gathers owner owed) (name : List ℕ) (held : Held)
-    (there : held_in owner.state name ≡ Some held) (change : Held → Held) (waiting : Option Command) (newer : List Work) where
-  abbrev next : Owning
-  next = record { state = changed name change owner.state; number = owner.number; waiting = waiting }
+module _ (owner : Owner) (owed : List Task) (t : Gathers owner owed) (name : List ℕ) (held : HeldSession)
+    (there : held_session owner.state name ≡ Some held) (change : HeldSession → HeldSession) (waiting : Option Command) (newer : List Task) where
+  abbrev next : Owner
+  next = record { state = with_session_changed name change owner.state; number = owner.number; waiting = waiting }
 
-  pub gathers_changed : IsAtWork waiting (changed name change owner.state)
-      → IfSome waiting (IsOpenFor (changed name change owner.state))
+  pub gathers_changed : IsAtWork waiting (with_session_changed name change owner.state)
+      → IfSome waiting (IsOpenFor (with_session_changed name change owner.state))
       → IsGathered (change held)
-      → filter (is_of name) newer ≡ posted_of (label_of owner name) (Some (change held))
+      → filter (is_of name) newer ≡ tasks_posted_of (label_of owner name) (Some (change held))
       → ((other : List ℕ) → (name ≡ other → ⊥) → filter (is_of other) newer ≡ filter (is_of other) owed)
       → Gathers next newer
   gathers_changed work waits gathered its others = record {
@@ -86,81 +86,81 @@ module _ (owner : Owning) (owed : List Work) (t : Gathers owner owed) (name : Li
     gathered = λ other h found. by_test (bytes_eq name other)
         (λ e. let same = (bytes_eq-Decides name other).0 e in
         subst IsGathered (same_Some (change held) h
-        (sym (there-changed owner.state name change held there) ∙ ap (held_in next.state) same ∙ found)) gathered)
+        (sym (there-changed owner.state name change held there) ∙ ap (held_session next.state) same ∙ found)) gathered)
         (λ e. t.gathered other h (sym (other-changed owner.state name change other (apart other e)) ∙ found));
     each = λ other. by_test (bytes_eq name other)
         (λ e. let same = (bytes_eq-Decides name other).0 e in
-        subst (λ (n : List ℕ). filter (is_of n) newer ≡ posted_of (label_of owner n) (held_in next.state n)) same
-        (its ∙ ap (posted_of (label_of owner name)) (sym (there-changed owner.state name change held there))))
+        subst (λ (n : List ℕ). filter (is_of n) newer ≡ tasks_posted_of (label_of owner n) (held_session next.state n)) same
+        (its ∙ ap (tasks_posted_of (label_of owner name)) (sym (there-changed owner.state name change held there))))
         (λ e. others other (apart other e) ∙ t.each other
-        ∙ ap (posted_of (label_of owner other)) (sym (other-changed owner.state name change other (apart other e))));
+        ∙ ap (tasks_posted_of (label_of owner other)) (sym (other-changed owner.state name change other (apart other e))));
   }
     where
       apart : (other : List ℕ) → bytes_eq name other ≡ false → name ≡ other → ⊥
       apart other e same = true≢false (sym ((bytes_eq-Decides name other).1 same) ∙ e)
 
 -- a change that leaves a step open where one is
-open-changed : (owned : Owned) (name : List ℕ) (change : Held → Held)
-    → ((held : Held) → IsSome held.live.part → IsSome (change held).live.part)
-    → (waiting : Option Command) → IfSome waiting (IsOpenFor owned) → IfSome waiting (IsOpenFor (changed name change owned))
+open-changed : (owned : UserState) (name : List ℕ) (change : HeldSession → HeldSession)
+    → ((held : HeldSession) → IsSome held.live.part → IsSome (change held).live.part)
+    → (waiting : Option Command) → IfSome waiting (IsOpenFor owned) → IfSome waiting (IsOpenFor (with_session_changed name change owned))
 open-changed owned name change stays None h = tt
 open-changed owned name change stays (Some command) h = by (waits_for command) refl h
   where
-    at : (session : List ℕ) → IsSomeAnd (held_in owned session) (λ held. IsSome held.live.part)
-        → IsSomeAnd (held_in (changed name change owned) session) (λ held. IsSome held.live.part)
+    at : (session : List ℕ) → IsSomeAnd (held_session owned session) (λ held. IsSome held.live.part)
+        → IsSomeAnd (held_session (with_session_changed name change owned) session) (λ held. IsSome held.live.part)
     at session open_there = by_test (bytes_eq name session)
         (λ e. let same = (bytes_eq-Decides name session).0 e in
-        subst (λ (n : List ℕ). IsSomeAnd (held_in (changed name change owned) n) (λ held. IsSome held.live.part)) same
-        (here (held_in owned name) refl
-        (subst (λ (n : List ℕ). IsSomeAnd (held_in owned n) (λ held. IsSome held.live.part)) (sym same) open_there)))
+        subst (λ (n : List ℕ). IsSomeAnd (held_session (with_session_changed name change owned) n) (λ held. IsSome held.live.part)) same
+        (here (held_session owned name) refl
+        (subst (λ (n : List ℕ). IsSomeAnd (held_session owned n) (λ held. IsSome held.live.part)) (sym same) open_there)))
         (λ e. subst (λ o. IsSomeAnd o (λ held. IsSome held.live.part))
         (sym (other-changed owned name change session (λ same. true≢false (sym ((bytes_eq-Decides name session).1 same) ∙ e))))
         open_there)
       where
-        here : (o : Option Held) → held_in owned name ≡ o → IsSomeAnd (held_in owned name) (λ held. IsSome held.live.part)
-            → IsSomeAnd (held_in (changed name change owned) name) (λ held. IsSome held.live.part)
+        here : (o : Option HeldSession) → held_session owned name ≡ o → IsSomeAnd (held_session owned name) (λ held. IsSome held.live.part)
+            → IsSomeAnd (held_session (with_session_changed name change owned) name) (λ held. IsSome held.live.part)
         here None e h = absurd (subst (λ o. IsSomeAnd o (λ held. IsSome held.live.part)) e h)
         here (Some held) e h =
             subst (λ o. IsSomeAnd o (λ held. IsSome held.live.part)) (sym (there-changed owned name change held e))
             (stays held (subst (λ o. IsSomeAnd o (λ held. IsSome held.live.part)) e h))
 
     by : (o : Option (List ℕ)) → waits_for command ≡ o
-        → IsSomeAnd (waits_for command) (λ session. IsSomeAnd (held_in owned session) (λ held. IsSome held.live.part))
-        → IsOpenFor (changed name change owned) command
-    by None e h = absurd (subst (λ o. IsSomeAnd o (λ session. IsSomeAnd (held_in owned session) (λ held. IsSome held.live.part))) e h)
+        → IsSomeAnd (waits_for command) (λ session. IsSomeAnd (held_session owned session) (λ held. IsSome held.live.part))
+        → IsOpenFor (with_session_changed name change owned) command
+    by None e h = absurd (subst (λ o. IsSomeAnd o (λ session. IsSomeAnd (held_session owned session) (λ held. IsSome held.live.part))) e h)
     by (Some session) e h =
-        subst (λ o. IsSomeAnd o (λ session. IsSomeAnd (held_in (changed name change owned) session) (λ held. IsSome held.live.part)))
+        subst (λ o. IsSomeAnd o (λ session. IsSomeAnd (held_session (with_session_changed name change owned) session) (λ held. IsSome held.live.part)))
         (sym e)
-        (at session (subst (λ o. IsSomeAnd o (λ session. IsSomeAnd (held_in owned session) (λ held. IsSome held.live.part))) e h))
+        (at session (subst (λ o. IsSomeAnd o (λ session. IsSomeAnd (held_session owned session) (λ held. IsSome held.live.part))) e h))
 
 not_some : {A : Type 0} (o : Option A) → o ≡ None → IsSome o → ⊥
 not_some o e h = true≢false (sym h ∙ ap is_some e)
 
-still_open : (held : Held) (k : ℕ) → IsSome held.live.part → IsSome (with_tile_in k held).live.part
+still_open : (held : HeldSession) (k : ℕ) → IsSome held.live.part → IsSome (with_tile_in k held).live.part
 still_open held k h = by held.live.part refl h
   where
     by : (part : Option OpenStep) → held.live.part ≡ part → IsSome held.live.part → IsSome (with_tile k held.live.part)
     by None e h = absurd (not_some held.live.part e h)
     by (Some p) e h = rw e refl
 
-module _ (owner : Owning) (owed : List Work) (t : Gathers owner owed) where
+module _ (owner : Owner) (owed : List Task) (t : Gathers owner owed) where
   -- a session that is owed something, or whose tile is awaited, has a step open
   pub record Opened (name : List ℕ) : Type 0 where
-    pub held : Held
-    pub there : held_in owner.state name ≡ Some held
+    pub held : HeldSession
+    pub there : held_session owner.state name ≡ Some held
     pub step : OpenStep
     pub is_open : held.live.part ≡ Some step
 
-  opened_by : (name : List ℕ) (P : Option Held → Type 0) → (P None → ⊥) → ((held : Held) → held.live.part ≡ None → P (Some held) → ⊥)
-      → P (held_in owner.state name) → Opened name
-  opened_by name P not_none not_closed h = by (held_in owner.state name) refl h
+  opened_by : (name : List ℕ) (P : Option HeldSession → Type 0) → (P None → ⊥) → ((held : HeldSession) → held.live.part ≡ None → P (Some held) → ⊥)
+      → P (held_session owner.state name) → Opened name
+  opened_by name P not_none not_closed h = by (held_session owner.state name) refl h
     where
-      at : (held : Held) → held_in owner.state name ≡ Some held → P (Some held) → (part : Option OpenStep) → held.live.part ≡ part
+      at : (held : HeldSession) → held_session owner.state name ≡ Some held → P (Some held) → (part : Option OpenStep) → held.live.part ≡ part
           → Opened name
       at held e p None is = absurd (not_closed held is p)
       at held e p (Some step) is = record { held = held; there = e; step = step; is_open = is }
 
-      by : (o : Option Held) → held_in owner.state name ≡ o → P (held_in owner.state name) → Opened name
+      by : (o : Option HeldSession) → held_session owner.state name ≡ o → P (held_session owner.state name) → Opened name
       by None e h = absurd (not_none (subst P e h))
       by (Some held) e h = at held e (subst P e h) held.live.part refl
 
@@ -168,25 +168,25 @@ module _ (owner : Owning) (owed : List Work) (t : Gathers owner owed) where
   none_in x h = omega (arith, h.1)
 
   -- a task that is owed is awaited
-  pub owed_wanted : (work : Work) → Contains owed work → IsAwaitedIn owner work
+  pub owed_wanted : (work : Task) → Contains owed work → IsAwaitedIn owner work
   owed_wanted work owes =
       let name = work.name.label.session in
-      let posted : Contains (posted_of (label_of owner name) (held_in owner.state name)) work =
+      let posted : Contains (tasks_posted_of (label_of owner name) (held_session owner.state name)) work =
       subst (λ ws. Contains ws work) (t.each name) (contains-filter (is_of name) work (same_name name) owed owes) in
-      let o = opened_by name (λ o. Contains (posted_of (label_of owner name) o) work) (none_in work)
-      (λ held closed h. none_in work (subst (λ p. Contains (posted_in (label_of owner name) held.live held.passed p) work) closed h)) posted in
+      let o = opened_by name (λ o. Contains (tasks_posted_of (label_of owner name) o) work) (none_in work)
+      (λ held closed h. none_in work (subst (λ p. Contains (tasks_posted_in (label_of owner name) held.live held.passed p) work) closed h)) posted in
       subst (λ o. IsSomeAnd o (λ held. IsAwaitedTask held.live (label_of owner name) work)) (sym o.there)
       (posted_wanted o.held (label_of owner name) o.step o.is_open (t.gathered name o.held o.there) work
-      (subst (λ o. Contains (posted_of (label_of owner name) o) work) o.there posted))
+      (subst (λ o. Contains (tasks_posted_of (label_of owner name) o) work) o.there posted))
 
   -- what is taken off what is owed is awaited
-  pub wanted_off : (work : Work) (old new : Seen) → old.owed ≡ owed → TakesOff work old new → IsAwaitedIn owner work
+  pub wanted_off : (work : Task) (old new : Seen) → old.owed ≡ owed → TakesOff work old new → IsAwaitedIn owner work
   wanted_off work old new same off =
       let there = Contains-append_right off.front (work ∷ off.behind) work (0, omega arith, refl) in
       owed_wanted work (subst (λ ws. Contains ws work) (sym off.was ∙ same) there)
 
   -- the result of a task that is awaited is in, and whatever is handed out with it, what is owed stays
-  module _ (work : Work) (wanted : IsAwaitedIn owner work) where
+  module _ (work : Task) (wanted : IsAwaitedIn owner work) where
     abbrev name : List ℕ
     name = work.name.label.session
 
@@ -215,11 +215,11 @@ module _ (owner : Owning) (owed : List Work) (t : Gathers owner owed) where
         (gathered_taken o.held label o.step o.is_open gathered_there work taken_wanted)
         (its handed) (λ other apart. others other apart handed)
       where
-        posted : filter (is_of name) old.owed ≡ posted_of label (Some o.held)
-        posted = ap (filter (is_of name)) same ∙ t.each name ∙ ap (posted_of label) o.there
+        posted : filter (is_of name) old.owed ≡ tasks_posted_of label (Some o.held)
+        posted = ap (filter (is_of name)) same ∙ t.each name ∙ ap (tasks_posted_of label) o.there
 
         its : IsHandedOut work old new
-            → filter (is_of name) new.owed ≡ posted_of label (Some (with_tile_in (tile_number_of work) o.held))
+            → filter (is_of name) new.owed ≡ tasks_posted_of label (Some (with_tile_in (tile_number_of work) o.held))
         its (inl off) =
             ap (filter (is_of name)) off.owed
             ∙ filter-append (is_of name) off.front off.behind
@@ -241,21 +241,21 @@ module _ (owner : Owning) (owed : List Work) (t : Gathers owner owed) where
         others other apart (inr stray) = ap (filter (is_of other)) (stray.owed ∙ same)
 
   -- the session of the next task
-  pub record Posting (work : Work) : Type 0 where
+  pub record Posting (work : Task) : Type 0 where
     pub name : List ℕ
     pub next : next_session owner ≡ Some name
-    pub held : Held
-    pub there : held_in owner.state name ≡ Some held
+    pub held : HeldSession
+    pub there : held_session owner.state name ≡ Some held
     pub step : OpenStep
     pub is_open : held.live.part ≡ Some step
     pub place : ℕ
     pub next_place : next_tile held ≡ Some place
     pub task : next_of (label_of owner name) (Some held) ≡ Some work
 
-  pub posting : (work : Work) → task_in owner ≡ Some work → Posting work
+  pub posting : (work : Task) → task_in owner ≡ Some work → Posting work
   posting work some = by (next_session owner) refl
     where
-      closed_none : (label : Label) (held : Held) → held.live.part ≡ None → next_of label (Some held) ≡ Some work → ⊥
+      closed_none : (label : Label) (held : HeldSession) → held.live.part ≡ None → next_of label (Some held) ≡ Some work → ⊥
       closed_none label held closed h = by (next_tile held) refl
         where
           by : (o : Option ℕ) → next_tile held ≡ o → ⊥
@@ -281,23 +281,23 @@ module _ (owner : Owning) (owed : List Work) (t : Gathers owner owed) where
       by : (n : Option (List ℕ)) → next_session owner ≡ n → Posting work
       by None e = absurd (none-some work (sym (ap (option_and_then (task_of_session owner)) e) ∙ some))
       by (Some name) e =
-          let its : next_of (label_of owner name) (held_in owner.state name) ≡ Some work =
+          let its : next_of (label_of owner name) (held_session owner.state name) ≡ Some work =
           sym (ap (option_and_then (task_of_session owner)) e) ∙ some in
           let o = opened_by name (λ o. next_of (label_of owner name) o ≡ Some work) (none-some work)
           (λ held closed h. closed_none (label_of owner name) held closed h) its in
           placed name e o (subst (λ h. next_of (label_of owner name) h ≡ Some work) o.there its) (next_tile o.held) refl
 
-  module _ (work : Work) (some : task_in owner ≡ Some work) where
+  module _ (work : Task) (some : task_in owner ≡ Some work) where
     abbrev p : Posting work
     p = posting work some
 
-    abbrev after : Held → Held
+    abbrev after : HeldSession → HeldSession
     after held = with_posted held
 
-    posted_is : with_posted p.held ≡ passed_to (Some p.place) p.held
-    posted_is = ap (λ o. passed_to o p.held) p.next_place
+    posted_is : with_posted p.held ≡ with_passed_to (Some p.place) p.held
+    posted_is = ap (λ o. with_passed_to o p.held) p.next_place
 
-    pub with_task_posted_is : with_task_posted owner ≡ record { state = changed p.name with_posted owner.state; number = owner.number; waiting = owner.waiting }
+    pub with_task_posted_is : with_task_posted owner ≡ record { state = with_session_changed p.name with_posted owner.state; number = owner.number; waiting = owner.waiting }
     with_task_posted_is = rw p.next refl
 
     -- it is owed after the others
@@ -307,19 +307,19 @@ module _ (owner : Owning) (owed : List Work) (t : Gathers owner owed) where
         let g = t.gathered p.name p.held p.there in
         let session : work.name.label.session ≡ p.name =
         ap (λ (l : Label). l.session) (next_label p.held label p.step p.is_open g p.place p.next_place work p.task) in
-        subst (λ (o : Owning). Gathers o (owed ++ work ∷ [])) (sym with_task_posted_is)
+        subst (λ (o : Owner). Gathers o (owed ++ work ∷ [])) (sym with_task_posted_is)
         (gathers_changed owner owed t p.name p.held p.there with_posted owner.waiting (owed ++ work ∷ [])
         (at_work-posted owner.waiting owner.state p.name t.at_work)
         (open-changed owner.state p.name with_posted (λ held h. subst (λ l. IsSome l.part) (sym (posted-live held)) h) owner.waiting t.waits)
         (subst IsGathered (sym posted_is) (gathered_posted p.held label p.step p.is_open g p.place p.next_place))
         (filter-with (is_of p.name) work (ap (bytes_eq p.name) session ∙ same_name p.name) owed []
-        ∙ ap (λ ws. ws ++ work ∷ []) (t.each p.name ∙ ap (posted_of label) p.there)
+        ∙ ap (λ ws. ws ++ work ∷ []) (t.each p.name ∙ ap (tasks_posted_of label) p.there)
         ∙ sym (posted_more p.held label p.step p.is_open g p.place p.next_place work p.task)
-        ∙ ap (λ h. posted_of label (Some h)) (sym posted_is))
+        ∙ ap (λ h. tasks_posted_of label (Some h)) (sym posted_is))
         (λ other apart. filter-without (is_of other) work (of_other other work (λ same. apart (sym session ∙ same))) owed []
         ∙ ap (filter (is_of other)) (append-none owed)))
       where
-        append-none : (ws : List Work) → ws ++ [] ≡ ws
+        append-none : (ws : List Task) → ws ++ [] ≡ ws
         append-none [] = refl
         append-none (w ∷ ws) = ap (λ l. w ∷ l) (append-none ws)
 
@@ -327,7 +327,7 @@ module _ (owner : Owning) (owed : List Work) (t : Gathers owner owed) where
   pub owes_some : IsSome owner.waiting → ready_session owner ≡ None → task_in owner ≡ None → 0 < length owed
   owes_some waits none_ready no_task = by owner.waiting refl
     where
-      at : (name : List ℕ) (held : Held) → held_in owner.state name ≡ Some held → (step : OpenStep) → held.live.part ≡ Some step
+      at : (name : List ℕ) (held : HeldSession) → held_session owner.state name ≡ Some held → (step : OpenStep) → held.live.part ≡ Some step
           → 0 < length owed
       at name held e step is =
           let going : is_whole held.live.part ≡ false =
@@ -338,7 +338,7 @@ module _ (owner : Owning) (owed : List Work) (t : Gathers owner owed) where
           ∙ find-none-named (λ n. is_some (task_of_session owner n)) owner.state.sessions name held
           (none_next (next_session owner) refl) e in
           some_owed owed refl (λ posted. posted_some held label step is (t.gathered name held e) going
-          (none_of (next_tile held) none) (ap (posted_of label) (sym e) ∙ posted))
+          (none_of (next_tile held) none) (ap (tasks_posted_of label) (sym e) ∙ posted))
         where
           none_of : (o : Option ℕ) → is_some o ≡ false → o ≡ None
           none_of None k = refl
@@ -351,16 +351,16 @@ module _ (owner : Owning) (owed : List Work) (t : Gathers owner owed) where
               find-passes (λ n. is_some (task_of_session owner n)) (names owner.state) n k in
               absurd (true≢false (sym its ∙ ap is_some (sym (ap (option_and_then (task_of_session owner)) k) ∙ no_task)))
 
-          some_owed : (ws : List Work) → owed ≡ ws → (posted_of (label_of owner name) (held_in owner.state name) ≡ [] → ⊥)
+          some_owed : (ws : List Task) → owed ≡ ws → (tasks_posted_of (label_of owner name) (held_session owner.state name) ≡ [] → ⊥)
               → 0 < length owed
           some_owed [] k some = absurd (some (sym (t.each name) ∙ ap (filter (is_of name)) k))
           some_owed (w ∷ ws) k some = rw k (omega arith)
 
       opened : (command : Command) → owner.waiting ≡ Some command → (o : Option (List ℕ)) → waits_for command ≡ o → 0 < length owed
-      opened command e None k = absurd (subst (λ o. IsSomeAnd o (λ name. IsSomeAnd (held_in owner.state name) (λ held. IsSome held.live.part))) k
+      opened command e None k = absurd (subst (λ o. IsSomeAnd o (λ name. IsSomeAnd (held_session owner.state name) (λ held. IsSome held.live.part))) k
           (subst (λ o. IfSome o (IsOpenFor owner.state)) e t.waits))
       opened command e (Some name) k =
-          let h = subst (λ o. IsSomeAnd o (λ name. IsSomeAnd (held_in owner.state name) (λ held. IsSome held.live.part))) k
+          let h = subst (λ o. IsSomeAnd o (λ name. IsSomeAnd (held_session owner.state name) (λ held. IsSome held.live.part))) k
           (subst (λ o. IfSome o (IsOpenFor owner.state)) e t.waits) in
           let o = opened_by name (λ o. IsSomeAnd o (λ held. IsSome held.live.part)) (λ h. h)
           (λ held closed h. not_some held.live.part closed h) h in

@@ -14,14 +14,14 @@ use Rattle.lj_ring.specs.declared.coordinates.Place.{Place}
 use Rattle.lj_tile.specs.Species.{Composition}
 use Rattle.lj_tile.specs.declared.names.Kind.{Kind}
 use Rattle.lj_tile.specs.declared.names.Label.{Label}
-use Rattle.lj_tile.specs.Tasks.{Work}
-use Rattle.lj_step.specs.Live.{Live, OpenStep}
-use Rattle.lj_step.specs.OpenSteps.{blocks, is_tile, cover, opened, awaits_tile_in, awaits_tile, tiles_in, tiles_of, task_of}
+use Rattle.lj_tile.specs.Task.{Task}
+use Rattle.lj_step.specs.Sim.{Sim, OpenStep}
+use Rattle.lj_step.specs.OpenSteps.{blocks, is_tile, cover, opened_step, is_tile_awaited_in, is_tile_awaited, tiles_in, tiles_of, task_of}
 use Rattle.lj_step.specs.OpenSteps.{task_in as task_in_step, task_at, tile_number_of, with_tile, IsAwaitedTaskIn, is_whole}
 use Rattle.lj_step.proofs.Flags.{none_left, count_flags}
 use Rattle.lj_step.proofs.TilesTaken.{number_is}
-use Rattle.lj_session.specs.States.{Held, next_tile, next_of, passed_to, with_tile_in, with_step}
-use Rattle.lj_pool.specs.Gathering.{times, is_awaited, posted_tiles, posted_in, posted_of, left_in, IsGathered}
+use Rattle.lj_session.specs.UserState.{HeldSession, next_tile, next_of, with_passed_to, with_tile_in, with_step}
+use Rattle.lj_pool.specs.Gathering.{times, is_awaited, posted_tiles, tasks_posted_in, tasks_posted_of, tiles_left_in, IsGathered}
 use Rattle.lj_pool.proofs.Numbers.{times-filter, times-none, times-take, times-range, none_set, images-kept}
 use Rattle.lj_pool.proofs.Numbers.{images-taken, found_next, found_none}
 
@@ -40,7 +40,7 @@ opened_once test n k set =
 
 -- an opened step awaits its cover
 pub opened_left : (kind : Kind) (u : Composition) (frame : List Place)
-    → left_in (Some (opened kind u frame)) ≡ length (cover u frame)
+    → tiles_left_in (Some (opened_step kind u frame)) ≡ length (cover u frame)
 opened_left kind u frame =
     count_flags (is_tile u frame) (range_with_len 0 (64 * blocks (length frame)))
     ∙ sym (length-filter (is_tile u frame) (range_with_len 0 (64 * blocks (length frame))))
@@ -51,22 +51,22 @@ same_step p q e = cc
 none_is : (p : OpenStep) → None ≡ Some p → ⊥
 none_is p e = cc
 
-pub gathered_opened : (kind : Kind) (held : Held) → IsGathered (with_step kind held)
+pub gathered_opened : (kind : Kind) (held : HeldSession) → IsGathered (with_step kind held)
 gathered_opened kind held =
     let u = held.live.composition in
     let frame = held.live.sim.cur in
     record {
       once = λ step k is set.
           opened_once (is_tile u frame) (64 * blocks (length frame)) k
-          (subst (λ (p : OpenStep). is_awaited p.awaited k ≡ true) (sym (same_step (opened kind u frame) step is)) set);
+          (subst (λ (p : OpenStep). is_awaited p.awaited k ≡ true) (sym (same_step (opened_step kind u frame) step is)) set);
       few = omega (arith, opened_left kind u frame);
     }
 
 -- where no step is open, none is gathered
-pub gathered_closed : (held : Held) → held.live.part ≡ None → IsGathered held
+pub gathered_closed : (held : HeldSession) → held.live.part ≡ None → IsGathered held
 gathered_closed held none = record {
   once = λ step k is set. absurd (none_is step (sym none ∙ is));
-  few = let left = ap left_in none in omega (arith, left);
+  few = let left = ap tiles_left_in none in omega (arith, left);
 }
 
 filter-none : (p : ℕ → Bool) → ((k : ℕ) → p k ≡ false) → (xs : List ℕ) → filter p xs ≡ []
@@ -93,14 +93,14 @@ image_of f p w (x ∷ xs) h = image_head f p w x xs (p x) refl (image_of f p w x
 none_once : (n : ℕ) → n ≡ 0 → n ≡ 1 → ⊥
 none_once n none one = omega arith
 
-module _ (held : Held) (label : Label) (step : OpenStep) (is_open : held.live.part ≡ Some step) (g : IsGathered held) where
-  abbrev live : Live
+module _ (held : HeldSession) (label : Label) (step : OpenStep) (is_open : held.live.part ≡ Some step) (g : IsGathered held) where
+  abbrev live : Sim
   live = held.live
 
   abbrev tiles : List ℕ
   tiles = cover held.live.composition held.live.sim.cur
 
-  abbrev task : ℕ → Work
+  abbrev task : ℕ → Task
   task = task_of held.live label step.kind
 
   abbrev flags : List Bool
@@ -109,55 +109,55 @@ module _ (held : Held) (label : Label) (step : OpenStep) (is_open : held.live.pa
   once : (k : ℕ) → is_awaited flags k ≡ true → times k tiles ≡ 1
   once k set = g.once step k is_open set
 
-  posted_is : posted_of label (Some held) ≡ map task (posted_tiles flags held.passed tiles)
-  posted_is = ap (posted_in label held.live held.passed) is_open
+  posted_is : tasks_posted_of label (Some held) ≡ map task (posted_tiles flags held.passed tiles)
+  posted_is = ap (tasks_posted_in label held.live held.passed) is_open
 
-  left_is : left_in held.live.part ≡ count_by (λ awaited. awaited) flags
-  left_is = ap left_in is_open
+  left_is : tiles_left_in held.live.part ≡ count_by (λ awaited. awaited) flags
+  left_is = ap tiles_left_in is_open
 
   pub tiles_are : tiles_of live ≡ length tiles
   tiles_are = ap (tiles_in held.live.composition held.live.sim.cur) is_open
 
-  awaits_is : (i : ℕ) → i < length tiles → awaits_tile live i ≡ is_awaited flags (get_or tiles i 0)
+  awaits_is : (i : ℕ) → i < length tiles → is_tile_awaited live i ≡ is_awaited flags (get_or tiles i 0)
   awaits_is i within =
-      ap (awaits_tile_in held.live.composition held.live.sim.cur i) is_open
+      ap (is_tile_awaited_in held.live.composition held.live.sim.cur i) is_open
       ∙ ap (λ o. option_map_or (λ k. slice_index_or flags k false) o false) (slice_get-get_or tiles i 0 within)
 
   task_at_is : (i : ℕ) → i < length tiles → task_at live label i ≡ Some (task (get_or tiles i 0))
   task_at_is i within =
       ap (task_in_step live label i) is_open ∙ ap (option_map task) (slice_get-get_or tiles i 0 within)
 
-  next_is : next_tile held ≡ find (awaits_tile live) (range_with_len held.passed (length tiles - held.passed))
-  next_is = ap (λ n. find (awaits_tile live) (range_with_len held.passed (n - held.passed))) tiles_are
+  next_is : next_tile held ≡ find (is_tile_awaited live) (range_with_len held.passed (length tiles - held.passed))
+  next_is = ap (λ n. find (is_tile_awaited live) (range_with_len held.passed (n - held.passed))) tiles_are
 
   next_found : (i : ℕ) → next_tile held ≡ Some i
       → (held.passed ≤ i) × (i < length tiles)
       × (posted_tiles flags (i + 1) tiles ≡ posted_tiles flags held.passed tiles ++ get_or tiles i 0 ∷ [])
       × (is_awaited flags (get_or tiles i 0) ≡ true)
   next_found i e =
-      found_next (awaits_tile live) (is_awaited flags) tiles awaits_is (length tiles - held.passed)
+      found_next (is_tile_awaited live) (is_awaited flags) tiles awaits_is (length tiles - held.passed)
       held.passed i refl (sym next_is ∙ e)
 
   -- once all tiles are in, no task is posted
-  pub whole_none : is_whole held.live.part ≡ true → left_in held.live.part ≡ 0
+  pub whole_none : is_whole held.live.part ≡ true → tiles_left_in held.live.part ≡ 0
   whole_none whole =
       let le : count_by (λ awaited. awaited) flags ≤ 0 =
       leb-true (count_by (λ awaited. awaited) flags) 0 (sym (ap is_whole is_open) ∙ whole) in
       omega (arith, left_is, le)
 
-  pub whole_posted : is_whole held.live.part ≡ true → posted_of label (Some held) ≡ []
+  pub whole_posted : is_whole held.live.part ≡ true → tasks_posted_of label (Some held) ≡ []
   whole_posted whole =
       let none : count_by (λ awaited. awaited) flags ≡ 0 = sym left_is ∙ whole_none whole in
       posted_is ∙ ap (map task) (filter-none (is_awaited flags) (λ k. none_left flags k none)
       (take held.passed tiles))
 
   -- while tiles are awaited and none is left to post, some are posted
-  pub posted_some : is_whole held.live.part ≡ false → next_tile held ≡ None → posted_of label (Some held) ≡ [] → ⊥
+  pub posted_some : is_whole held.live.part ≡ false → next_tile held ≡ None → tasks_posted_of label (Some held) ≡ [] → ⊥
   posted_some going no_tile e =
       let posted : posted_tiles flags held.passed tiles ≡ [] =
       map-none task (posted_tiles flags held.passed tiles) (sym posted_is ∙ e) in
       let all : filter (is_awaited flags) tiles ≡ [] =
-      found_none (awaits_tile live) (is_awaited flags) tiles awaits_is (length tiles - held.passed)
+      found_none (is_tile_awaited live) (is_awaited flags) tiles awaits_is (length tiles - held.passed)
       held.passed refl (sym next_is ∙ no_tile) ∙ posted in
       let none : count_by (λ awaited. awaited) flags ≡ 0 =
       none_set flags (λ k set. none_once (times k tiles)
@@ -166,28 +166,28 @@ module _ (held : Held) (label : Label) (step : OpenStep) (is_open : held.live.pa
 
   -- the next task is posted
   module _ (i : ℕ) (next : next_tile held ≡ Some i) where
-    abbrev after : Held
+    abbrev after : HeldSession
     after = record held { passed = i + 1 }
 
     next_task_is : next_of label (Some held) ≡ Some (task (get_or tiles i 0))
     next_task_is = ap (option_and_then (task_at live label)) next ∙ task_at_is i (next_found i next).1
 
-    pub next_label : (work : Work) → next_of label (Some held) ≡ Some work → work.name.label ≡ label
+    pub next_label : (work : Task) → next_of label (Some held) ≡ Some work → work.name.label ≡ label
     next_label work some =
-        ap (λ (w : Work). w.name.label) (sym (same_Some (task (get_or tiles i 0)) work (sym next_task_is ∙ some)))
+        ap (λ (w : Task). w.name.label) (sym (same_Some (task (get_or tiles i 0)) work (sym next_task_is ∙ some)))
 
-    pub posted_more : (work : Work) → next_of label (Some held) ≡ Some work
-        → posted_of label (Some (passed_to (Some i) held)) ≡ posted_of label (Some held) ++ work ∷ []
+    pub posted_more : (work : Task) → next_of label (Some held) ≡ Some work
+        → tasks_posted_of label (Some (with_passed_to (Some i) held)) ≡ tasks_posted_of label (Some held) ++ work ∷ []
     posted_more work some =
         let found = next_found i next in
         let is : task (get_or tiles i 0) ≡ work = same_Some (task (get_or tiles i 0)) work (sym next_task_is ∙ some) in
-        ap (posted_in label held.live (i + 1)) is_open
+        ap (tasks_posted_in label held.live (i + 1)) is_open
         ∙ ap (map task) found.2
         ∙ map-append task (posted_tiles flags held.passed tiles) (get_or tiles i 0 ∷ [])
         ∙ ap (λ ws. ws ++ task (get_or tiles i 0) ∷ []) (sym posted_is)
-        ∙ ap (λ w. posted_of label (Some held) ++ w ∷ []) is
+        ∙ ap (λ w. tasks_posted_of label (Some held) ++ w ∷ []) is
 
-    pub gathered_posted : IsGathered (passed_to (Some i) held)
+    pub gathered_posted : IsGathered (with_passed_to (Some i) held)
     gathered_posted = record { once = g.once; few = g.few }
 
     -- and fewer are to be posted
@@ -195,7 +195,7 @@ module _ (held : Held) (label : Label) (step : OpenStep) (is_open : held.live.pa
     posted_fewer = let found = next_found i next in omega (arith, tiles_are, found.0, found.1)
 
   -- what is posted is awaited
-  pub posted_wanted : (work : Work) → Contains (posted_of label (Some held)) work → IsAwaitedTaskIn live label work held.live.part
+  pub posted_wanted : (work : Task) → Contains (tasks_posted_of label (Some held)) work → IsAwaitedTaskIn live label work held.live.part
   posted_wanted work posted =
       let image =
       image_of task (is_awaited flags) work (take held.passed tiles)
@@ -207,7 +207,7 @@ module _ (held : Held) (label : Label) (step : OpenStep) (is_open : held.live.pa
       subst (IsAwaitedTaskIn live label work) (sym is_open) (flag, is)
 
   -- the result of a task that is awaited is in
-  module _ (work : Work) (wanted : IsAwaitedTaskIn live label work held.live.part) where
+  module _ (work : Task) (wanted : IsAwaitedTaskIn live label work held.live.part) where
     abbrev k : ℕ
     k = tile_number_of work
 
@@ -244,12 +244,12 @@ module _ (held : Held) (label : Label) (step : OpenStep) (is_open : held.live.pa
         ]
 
     -- one tile less is awaited
-    pub taken_left : left_in (with_tile_in k held).live.part + 1 ≡ left_in held.live.part
+    pub taken_left : tiles_left_in (with_tile_in k held).live.part + 1 ≡ tiles_left_in held.live.part
     taken_left =
         let set : count_by (λ awaited. awaited) flags_after + cond (is_awaited flags k) 1 0
         ≡ count_by (λ awaited. awaited) flags + 0 =
         sum_by-set (λ (awaited : Bool). cond awaited 1 0) flags k false false within_flags in
-        let now = ap left_in open_after in
+        let now = ap tiles_left_in open_after in
         omega (arith, now, left_is, rw there.0 at set)
 
     pub taken_tiles : tiles_of (with_tile_in k held).live ≡ tiles_of live
@@ -267,12 +267,12 @@ module _ (held : Held) (label : Label) (step : OpenStep) (is_open : held.live.pa
     once_posted : times k (take held.passed tiles) ≤ 1
     once_posted = let all = times-take k held.passed tiles in let one = once k there.0 in omega (arith, all, one)
 
-    after_is : posted_of label (Some (with_tile_in k held)) ≡ map task (posted_tiles flags_after held.passed tiles)
-    after_is = ap (posted_in label (with_tile_in k held).live held.passed) open_after
+    after_is : tasks_posted_of label (Some (with_tile_in k held)) ≡ map task (posted_tiles flags_after held.passed tiles)
+    after_is = ap (tasks_posted_in label (with_tile_in k held).live held.passed) open_after
 
     -- where it is among what was posted, the first one is taken out
-    pub taken_off : (front behind : List Work) → posted_of label (Some held) ≡ front ++ work ∷ behind
-        → (Contains front work → ⊥) → posted_of label (Some (with_tile_in k held)) ≡ front ++ behind
+    pub taken_off : (front behind : List Task) → tasks_posted_of label (Some held) ≡ front ++ work ∷ behind
+        → (Contains front work → ⊥) → tasks_posted_of label (Some (with_tile_in k held)) ≡ front ++ behind
     taken_off front behind was first =
         after_is ∙ images-taken (is_awaited flags) (is_awaited flags_after) k
         clear_after others_after task tile_number_of (number_is live label step.kind)
@@ -281,8 +281,8 @@ module _ (held : Held) (label : Label) (step : OpenStep) (is_open : held.live.pa
         (λ h. first (subst (Contains front) (sym there.1) h))
 
     -- and where it is not, nothing changes
-    pub taken_stray : (Contains (posted_of label (Some held)) work → ⊥)
-        → posted_of label (Some (with_tile_in k held)) ≡ posted_of label (Some held)
+    pub taken_stray : (Contains (tasks_posted_of label (Some held)) work → ⊥)
+        → tasks_posted_of label (Some (with_tile_in k held)) ≡ tasks_posted_of label (Some held)
     taken_stray absent =
         after_is ∙ images-kept (is_awaited flags) (is_awaited flags_after) k
         clear_after others_after task tile_number_of (number_is live label step.kind)

@@ -4,21 +4,21 @@ use Rattle.std.proofs.Common.{Result, Ok, Err, inl, inr, refl, sym, ap, ◌∙�
 use Rattle.std.specs.Prelude.{if◌then◌else◌, ◌↔◌, IfSome, IsOk, OnOk, OnErr, is_ok}
 use Rattle.std.specs.Option.{option_map_or}
 use Rattle.std.proofs.lemmas.Bool.{true≢false, false≢true}
-use Rattle.lj_tile.specs.Tasks.{Work}
+use Rattle.lj_tile.specs.Task.{Task}
 use Rattle.lj_step.specs.OpenSteps.{tile_number_of, tiles_of, IsAwaitedTaskIn}
 use Rattle.lj_session.specs.declared.command.Command.{Command}
 use Rattle.lj_session.specs.declared.reply.Reply.{Reply}
 use Rattle.lj_session.specs.Users.{User}
 use Rattle.lj_session.specs.Answers.{answer}
 use Rattle.lj_session.specs.Turns.{turns, waits_for}
-use Rattle.lj_session.specs.States.{Held, held_in, owed_in, user_of, changed, with_posted, with_tile_in, next_tile, passed_to, steps_before}
-use Rattle.lj_session.specs.States.{is_whole_in}
-use Rattle.lj_session.specs.Owners.{Owning, user_in, label_of, task_in, with_task_posted, with_task_in, IsAwaitedIn, IsAnswered, IsReplied}
-use Rattle.lj_session.specs.Owners.{WaitsAlike, WaitsAlikeFor, IsLastTurn, is_waited_for, turned_from}
+use Rattle.lj_session.specs.UserState.{HeldSession, held_session, owed_in, user_of, with_session_changed, with_posted, with_tile_in, next_tile, with_passed_to, steps_before}
+use Rattle.lj_session.specs.UserState.{is_whole_in}
+use Rattle.lj_session.specs.Owner.{Owner, user_in, label_of, task_in, with_task_posted, with_task_in, IsAwaitedIn, IsAnswered, IsReplied}
+use Rattle.lj_session.specs.Owner.{WaitsAlike, WaitsAlikeFor, IsLastTurn, is_waited_for, owner_turned}
 use Rattle.lj_session.proofs.Holding.{changed-quota}
 use Rattle.lj_session.proofs.Waiting.{posted_user, taken_user}
 use Rattle.lj_pool.specs.Seen.{Seen, SameOwed, IsPosted, IsHandedOut, IsStray}
-use Rattle.lj_pool.specs.Gathering.{Gathers, left_in}
+use Rattle.lj_pool.specs.Gathering.{Gathers, tiles_left_in}
 use Rattle.lj_pool.specs.Counting.{CountsRise, command_tiles}
 use Rattle.lj_pool.specs.Coming.{GoesOn, tiles_of_session, posts_of_session, waiting_tiles, waiting_tiles_of, turns_coming}
 use Rattle.lj_pool.specs.Coming.{tiles_coming, posts_coming}
@@ -42,7 +42,7 @@ pub rises_none : (a b : Seen) (k : ℕ) → b.good ≡ a.good → b.strays ≡ a
 rises_none a b k good strays none =
     record { good = omega arith; strays = omega arith; together = λ _ _. omega (arith, good, strays, none) }
 
-pub rises_one : (work : Work) (a b : Seen) (k : ℕ) → IsHandedOut work a b → k ≤ 1 → CountsRise k a b
+pub rises_one : (work : Task) (a b : Seen) (k : ℕ) → IsHandedOut work a b → k ≤ 1 → CountsRise k a b
 rises_one work a b k (inl off) one =
     let good = off.good in let strays = off.strays in
     record { good = omega (arith, good); strays = omega (arith, strays); together = λ g s. omega (arith, good, strays, g, s, one) }
@@ -59,20 +59,20 @@ alike_then_for None (Some b) z u v w p q = absurd p
 alike_then_for (Some a) None z u v w p q = absurd p
 alike_then_for (Some a) (Some b) None u v w p q = absurd q
 
-pub alike_then : (a b c : Owning) → WaitsAlike a b → WaitsAlike b c → WaitsAlike a c
+pub alike_then : (a b c : Owner) → WaitsAlike a b → WaitsAlike b c → WaitsAlike a c
 alike_then a b c = alike_then_for a.waiting b.waiting c.waiting (user_in a) (user_in b) (user_in c)
 
 alike_same_for : (x : Option Command) (u v : User) → v ≡ u → WaitsAlikeFor x x u v
 alike_same_for None u v same = same
 alike_same_for (Some command) u v same = λ mark. ap (λ w. answer w command mark) same
 
-pub alike_same : (old new : Owning) → new.waiting ≡ old.waiting → user_in new ≡ user_in old → WaitsAlike old new
+pub alike_same : (old new : Owner) → new.waiting ≡ old.waiting → user_in new ≡ user_in old → WaitsAlike old new
 alike_same old new waiting user =
     subst (λ w. WaitsAlikeFor old.waiting w (user_in old) (user_in new)) (sym waiting)
     (alike_same_for old.waiting (user_in old) (user_in new) user)
 
 -- a reply to what is left is one to what waited
-pub replied_alike : (old now : Owning) (reply : Reply) (next : User) → WaitsAlike old now → IsReplied now reply next
+pub replied_alike : (old now : Owner) (reply : Reply) (next : User) → WaitsAlike old now → IsReplied now reply next
     → IsReplied old reply next
 replied_alike old now reply next = by old.waiting now.waiting
   where
@@ -84,7 +84,7 @@ replied_alike old now reply next = by old.waiting now.waiting
     by (Some a) (Some b) p r = record { mark = r.mark; answers = r.answers ∙ p r.mark; only_memory = r.only_memory }
 
 -- step after step
-pub goes_then : {a b c : Owning} {p q r : Seen} → GoesOn a p b q → GoesOn b q c r → GoesOn a p c r
+pub goes_then : {a b c : Owner} {p q r : Seen} → GoesOn a p b q → GoesOn b q c r → GoesOn a p c r
 goes_then {a} {b} {c} first second =
     let t1 = first.tiles in let t2 = second.tiles in
     record {
@@ -104,7 +104,7 @@ goes_then {a} {b} {c} first second =
       waits = λ name. second.waits name ∙ first.waits name;
     }
 
-pub goes_unchanged : (owner : Owning) (before after : Seen) → Gathers owner before.owed → SameOwed before after
+pub goes_unchanged : (owner : Owner) (before after : Seen) → Gathers owner before.owed → SameOwed before after
     → GoesOn owner before owner after
 goes_unchanged owner before after t same = record {
   gathers = subst (Gathers owner) (sym same.owed) t;
@@ -119,30 +119,30 @@ goes_unchanged owner before after t same = record {
   waits = λ name. refl;
 }
 
-pub goes_nothing : (owner : Owning) (seen : Seen) → Gathers owner seen.owed → GoesOn owner seen owner seen
+pub goes_nothing : (owner : Owner) (seen : Seen) → Gathers owner seen.owed → GoesOn owner seen owner seen
 goes_nothing owner seen t = goes_unchanged owner seen seen t (record { owed = refl; good = refl; strays = refl })
 
 -- one session changed that is owed as many steps as before, and means the same
-module _ (owner : Owning) (name : List ℕ) (change : Held → Held) (held : Held) (there : held_in owner.state name ≡ Some held)
-    (owed : (held : Held) → (change held).owed ≡ held.owed)
-    (user : user_of (changed name change owner.state) ≡ user_in owner) where
-  abbrev next : Owning
-  next = record { state = changed name change owner.state; number = owner.number; waiting = owner.waiting }
+module _ (owner : Owner) (name : List ℕ) (change : HeldSession → HeldSession) (held : HeldSession) (there : held_session owner.state name ≡ Some held)
+    (owed : (held : HeldSession) → (change held).owed ≡ held.owed)
+    (user : user_of (with_session_changed name change owner.state) ≡ user_in owner) where
+  abbrev next : Owner
+  next = record { state = with_session_changed name change owner.state; number = owner.number; waiting = owner.waiting }
 
   own_same : waiting_tiles next ≡ waiting_tiles owner
   own_same = by owner.waiting
     where
-      before : (command : Command) → steps_before (changed name change owner.state) command ≡ steps_before owner.state command
+      before : (command : Command) → steps_before (with_session_changed name change owner.state) command ≡ steps_before owner.state command
       before command = by (waits_for command)
         where
-          by : (o : Option (List ℕ)) → option_map_or (owed_in (changed name change owner.state)) o 0 ≡ option_map_or (owed_in owner.state) o 0
+          by : (o : Option (List ℕ)) → option_map_or (owed_in (with_session_changed name change owner.state)) o 0 ≡ option_map_or (owed_in owner.state) o 0
           by None = refl
           by (Some session) = owed-changed owner.state name change owed session
 
       by : (w : Option Command) → waiting_tiles_of next w ≡ waiting_tiles_of owner w
       by None = refl
       by (Some command) =
-          ap (λ n. if nat_lt 0 n then command_tiles (user_of (changed name change owner.state)) command else 0) (before command)
+          ap (λ n. if nat_lt 0 n then command_tiles (user_of (with_session_changed name change owner.state)) command else 0) (before command)
           ∙ ap (λ u. if nat_lt 0 (steps_before owner.state command) then command_tiles u command else 0) user
 
   pub changed-turns : turns_coming next ≡ turns_coming owner
@@ -165,30 +165,30 @@ module _ (owner : Owning) (name : List ℕ) (change : Held → Held) (held : Hel
       omega (arith, sum, own)
 
 -- a post leaves what is owed
-owed_posted : (held : Held) → (with_posted held).owed ≡ held.owed
+owed_posted : (held : HeldSession) → (with_posted held).owed ≡ held.owed
 owed_posted held = by (next_tile held)
   where
-    by : (o : Option ℕ) → (passed_to o held).owed ≡ held.owed
+    by : (o : Option ℕ) → (with_passed_to o held).owed ≡ held.owed
     by None = refl
     by (Some i) = refl
 
 -- a task posted
-module _ (owner : Owning) (before after : Seen) (t : Gathers owner before.owed) (work : Work)
+module _ (owner : Owner) (before after : Seen) (t : Gathers owner before.owed) (work : Task)
     (some : task_in owner ≡ Some work) where
   abbrev p : Posting owner before.owed t work
   p = posting owner before.owed t work some
 
-  abbrev with_posted_there : Owning
-  with_posted_there = record { state = changed (posting owner before.owed t work some).name with_posted owner.state; number = owner.number; waiting = owner.waiting }
+  abbrev with_posted_there : Owner
+  with_posted_there = record { state = with_session_changed (posting owner before.owed t work some).name with_posted owner.state; number = owner.number; waiting = owner.waiting }
 
   there_is : with_task_posted owner ≡ with_posted_there
   there_is = with_task_posted_is owner before.owed t work some
 
-  posted_same : user_of (changed p.name with_posted owner.state) ≡ user_in owner
+  posted_same : user_of (with_session_changed p.name with_posted owner.state) ≡ user_in owner
   posted_same = sym (ap user_in there_is) ∙ posted_user owner
 
   after_is : with_posted p.held ≡ record p.held { passed = p.place + 1 }
-  after_is = ap (λ o. passed_to o p.held) p.next_place
+  after_is = ap (λ o. with_passed_to o p.held) p.next_place
 
   fewer : posts_of_session (with_posted p.held) < posts_of_session p.held
   fewer =
@@ -217,40 +217,40 @@ module _ (owner : Owning) (before after : Seen) (t : Gathers owner before.owed) 
       let less = fewer_posts in
       record {
         gathers = subst (Gathers (with_task_posted owner)) (sym posted.owed) (gathers_posted owner before.owed t work some);
-        alike = alike_same owner (with_task_posted owner) (ap (λ (o : Owning). o.waiting) there_is) (posted_user owner);
-        number = ap (λ (o : Owning). o.number) there_is;
-        quota = ap (λ (o : Owning). o.state.quota) there_is ∙ changed-quota owner.state p.name with_posted;
+        alike = alike_same owner (with_task_posted owner) (ap (λ (o : Owner). o.waiting) there_is) (posted_user owner);
+        number = ap (λ (o : Owner). o.number) there_is;
+        quota = ap (λ (o : Owner). o.state.quota) there_is ∙ changed-quota owner.state p.name with_posted;
         counted = rises_none before after (tiles_coming owner - tiles_coming (with_task_posted owner))
             posted.good posted.strays (omega (arith, tiles));
         turns = omega (arith, turns_same);
         tiles = omega (arith, tiles);
         posts = omega (arith, less);
         owes = λ name quiet.
-            let is = ap (λ (o : Owning). owed_in o.state name) there_is in
+            let is = ap (λ (o : Owner). owed_in o.state name) there_is in
             let same = owed-changed owner.state p.name with_posted owed_posted name in
             omega (arith, is, same);
-        waits = λ name. ap (λ (o : Owning). is_waited_for o.waiting name) there_is;
+        waits = λ name. ap (λ (o : Owner). is_waited_for o.waiting name) there_is;
       }
 
 -- a result that is shown is the one that was handed out
-pub shown : (old new : Seen) {last work : Work} → work ≡ last → IsHandedOut last old new → IsHandedOut work old new
+pub shown : (old new : Seen) {last work : Task} → work ≡ last → IsHandedOut last old new → IsHandedOut work old new
 shown old new is handed = subst (λ work. IsHandedOut work old new) (sym is) handed
 
 -- a result that comes
-module _ (owner : Owning) (before after : Seen) (t : Gathers owner before.owed) (work : Work)
+module _ (owner : Owner) (before after : Seen) (t : Gathers owner before.owed) (work : Task)
     (handed : IsHandedOut work before after) where
   module _ (wanted : IsAwaitedIn owner work) where
     abbrev o : Opened owner before.owed t work.name.label.session
     o = taken_open owner before.owed t work wanted
 
-    change : Held → Held
+    change : HeldSession → HeldSession
     change = with_tile_in (tile_number_of work)
 
     wanted_there : IsAwaitedTaskIn o.held.live
         (label_of owner work.name.label.session) work o.held.live.part
     wanted_there = taken_wanted owner before.owed t work wanted
 
-    left_less : left_in (with_tile_in (tile_number_of work) o.held).live.part + 1 ≡ left_in o.held.live.part
+    left_less : tiles_left_in (with_tile_in (tile_number_of work) o.held).live.part + 1 ≡ tiles_left_in o.held.live.part
     left_less = taken_left o.held (label_of owner work.name.label.session) o.step o.is_open
         (t.gathered work.name.label.session o.held o.there) work wanted_there
 
@@ -313,13 +313,13 @@ module _ (owner : Owning) (before after : Seen) (t : Gathers owner before.owed) 
         waits = λ name. refl;
       }
 
-  module _ {A B : Type 0} (next : Owning) where
+  module _ {A B : Type 0} (next : Owner) where
     pub comes : (r : Result A B) → (IsOk r ↔ IsAwaitedIn owner work) → OnOk r (next ≡ with_task_in work owner)
         → OnErr r (next ≡ owner) → GoesOn owner before next after
     comes (Ok a) accepted taken refused =
-        subst (λ (o : Owning). GoesOn owner before o after) (sym taken) (goes_taken (accepted.0 refl))
+        subst (λ (o : Owner). GoesOn owner before o after) (sym taken) (goes_taken (accepted.0 refl))
     comes (Err e) accepted taken refused =
-        subst (λ (o : Owning). GoesOn owner before o after) (sym refused) (goes_stray (λ wanted. false≢true (accepted.1 wanted)))
+        subst (λ (o : Owner). GoesOn owner before o after) (sym refused) (goes_stray (λ wanted. false≢true (accepted.1 wanted)))
 
     pub comes_fewer : (r : Result A B) → (IsOk r ↔ IsAwaitedIn owner work) → OnOk r (next ≡ with_task_in work owner)
         → is_ok r ≡ true → tiles_coming next < tiles_coming owner
@@ -335,8 +335,8 @@ module _ (owner : Owning) (before after : Seen) (t : Gathers owner before.owed) 
     comes_stray (Err e) accepted is = refused_stray (λ wanted. false≢true (accepted.1 wanted))
 
 -- a session turned, where that answers nothing
-pub goes_turned : (owner next : Owning) (seen : Seen) (t : Gathers owner seen.owed) (name : List ℕ)
-    → is_whole_in owner.state name ≡ true → (IsLastTurn name owner → ⊥) → next ≡ turned_from name owner
+pub goes_turned : (owner next : Owner) (seen : Seen) (t : Gathers owner seen.owed) (name : List ℕ)
+    → is_whole_in owner.state name ≡ true → (IsLastTurn name owner → ⊥) → next ≡ owner_turned name owner
     → WaitsAlike owner next → next.number ≡ owner.number → next.state.quota ≡ owner.state.quota
     → GoesOn owner seen next seen
 goes_turned owner next seen t name whole more is alike number quota =
@@ -347,7 +347,7 @@ goes_turned owner next seen t name whole more is alike number quota =
     let turns_is = ap turns_coming is in
     let posts_is = ap posts_coming is in
     record {
-      gathers = subst (λ (o : Owning). Gathers o seen.owed) (sym is) turned_on.gathers;
+      gathers = subst (λ (o : Owner). Gathers o seen.owed) (sym is) turned_on.gathers;
       alike = alike;
       number = number;
       quota = quota;
@@ -357,13 +357,13 @@ goes_turned owner next seen t name whole more is alike number quota =
       posts = omega (arith, posts_less, posts_is);
       owes = λ other quiet.
           let few = turned-owes name owner other quiet in
-          let same = ap (λ (o : Owning). owed_in o.state other) is in
+          let same = ap (λ (o : Owner). owed_in o.state other) is in
           omega (arith, few, same);
-      waits = λ other. ap (λ (o : Owning). is_waited_for o.waiting other) is ∙ turned-waits name owner other;
+      waits = λ other. ap (λ (o : Owner). is_waited_for o.waiting other) is ∙ turned-waits name owner other;
     }
 
-pub turned_fewer : (owner next : Owning) (seen : Seen) (t : Gathers owner seen.owed) (name : List ℕ)
-    → is_whole_in owner.state name ≡ true → (IsLastTurn name owner → ⊥) → next ≡ turned_from name owner
+pub turned_fewer : (owner next : Owner) (seen : Seen) (t : Gathers owner seen.owed) (name : List ℕ)
+    → is_whole_in owner.state name ≡ true → (IsLastTurn name owner → ⊥) → next ≡ owner_turned name owner
     → turns_coming next < turns_coming owner
 turned_fewer owner next seen t name whole more is =
     let less = (turned owner seen.owed t name whole more).turns in

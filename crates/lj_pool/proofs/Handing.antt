@@ -2,10 +2,10 @@
 use Rattle.std.proofs.Common.{◌≡◌, ℕ, ◌-◌, ◌<◌, ◌≤◌, List, [], length, Option, None, refl, sym, ap, subst, arith}
 use Rattle.std.specs.List.{IsDistinct}
 use Rattle.std.specs.Str.{bytes_eq}
-use Rattle.lj_session.specs.States.{Owned, owed_in, rested, names}
-use Rattle.lj_session.specs.Owners.{Owning, entered, is_waited_for}
+use Rattle.lj_session.specs.UserState.{UserState, owed_in, state_at_rest, names}
+use Rattle.lj_session.specs.Owner.{Owner, owner_of_state, is_waited_for}
 use Rattle.lj_wire.specs.declared.reader.phase.Phase.TheVariants.{Open}
-use Rattle.lj_wire.specs.Standings.{Standing}
+use Rattle.lj_wire.specs.LineReader.{LineReader}
 use Rattle.lj_pool.specs.declared.pool.TheConstants.{MAX_AHEAD}
 use Rattle.lj_pool.specs.Seen.{Seen}
 use Rattle.lj_pool.specs.Gathering.{Gathers, NoneOwed}
@@ -18,30 +18,30 @@ use Rattle.lj_pool.proofs.Going.{rises_more, rises_none}
 use Rattle.lj_pool.proofs.Rested.{gathers-entered, rested-few, none-owed, some-owed}
 
 -- an owner that has just been given the state
-module _ (state : Owned) (number : ℕ) (owner : Owning) (is : owner ≡ entered state number) where
-  pub entered_serving : (first : Standing) (was : Option (List ℕ)) (old : Seen) → first.items ≡ 0 → first.phase ≡ Open
+module _ (state : UserState) (number : ℕ) (owner : Owner) (is : owner ≡ owner_of_state state number) where
+  pub entered_serving : (first : LineReader) (was : Option (List ℕ)) (old : Seen) → first.items ≡ 0 → first.phase ≡ Open
       → Serving state first first was was old old owner.state
   entered_serving first was old none at_work =
-      subst (λ (o : Owning). Serving state first first was was old old o.state) (sym is)
+      subst (λ (o : Owner). Serving state first first was was old old o.state) (sym is)
       (serving-start state first was old none at_work)
 
   pub entered_gathers : (seen : Seen) → seen.owed ≡ [] → IsDistinct bytes_eq (names owner.state) → Gathers owner seen.owed
   entered_gathers seen none distinct =
       subst (Gathers owner) (sym none)
-      (subst (λ (o : Owning). Gathers o []) (sym is)
-      (gathers-entered state number (subst (λ (o : Owning). IsDistinct bytes_eq (names o.state)) is distinct)))
+      (subst (λ (o : Owner). Gathers o []) (sym is)
+      (gathers-entered state number (subst (λ (o : Owner). IsDistinct bytes_eq (names o.state)) is distinct)))
 
-idle_tiles : (owner : Owning) → owner.waiting ≡ None → tiles_coming owner ≡ tiles_to_come owner.state
+idle_tiles : (owner : Owner) → owner.waiting ≡ None → tiles_coming owner ≡ tiles_to_come owner.state
 idle_tiles owner idle =
     let none = ap (waiting_tiles_of owner) idle in omega (arith, none)
 
 -- the work goes on before the next item
-module _ {owner : Owning} {seen : Seen} (idle : owner.waiting ≡ None) {next : Owning} {newer : Seen}
+module _ {owner : Owner} {seen : Seen} (idle : owner.waiting ≡ None) {next : Owner} {newer : Seen}
     (goes : GoesOn owner seen next newer) where
   pub ahead_idle : next.waiting ≡ None
   ahead_idle = (alike_none owner next goes.alike idle).0
 
-  pub ahead_serving : {start : Owned} {first now : Standing} {was is : Option (List ℕ)} {old : Seen}
+  pub ahead_serving : {start : UserState} {first now : LineReader} {was is : Option (List ℕ)} {old : Seen}
       → Serving start first now was is old seen owner.state → Serving start first now was is old newer next.state
   ahead_serving {start} {first} {now} {was} {is} {old} s =
       let before = idle_tiles owner idle in
@@ -56,8 +56,8 @@ module _ {owner : Owning} {seen : Seen} (idle : owner.waiting ≡ None) {next : 
   ahead_owes many = some-owed next newer.owed goes.gathers ahead_idle (omega (arith, many))
 
 -- the state handed back
-module _ (owner : Owning) (seen : Seen) (t : Gathers owner seen.owed) (idle : owner.waiting ≡ None) (back : Owned)
-    (is : back ≡ rested owner.state) where
+module _ (owner : Owner) (seen : Seen) (t : Gathers owner seen.owed) (idle : owner.waiting ≡ None) (back : UserState)
+    (is : back ≡ state_at_rest owner.state) where
   pub back_few : tiles_to_come owner.state ≤ tiles_owed back
   back_few = subst (λ o. tiles_to_come owner.state ≤ tiles_owed o) (sym is) (rested-few owner seen.owed t idle)
 

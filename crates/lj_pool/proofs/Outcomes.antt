@@ -4,9 +4,9 @@ use Rattle.std.proofs.Common.{Result, Ok, Err, refl, sym, ap, ◌∙◌, subst, 
 use Rattle.std.specs.Prelude.{IfOk, IsSome, IsSomeAnd, is_some}
 use Rattle.std.proofs.lemmas.Bool.{true≢false}
 use Rattle.std.proofs.lemmas.Option.{none-some, same_Some}
-use Rattle.lj_ring.specs.Mixes.{Mixture}
+use Rattle.lj_ring.specs.Mix.{Mix}
 use Rattle.lj_xyz.specs.Atoms.{◌>>=◌}
-use Rattle.lj_branch.specs.Named.{named, put}
+use Rattle.lj_branch.specs.Named.{value_named, with_value}
 use Rattle.lj_session.specs.declared.command.Load.{Load as LoadParts}
 use Rattle.lj_session.specs.declared.command.Command.{Command}
 use Rattle.lj_session.specs.declared.command.Command.TheVariants.{Load, Advance, Start, Reverse, Branch, Restore, Forget, Tug}
@@ -17,13 +17,13 @@ use Rattle.lj_session.specs.declared.refusal.Refusal.TheVariants.{StepRange}
 use Rattle.lj_session.specs.declared.reply.Reply.{Reply}
 use Rattle.lj_session.specs.declared.reply.Reply.TheVariants.{Refused}
 use Rattle.lj_session.specs.Users.{Session, User}
-use Rattle.lj_session.specs.Loads.{admitted, unless}
-use Rattle.lj_session.specs.Answers.{session_named, session_of, saved_in, can_advance, performed, settled, answer}
+use Rattle.lj_session.specs.Loads.{admission, refusal_unless}
+use Rattle.lj_session.specs.Answers.{session_named, session_of, simulation_saved, can_advance, command_result, reply_and_user, answer}
 use Rattle.lj_session.specs.Turns.{turns, waits_for, advance_turns, measure_turns}
 use Rattle.lj_session.specs.Begins.{OnRefusal}
-use Rattle.lj_session.specs.States.{Held, Owned, IsAtWork, IsIdle, IsIdleIn, SameSteps, StepsFollow, user_of}
-use Rattle.lj_session.specs.States.{held_in, started, turns_before}
-use Rattle.lj_session.specs.Owners.{IsAnswered}
+use Rattle.lj_session.specs.UserState.{HeldSession, UserState, IsAtWork, IsIdle, IsIdleIn, SameSteps, StepsFollow, user_of}
+use Rattle.lj_session.specs.UserState.{held_session, with_start, turns_before}
+use Rattle.lj_session.specs.Owner.{IsAnswered}
 use Rattle.lj_session.proofs.AtWork.{kind-none}
 use Rattle.lj_session.proofs.Entries.{by_test, named-put_any}
 use Rattle.lj_session.proofs.Holding.{named-held, named-absent, owed-of, none-before}
@@ -34,14 +34,14 @@ use Rattle.lj_pool.specs.Counting.{advance_tiles, measure_tiles, command_tiles}
 pub no-own-tiles : (user : User) (command : Command) → turns user command ≡ 0
     → ((name : List ℕ) (n : ℕ) → command ≡ Start name n → ⊥) → command_tiles user command ≡ 0
 unfolding turns command_tiles
-no-own-tiles user (Advance name n) none apart = by (named name user.sessions) none
+no-own-tiles user (Advance name n) none apart = by (value_named name user.sessions) none
   where
     by : (o : Option Session) → advance_turns o n ≡ 0 → advance_tiles o n ≡ 0
     by None h = refl
     by (Some session) h = by_test (can_advance session n)
         (λ t. let zero_steps : n ≡ 0 = rw t at h in rw (t, zero_steps) refl)
         (λ t. rw t refl)
-no-own-tiles user (Measure name) none apart = by (named name user.sessions) none
+no-own-tiles user (Measure name) none apart = by (value_named name user.sessions) none
   where
     by : (o : Option Session) → measure_turns o ≡ 0 → measure_tiles o ≡ 0
     by None h = refl
@@ -51,76 +51,76 @@ no-own-tiles user command none apart = refl
 
 -- a session that was there is there after START, FORGET and LIST
 pub record Stays (name : List ℕ) (result : Result (Reply × User) Refusal) : Type 0 where
-  pub there : IfOk result (λ a. IsSome (named name a.1.sessions))
+  pub there : IfOk result (λ a. IsSome (value_named name a.1.sessions))
 
 stays-then : {A : Type 0} (name : List ℕ) (r : Result A Refusal) (f : A → Result (Reply × User) Refusal)
     → ((x : A) → Stays name (f x)) → Stays name (r >>= f)
 stays-then name (Ok x) f h = h x
 stays-then name (Err refusal) f h = record { there = tt }
 
-put_there : (name : List ℕ) (es : List (List ℕ × Session)) (v : Session) → IsSome (named name (put name v es))
+put_there : (name : List ℕ) (es : List (List ℕ × Session)) (v : Session) → IsSome (value_named name (with_value name v es))
 put_there name es v = ap is_some (named-put_any name es v)
 
-pub start_stays : (user : User) (name : List ℕ) (n : ℕ) (mark : Bool) → Stays name (performed user (Start name n) mark)
-unfolding performed
+pub start_stays : (user : User) (name : List ℕ) (n : ℕ) (mark : Bool) → Stays name (command_result user (Start name n) mark)
+unfolding command_result
 start_stays user name n mark = stays-then name (session_of user name) _ (λ session.
-    stays-then name (unless (can_advance session n) StepRange) _ (λ near. record { there = put_there name user.sessions _ }))
+    stays-then name (refusal_unless (can_advance session n) StepRange) _ (λ near. record { there = put_there name user.sessions _ }))
 
-forget_stays : (user : User) (name branch : List ℕ) (mark : Bool) → Stays name (performed user (Forget name branch) mark)
-unfolding performed
+forget_stays : (user : User) (name branch : List ℕ) (mark : Bool) → Stays name (command_result user (Forget name branch) mark)
+unfolding command_result
 forget_stays user name branch mark = stays-then name (session_of user name) _ (λ session.
-    stays-then name (saved_in session branch) _ (λ sim. record { there = put_there name user.sessions _ }))
+    stays-then name (simulation_saved session branch) _ (λ sim. record { there = put_there name user.sessions _ }))
 
-list_stays : (user : User) (name : List ℕ) (mark : Bool) → IsSome (named name user.sessions)
-    → Stays name (performed user (ListBranches name) mark)
-unfolding performed
+list_stays : (user : User) (name : List ℕ) (mark : Bool) → IsSome (value_named name user.sessions)
+    → Stays name (command_result user (ListBranches name) mark)
+unfolding command_result
 list_stays user name mark some = stays-then name (session_of user name) _ (λ session. record { there = some })
 
-pub still-there : (user : User) (name : List ℕ) (r : Result (Reply × User) Refusal) → IsSome (named name user.sessions) → Stays name r
-    → IsSome (named name (settled user r).1.sessions)
+pub still-there : (user : User) (name : List ℕ) (r : Result (Reply × User) Refusal) → IsSome (value_named name user.sessions) → Stays name r
+    → IsSome (value_named name (reply_and_user user r).1.sessions)
 still-there user name (Ok a) some stays = stays.there
 still-there user name (Err refusal) some stays = some
 
 -- a LOAD of a name that is there is refused
-refused-load : (user : User) (load : LoadParts) (mark : Bool) → is_some (named load.name user.sessions) ≡ true
+refused-load : (user : User) (load : LoadParts) (mark : Bool) → is_some (value_named load.name user.sessions) ≡ true
     → (r : Refusal) × ((answer user (Load load) mark).0 ≡ Refused r)
-unfolding performed
-refused-load user load mark there = by (admitted user load) refl
+unfolding command_result
+refused-load user load mark there = by (admission user load) refl
   where
-    by : (r : Result Mixture Refusal) → admitted user load ≡ r → (r : Refusal) × ((answer user (Load load) mark).0 ≡ Refused r)
+    by : (r : Result Mix Refusal) → admission user load ≡ r → (r : Refusal) × ((answer user (Load load) mark).0 ≡ Refused r)
     by (Ok mix) e = absurd (true≢false (sym there ∙ (new-admitted user load mix e).0))
     by (Err refusal) e = (refusal, rw e refl)
 
 -- what becomes of the steps of a session: none is owed or open before and after; or they are as they were; or START owes more
-pub record RestsBoth (old new : Owned) (name : List ℕ) : Type 0 where
+pub record RestsBoth (old new : UserState) (name : List ℕ) : Type 0 where
   pub before : IsIdleIn old name
   pub after : IsIdleIn new name
 
-pub record SameThere (old new : Owned) (name : List ℕ) : Type 0 where
-  pub before : Held
-  pub after : Held
-  pub was : held_in old name ≡ Some before
-  pub is : held_in new name ≡ Some after
+pub record SameThere (old new : UserState) (name : List ℕ) : Type 0 where
+  pub before : HeldSession
+  pub after : HeldSession
+  pub was : held_session old name ≡ Some before
+  pub is : held_session new name ≡ Some after
   pub same : SameSteps before after
 
-pub record StartedThere (old new : Owned) (command : Command) (name : List ℕ) : Type 0 where
+pub record StartedThere (old new : UserState) (command : Command) (name : List ℕ) : Type 0 where
   pub n : ℕ
   pub start : command ≡ Start name n
-  pub before : Held
-  pub was : held_in old name ≡ Some before
-  pub is : held_in new name ≡ Some (started n before)
+  pub before : HeldSession
+  pub was : held_session old name ≡ Some before
+  pub is : held_session new name ≡ Some (with_start n before)
 
-abbrev pub Outcome : Owned → Owned → Command → List ℕ → Type 0
+abbrev pub Outcome : UserState → UserState → Command → List ℕ → Type 0
 Outcome old new command name = RestsBoth old new name ⊎ SameThere old new name ⊎ StartedThere old new command name
 
-module _ (old new : Owned) (command : Command) (reply : Reply) (work : IsAtWork None old)
+module _ (old new : UserState) (command : Command) (reply : Reply) (work : IsAtWork None old)
     (answered : IsAnswered (user_of old) command reply (user_of new)) (unchanged : OnRefusal reply (new ≡ old))
     (steps : StepsFollow command old new) (at_once : turns_before old command ≡ 0) (name : List ℕ)
     (named_is : session_named command ≡ Some name) where
   answer_user : user_of new ≡ (answer (user_of old) command answered.mark).1
   answer_user = ap (λ a. a.1) answered.answers
 
-  absent : (held : Held) → held_in old name ≡ None → held_in old name ≡ Some held → ⊥
+  absent : (held : HeldSession) → held_session old name ≡ None → held_session old name ≡ Some held → ⊥
   absent held none some = none-some held (sym none ∙ some)
 
   -- nothing is owed to a session that the command waits for
@@ -130,12 +130,12 @@ module _ (old new : Owned) (command : Command) (reply : Reply) (work : IsAtWork 
       record { owed = none; closed = work name held found ∙ kind-none None name held none refl }
 
   generic : IsIdleIn old name
-      → ((after : Held) → held_in new name ≡ Some after → IsIdle after ⊎ IsSomeAnd (held_in old name) (λ held. SameSteps held after))
+      → ((after : HeldSession) → held_session new name ≡ Some after → IsIdle after ⊎ IsSomeAnd (held_session old name) (λ held. SameSteps held after))
       → Outcome old new command name
-  generic idle follows = by (held_in new name) refl
+  generic idle follows = by (held_session new name) refl
     where
-      kept : (after : Held) → held_in new name ≡ Some after → (o : Option Held) → held_in old name ≡ o
-          → IsSomeAnd (held_in old name) (λ held. SameSteps held after) → Outcome old new command name
+      kept : (after : HeldSession) → held_session new name ≡ Some after → (o : Option HeldSession) → held_session old name ≡ o
+          → IsSomeAnd (held_session old name) (λ held. SameSteps held after) → Outcome old new command name
       kept after e None w same = absurd (subst (λ o. IsSomeAnd o (λ held. SameSteps held after)) w same)
       kept after e (Some before) w same = inr (inl (record {
         before = before;
@@ -145,39 +145,39 @@ module _ (old new : Owned) (command : Command) (reply : Reply) (work : IsAtWork 
         same = subst (λ o. IsSomeAnd o (λ held. SameSteps held after)) w same;
       }))
 
-      either : (after : Held) → held_in new name ≡ Some after
-          → IsIdle after ⊎ IsSomeAnd (held_in old name) (λ held. SameSteps held after) → Outcome old new command name
+      either : (after : HeldSession) → held_session new name ≡ Some after
+          → IsIdle after ⊎ IsSomeAnd (held_session old name) (λ held. SameSteps held after) → Outcome old new command name
       either after e (inl i) = inl (record {
         before = idle;
         after = λ held found. subst IsIdle (same_Some after held (sym e ∙ found)) i;
       })
-      either after e (inr same) = kept after e (held_in old name) refl same
+      either after e (inr same) = kept after e (held_session old name) refl same
 
-      by : (o : Option Held) → held_in new name ≡ o → Outcome old new command name
+      by : (o : Option HeldSession) → held_session new name ≡ o → Outcome old new command name
       by None e = inl (record { before = idle; after = λ held found. absurd (none-some held (sym e ∙ found)) })
       by (Some after) e = either after e (follows after e)
 
   -- where it is there neither before nor after
-  gone : held_in old name ≡ None → held_in new name ≡ None → Outcome old new command name
+  gone : held_session old name ≡ None → held_session new name ≡ None → Outcome old new command name
   gone before after = inl (record {
     before = λ held found. absurd (none-some held (sym before ∙ found));
     after = λ held found. absurd (none-some held (sym after ∙ found));
   })
 
   -- it stays
-  pub staying : ((held : Held) → held_in old name ≡ Some held → IsSome (named name (answer (user_of old) command answered.mark).1.sessions))
-      → (held : Held) → held_in old name ≡ Some held → held_in new name ≡ None → ⊥
+  pub staying : ((held : HeldSession) → held_session old name ≡ Some held → IsSome (value_named name (answer (user_of old) command answered.mark).1.sessions))
+      → (held : HeldSession) → held_session old name ≡ Some held → held_session new name ≡ None → ⊥
   staying stays held found none =
-      let some : is_some (named name (user_of new).sessions) ≡ true =
-      ap (λ (u : User). is_some (named name u.sessions)) answer_user ∙ stays held found in
+      let some : is_some (value_named name (user_of new).sessions) ≡ true =
+      ap (λ (u : User). is_some (value_named name u.sessions)) answer_user ∙ stays held found in
       true≢false (sym some ∙ ap is_some (named-absent new name none))
 
-  same_kept : ((held : Held) → held_in old name ≡ Some held → held_in new name ≡ None → ⊥)
-      → ((after : Held) → held_in new name ≡ Some after → IsSomeAnd (held_in old name) (λ held. SameSteps held after))
+  same_kept : ((held : HeldSession) → held_session old name ≡ Some held → held_session new name ≡ None → ⊥)
+      → ((after : HeldSession) → held_session new name ≡ Some after → IsSomeAnd (held_session old name) (λ held. SameSteps held after))
       → Outcome old new command name
-  same_kept stays follows = by (held_in old name) refl (held_in new name) refl
+  same_kept stays follows = by (held_session old name) refl (held_session new name) refl
     where
-      by : (o : Option Held) → held_in old name ≡ o → (p : Option Held) → held_in new name ≡ p → Outcome old new command name
+      by : (o : Option HeldSession) → held_session old name ≡ o → (p : Option HeldSession) → held_session new name ≡ p → Outcome old new command name
       by None w None e = gone w e
       by (Some before) w None e = absurd (stays before w e)
       by None w (Some after) e = absurd (subst (λ o. IsSomeAnd o (λ held. SameSteps held after)) w (follows after e))
@@ -190,24 +190,24 @@ module _ (old new : Owned) (command : Command) (reply : Reply) (work : IsAtWork 
       }))
 
   start_owes : (n : ℕ) → command ≡ Start name n
-      → ((held : Held) → held_in old name ≡ Some held → held_in new name ≡ None → ⊥)
-      → ((after : Held) → held_in new name ≡ Some after → IsSomeAnd (held_in old name) (λ held. after ≡ started n held))
+      → ((held : HeldSession) → held_session old name ≡ Some held → held_session new name ≡ None → ⊥)
+      → ((after : HeldSession) → held_session new name ≡ Some after → IsSomeAnd (held_session old name) (λ held. after ≡ with_start n held))
       → Outcome old new command name
-  start_owes n which stays follows = by (held_in old name) refl (held_in new name) refl
+  start_owes n which stays follows = by (held_session old name) refl (held_session new name) refl
     where
-      by : (o : Option Held) → held_in old name ≡ o → (p : Option Held) → held_in new name ≡ p → Outcome old new command name
+      by : (o : Option HeldSession) → held_session old name ≡ o → (p : Option HeldSession) → held_session new name ≡ p → Outcome old new command name
       by None w None e = gone w e
       by (Some before) w None e = absurd (stays before w e)
-      by None w (Some after) e = absurd (subst (λ o. IsSomeAnd o (λ held. after ≡ started n held)) w (follows after e))
+      by None w (Some after) e = absurd (subst (λ o. IsSomeAnd o (λ held. after ≡ with_start n held)) w (follows after e))
       by (Some before) w (Some after) e = inr (inr (record {
         n = n;
         start = which;
         before = before;
         was = w;
-        is = e ∙ ap (λ (h : Held). Some h) (subst (λ o. IsSomeAnd o (λ held. after ≡ started n held)) w (follows after e));
+        is = e ∙ ap (λ (h : HeldSession). Some h) (subst (λ o. IsSomeAnd o (λ held. after ≡ with_start n held)) w (follows after e));
       }))
 
-  some_of : (held : Held) → held_in old name ≡ Some held → IsSome (named name (user_of old).sessions)
+  some_of : (held : HeldSession) → held_session old name ≡ Some held → IsSome (value_named name (user_of old).sessions)
   some_of held found = ap is_some (named-held old name held found)
 
 -- for each command
@@ -217,56 +217,56 @@ same_name_of a b e = cc
 pub none_named : (name : List ℕ) → None ≡ Some name → ⊥
 none_named name e = cc
 
-pub outcome : (old new : Owned) (command : Command) (reply : Reply) → IsAtWork None old
+pub outcome : (old new : UserState) (command : Command) (reply : Reply) → IsAtWork None old
     → IsAnswered (user_of old) command reply (user_of new) → OnRefusal reply (new ≡ old)
     → StepsFollow command old new → turns_before old command ≡ 0 → (name : List ℕ) → session_named command ≡ Some name
     → Outcome old new command name
 unfolding waits_for
-outcome old new (Load load) reply work a u s z name n = by (held_in old name) refl
+outcome old new (Load load) reply work a u s z name n = by (held_session old name) refl
   where
     is : load.name ≡ name
     is = same_name_of load.name name n
 
-    unchanged_by : (held : Held) → held_in old name ≡ Some held → new ≡ old
+    unchanged_by : (held : HeldSession) → held_session old name ≡ Some held → new ≡ old
     unchanged_by held found =
         let refused = refused-load (user_of old) load a.mark
-        (ap (λ k. is_some (named k (user_of old).sessions)) is ∙ ap is_some (named-held old name held found)) in
+        (ap (λ k. is_some (value_named k (user_of old).sessions)) is ∙ ap is_some (named-held old name held found)) in
         subst (λ r. OnRefusal r (new ≡ old)) (ap (λ x. x.0) a.answers ∙ refused.1) u
 
-    by : (o : Option Held) → held_in old name ≡ o → Outcome old new (Load load) name
+    by : (o : Option HeldSession) → held_session old name ≡ o → Outcome old new (Load load) name
     by None e = generic old new (Load load) reply work a u s z name n
         (λ held found. absurd (none-some held (sym e ∙ found))) (λ after there. s name after n there)
     by (Some held) e = inr (inl (record {
       before = held;
       after = held;
       was = e;
-      is = ap (λ (o : Owned). held_in o name) (unchanged_by held e) ∙ e;
+      is = ap (λ (o : UserState). held_session o name) (unchanged_by held e) ∙ e;
       same = record { live = refl; passed = refl; owed = refl };
     }))
 outcome old new (Start session k) reply work a u s z name n =
     let is = same_name_of session name n in
     start_owes old new (Start session k) reply work a u s z name n k (ap (λ m. Start m k) is)
     (staying old new (Start session k) reply work a u s z name n (λ held found.
-    still-there (user_of old) name (performed (user_of old) (Start session k) a.mark)
+    still-there (user_of old) name (command_result (user_of old) (Start session k) a.mark)
     (ap is_some (named-held old name held found))
-    (subst (λ m. Stays name (performed (user_of old) (Start m k) a.mark)) (sym is) (start_stays (user_of old) name k a.mark))))
+    (subst (λ m. Stays name (command_result (user_of old) (Start m k) a.mark)) (sym is) (start_stays (user_of old) name k a.mark))))
     (λ after there. s name after n there)
 outcome old new (Forget session branch) reply work a u s z name n =
     let is = same_name_of session name n in
     same_kept old new (Forget session branch) reply work a u s z name n
     (staying old new (Forget session branch) reply work a u s z name n (λ held found.
-    still-there (user_of old) name (performed (user_of old) (Forget session branch) a.mark)
+    still-there (user_of old) name (command_result (user_of old) (Forget session branch) a.mark)
     (ap is_some (named-held old name held found))
-    (subst (λ m. Stays name (performed (user_of old) (Forget m branch) a.mark)) (sym is)
+    (subst (λ m. Stays name (command_result (user_of old) (Forget m branch) a.mark)) (sym is)
     (forget_stays (user_of old) name branch a.mark))))
     (λ after there. s name after n there)
 outcome old new (ListBranches session) reply work a u s z name n =
     let is = same_name_of session name n in
     same_kept old new (ListBranches session) reply work a u s z name n
     (staying old new (ListBranches session) reply work a u s z name n (λ held found.
-    still-there (user_of old) name (performed (user_of old) (ListBranches session) a.mark)
+    still-there (user_of old) name (command_result (user_of old) (ListBranches session) a.mark)
     (ap is_some (named-held old name held found))
-    (subst (λ m. Stays name (performed (user_of old) (ListBranches m) a.mark)) (sym is)
+    (subst (λ m. Stays name (command_result (user_of old) (ListBranches m) a.mark)) (sym is)
     (list_stays (user_of old) name a.mark (ap is_some (named-held old name held found))))))
     (λ after there. s name after n there)
 outcome old new ListSessions reply work a u s z name n = absurd (none_named name n)

@@ -9,37 +9,37 @@ use Rattle.std.proofs.lemmas.Bool.{cases_Bool, cases_eq, eq-eqb, ne_eqb, ltb-tru
 use Rattle.std.proofs.lemmas.List.{take_more, take-append-drop, take-append-le, length-take-le, length_push, get_or-take}
 use Rattle.std.proofs.lemmas.List.Edits.{length-remove, remove-append_left}
 use Rattle.std.proofs.lemmas.List.Sums.{sum_by-cons, sum_by_push, sum_by_more, sum_by-take-le, sum_by-remove, get_or-le-sum_by}
-use Rattle.lj_tile.specs.Tasks.{Work}
+use Rattle.lj_tile.specs.Task.{Task}
 use Rattle.lj_pool.specs.declared.pool.TheConstants.{MAX_OWED}
 use Rattle.lj_pool.specs.Gathering.{times}
-use Rattle.lj_pool.specs.Inline.{held_task}
-use Rattle.lj_pool.specs.Accounts.{works, IsFirst, IsKept}
+use Rattle.lj_pool.specs.InlinePool.{held_task}
+use Rattle.lj_pool.specs.Accounts.{tasks_owed, IsFirst, IsKept}
 use Rattle.lj_pool.specs.Seen.{Seen, TakesOff, one_more}
 
 -- 1 for true
 abbrev bit : Bool → ℕ
 bit b = cond b 1 0
 
-held-le : (slot : Option Work) → length (held_task slot) ≤ 1
+held-le : (slot : Option Task) → length (held_task slot) ≤ 1
 held-le None = omega arith
 held-le (Some task) = omega arith
 
-works-append : (tasks : List (Option Work)) (ps qs : List ℕ) → works tasks (ps ++ qs) ≡ works tasks ps ++ works tasks qs
+works-append : (tasks : List (Option Task)) (ps qs : List ℕ) → tasks_owed tasks (ps ++ qs) ≡ tasks_owed tasks ps ++ tasks_owed tasks qs
 works-append tasks [] qs = refl
 works-append tasks (p ∷ ps) qs =
     ap (λ w. held_task (get_or tasks p None) ++ w) (works-append tasks ps qs)
-    ∙ sym (append_assoc (held_task (get_or tasks p None)) (works tasks ps) (works tasks qs))
+    ∙ sym (append_assoc (held_task (get_or tasks p None)) (tasks_owed tasks ps) (tasks_owed tasks qs))
 
-length-works-le : (tasks : List (Option Work)) (ps : List ℕ) → length (works tasks ps) ≤ length ps
+length-works-le : (tasks : List (Option Task)) (ps : List ℕ) → length (tasks_owed tasks ps) ≤ length ps
 length-works-le tasks [] = omega arith
 length-works-le tasks (p ∷ ps) =
     let slot = get_or tasks p None in
     let rest = length-works-le tasks ps in
-    omega (arith, held-le slot, rest, length-append (held_task slot) (works tasks ps))
+    omega (arith, held-le slot, rest, length-append (held_task slot) (tasks_owed tasks ps))
 
 -- a task that is put into another place is none of these
-works-other : (tasks : List (Option Work)) (place : ℕ) (slot : Option Work) (ps : List ℕ) → times place ps ≡ 0
-    → works (set tasks place slot) ps ≡ works tasks ps
+works-other : (tasks : List (Option Task)) (place : ℕ) (slot : Option Task) (ps : List ℕ) → times place ps ≡ 0
+    → tasks_owed (set tasks place slot) ps ≡ tasks_owed tasks ps
 works-other tasks place slot [] none = refl
 works-other tasks place slot (p ∷ ps) none =
     let parts = sum_by-cons (λ j. cond (nat_eq j place) 1 0) p ps in
@@ -49,39 +49,39 @@ works-other tasks place slot (p ∷ ps) none =
           let one : bit (nat_eq p place) ≡ 1 = ap bit (eq-eqb p place same) in
           absurd (omega (arith, parts, none, one))
       | inr other ↦
-          ap (λ x. held_task x ++ works (set tasks place slot) ps) (get_or-set_other tasks place p slot None other)
+          ap (λ x. held_task x ++ tasks_owed (set tasks place slot) ps) (get_or-set_other tasks place p slot None other)
           ∙ ap (λ w. held_task (get_or tasks p None) ++ w) rest
     ]
 
 -- where there are as many tasks as places, the first place holds one
-held_first : (slot : Option Work) (rest : List Work) (n : ℕ) → length rest ≤ n
-    → length (held_task slot ++ rest) ≡ suc n → (task : Work) × (slot ≡ Some task) × (length rest ≡ n)
+held_first : (slot : Option Task) (rest : List Task) (n : ℕ) → length rest ≤ n
+    → length (held_task slot ++ rest) ≡ suc n → (task : Task) × (slot ≡ Some task) × (length rest ≡ n)
 held_first None rest n most is = absurd (omega (arith, most, is))
 held_first (Some task) rest n most is = (task, refl, omega (arith, is))
 
 -- where there are as many tasks as places, a task stands where its place does
-pub works_at : (tasks : List (Option Work)) (ps : List ℕ) (k : ℕ) (d : Work) → length (works tasks ps) ≡ length ps
-    → k < length ps → get_or tasks (get_or ps k 0) None ≡ Some (get_or (works tasks ps) k d)
+pub works_at : (tasks : List (Option Task)) (ps : List ℕ) (k : ℕ) (d : Task) → length (tasks_owed tasks ps) ≡ length ps
+    → k < length ps → get_or tasks (get_or ps k 0) None ≡ Some (get_or (tasks_owed tasks ps) k d)
 works_at tasks [] k d held within = absurd (omega (arith, within))
 works_at tasks (p ∷ ps) zero d held within =
-    let first = held_first (get_or tasks p None) (works tasks ps) (length ps) (length-works-le tasks ps) held in
-    first.1 ∙ sym (ap (λ x. Some (get_or (held_task x ++ works tasks ps) zero d)) first.1)
+    let first = held_first (get_or tasks p None) (tasks_owed tasks ps) (length ps) (length-works-le tasks ps) held in
+    first.1 ∙ sym (ap (λ x. Some (get_or (held_task x ++ tasks_owed tasks ps) zero d)) first.1)
 works_at tasks (p ∷ ps) (suc k) d held within =
-    let first = held_first (get_or tasks p None) (works tasks ps) (length ps) (length-works-le tasks ps) held in
+    let first = held_first (get_or tasks p None) (tasks_owed tasks ps) (length ps) (length-works-le tasks ps) held in
     works_at tasks ps k d first.2 (omega arith)
-    ∙ sym (ap (λ x. Some (get_or (held_task x ++ works tasks ps) (suc k) d)) first.1)
+    ∙ sym (ap (λ x. Some (get_or (held_task x ++ tasks_owed tasks ps) (suc k) d)) first.1)
 
-works-remove : (tasks : List (Option Work)) (ps : List ℕ) (k : ℕ) → length (works tasks ps) ≡ length ps → k < length ps
-    → works tasks (remove ps k) ≡ remove (works tasks ps) k
+works-remove : (tasks : List (Option Task)) (ps : List ℕ) (k : ℕ) → length (tasks_owed tasks ps) ≡ length ps → k < length ps
+    → tasks_owed tasks (remove ps k) ≡ remove (tasks_owed tasks ps) k
 works-remove tasks [] k held within = absurd (omega (arith, within))
 works-remove tasks (p ∷ ps) zero held within =
-    let first = held_first (get_or tasks p None) (works tasks ps) (length ps) (length-works-le tasks ps) held in
-    sym (ap (λ x. remove (held_task x ++ works tasks ps) zero) first.1)
+    let first = held_first (get_or tasks p None) (tasks_owed tasks ps) (length ps) (length-works-le tasks ps) held in
+    sym (ap (λ x. remove (held_task x ++ tasks_owed tasks ps) zero) first.1)
 works-remove tasks (p ∷ ps) (suc k) held within =
-    let first = held_first (get_or tasks p None) (works tasks ps) (length ps) (length-works-le tasks ps) held in
+    let first = held_first (get_or tasks p None) (tasks_owed tasks ps) (length ps) (length-works-le tasks ps) held in
     ap (λ w. held_task (get_or tasks p None) ++ w) (works-remove tasks ps k first.2 (omega arith))
-    ∙ ap (λ x. held_task x ++ remove (works tasks ps) k) first.1
-    ∙ sym (ap (λ x. remove (held_task x ++ works tasks ps) (suc k)) first.1)
+    ∙ ap (λ x. held_task x ++ remove (tasks_owed tasks ps) k) first.1
+    ∙ sym (ap (λ x. remove (held_task x ++ tasks_owed tasks ps) (suc k)) first.1)
 
 -- a place is one of them
 pub place_within : (places : List ℕ) → ((n : ℕ) → times n places ≡ cond (nat_lt n MAX_OWED) 1 0) → (k : ℕ)
@@ -114,22 +114,22 @@ apart places once owed within =
     omega (arith, more, le, one, once place, at_most_one (nat_lt place MAX_OWED))
 
 -- a task is put into the next place
-pub works_posted : (tasks : List (Option Work)) (places : List ℕ) (owed : ℕ) (task : Work) → IsKept tasks places owed
+pub works_posted : (tasks : List (Option Task)) (places : List ℕ) (owed : ℕ) (task : Task) → IsKept tasks places owed
     → owed < MAX_OWED
-    → works (set tasks (get_or places owed 0) (Some task)) (take (owed + 1) places)
-    ≡ works tasks (take owed places) ++ task ∷ []
+    → tasks_owed (set tasks (get_or places owed 0) (Some task)) (take (owed + 1) places)
+    ≡ tasks_owed tasks (take owed places) ++ task ∷ []
 works_posted tasks places owed task kept room =
     let place = get_or places owed 0 in
     let within : owed < length places = omega (arith, kept.all, room) in
     let fits : place < length tasks = omega (arith, place_within places kept.once owed within, kept.size) in
     let put = set tasks place (Some task) in
-    ap (works put) (take_more places owed 0 within)
+    ap (tasks_owed put) (take_more places owed 0 within)
     ∙ works-append put (take owed places) (place ∷ [])
     ∙ ap (λ w. w ++ (held_task (get_or put place None) ++ []))
     (works-other tasks place (Some task) (take owed places) (apart places kept.once owed within))
-    ∙ ap (λ x. works tasks (take owed places) ++ (held_task x ++ [])) (get_or-set_same tasks place (Some task) None fits)
+    ∙ ap (λ x. tasks_owed tasks (take owed places) ++ (held_task x ++ [])) (get_or-set_same tasks place (Some task) None fits)
 
-pub kept_posted : (tasks : List (Option Work)) (places : List ℕ) (owed : ℕ) (task : Work) → IsKept tasks places owed
+pub kept_posted : (tasks : List (Option Task)) (places : List ℕ) (owed : ℕ) (task : Task) → IsKept tasks places owed
     → owed < MAX_OWED
     → IsKept (set tasks (get_or places owed 0) (Some task)) places (owed + 1)
 kept_posted tasks places owed task kept room = record {
@@ -138,7 +138,7 @@ kept_posted tasks places owed task kept room = record {
   all = kept.all;
   most = omega (arith, room);
   held = ap length (works_posted tasks places owed task kept room)
-      ∙ length_push (works tasks (take owed places)) task ∙ ap (λ n. n + 1) kept.held;
+      ∙ length_push (tasks_owed tasks (take owed places)) task ∙ ap (λ n. n + 1) kept.held;
 }
 
 -- the first places, once the one that stands here has been put behind all
@@ -164,21 +164,21 @@ places_left places owed here most within =
     take_whole (x ∷ xs) = ap (λ ys. x ∷ ys) (take_whole xs)
 
 -- a task is taken off
-pub works_left : (tasks : List (Option Work)) (places : List ℕ) (owed here : ℕ) → IsKept tasks places owed → here < owed
-    → works tasks (take (owed - 1) (remove places here ++ get_or places here 0 ∷ []))
-    ≡ remove (works tasks (take owed places)) here
+pub works_left : (tasks : List (Option Task)) (places : List ℕ) (owed here : ℕ) → IsKept tasks places owed → here < owed
+    → tasks_owed tasks (take (owed - 1) (remove places here ++ get_or places here 0 ∷ []))
+    ≡ remove (tasks_owed tasks (take owed places)) here
 works_left tasks places owed here kept within =
     let most : owed ≤ length places = omega (arith, kept.all, kept.most) in
     let len : length (take owed places) ≡ owed = length-take-le owed places most in
-    ap (works tasks) (places_left places owed here most within)
+    ap (tasks_owed tasks) (places_left places owed here most within)
     ∙ works-remove tasks (take owed places) here (kept.held ∙ sym len) (omega (arith, len, within))
 
-pub kept_left : (tasks : List (Option Work)) (places : List ℕ) (owed here : ℕ) → IsKept tasks places owed → here < owed
+pub kept_left : (tasks : List (Option Task)) (places : List ℕ) (owed here : ℕ) → IsKept tasks places owed → here < owed
     → IsKept tasks (remove places here ++ get_or places here 0 ∷ []) (owed - 1)
 kept_left tasks places owed here kept within =
     let inside : here < length places = omega (arith, kept.all, kept.most, within) in
     let place = get_or places here 0 in
-    let lost : here < length (works tasks (take owed places)) = omega (arith, kept.held, within) in
+    let lost : here < length (tasks_owed tasks (take owed places)) = omega (arith, kept.held, within) in
     record {
       size = kept.size;
       once = λ n. let f : ℕ → ℕ = λ j. cond (nat_eq j n) 1 0 in
@@ -186,7 +186,7 @@ kept_left tasks places owed here kept within =
       all = length_push (remove places here) place ∙ length-remove places here inside ∙ kept.all;
       most = omega (arith, kept.most);
       held = ap length (works_left tasks places owed here kept within)
-          ∙ omega (arith, length-remove (works tasks (take owed places)) here lost, kept.held);
+          ∙ omega (arith, length-remove (tasks_owed tasks (take owed places)) here lost, kept.held);
     }
 
 -- one place more is in the list
@@ -215,15 +215,15 @@ once_more n place = elim (cases_Bool (nat_lt n place)) [
 ]
 
 -- the task that stands where a place does
-pub task_at : (tasks : List (Option Work)) (places : List ℕ) (owed here : ℕ) → IsKept tasks places owed → here < owed
-    → (d : Work) → get_or tasks (get_or places here 0) None ≡ Some (get_or (works tasks (take owed places)) here d)
+pub task_at : (tasks : List (Option Task)) (places : List ℕ) (owed here : ℕ) → IsKept tasks places owed → here < owed
+    → (d : Task) → get_or tasks (get_or places here 0) None ≡ Some (get_or (tasks_owed tasks (take owed places)) here d)
 task_at tasks places owed here kept within d =
     let len : length (take owed places) ≡ owed = length-take-le owed places (omega (arith, kept.all, kept.most)) in
     ap (λ k. get_or tasks k None) (sym (get_or-take owed places here 0 within))
     ∙ works_at tasks (take owed places) here d (kept.held ∙ sym len) (omega (arith, len, within))
 
 -- the first such task is owed no more, and a result is counted
-pub taken_off : (task : Work) (old new : Seen) (here : ℕ) → IsFirst old.owed task here → new.owed ≡ remove old.owed here
+pub taken_off : (task : Task) (old new : Seen) (here : ℕ) → IsFirst old.owed task here → new.owed ≡ remove old.owed here
     → new.good ≡ one_more old.good → new.strays ≡ old.strays → TakesOff task old new
 taken_off task old new here first left good strays = record {
   front = take here old.owed;

@@ -7,55 +7,55 @@ use Rattle.std.specs.Str.{bytes_eq}
 use Rattle.std.proofs.lemmas.Bool.{ltb-true, ltb-false}
 use Rattle.std.proofs.lemmas.List.Sums.{sum_by-cons}
 use Rattle.std.proofs.lemmas.Option.{none-some, same_Some}
-use Rattle.lj_tile.specs.Tasks.{Work}
-use Rattle.lj_session.specs.States.{Held, Owned, IsAtWork, held_in, owed_in, names, at_rest, rested}
-use Rattle.lj_session.specs.Owners.{Owning, entered, label_of}
+use Rattle.lj_tile.specs.Task.{Task}
+use Rattle.lj_session.specs.UserState.{HeldSession, UserState, IsAtWork, held_session, owed_in, names, session_at_rest, state_at_rest}
+use Rattle.lj_session.specs.Owner.{Owner, owner_of_state, label_of}
 use Rattle.lj_session.proofs.AtWork.{at_work-rested, kind-none}
 use Rattle.lj_session.proofs.Entries.{by_test, named-seen}
 use Rattle.lj_session.proofs.Holding.{owed-of}
-use Rattle.lj_pool.specs.Gathering.{IsGathered, is_of, posted_of, Gathers, NoneOwed}
+use Rattle.lj_pool.specs.Gathering.{IsGathered, is_of, tasks_posted_of, Gathers, NoneOwed}
 use Rattle.lj_pool.specs.Counting.{owed_tiles, tiles_owed}
 use Rattle.lj_pool.specs.Coming.{tiles_of_session, tiles_to_come}
 use Rattle.lj_pool.proofs.Sessions.{same_name, sum-below}
 use Rattle.lj_pool.proofs.Tiles.{rest-tiles, rest-owed, rest-more, rest-gathered, rest-posted, closed-part, closed-posted}
 
 -- sums over the sessions of a state begun anew
-rested-sum : (f g : Held → ℕ) → ((held : Held) → f (at_rest held) ≡ g held) → (es : List (List ℕ × Held))
-    → sum_by (λ (e : List ℕ × Held). f e.1) (map (λ (e : List ℕ × Held). (e.0, at_rest e.1)) es)
-    ≡ sum_by (λ (e : List ℕ × Held). g e.1) es
+rested-sum : (f g : HeldSession → ℕ) → ((held : HeldSession) → f (session_at_rest held) ≡ g held) → (es : List (List ℕ × HeldSession))
+    → sum_by (λ (e : List ℕ × HeldSession). f e.1) (map (λ (e : List ℕ × HeldSession). (e.0, session_at_rest e.1)) es)
+    ≡ sum_by (λ (e : List ℕ × HeldSession). g e.1) es
 rested-sum f g same [] = refl
 rested-sum f g same (e ∷ es) =
-    let new = sum_by-cons (λ (e : List ℕ × Held). f e.1) (e.0, at_rest e.1) (map (λ (e : List ℕ × Held). (e.0, at_rest e.1)) es) in
-    let old = sum_by-cons (λ (e : List ℕ × Held). g e.1) e es in
+    let new = sum_by-cons (λ (e : List ℕ × HeldSession). f e.1) (e.0, session_at_rest e.1) (map (λ (e : List ℕ × HeldSession). (e.0, session_at_rest e.1)) es) in
+    let old = sum_by-cons (λ (e : List ℕ × HeldSession). g e.1) e es in
     let head = same e.1 in
     let tail = rested-sum f g same es in
     omega (arith, new, old, head, tail)
 
-pub rested-tiles : (owned : Owned) → tiles_to_come (rested owned) ≡ tiles_owed owned
+pub rested-tiles : (owned : UserState) → tiles_to_come (state_at_rest owned) ≡ tiles_owed owned
 rested-tiles owned = rested-sum tiles_of_session owed_tiles rest-tiles owned.sessions
 
-rested-owed : (owned : Owned) → tiles_owed (rested owned) ≡ tiles_owed owned
+rested-owed : (owned : UserState) → tiles_owed (state_at_rest owned) ≡ tiles_owed owned
 rested-owed owned = rested-sum owed_tiles owed_tiles rest-owed owned.sessions
 
-rested-there : (owned : Owned) (name : List ℕ) → held_in (rested owned) name ≡ option_map at_rest (held_in owned name)
-rested-there owned name = named-seen at_rest name owned.sessions
+rested-there : (owned : UserState) (name : List ℕ) → held_session (state_at_rest owned) name ≡ option_map session_at_rest (held_session owned name)
+rested-there owned name = named-seen session_at_rest name owned.sessions
 
 -- as many steps are owed to each session
-rest-count : (held : Held) → (at_rest held).owed ≡ held.owed
+rest-count : (held : HeldSession) → (session_at_rest held).owed ≡ held.owed
 rest-count held = by_test (nat_lt 0 held.owed) (λ t. rw t refl) (λ t. rw t refl)
 
-pub rested-owes : (owned : Owned) (name : List ℕ) → owed_in (rested owned) name ≡ owed_in owned name
-rested-owes owned name = ap (λ o. option_map_or (λ (h : Held). h.owed) o 0) (rested-there owned name) ∙ by (held_in owned name)
+pub rested-owes : (owned : UserState) (name : List ℕ) → owed_in (state_at_rest owned) name ≡ owed_in owned name
+rested-owes owned name = ap (λ o. option_map_or (λ (h : HeldSession). h.owed) o 0) (rested-there owned name) ∙ by (held_session owned name)
   where
-    by : (o : Option Held) → option_map_or (λ (h : Held). h.owed) (option_map at_rest o) 0 ≡ option_map_or (λ (h : Held). h.owed) o 0
+    by : (o : Option HeldSession) → option_map_or (λ (h : HeldSession). h.owed) (option_map session_at_rest o) 0 ≡ option_map_or (λ (h : HeldSession). h.owed) o 0
     by None = refl
     by (Some held) = rest-count held
 
 -- no more is to come of a state than of the same begun anew
-pub rested-few : (owner : Owning) (owed : List Work) → Gathers owner owed → owner.waiting ≡ None
-    → tiles_to_come owner.state ≤ tiles_owed (rested owner.state)
+pub rested-few : (owner : Owner) (owed : List Task) → Gathers owner owed → owner.waiting ≡ None
+    → tiles_to_come owner.state ≤ tiles_owed (state_at_rest owner.state)
 rested-few owner owed t idle =
-    let below = sum-below tiles_of_session owner.state.sessions (rested owner.state).sessions t.distinct more in
+    let below = sum-below tiles_of_session owner.state.sessions (state_at_rest owner.state).sessions t.distinct more in
     let all = rested-tiles owner.state in
     let same = rested-owed owner.state in
     omega (arith, below, all, same)
@@ -63,65 +63,65 @@ rested-few owner owed t idle =
     work : IsAtWork None owner.state
     work = subst (λ w. IsAtWork w owner.state) idle t.at_work
 
-    more : (name : List ℕ) (held : Held) → held_in owner.state name ≡ Some held
-        → tiles_of_session held ≤ option_map_or tiles_of_session (held_in (rested owner.state) name) 0
+    more : (name : List ℕ) (held : HeldSession) → held_session owner.state name ≡ Some held
+        → tiles_of_session held ≤ option_map_or tiles_of_session (held_session (state_at_rest owner.state) name) 0
     more name held found =
-        let there = ap (λ o. option_map_or tiles_of_session o 0) (rested-there owner.state name ∙ ap (option_map at_rest) found) in
+        let there = ap (λ o. option_map_or tiles_of_session o 0) (rested-there owner.state name ∙ ap (option_map session_at_rest) found) in
         let is = rest-tiles held in
         let few = rest-more held (t.gathered name held found) (work name held found) in
         omega (arith, there, is, few)
 
 -- an owner that has just been given a state is owed nothing
-pub gathers-entered : (owned : Owned) (number : ℕ) → IsDistinct bytes_eq (names (rested owned)) → Gathers (entered owned number) []
+pub gathers-entered : (owned : UserState) (number : ℕ) → IsDistinct bytes_eq (names (state_at_rest owned)) → Gathers (owner_of_state owned number) []
 gathers-entered owned number distinct = record {
   at_work = at_work-rested owned;
   waits = tt;
   distinct = distinct;
-  gathered = λ name held found. by name held found (held_in owned name) refl;
-  each = λ name. sym (posted name (held_in owned name) refl);
+  gathered = λ name held found. by name held found (held_session owned name) refl;
+  each = λ name. sym (posted name (held_session owned name) refl);
 }
   where
-    by : (name : List ℕ) (held : Held) → held_in (rested owned) name ≡ Some held → (o : Option Held) → held_in owned name ≡ o
+    by : (name : List ℕ) (held : HeldSession) → held_session (state_at_rest owned) name ≡ Some held → (o : Option HeldSession) → held_session owned name ≡ o
         → IsGathered held
-    by name held found None e = absurd (none-some held (sym (rested-there owned name ∙ ap (option_map at_rest) e) ∙ found))
+    by name held found None e = absurd (none-some held (sym (rested-there owned name ∙ ap (option_map session_at_rest) e) ∙ found))
     by name held found (Some was) e =
         subst IsGathered
-        (same_Some (at_rest was) held (sym (rested-there owned name ∙ ap (option_map at_rest) e) ∙ found)) (rest-gathered was)
+        (same_Some (session_at_rest was) held (sym (rested-there owned name ∙ ap (option_map session_at_rest) e) ∙ found)) (rest-gathered was)
 
-    posted : (name : List ℕ) (o : Option Held) → held_in owned name ≡ o
-        → posted_of (label_of (entered owned number) name) (held_in (rested owned) name) ≡ []
-    posted name None e = ap (posted_of (label_of (entered owned number) name)) (rested-there owned name ∙ ap (option_map at_rest) e)
+    posted : (name : List ℕ) (o : Option HeldSession) → held_session owned name ≡ o
+        → tasks_posted_of (label_of (owner_of_state owned number) name) (held_session (state_at_rest owned) name) ≡ []
+    posted name None e = ap (tasks_posted_of (label_of (owner_of_state owned number) name)) (rested-there owned name ∙ ap (option_map session_at_rest) e)
     posted name (Some was) e =
-        ap (posted_of (label_of (entered owned number) name)) (rested-there owned name ∙ ap (option_map at_rest) e)
-        ∙ rest-posted was (label_of (entered owned number) name)
+        ap (tasks_posted_of (label_of (owner_of_state owned number) name)) (rested-there owned name ∙ ap (option_map session_at_rest) e)
+        ∙ rest-posted was (label_of (owner_of_state owned number) name)
 
 -- nothing waits, and these tasks are owed
-module _ (owner : Owning) (owed : List Work) (t : Gathers owner owed) (idle : owner.waiting ≡ None) where
+module _ (owner : Owner) (owed : List Task) (t : Gathers owner owed) (idle : owner.waiting ≡ None) where
   work : IsAtWork None owner.state
   work = subst (λ w. IsAtWork w owner.state) idle t.at_work
 
-  none_posted : (name : List ℕ) → owed_in owner.state name ≡ 0 → (o : Option Held) → held_in owner.state name ≡ o
-      → posted_of (label_of owner name) (held_in owner.state name) ≡ []
-  none_posted name none None e = ap (posted_of (label_of owner name)) e
+  none_posted : (name : List ℕ) → owed_in owner.state name ≡ 0 → (o : Option HeldSession) → held_session owner.state name ≡ o
+      → tasks_posted_of (label_of owner name) (held_session owner.state name) ≡ []
+  none_posted name none None e = ap (tasks_posted_of (label_of owner name)) e
   none_posted name none (Some held) e =
-      ap (posted_of (label_of owner name)) e
+      ap (tasks_posted_of (label_of owner name)) e
       ∙ closed-posted held (label_of owner name) (closed-part held.live.part
       (work name held e ∙ kind-none None name held (owed-of owner.state name held e none) refl))
 
   -- the session of a task owes a step
-  not_none : (w : Work) (ws : List Work) → owed ≡ w ∷ ws → owed_in owner.state w.name.label.session ≡ 0 → ⊥
+  not_none : (w : Task) (ws : List Task) → owed ≡ w ∷ ws → owed_in owner.state w.name.label.session ≡ 0 → ⊥
   not_none w ws e none =
       let name = w.name.label.session in
       let empty : filter (is_of name) (w ∷ ws) ≡ [] =
-      ap (filter (is_of name)) (sym e) ∙ t.each name ∙ none_posted name none (held_in owner.state name) refl in
+      ap (filter (is_of name)) (sym e) ∙ t.each name ∙ none_posted name none (held_session owner.state name) refl in
       let here = same_name name in
       absurd (let k = rw here at empty in cc)
 
   -- where no step is owed to the sessions, the pool owes nothing
-  pub none-owed : NoneOwed (rested owner.state) → owed ≡ []
+  pub none-owed : NoneOwed (state_at_rest owner.state) → owed ≡ []
   none-owed none = by owed refl
     where
-      by : (ws : List Work) → owed ≡ ws → owed ≡ []
+      by : (ws : List Task) → owed ≡ ws → owed ≡ []
       by [] e = e
       by (w ∷ ws) e =
           absurd (not_none w ws e (sym (rested-owes owner.state w.name.label.session) ∙ none w.name.label.session))
@@ -130,7 +130,7 @@ module _ (owner : Owning) (owed : List Work) (t : Gathers owner owed) (idle : ow
   pub some-owed : 0 < length owed → (name : List ℕ) × (0 < owed_in owner.state name)
   some-owed some = by owed refl
     where
-      by : (ws : List Work) → owed ≡ ws → (name : List ℕ) × (0 < owed_in owner.state name)
+      by : (ws : List Task) → owed ≡ ws → (name : List ℕ) × (0 < owed_in owner.state name)
       by [] e = absurd (let none = ap length e in omega (arith, none, some))
       by (w ∷ ws) e =
           let name = w.name.label.session in (

@@ -13,7 +13,7 @@ use Rattle.std.proofs.lemmas.Map.Keys.{IsDistinct-push, IsDistinct-head, IsDisti
 use Rattle.std.proofs.lemmas.Option.{none-some, same_Some}
 use Rattle.std.proofs.lemmas.Slice.Eq.{bytes_eq-Decides}
 use Rattle.lj_xyz.specs.Atoms.{◌>>=◌}
-use Rattle.lj_branch.specs.Named.{named, put, taken_out}
+use Rattle.lj_branch.specs.Named.{value_named, with_value, without_value}
 use Rattle.lj_session.specs.declared.command.Command.{Command}
 use Rattle.lj_session.specs.declared.command.Command.TheVariants.{Load, Advance, Start, Reverse, Branch, Restore, Forget, Tug}
 use Rattle.lj_session.specs.declared.command.Command.TheVariants.{Measure, Show, Dump, List as ListSessions}
@@ -22,9 +22,9 @@ use Rattle.lj_session.specs.declared.refusal.Refusal.{Refusal}
 use Rattle.lj_session.specs.declared.reply.Reply.{Reply}
 use Rattle.lj_session.specs.Users.{Session, User, branches_used}
 use Rattle.lj_session.specs.declared.refusal.Refusal.TheVariants.{BranchExists, QuotaBranches, StepRange, Memory}
-use Rattle.lj_session.specs.Loads.{admitted, body_held, session_read, unless}
-use Rattle.lj_session.specs.Answers.{session_of, saved_in, has_atom, can_advance, performed, settled, answer}
-use Rattle.lj_session.specs.States.{Held, Owned, as_entry, user_of, held_in, owed_in, names, changed}
+use Rattle.lj_session.specs.Loads.{admission, body_or_refusal, session_read, refusal_unless}
+use Rattle.lj_session.specs.Answers.{session_of, simulation_saved, atom_or_refusal, can_advance, command_result, reply_and_user, answer}
+use Rattle.lj_session.specs.UserState.{HeldSession, UserState, as_entry, user_of, held_session, owed_in, names, with_session_changed}
 use Rattle.lj_session.proofs.Entries.{by_test, named-put_any, named-taken_other, put-new, sum-put, sum-taken}
 use Rattle.lj_session.proofs.Holding.{changed-some, changed-none}
 use Rattle.lj_session.proofs.Others.{others-changed}
@@ -34,69 +34,69 @@ use Rattle.lj_pool.specs.Counting.{sum_over}
 pub same_name : (name : List ℕ) → bytes_eq name name ≡ true
 same_name name = (bytes_eq-Decides name name).1 refl
 
-module _ (owned : Owned) (name : List ℕ) (change : Held → Held) where
-  pub there-changed : (held : Held) → held_in owned name ≡ Some held → held_in (changed name change owned) name ≡ Some (change held)
+module _ (owned : UserState) (name : List ℕ) (change : HeldSession → HeldSession) where
+  pub there-changed : (held : HeldSession) → held_session owned name ≡ Some held → held_session (with_session_changed name change owned) name ≡ Some (change held)
   there-changed held e =
-      ap (λ (o : Owned). held_in o name) (changed-some owned name change held e) ∙ named-put_any name owned.sessions (change held)
+      ap (λ (o : UserState). held_session o name) (changed-some owned name change held e) ∙ named-put_any name owned.sessions (change held)
 
-  pub other-changed : (other : List ℕ) → (name ≡ other → ⊥) → held_in (changed name change owned) other ≡ held_in owned other
+  pub other-changed : (other : List ℕ) → (name ≡ other → ⊥) → held_session (with_session_changed name change owned) other ≡ held_session owned other
   other-changed other apart = others-changed owned name change other (λ same. apart (same_Some name other same))
 
   -- what is owed before and after is related, where each change relates it
-  owed-related : (R : ℕ → ℕ → Type 0) → ((n : ℕ) → R n n) → ((held : Held) → R (change held).owed held.owed) → (other : List ℕ)
-      → R (owed_in (changed name change owned) other) (owed_in owned other)
+  owed-related : (R : ℕ → ℕ → Type 0) → ((n : ℕ) → R n n) → ((held : HeldSession) → R (change held).owed held.owed) → (other : List ℕ)
+      → R (owed_in (with_session_changed name change owned) other) (owed_in owned other)
   owed-related R same each other = by_test (bytes_eq name other)
-      (λ t. subst (λ n. R (owed_in (changed name change owned) n) (owed_in owned n)) ((bytes_eq-Decides name other).0 t) here)
+      (λ t. subst (λ n. R (owed_in (with_session_changed name change owned) n) (owed_in owned n)) ((bytes_eq-Decides name other).0 t) here)
       (λ t. subst (λ n. R n (owed_in owned other))
       (sym (ap owed_of (other-changed other (λ is. true≢false (sym ((bytes_eq-Decides name other).1 is) ∙ t)))))
       (same (owed_in owned other)))
     where
-      owed_of : Option Held → ℕ
-      owed_of o = option_map_or (λ (h : Held). h.owed) o 0
+      owed_of : Option HeldSession → ℕ
+      owed_of o = option_map_or (λ (h : HeldSession). h.owed) o 0
 
-      here : R (owed_in (changed name change owned) name) (owed_in owned name)
-      here = by (held_in owned name) refl
+      here : R (owed_in (with_session_changed name change owned) name) (owed_in owned name)
+      here = by (held_session owned name) refl
         where
-          by : (o : Option Held) → held_in owned name ≡ o → R (owed_in (changed name change owned) name) (owed_in owned name)
-          by None e = subst (λ (o : Owned). R (owed_in o name) (owed_in owned name)) (sym (changed-none owned name change e))
+          by : (o : Option HeldSession) → held_session owned name ≡ o → R (owed_in (with_session_changed name change owned) name) (owed_in owned name)
+          by None e = subst (λ (o : UserState). R (owed_in o name) (owed_in owned name)) (sym (changed-none owned name change e))
               (same (owed_in owned name))
           by (Some held) e =
               subst (λ n. R n (owed_in owned name)) (sym (ap owed_of (there-changed held e)))
               (subst (R (change held).owed) (sym (ap owed_of e)) (each held))
 
   -- what is owed stays, where the change leaves it, and falls, where the change lowers it
-  pub owed-changed : ((held : Held) → (change held).owed ≡ held.owed) → (other : List ℕ)
-      → owed_in (changed name change owned) other ≡ owed_in owned other
+  pub owed-changed : ((held : HeldSession) → (change held).owed ≡ held.owed) → (other : List ℕ)
+      → owed_in (with_session_changed name change owned) other ≡ owed_in owned other
   owed-changed = owed-related (λ n m. n ≡ m) (λ n. refl)
 
-  pub owed-lowered : ((held : Held) → (change held).owed ≤ held.owed) → (other : List ℕ)
-      → owed_in (changed name change owned) other ≤ owed_in owned other
+  pub owed-lowered : ((held : HeldSession) → (change held).owed ≤ held.owed) → (other : List ℕ)
+      → owed_in (with_session_changed name change owned) other ≤ owed_in owned other
   owed-lowered = owed-related (λ n m. n ≤ m) (λ n. omega arith)
 
-  pub sum-changed : (f : Held → ℕ) (held : Held) → held_in owned name ≡ Some held
-      → sum_over f (changed name change owned) + f held ≡ sum_over f owned + f (change held)
+  pub sum-changed : (f : HeldSession → ℕ) (held : HeldSession) → held_session owned name ≡ Some held
+      → sum_over f (with_session_changed name change owned) + f held ≡ sum_over f owned + f (change held)
   sum-changed f held e =
-      ap (λ (o : Owned). sum_over f o + f held) (changed-some owned name change held e)
+      ap (λ (o : UserState). sum_over f o + f held) (changed-some owned name change held e)
       ∙ sum-put name f owned.sessions held (change held) e
 
-names-put : (name : List ℕ) (es : List (List ℕ × Held)) (v w : Held) → named name es ≡ Some v
-    → map (λ (e : List ℕ × Held). e.0) (put name w es) ≡ map (λ (e : List ℕ × Held). e.0) es
+names-put : (name : List ℕ) (es : List (List ℕ × HeldSession)) (v w : HeldSession) → value_named name es ≡ Some v
+    → map (λ (e : List ℕ × HeldSession). e.0) (with_value name w es) ≡ map (λ (e : List ℕ × HeldSession). e.0) es
 names-put name [] v w h = absurd (none-some v h)
 names-put name (e ∷ es) v w h = by_test (bytes_eq name e.0)
     (λ t. rw t refl)
     (λ t. rw t (ap (λ ns. e.0 ∷ ns) (names-put name es v w (rw t at h))))
 
 -- a session changed keeps its name
-pub names-changed : (owned : Owned) (name : List ℕ) (change : Held → Held) → names (changed name change owned) ≡ names owned
-names-changed owned name change = by (held_in owned name) refl
+pub names-changed : (owned : UserState) (name : List ℕ) (change : HeldSession → HeldSession) → names (with_session_changed name change owned) ≡ names owned
+names-changed owned name change = by (held_session owned name) refl
   where
-    by : (o : Option Held) → held_in owned name ≡ o → names (changed name change owned) ≡ names owned
+    by : (o : Option HeldSession) → held_session owned name ≡ o → names (with_session_changed name change owned) ≡ names owned
     by None e = ap names (changed-none owned name change e)
     by (Some held) e = ap names (changed-some owned name change held e) ∙ names-put name owned.sessions held (change held) e
 
 -- what is found under no name does not pass a test, where none of the names does
-pub find-none-named : (test : List ℕ → Bool) (es : List (List ℕ × Held)) (name : List ℕ) (v : Held)
-    → find test (map (λ (e : List ℕ × Held). e.0) es) ≡ None → named name es ≡ Some v → test name ≡ false
+pub find-none-named : (test : List ℕ → Bool) (es : List (List ℕ × HeldSession)) (name : List ℕ) (v : HeldSession)
+    → find test (map (λ (e : List ℕ × HeldSession). e.0) es) ≡ None → value_named name es ≡ Some v → test name ≡ false
 find-none-named test [] name v none h = absurd (none-some v h)
 find-none-named test (e ∷ es) name v none h = by_test (test e.0)
     (λ t. absurd (none-some e.0 (sym (rw t at none))))
@@ -105,53 +105,53 @@ find-none-named test (e ∷ es) name v none h = by_test (test e.0)
     (λ u. find-none-named test es name v (rw t at none) (rw u at h)))
 
 -- a name that is none of these names nothing
-absent-named : (name : List ℕ) (es : List (List ℕ × Held))
-    → AllByRecursion (λ y. bytes_eq name y ≡ false) (map (λ (e : List ℕ × Held). e.0) es) → named name es ≡ None
+absent-named : (name : List ℕ) (es : List (List ℕ × HeldSession))
+    → AllByRecursion (λ y. bytes_eq name y ≡ false) (map (λ (e : List ℕ × HeldSession). e.0) es) → value_named name es ≡ None
 absent-named name [] all = refl
 absent-named name (e ∷ es) all = rw all.0 (absent-named name es all.1)
 
 -- A sum over sessions of distinct names is at most another, where each of their numbers is at most that of the session of its
 -- name there.
-pub sum-below : (f : Held → ℕ) (a b : List (List ℕ × Held)) → IsDistinct bytes_eq (map (λ (e : List ℕ × Held). e.0) a)
-    → ((name : List ℕ) (held : Held) → named name a ≡ Some held → f held ≤ option_map_or f (named name b) 0)
-    → sum_by (λ (e : List ℕ × Held). f e.1) a ≤ sum_by (λ (e : List ℕ × Held). f e.1) b
+pub sum-below : (f : HeldSession → ℕ) (a b : List (List ℕ × HeldSession)) → IsDistinct bytes_eq (map (λ (e : List ℕ × HeldSession). e.0) a)
+    → ((name : List ℕ) (held : HeldSession) → value_named name a ≡ Some held → f held ≤ option_map_or f (value_named name b) 0)
+    → sum_by (λ (e : List ℕ × HeldSession). f e.1) a ≤ sum_by (λ (e : List ℕ × HeldSession). f e.1) b
 sum-below f [] b distinct below = omega arith
-sum-below f (e ∷ es) b distinct below = by (named e.0 b) refl (sum-below f es)
+sum-below f (e ∷ es) b distinct below = by (value_named e.0 b) refl (sum-below f es)
   where
-    none : named e.0 es ≡ None
-    none = absent-named e.0 es (IsDistinct-head bytes_eq e.0 (map (λ (e : List ℕ × Held). e.0) es) distinct)
+    none : value_named e.0 es ≡ None
+    none = absent-named e.0 es (IsDistinct-head bytes_eq e.0 (map (λ (e : List ℕ × HeldSession). e.0) es) distinct)
 
-    others : IsDistinct bytes_eq (map (λ (e : List ℕ × Held). e.0) es)
-    others = IsDistinct-tail bytes_eq e.0 (map (λ (e : List ℕ × Held). e.0) es) distinct
+    others : IsDistinct bytes_eq (map (λ (e : List ℕ × HeldSession). e.0) es)
+    others = IsDistinct-tail bytes_eq e.0 (map (λ (e : List ℕ × HeldSession). e.0) es) distinct
 
-    head : f e.1 ≤ option_map_or f (named e.0 b) 0
+    head : f e.1 ≤ option_map_or f (value_named e.0 b) 0
     head = below e.0 e.1 (let same = same_name e.0 in rw same refl)
 
-    apart : (name : List ℕ) (held : Held) → named name es ≡ Some held → e.0 ≡ name → ⊥
-    apart name held h same = none-some held (sym none ∙ ap (λ n. named n es) same ∙ h)
+    apart : (name : List ℕ) (held : HeldSession) → value_named name es ≡ Some held → e.0 ≡ name → ⊥
+    apart name held h same = none-some held (sym none ∙ ap (λ n. value_named n es) same ∙ h)
 
-    later : (name : List ℕ) (held : Held) → named name es ≡ Some held → named name (e ∷ es) ≡ Some held
+    later : (name : List ℕ) (held : HeldSession) → value_named name es ≡ Some held → value_named name (e ∷ es) ≡ Some held
     later name held h = by_test (bytes_eq name e.0)
         (λ t. absurd (apart name held h (sym ((bytes_eq-Decides name e.0).0 t))))
         (λ t. rw t h)
 
-    sum : sum_by (λ (e : List ℕ × Held). f e.1) (e ∷ es) ≡ f e.1 + sum_by (λ (e : List ℕ × Held). f e.1) es
-    sum = sum_by-cons (λ (e : List ℕ × Held). f e.1) e es
+    sum : sum_by (λ (e : List ℕ × HeldSession). f e.1) (e ∷ es) ≡ f e.1 + sum_by (λ (e : List ℕ × HeldSession). f e.1) es
+    sum = sum_by-cons (λ (e : List ℕ × HeldSession). f e.1) e es
 
     Rest : Type 0
-    Rest = (b : List (List ℕ × Held)) → IsDistinct bytes_eq (map (λ (e : List ℕ × Held). e.0) es)
-        → ((name : List ℕ) (held : Held) → named name es ≡ Some held → f held ≤ option_map_or f (named name b) 0)
-        → sum_by (λ (e : List ℕ × Held). f e.1) es ≤ sum_by (λ (e : List ℕ × Held). f e.1) b
+    Rest = (b : List (List ℕ × HeldSession)) → IsDistinct bytes_eq (map (λ (e : List ℕ × HeldSession). e.0) es)
+        → ((name : List ℕ) (held : HeldSession) → value_named name es ≡ Some held → f held ≤ option_map_or f (value_named name b) 0)
+        → sum_by (λ (e : List ℕ × HeldSession). f e.1) es ≤ sum_by (λ (e : List ℕ × HeldSession). f e.1) b
 
-    by : (o : Option Held) → named e.0 b ≡ o → Rest
-        → sum_by (λ (e : List ℕ × Held). f e.1) (e ∷ es) ≤ sum_by (λ (e : List ℕ × Held). f e.1) b
+    by : (o : Option HeldSession) → value_named e.0 b ≡ o → Rest
+        → sum_by (λ (e : List ℕ × HeldSession). f e.1) (e ∷ es) ≤ sum_by (λ (e : List ℕ × HeldSession). f e.1) b
     by None is rest-below =
         let first : f e.1 ≤ 0 = subst (λ o. f e.1 ≤ option_map_or f o 0) is head in
         let rest = rest-below b others (λ name held h. below name held (later name held h)) in
         omega (arith, sum, first, rest)
     by (Some held) is rest-below =
         let first : f e.1 ≤ f held = subst (λ o. f e.1 ≤ option_map_or f o 0) is head in
-        let rest = rest-below (taken_out e.0 b) others (λ name h there.
+        let rest = rest-below (without_value e.0 b) others (λ name h there.
         subst (λ o. f h ≤ option_map_or f o 0) (sym (named-taken_other e.0 name (apart name h there) b))
         (below name h (later name h there))) in
         let out = sum-taken e.0 f b held is in
@@ -161,8 +161,8 @@ sum-below f (e ∷ es) b distinct below = by (named e.0 b) refl (sum-below f es)
 abbrev names_of : User → List (List ℕ)
 names_of user = map (λ (e : List ℕ × Session). e.0) user.sessions
 
-names-meant : (es : List (List ℕ × Held))
-    → map (λ (e : List ℕ × Session). e.0) (map as_entry es) ≡ map (λ (e : List ℕ × Held). e.0) es
+names-meant : (es : List (List ℕ × HeldSession))
+    → map (λ (e : List ℕ × Session). e.0) (map as_entry es) ≡ map (λ (e : List ℕ × HeldSession). e.0) es
 names-meant [] = refl
 names-meant (e ∷ es) = ap (λ ns. e.0 ∷ ns) (names-meant es)
 
@@ -170,14 +170,14 @@ module _ (name : List ℕ) where
   session_names : (es : List (List ℕ × Session)) → List (List ℕ)
   session_names es = map (λ (e : List ℕ × Session). e.0) es
 
-  names_put : (es : List (List ℕ × Session)) (v w : Session) → named name es ≡ Some v
-      → map (λ (e : List ℕ × Session). e.0) (put name w es) ≡ map (λ (e : List ℕ × Session). e.0) es
+  names_put : (es : List (List ℕ × Session)) (v w : Session) → value_named name es ≡ Some v
+      → map (λ (e : List ℕ × Session). e.0) (with_value name w es) ≡ map (λ (e : List ℕ × Session). e.0) es
   names_put [] v w h = absurd (none-some v h)
   names_put (e ∷ es) v w h = by_test (bytes_eq name e.0)
       (λ t. rw t refl)
       (λ t. rw t (ap (λ ns. e.0 ∷ ns) (names_put es v w (rw t at h))))
 
-  none_any : (es : List (List ℕ × Session)) → named name es ≡ None
+  none_any : (es : List (List ℕ × Session)) → value_named name es ≡ None
       → list_any (bytes_eq name) (map (λ (e : List ℕ × Session). e.0) es) ≡ false
   none_any [] h = refl
   none_any (e ∷ es) h = by_test (bytes_eq name e.0)
@@ -185,10 +185,10 @@ module _ (name : List ℕ) where
       (λ t. rw t (none_any es (rw t at h)))
 
   distinct-put : (es : List (List ℕ × Session)) (v : Session) → IsDistinct bytes_eq (map (λ (e : List ℕ × Session). e.0) es)
-      → IsDistinct bytes_eq (map (λ (e : List ℕ × Session). e.0) (put name v es))
-  distinct-put es v distinct = by (named name es) refl
+      → IsDistinct bytes_eq (map (λ (e : List ℕ × Session). e.0) (with_value name v es))
+  distinct-put es v distinct = by (value_named name es) refl
     where
-      by : (o : Option Session) → named name es ≡ o → IsDistinct bytes_eq (map (λ (e : List ℕ × Session). e.0) (put name v es))
+      by : (o : Option Session) → value_named name es ≡ o → IsDistinct bytes_eq (map (λ (e : List ℕ × Session). e.0) (with_value name v es))
       by None h =
           subst (λ (l : List (List ℕ × Session)). IsDistinct bytes_eq (map (λ (e : List ℕ × Session). e.0) l)) (sym (put-new name es v h))
           (subst (IsDistinct bytes_eq) (sym (map-append (λ (e : List ℕ × Session). e.0) es ((name, v) ∷ [])))
@@ -196,18 +196,18 @@ module _ (name : List ℕ) where
       by (Some w) h = subst (IsDistinct bytes_eq) (sym (names_put es w v h)) distinct
 
   all-taken : (P : List ℕ → Type 0) (es : List (List ℕ × Session)) → AllByRecursion P (map (λ (e : List ℕ × Session). e.0) es)
-      → AllByRecursion P (map (λ (e : List ℕ × Session). e.0) (taken_out name es))
+      → AllByRecursion P (map (λ (e : List ℕ × Session). e.0) (without_value name es))
   all-taken P [] all = tt
   all-taken P (e ∷ es) all = by_test (bytes_eq name e.0) (λ t. rw t all.1) (λ t. rw t (all.0, all-taken P es all.1))
 
   distinct-taken : (es : List (List ℕ × Session)) → IsDistinct bytes_eq (map (λ (e : List ℕ × Session). e.0) es)
-      → IsDistinct bytes_eq (map (λ (e : List ℕ × Session). e.0) (taken_out name es))
+      → IsDistinct bytes_eq (map (λ (e : List ℕ × Session). e.0) (without_value name es))
   distinct-taken [] distinct = distinct
   distinct-taken (e ∷ es) distinct =
       let rest = IsDistinct-tail bytes_eq e.0 (map (λ (e : List ℕ × Session). e.0) es) distinct in
       by_test (bytes_eq name e.0)
       (λ t. rw t rest)
-      (λ t. rw t (IsDistinct-cons bytes_eq e.0 (map (λ (e : List ℕ × Session). e.0) (taken_out name es))
+      (λ t. rw t (IsDistinct-cons bytes_eq e.0 (map (λ (e : List ℕ × Session). e.0) (without_value name es))
       (all-taken (λ y. bytes_eq e.0 y ≡ false) es (IsDistinct-head bytes_eq e.0 (map (λ (e : List ℕ × Session). e.0) es) distinct))
       (distinct-taken es rest)))
 
@@ -220,34 +220,34 @@ keeps-then (Ok x) f keeps = keeps x
 keeps-then (Err refusal) f keeps = record { distinct = tt }
 
 keeps-settled : (user : User) (r : Result (Reply × User) Refusal) → IsDistinct bytes_eq (names_of user) → Keeps r
-    → IsDistinct bytes_eq (names_of (settled user r).1)
+    → IsDistinct bytes_eq (names_of (reply_and_user user r).1)
 keeps-settled user (Ok answer) distinct keeps = keeps.distinct
 keeps-settled user (Err refusal) distinct keeps = distinct
 
 performed_keeps : (user : User) (command : Command) (mark : Bool) → IsDistinct bytes_eq (names_of user)
-    → Keeps (performed user command mark)
-unfolding performed
-performed_keeps user (Load load) mark d = keeps-then (admitted user load) _ (λ mix.
-    keeps-then (body_held load.body mark) _ (λ bytes. keeps-then (session_read user mix load bytes) _ (λ session.
+    → Keeps (command_result user command mark)
+unfolding command_result
+performed_keeps user (Load load) mark d = keeps-then (admission user load) _ (λ mix.
+    keeps-then (body_or_refusal load.body mark) _ (λ bytes. keeps-then (session_read user mix load bytes) _ (λ session.
     record { distinct = distinct-put load.name user.sessions session d })))
 performed_keeps user (Advance name n) mark d = keeps-then (session_of user name) _ (λ session.
-    keeps-then (unless (can_advance session n) StepRange) _ (λ near. record { distinct = distinct-put name user.sessions _ d }))
+    keeps-then (refusal_unless (can_advance session n) StepRange) _ (λ near. record { distinct = distinct-put name user.sessions _ d }))
 performed_keeps user (Start name n) mark d = keeps-then (session_of user name) _ (λ session.
-    keeps-then (unless (can_advance session n) StepRange) _ (λ near. record { distinct = distinct-put name user.sessions _ d }))
+    keeps-then (refusal_unless (can_advance session n) StepRange) _ (λ near. record { distinct = distinct-put name user.sessions _ d }))
 performed_keeps user (Reverse name) mark d = keeps-then (session_of user name) _ (λ session. record { distinct = distinct-put name user.sessions _ d })
 performed_keeps user (Branch name branch) mark d = keeps-then (session_of user name) _ (λ session.
-    keeps-then (unless (not (is_some (named branch session.saved))) BranchExists) _ (λ new.
-    keeps-then (unless (nat_lt (branches_used user) user.quota.branches) QuotaBranches) _ (λ room.
-    keeps-then (unless (not mark) Memory) _ (λ held. record { distinct = distinct-put name user.sessions _ d }))))
+    keeps-then (refusal_unless (not (is_some (value_named branch session.saved))) BranchExists) _ (λ new.
+    keeps-then (refusal_unless (nat_lt (branches_used user) user.quota.branches) QuotaBranches) _ (λ room.
+    keeps-then (refusal_unless (not mark) Memory) _ (λ held. record { distinct = distinct-put name user.sessions _ d }))))
 performed_keeps user (Restore name branch) mark d = keeps-then (session_of user name) _ (λ session.
-    keeps-then (saved_in session branch) _ (λ sim. record { distinct = distinct-put name user.sessions _ d }))
+    keeps-then (simulation_saved session branch) _ (λ sim. record { distinct = distinct-put name user.sessions _ d }))
 performed_keeps user (Forget name branch) mark d = keeps-then (session_of user name) _ (λ session.
-    keeps-then (saved_in session branch) _ (λ sim. record { distinct = distinct-put name user.sessions _ d }))
+    keeps-then (simulation_saved session branch) _ (λ sim. record { distinct = distinct-put name user.sessions _ d }))
 performed_keeps user (Tug name atom x y z) mark d = keeps-then (session_of user name) _ (λ session.
-    keeps-then (has_atom session atom) _ (λ there. record { distinct = distinct-put name user.sessions _ d }))
+    keeps-then (atom_or_refusal session atom) _ (λ there. record { distinct = distinct-put name user.sessions _ d }))
 performed_keeps user (Measure name) mark d = keeps-then (session_of user name) _ (λ session. record { distinct = d })
 performed_keeps user (Show name atom) mark d = keeps-then (session_of user name) _ (λ session.
-    keeps-then (has_atom session atom) _ (λ there. record { distinct = d }))
+    keeps-then (atom_or_refusal session atom) _ (λ there. record { distinct = d }))
 performed_keeps user (Dump name) mark d = keeps-then (session_of user name) _ (λ session. record { distinct = d })
 performed_keeps user ListSessions mark d = record { distinct = d }
 performed_keeps user (ListBranches name) mark d = keeps-then (session_of user name) _ (λ session. record { distinct = d })
@@ -256,11 +256,11 @@ performed_keeps user (Unload name) mark d = keeps-then (session_of user name) _ 
 performed_keeps user Bye mark d = record { distinct = d }
 
 -- so an answer does
-pub distinct-answered : (old new : Owned) (command : Command) (mark : Bool) (reply : Reply)
+pub distinct-answered : (old new : UserState) (command : Command) (mark : Bool) (reply : Reply)
     → (reply, user_of new) ≡ answer (user_of old) command mark
     → IsDistinct bytes_eq (names old) → IsDistinct bytes_eq (names new)
 distinct-answered old new command mark reply is distinct =
     let user = user_of old in
     let before = subst (IsDistinct bytes_eq) (sym (names-meant old.sessions)) distinct in
-    let after = keeps-settled user (performed user command mark) before (performed_keeps user command mark before) in
+    let after = keeps-settled user (command_result user command mark) before (performed_keeps user command mark before) in
     subst (IsDistinct bytes_eq) (ap (λ a. names_of a.1) (sym is) ∙ names-meant new.sessions) after

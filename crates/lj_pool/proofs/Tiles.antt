@@ -7,14 +7,14 @@ use Rattle.lj_tile.specs.Species.{Composition}
 use Rattle.lj_tile.specs.declared.names.Kind.{Kind}
 use Rattle.lj_tile.specs.declared.names.Kind.TheVariants.{Force}
 use Rattle.lj_tile.specs.declared.names.Label.{Label}
-use Rattle.lj_step.specs.Live.{Live, OpenStep}
-use Rattle.lj_step.specs.Motion.{Simulation, stepped, steps}
+use Rattle.lj_step.specs.Sim.{Sim, OpenStep}
+use Rattle.lj_step.specs.Motion.{Simulation, next_simulation, steps}
 use Rattle.lj_step.specs.OpenSteps.{cover, kind_of, tiles_of, tiles_in}
 use Rattle.lj_session.specs.Answers.{can_advance}
-use Rattle.lj_session.specs.States.{Held, session_meant, owing, started, with_step, turned_on, step_passed, step_closed, at_rest, kind_owed, IsIdle}
+use Rattle.lj_session.specs.UserState.{HeldSession, session_meant, with_more_owed, with_start, with_step, with_step_taken, with_step_passed, with_no_step, session_at_rest, kind_owed, IsIdle}
 use Rattle.lj_session.proofs.Entries.{by_test}
 use Rattle.lj_session.proofs.AtWork.{kind-none}
-use Rattle.lj_pool.specs.Gathering.{times, left_in, posted_in, posted_of, IsGathered}
+use Rattle.lj_pool.specs.Gathering.{times, tiles_left_in, tasks_posted_in, tasks_posted_of, IsGathered}
 use Rattle.lj_pool.specs.Counting.{frame_tiles, steps_tiles, advance_tiles, owed_tiles}
 use Rattle.lj_pool.specs.Coming.{tiles_after, tiles_of_session, posts_of_session}
 use Rattle.lj_pool.proofs.Gathering.{opened_left, gathered_opened, gathered_closed}
@@ -23,31 +23,31 @@ pub tiles-add : (u : Composition) (m n : ℕ) (sim : Simulation)
     → steps_tiles u (m + n) sim ≡ steps_tiles u m sim + steps_tiles u n (steps u m sim)
 tiles-add u zero n sim = ap (λ k. steps_tiles u k sim) (let same : 0 + n ≡ n = omega arith in same) ∙ omega arith
 tiles-add u (suc m) n sim =
-    let rest = tiles-add u m n (stepped u sim) in
+    let rest = tiles-add u m n (next_simulation u sim) in
     ap (λ k. steps_tiles u k sim) (let same : suc m + n ≡ suc (m + n) = omega arith in same)
-    ∙ (let sum : frame_tiles u sim + steps_tiles u (m + n) (stepped u sim)
-    ≡ frame_tiles u sim + steps_tiles u m (stepped u sim) + steps_tiles u n (steps u m (stepped u sim)) = omega (arith, rest) in sum)
+    ∙ (let sum : frame_tiles u sim + steps_tiles u (m + n) (next_simulation u sim)
+    ≡ frame_tiles u sim + steps_tiles u m (next_simulation u sim) + steps_tiles u n (steps u m (next_simulation u sim)) = omega (arith, rest) in sum)
 
 tiles-suc : (u : Composition) (n : ℕ) (sim : Simulation) → 0 < n
-    → steps_tiles u n sim ≡ frame_tiles u sim + steps_tiles u (n - 1) (stepped u sim)
+    → steps_tiles u n sim ≡ frame_tiles u sim + steps_tiles u (n - 1) (next_simulation u sim)
 tiles-suc u zero sim some = absurd (omega (arith, some))
 tiles-suc u (suc n) sim some =
-    ap (λ m. frame_tiles u sim + steps_tiles u m (stepped u sim)) (let same : n ≡ suc n - 1 = omega arith in same)
+    ap (λ m. frame_tiles u sim + steps_tiles u m (next_simulation u sim)) (let same : n ≡ suc n - 1 = omega arith in same)
 
 pub closed-part : (part : Option OpenStep) → kind_of part ≡ None → part ≡ None
 closed-part None e = refl
 closed-part (Some p) e = absurd (none-some p.kind (sym e))
 
 -- a session that is idle has none to come
-module _ (held : Held) (idle : IsIdle held) where
+module _ (held : HeldSession) (idle : IsIdle held) where
   closed : held.live.part ≡ None
   closed = closed-part held.live.part idle.closed
 
   nothing : tiles_after held ≡ 0
-  nothing = ap (λ n. steps_tiles held.live.composition (n - 1) (stepped held.live.composition held.live.sim)) idle.owed
+  nothing = ap (λ n. steps_tiles held.live.composition (n - 1) (next_simulation held.live.composition held.live.sim)) idle.owed
 
   pub idle-tiles : tiles_of_session held ≡ 0
-  idle-tiles = let left = ap left_in closed in omega (arith, left, nothing)
+  idle-tiles = let left = ap tiles_left_in closed in omega (arith, left, nothing)
 
   pub idle-posts : posts_of_session held ≡ 0
   idle-posts =
@@ -58,18 +58,18 @@ module _ (held : Held) (idle : IsIdle held) where
   idle-gathered = gathered_closed held closed
 
 -- a step opened, and those that are owed after it
-pub opened-tiles : (kind : Kind) (held : Held)
+pub opened-tiles : (kind : Kind) (held : HeldSession)
     → tiles_of_session (with_step kind held) ≡ frame_tiles held.live.composition held.live.sim + tiles_after held
 opened-tiles kind held =
     ap (λ n. n + tiles_after held) (opened_left kind held.live.composition held.live.sim.cur)
 
-pub opened-posts : (kind : Kind) (held : Held)
+pub opened-posts : (kind : Kind) (held : HeldSession)
     → posts_of_session (with_step kind held) ≡ frame_tiles held.live.composition held.live.sim + tiles_after held
 opened-posts kind held = omega arith
 
 -- steps owed to an idle session
-module _ (held : Held) (idle : IsIdle held) (n : ℕ) (some : 0 < n) where
-  owing_is : owing n held ≡ with_step Force (record held { owed = held.owed + n })
+module _ (held : HeldSession) (idle : IsIdle held) (n : ℕ) (some : 0 < n) where
+  owing_is : with_more_owed n held ≡ with_step Force (record held { owed = held.owed + n })
   owing_is =
       let b : nat_lt 0 n ≡ true = lt-ltb 0 n some in
       let c : nat_le held.owed 0 ≡ true = rw idle.owed refl in
@@ -79,78 +79,78 @@ module _ (held : Held) (idle : IsIdle held) (n : ℕ) (some : 0 < n) where
       ≡ steps_tiles held.live.composition n held.live.sim
   sum_is =
       ap (λ k. frame_tiles held.live.composition held.live.sim
-      + steps_tiles held.live.composition k (stepped held.live.composition held.live.sim))
+      + steps_tiles held.live.composition k (next_simulation held.live.composition held.live.sim))
       (let same : held.owed + n - 1 ≡ n - 1 = let none = idle.owed in omega (arith, none) in same)
       ∙ sym (tiles-suc held.live.composition n held.live.sim some)
 
-  pub owing-tiles : tiles_of_session (owing n held) ≡ steps_tiles held.live.composition n held.live.sim
+  pub owing-tiles : tiles_of_session (with_more_owed n held) ≡ steps_tiles held.live.composition n held.live.sim
   owing-tiles = ap tiles_of_session owing_is ∙ opened-tiles Force (record held { owed = held.owed + n }) ∙ sum_is
 
-  pub owing-posts : posts_of_session (owing n held) ≡ steps_tiles held.live.composition n held.live.sim
+  pub owing-posts : posts_of_session (with_more_owed n held) ≡ steps_tiles held.live.composition n held.live.sim
   owing-posts = ap posts_of_session owing_is ∙ opened-posts Force (record held { owed = held.owed + n }) ∙ sum_is
 
-  pub owing-gathered : IsGathered (owing n held)
+  pub owing-gathered : IsGathered (with_more_owed n held)
   owing-gathered = subst IsGathered (sym owing_is) (gathered_opened Force (record held { owed = held.owed + n }))
 
-  pub owing-posted : (label : Label) → posted_of label (Some (owing n held)) ≡ []
-  owing-posted label = ap (λ (h : Held). posted_of label (Some h)) owing_is
+  pub owing-posted : (label : Label) → tasks_posted_of label (Some (with_more_owed n held)) ≡ []
+  owing-posted label = ap (λ (h : HeldSession). tasks_posted_of label (Some h)) owing_is
 
-  pub owing-open : (owing n held).live.part ≡ (with_step Force held).live.part
-  owing-open = ap (λ (h : Held). h.live.part) owing_is
+  pub owing-open : (with_more_owed n held).live.part ≡ (with_step Force held).live.part
+  owing-open = ap (λ (h : HeldSession). h.live.part) owing_is
 
 -- a step passed
-module _ (held : Held) where
-  next : Held
-  next = turned_on held
+module _ (held : HeldSession) where
+  next : HeldSession
+  next = with_step_taken held
 
   passed_sum : 0 < held.owed - 1
-      → frame_tiles held.live.composition (stepped held.live.composition held.live.sim)
+      → frame_tiles held.live.composition (next_simulation held.live.composition held.live.sim)
       + steps_tiles held.live.composition (held.owed - 1 - 1)
-      (stepped held.live.composition (stepped held.live.composition held.live.sim)) ≡ tiles_after held
+      (next_simulation held.live.composition (next_simulation held.live.composition held.live.sim)) ≡ tiles_after held
   passed_sum some =
-      sym (tiles-suc held.live.composition (held.owed - 1) (stepped held.live.composition held.live.sim) some)
+      sym (tiles-suc held.live.composition (held.owed - 1) (next_simulation held.live.composition held.live.sim) some)
 
   last_sum : held.owed - 1 ≤ 0 → steps_tiles held.live.composition (held.owed - 1 - 1)
-      (stepped held.live.composition (stepped held.live.composition held.live.sim)) ≡ tiles_after held
+      (next_simulation held.live.composition (next_simulation held.live.composition held.live.sim)) ≡ tiles_after held
   last_sum none =
       let zero_left : held.owed - 1 ≡ 0 = omega (arith, none) in rw zero_left refl
 
-  pub passed-tiles : tiles_of_session (step_passed held) ≡ tiles_after held
+  pub passed-tiles : tiles_of_session (with_step_passed held) ≡ tiles_after held
   passed-tiles = by_test (nat_lt 0 (held.owed - 1))
-      (λ t. rw t (opened-tiles Force (turned_on held) ∙ passed_sum (ltb-true 0 (held.owed - 1) t)))
+      (λ t. rw t (opened-tiles Force (with_step_taken held) ∙ passed_sum (ltb-true 0 (held.owed - 1) t)))
       (λ t. rw t (let none = last_sum (ltb-false 0 (held.owed - 1) t) in omega (arith, none)))
 
-  pub passed-posts : posts_of_session (step_passed held) ≡ tiles_after held
+  pub passed-posts : posts_of_session (with_step_passed held) ≡ tiles_after held
   passed-posts = by_test (nat_lt 0 (held.owed - 1))
-      (λ t. rw t (opened-posts Force (turned_on held) ∙ passed_sum (ltb-true 0 (held.owed - 1) t)))
+      (λ t. rw t (opened-posts Force (with_step_taken held) ∙ passed_sum (ltb-true 0 (held.owed - 1) t)))
       (λ t. rw t (let none = last_sum (ltb-false 0 (held.owed - 1) t) in omega (arith, none)))
 
-  pub passed-owed : (step_passed held).owed ≡ held.owed - 1
+  pub passed-owed : (with_step_passed held).owed ≡ held.owed - 1
   passed-owed = by_test (nat_lt 0 (held.owed - 1)) (λ t. rw t refl) (λ t. rw t refl)
 
-  pub passed-posted : (label : Label) → posted_of label (Some (step_passed held)) ≡ []
+  pub passed-posted : (label : Label) → tasks_posted_of label (Some (with_step_passed held)) ≡ []
   passed-posted label = by_test (nat_lt 0 (held.owed - 1)) (λ t. rw t refl) (λ t. rw t refl)
 
-  pub passed-gathered : IsGathered (step_passed held)
+  pub passed-gathered : IsGathered (with_step_passed held)
   passed-gathered = by_test (nat_lt 0 (held.owed - 1))
-      (λ t. rw t (gathered_opened Force (turned_on held)))
-      (λ t. rw t (gathered_closed (turned_on held) refl))
+      (λ t. rw t (gathered_opened Force (with_step_taken held)))
+      (λ t. rw t (gathered_closed (with_step_taken held) refl))
 
   -- the steps begun anew
-  pub rest-tiles : tiles_of_session (at_rest held) ≡ owed_tiles held
+  pub rest-tiles : tiles_of_session (session_at_rest held) ≡ owed_tiles held
   rest-tiles = by_test (nat_lt 0 held.owed)
       (λ t. rw t (opened-tiles Force held ∙ sym (tiles-suc held.live.composition held.owed held.live.sim (ltb-true 0 held.owed t))))
       (λ t. rw t (let few = ltb-false 0 held.owed t in let none : held.owed ≡ 0 = omega (arith, few) in rw none refl))
 
-  pub rest-owed : owed_tiles (at_rest held) ≡ owed_tiles held
+  pub rest-owed : owed_tiles (session_at_rest held) ≡ owed_tiles held
   rest-owed = by_test (nat_lt 0 held.owed) (λ t. rw t refl) (λ t. rw t refl)
 
-  pub rest-gathered : IsGathered (at_rest held)
+  pub rest-gathered : IsGathered (session_at_rest held)
   rest-gathered = by_test (nat_lt 0 held.owed)
       (λ t. rw t (gathered_opened Force held))
-      (λ t. rw t (gathered_closed (step_closed held) refl))
+      (λ t. rw t (gathered_closed (with_no_step held) refl))
 
-  pub rest-posted : (label : Label) → posted_of label (Some (at_rest held)) ≡ []
+  pub rest-posted : (label : Label) → tasks_posted_of label (Some (session_at_rest held)) ≡ []
   rest-posted label = by_test (nat_lt 0 held.owed) (λ t. rw t refl) (λ t. rw t refl)
 
   -- no more are to come than the steps have that are owed
@@ -164,28 +164,28 @@ module _ (held : Held) where
       omega (arith, idle))
 
 -- a START adds the tiles of its steps
-module _ (held : Held) (n : ℕ) (work : kind_of held.live.part ≡ kind_owed None [] held) where
+module _ (held : HeldSession) (n : ℕ) (work : kind_of held.live.part ≡ kind_owed None [] held) where
   abbrev u : Composition
   u = held.live.composition
 
-  meant_after : 0 < held.owed → steps u (held.owed - 1) (stepped u held.live.sim) ≡ (session_meant held).sim
+  meant_after : 0 < held.owed → steps u (held.owed - 1) (next_simulation u held.live.sim) ≡ (session_meant held).sim
   meant_after some = by held.owed some
     where
-      by : (m : ℕ) → 0 < m → steps u (m - 1) (stepped u held.live.sim) ≡ steps u m held.live.sim
+      by : (m : ℕ) → 0 < m → steps u (m - 1) (next_simulation u held.live.sim) ≡ steps u m held.live.sim
       by zero some = absurd (omega (arith, some))
-      by (suc m) some = ap (λ k. steps u k (stepped u held.live.sim)) (let same : suc m - 1 ≡ m = omega arith in same)
+      by (suc m) some = ap (λ k. steps u k (next_simulation u held.live.sim)) (let same : suc m - 1 ≡ m = omega arith in same)
 
-  more_after : 0 < held.owed → steps_tiles u (held.owed + n - 1) (stepped u held.live.sim)
+  more_after : 0 < held.owed → steps_tiles u (held.owed + n - 1) (next_simulation u held.live.sim)
       ≡ tiles_after held + steps_tiles u n (session_meant held).sim
   more_after some =
-      ap (λ k. steps_tiles u k (stepped u held.live.sim)) (let same : held.owed + n - 1 ≡ held.owed - 1 + n = omega (arith, some) in same)
-      ∙ tiles-add u (held.owed - 1) n (stepped u held.live.sim)
+      ap (λ k. steps_tiles u k (next_simulation u held.live.sim)) (let same : held.owed + n - 1 ≡ held.owed - 1 + n = omega (arith, some) in same)
+      ∙ tiles-add u (held.owed - 1) n (next_simulation u held.live.sim)
       ∙ ap (λ sim. tiles_after held + steps_tiles u n sim) (meant_after some)
 
   idle : held.owed ≡ 0 → IsIdle held
   idle none = record { owed = none; closed = work ∙ kind-none None [] held none refl }
 
-  owed_more : tiles_of_session (owing n held) ≡ tiles_of_session held + steps_tiles u n (session_meant held).sim
+  owed_more : tiles_of_session (with_more_owed n held) ≡ tiles_of_session held + steps_tiles u n (session_meant held).sim
   owed_more = by_test (nat_lt 0 held.owed)
       (λ t. let some = ltb-true 0 held.owed t in
       let more : nat_le held.owed 0 ≡ false = lt-leb held.owed 0 some in
@@ -203,36 +203,36 @@ module _ (held : Held) (n : ℕ) (work : kind_of held.live.part ≡ kind_owed No
       let zero_more : n ≡ 0 = omega (arith, small) in
       rw zero_more (let stays : held.owed + 0 ≡ held.owed = omega arith in rw stays (omega arith))))
 
-  pub started-tiles : tiles_of_session (started n held) ≡ tiles_of_session held + advance_tiles (Some (session_meant held)) n
+  pub started-tiles : tiles_of_session (with_start n held) ≡ tiles_of_session held + advance_tiles (Some (session_meant held)) n
   started-tiles = by_test (can_advance (session_meant held) n)
       (λ t. rw t owed_more)
       (λ t. rw t (omega arith))
 
 -- where no step is open nothing is posted and not in
-pub closed-posted : (held : Held) (label : Label) → held.live.part ≡ None → posted_of label (Some held) ≡ []
-closed-posted held label closed = ap (posted_in label held.live held.passed) closed
+pub closed-posted : (held : HeldSession) (label : Label) → held.live.part ≡ None → tasks_posted_of label (Some held) ≡ []
+closed-posted held label closed = ap (tasks_posted_in label held.live held.passed) closed
 
 -- sessions of the same steps
-module _ (old new : Held) (live : new.live ≡ old.live) (passed : new.passed ≡ old.passed) (owed : new.owed ≡ old.owed) where
-  pub same-posted : (label : Label) → posted_of label (Some new) ≡ posted_of label (Some old)
+module _ (old new : HeldSession) (live : new.live ≡ old.live) (passed : new.passed ≡ old.passed) (owed : new.owed ≡ old.owed) where
+  pub same-posted : (label : Label) → tasks_posted_of label (Some new) ≡ tasks_posted_of label (Some old)
   same-posted label =
-      ap (λ (l : Live). posted_in label l new.passed l.part) live
-      ∙ ap (λ n. posted_in label old.live n old.live.part) passed
+      ap (λ (l : Sim). tasks_posted_in label l new.passed l.part) live
+      ∙ ap (λ n. tasks_posted_in label old.live n old.live.part) passed
 
   pub same-tiles : tiles_of_session new ≡ tiles_of_session old
   same-tiles =
-      ap (λ (l : Live). left_in l.part + steps_tiles l.composition (new.owed - 1) (stepped l.composition l.sim)) live
-      ∙ ap (λ n. left_in old.live.part + steps_tiles old.live.composition (n - 1) (stepped old.live.composition old.live.sim)) owed
+      ap (λ (l : Sim). tiles_left_in l.part + steps_tiles l.composition (new.owed - 1) (next_simulation l.composition l.sim)) live
+      ∙ ap (λ n. tiles_left_in old.live.part + steps_tiles old.live.composition (n - 1) (next_simulation old.live.composition old.live.sim)) owed
 
   pub same-gathered : IsGathered old → IsGathered new
   same-gathered gathered = record {
-    once = λ step k is set. subst (λ (l : Live). times k (cover l.composition l.sim.cur) ≡ 1) (sym live)
-        (gathered.once step k (sym (ap (λ (l : Live). l.part) live) ∙ is) set);
-    few = subst (λ (l : Live). left_in l.part ≤ length (cover l.composition l.sim.cur)) (sym live) gathered.few;
+    once = λ step k is set. subst (λ (l : Sim). times k (cover l.composition l.sim.cur) ≡ 1) (sym live)
+        (gathered.once step k (sym (ap (λ (l : Sim). l.part) live) ∙ is) set);
+    few = subst (λ (l : Sim). tiles_left_in l.part ≤ length (cover l.composition l.sim.cur)) (sym live) gathered.few;
   }
 
 -- the same of a START
-module _ (held : Held) (n : ℕ) (work : kind_of held.live.part ≡ kind_owed None [] held) where
+module _ (held : HeldSession) (n : ℕ) (work : kind_of held.live.part ≡ kind_owed None [] held) where
   starting-idle : nat_lt 0 held.owed ≡ false → IsIdle held
   starting-idle t =
       let few = ltb-false 0 held.owed t in
@@ -245,7 +245,7 @@ module _ (held : Held) (n : ℕ) (work : kind_of held.live.part ≡ kind_owed No
       let more : nat_le held.owed 0 ≡ false = lt-leb held.owed 0 some in
       by_test (nat_lt 0 n) (λ v. rw (v, more) refl) (λ v. rw v refl)
 
-  owing_posted : (label : Label) → posted_of label (Some (owing n held)) ≡ posted_of label (Some held)
+  owing_posted : (label : Label) → tasks_posted_of label (Some (with_more_owed n held)) ≡ tasks_posted_of label (Some held)
   owing_posted label = by_test (nat_lt 0 held.owed)
       (λ t. let none = no_more t in rw none refl)
       (λ t. let idle = starting-idle t in by_test (nat_lt 0 n)
@@ -253,15 +253,15 @@ module _ (held : Held) (n : ℕ) (work : kind_of held.live.part ≡ kind_owed No
       ∙ sym (closed-posted held label (closed-part held.live.part idle.closed)))
       (λ v. rw v refl))
 
-  owing_gathered : IsGathered held → IsGathered (owing n held)
+  owing_gathered : IsGathered held → IsGathered (with_more_owed n held)
   owing_gathered g = by_test (nat_lt 0 held.owed)
       (λ t. let none = no_more t in rw none (record { once = g.once; few = g.few }))
       (λ t. by_test (nat_lt 0 n)
       (λ v. owing-gathered held (starting-idle t) n (ltb-true 0 n v))
       (λ v. rw v (record { once = g.once; few = g.few })))
 
-  pub started-posted : (label : Label) → posted_of label (Some (started n held)) ≡ posted_of label (Some held)
+  pub started-posted : (label : Label) → tasks_posted_of label (Some (with_start n held)) ≡ tasks_posted_of label (Some held)
   started-posted label = by_test (can_advance (session_meant held) n) (λ t. rw t (owing_posted label)) (λ t. rw t refl)
 
-  pub started-gathered : IsGathered held → IsGathered (started n held)
+  pub started-gathered : IsGathered held → IsGathered (with_start n held)
   started-gathered g = by_test (can_advance (session_meant held) n) (λ t. rw t (owing_gathered g)) (λ t. rw t g)

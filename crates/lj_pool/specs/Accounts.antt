@@ -1,26 +1,26 @@
 -- How an end keeps the tasks that it is owed: each in a place, and the places in the order of the posts.
 use Rattle.std.specs.Prelude.{◌≡◌, ◌≢◌, ℕ, ◌<◌, ◌≤◌, List, [], ◌∷◌, ◌++◌, Option, None, length, take, cond, nat_lt}
 use Rattle.std.specs.Prelude.{slice_index_or}
-use Rattle.lj_tile.specs.Tasks.{Work}
+use Rattle.lj_tile.specs.Task.{Task}
 use Rattle.lj_pool.specs.declared.pool.TheConstants.{MAX_OWED}
 use Rattle.lj_pool.specs.Gathering.{times}
-use Rattle.lj_pool.specs.Inline.{held_task}
+use Rattle.lj_pool.specs.InlinePool.{held_task}
 
 -- the tasks in these places, in their order
-abbrev pub works : List (Option Work) → List ℕ → List Work
-works tasks [] = []
-works tasks (place ∷ places) = held_task (slice_index_or tasks place None) ++ works tasks places
+abbrev pub tasks_owed : List (Option Task) → List ℕ → List Task
+tasks_owed tasks [] = []
+tasks_owed tasks (place ∷ places) = held_task (slice_index_or tasks place None) ++ tasks_owed tasks places
 
 -- Each place stands once in the list of places, and the first ones hold the tasks that are owed.
-pub record IsKept (tasks : List (Option Work)) (places : List ℕ) (owed : ℕ) : Type 0 where
+pub record IsKept (tasks : List (Option Task)) (places : List ℕ) (owed : ℕ) : Type 0 where
   pub size : length tasks ≡ MAX_OWED
   pub once : (place : ℕ) → times place places ≡ cond (nat_lt place MAX_OWED) 1 0
   pub all : length places ≡ MAX_OWED
   pub most : owed ≤ MAX_OWED
-  pub held : length (works tasks (take owed places)) ≡ owed
+  pub held : length (tasks_owed tasks (take owed places)) ≡ owed
 
 -- here stands this task, and before it stands none
-pub record IsFirst (owed : List Work) (task : Work) (here : ℕ) : Type 0 where
+pub record IsFirst (owed : List Task) (task : Task) (here : ℕ) : Type 0 where
   pub within : here < length owed
   pub is : slice_index_or owed here task ≡ task
   pub before : (k : ℕ) → k < here → slice_index_or owed k task ≢ task

@@ -1,66 +1,66 @@
 -- What is still to come of what is owed to the sessions and of what waits: turns, tiles, and posts.
 use Rattle.std.specs.Prelude.{◌≡◌, ◌≤◌, ℕ, ◌+◌, ◌-◌, true, false, nat_lt, List, Option, Some, None, if◌then◌else◌}
 use Rattle.std.specs.Option.{option_map_or}
-use Rattle.lj_step.specs.Motion.{stepped}
+use Rattle.lj_step.specs.Motion.{next_simulation}
 use Rattle.lj_step.specs.OpenSteps.{tiles_of}
 use Rattle.lj_session.specs.declared.command.Command.{Command}
 use Rattle.lj_session.specs.Turns.{turns}
-use Rattle.lj_session.specs.States.{Held, Owned, owed_in, steps_before}
-use Rattle.lj_session.specs.Owners.{Owning, user_in, is_waited_for, WaitsAlike}
+use Rattle.lj_session.specs.UserState.{HeldSession, UserState, owed_in, steps_before}
+use Rattle.lj_session.specs.Owner.{Owner, user_in, is_waited_for, WaitsAlike}
 use Rattle.lj_pool.specs.Seen.{Seen}
-use Rattle.lj_pool.specs.Gathering.{Gathers, left_in}
+use Rattle.lj_pool.specs.Gathering.{Gathers, tiles_left_in}
 use Rattle.lj_pool.specs.Counting.{steps_tiles, command_tiles, sum_over, CountsRise}
 
 -- how many tiles the steps of a session have that are owed after the open one
-abbrev pub tiles_after : Held → ℕ
+abbrev pub tiles_after : HeldSession → ℕ
 tiles_after held =
-    steps_tiles held.live.composition (held.owed - 1) (stepped held.live.composition held.live.sim)
+    steps_tiles held.live.composition (held.owed - 1) (next_simulation held.live.composition held.live.sim)
 
 -- how many tiles of a session are still to come in
-abbrev pub tiles_of_session : Held → ℕ
-tiles_of_session held = left_in held.live.part + tiles_after held
+abbrev pub tiles_of_session : HeldSession → ℕ
+tiles_of_session held = tiles_left_in held.live.part + tiles_after held
 
 -- how many tiles of a session still come after the last one that was posted
-abbrev pub posts_of_session : Held → ℕ
+abbrev pub posts_of_session : HeldSession → ℕ
 posts_of_session held = (tiles_of held.live - held.passed) + tiles_after held
 
 -- the tiles of what waits for steps that are owed, and so has none of its own among these yet
-abbrev pub waiting_tiles_of : Owning → Option Command → ℕ
+abbrev pub waiting_tiles_of : Owner → Option Command → ℕ
 waiting_tiles_of owner None = 0
 waiting_tiles_of owner (Some command) =
     if nat_lt 0 (steps_before owner.state command) then command_tiles (user_in owner) command else 0
 
-abbrev pub waiting_tiles : Owning → ℕ
+abbrev pub waiting_tiles : Owner → ℕ
 waiting_tiles owner = waiting_tiles_of owner owner.waiting
 
 -- how many turns are to come
-abbrev pub turns_coming : Owning → ℕ
+abbrev pub turns_coming : Owner → ℕ
 turns_coming owner =
     sum_over (λ held. held.owed) owner.state + option_map_or (turns (user_in owner)) owner.waiting 0
 
 -- how many tiles are to come in of what is owed
-abbrev pub tiles_to_come : Owned → ℕ
+abbrev pub tiles_to_come : UserState → ℕ
 tiles_to_come owned = sum_over tiles_of_session owned
 
 -- how many tiles are to come in of what is owed and of what waits
-abbrev pub tiles_coming : Owning → ℕ
+abbrev pub tiles_coming : Owner → ℕ
 tiles_coming owner = tiles_to_come owner.state + waiting_tiles owner
 
 -- how many tiles are to be posted, those included that come in before their turn
-abbrev pub posts_coming : Owning → ℕ
+abbrev pub posts_coming : Owner → ℕ
 posts_coming owner = sum_over posts_of_session owner.state + waiting_tiles owner
 
 -- No session is owed more steps than before, but the one that is waited for.
-abbrev pub OwesNoMore : Owning → Owned → Type 0
+abbrev pub OwesNoMore : Owner → UserState → Type 0
 OwesNoMore old new = (name : List ℕ) → is_waited_for old.waiting name ≡ false → owed_in new name ≤ owed_in old.state name
 
 -- No step is owed to the session that was waited for.
-abbrev pub OwesNoneWhereWaited : Owning → Owned → Type 0
+abbrev pub OwesNoneWhereWaited : Owner → UserState → Type 0
 OwesNoneWhereWaited old new = (name : List ℕ) → is_waited_for old.waiting name ≡ true → owed_in new name ≡ 0
 
 -- The work goes on: what will be answered stays, each tile that came in was counted, and no session is owed more steps but
 -- the one that is waited for, which stays the same.
-pub record GoesOn (old : Owning) (before : Seen) (new : Owning) (after : Seen) : Type 0 where
+pub record GoesOn (old : Owner) (before : Seen) (new : Owner) (after : Seen) : Type 0 where
   pub gathers : Gathers new after.owed
   pub alike : WaitsAlike old new
   pub number : new.number ≡ old.number

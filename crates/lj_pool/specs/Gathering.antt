@@ -4,13 +4,13 @@ use Rattle.std.specs.Prelude.{Option, Some, None, IfSome, IsSome, IsSomeAnd}
 use Rattle.std.specs.List.{filter, IsDistinct}
 use Rattle.std.specs.Str.{bytes_eq}
 use Rattle.lj_tile.specs.declared.names.Label.{Label}
-use Rattle.lj_tile.specs.Tasks.{Work}
-use Rattle.lj_step.specs.Live.{Live, OpenStep}
-use Rattle.lj_step.specs.OpenSteps.{cover, task_of, left}
+use Rattle.lj_tile.specs.Task.{Task}
+use Rattle.lj_step.specs.Sim.{Sim, OpenStep}
+use Rattle.lj_step.specs.OpenSteps.{cover, task_of, tiles_left}
 use Rattle.lj_session.specs.declared.command.Command.{Command}
 use Rattle.lj_session.specs.Turns.{waits_for}
-use Rattle.lj_session.specs.States.{Held, Owned, IsAtWork, held_in, owed_in, names}
-use Rattle.lj_session.specs.Owners.{Owning, label_of}
+use Rattle.lj_session.specs.UserState.{HeldSession, UserState, IsAtWork, held_session, owed_in, names}
+use Rattle.lj_session.specs.Owner.{Owner, label_of}
 
 -- how often a number stands in a list
 abbrev pub times : ℕ → List ℕ → ℕ
@@ -25,45 +25,47 @@ abbrev pub posted_tiles : List Bool → ℕ → List ℕ → List ℕ
 posted_tiles flags passed tiles = filter (is_awaited flags) (take passed tiles)
 
 -- the tasks of an open step that are among the first so many of its cover and not in, in order of the cover
-abbrev pub posted_in : Label → Live → ℕ → Option OpenStep → List Work
-posted_in label live passed None = []
-posted_in label live passed (Some step) =
+abbrev pub tasks_posted_in : Label → Sim → ℕ → Option OpenStep → List Task
+tasks_posted_in label live passed None = []
+tasks_posted_in label live passed (Some step) =
     map (task_of live label step.kind) (posted_tiles step.awaited passed (cover live.composition live.sim.cur))
 
 -- the tasks of a session that are posted and not in
-abbrev pub posted_of : Label → Option Held → List Work
-posted_of label None = []
-posted_of label (Some held) = posted_in label held.live held.passed held.live.part
+abbrev pub tasks_posted_of : Label → Option HeldSession → List Task
+tasks_posted_of label None = []
+tasks_posted_of label (Some held) = tasks_posted_in label held.live held.passed held.live.part
 
 -- how many tiles an open step awaits
-abbrev pub left_in : Option OpenStep → ℕ
-left_in None = 0
-left_in (Some step) = left step
+abbrev pub tiles_left_in : Option OpenStep → ℕ
+tiles_left_in None = 0
+tiles_left_in (Some step) = tiles_left step
 
 -- Each tile that the open step of a session awaits stands in its cover once, so there are no more than that has.
-pub record IsGathered (held : Held) : Type 0 where
+pub record IsGathered (held : HeldSession) : Type 0 where
   pub once : (step : OpenStep) (k : ℕ) → held.live.part ≡ Some step → is_awaited step.awaited k ≡ true
       → times k (cover held.live.composition held.live.sim.cur) ≡ 1
-  pub few : left_in held.live.part ≤ length (cover held.live.composition held.live.sim.cur)
+  pub few : tiles_left_in held.live.part ≤ length (cover held.live.composition held.live.sim.cur)
 
 -- the task is one of this session
-abbrev pub is_of : List ℕ → Work → Bool
+abbrev pub is_of : List ℕ → Task → Bool
 is_of name work = bytes_eq name work.name.label.session
 
 -- a step is open in the session that what waits, waits for
-abbrev pub IsOpenFor : Owned → Command → Type 0
+abbrev pub IsOpenFor : UserState → Command → Type 0
 IsOpenFor owned command = IsSomeAnd (waits_for command)
-    (λ name. IsSomeAnd (held_in owned name) (λ held. IsSome held.live.part))
+    (λ name. IsSomeAnd (held_session owned name) (λ held. IsSome held.live.part))
 
 -- What is owed are, of each session, the tasks of its open step that are posted and not in, and nothing else. A step is open in
 -- each session that owes one, and in that which a command waits for.
-pub record Gathers (owner : Owning) (owed : List Work) : Type 0 where
+pub record Gathers (owner : Owner) (owed : List Task) : Type 0 where
   pub at_work : IsAtWork owner.waiting owner.state
   pub waits : IfSome owner.waiting (IsOpenFor owner.state)
   pub distinct : IsDistinct bytes_eq (names owner.state)
-  pub gathered : (name : List ℕ) (held : Held) → held_in owner.state name ≡ Some held → IsGathered held
-  pub each : (name : List ℕ) → filter (is_of name) owed ≡ posted_of (label_of owner name) (held_in owner.state name)
+  pub gathered : (name : List ℕ) (held : HeldSession) → held_session owner.state name ≡ Some held
+      → IsGathered held
+  pub each : (name : List ℕ)
+      → filter (is_of name) owed ≡ tasks_posted_of (label_of owner name) (held_session owner.state name)
 
 -- no step is owed to a session
-abbrev pub NoneOwed : Owned → Type 0
+abbrev pub NoneOwed : UserState → Type 0
 NoneOwed owned = (name : List ℕ) → owed_in owned name ≡ 0

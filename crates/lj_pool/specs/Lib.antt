@@ -1,6 +1,6 @@
 pub mod Seen
 pub mod Refusals
-pub mod Inline
+pub mod InlinePool
 pub mod Gathering
 pub mod Counting
 pub mod Owing
@@ -10,7 +10,7 @@ pub mod Endings
 pub mod Serving
 pub mod Served
 pub mod Accounts
-pub mod Ends
+pub mod LockEnd
 pub mod Waking
 pub mod Desks
 pub mod Limits

@@ -2,19 +2,19 @@
 -- closed.
 use Rattle.std.specs.Prelude.{◌≡◌, ℕ, ◌+◌, ◌-◌, ◌^◌, min, max, Bool, true, false, List, [], ◌∷◌, ◌++◌, ◌⊎◌}
 use Rattle.std.specs.List.{Contains}
-use Rattle.lj_tile.specs.Tasks.{Work}
+use Rattle.lj_tile.specs.Task.{Task}
 
 -- the tasks that are owed, in the order of their posts; how many results were owed and how many were not, as far as
 -- they are counted; and whether the pool was seen closed
 pub record Seen : Type 0 where
-  pub owed : List Work
+  pub owed : List Task
   pub good : ℕ
   pub strays : ℕ
   pub closed : Bool
 
 -- nothing is owed, nothing is counted, and the pool is open
-abbrev pub unseen : Seen
-unseen = record { owed = []; good = 0; strays = 0; closed = false }
+abbrev pub nothing_seen : Seen
+nothing_seen = record { owed = []; good = 0; strays = 0; closed = false }
 
 -- the last value of a count
 abbrev pub last_count : ℕ
@@ -35,15 +35,15 @@ pub record SameOwed (old new : Seen) : Type 0 where
   pub strays : new.strays ≡ old.strays
 
 -- The task is owed after the others, and nothing is counted.
-pub record IsPosted (task : Work) (old new : Seen) : Type 0 where
+pub record IsPosted (task : Task) (old new : Seen) : Type 0 where
   pub owed : new.owed ≡ old.owed ++ task ∷ []
   pub good : new.good ≡ old.good
   pub strays : new.strays ≡ old.strays
 
 -- The first task that is equal to this one is owed no more, and one result more that was owed is counted.
-pub record TakesOff (task : Work) (old new : Seen) : Type 0 where
-  pub front : List Work
-  pub behind : List Work
+pub record TakesOff (task : Task) (old new : Seen) : Type 0 where
+  pub front : List Task
+  pub behind : List Task
   pub was : old.owed ≡ front ++ task ∷ behind
   pub first : Contains front task → ⊥
   pub owed : new.owed ≡ front ++ behind
@@ -51,12 +51,12 @@ pub record TakesOff (task : Work) (old new : Seen) : Type 0 where
   pub strays : new.strays ≡ old.strays
 
 -- The task is not owed, and one result more that was not is counted.
-pub record IsStray (task : Work) (old new : Seen) : Type 0 where
+pub record IsStray (task : Task) (old new : Seen) : Type 0 where
   pub absent : Contains old.owed task → ⊥
   pub owed : new.owed ≡ old.owed
   pub good : new.good ≡ old.good
   pub strays : new.strays ≡ one_more old.strays
 
 -- a result of this task is handed out
-abbrev pub IsHandedOut : Work → Seen → Seen → Type 0
+abbrev pub IsHandedOut : Task → Seen → Seen → Type 0
 IsHandedOut task old new = TakesOff task old new ⊎ IsStray task old new

@@ -4,16 +4,16 @@ use Rattle.std.specs.Prelude.{None, IsSome, IsSomeAnd, ◌+◌, ◌-◌, ◌⊎�
 use Rattle.std.specs.List.{list_any}
 use Rattle.std.specs.Io.KnownBytes.{Consumes, Appends}
 use Rattle.lj_session.specs.declared.command.Command.TheVariants.{Bye as ByeCommand}
-use Rattle.lj_branch.specs.Named.{named}
+use Rattle.lj_branch.specs.Named.{value_named}
 use Rattle.lj_session.specs.Users.{User}
 use Rattle.lj_session.specs.Turns.{turns, waits_for}
-use Rattle.lj_session.specs.States.{Owned, user_of}
+use Rattle.lj_session.specs.UserState.{UserState, user_of}
 use Rattle.lj_wire.specs.declared.item.Fault.{Fault}
 use Rattle.lj_wire.specs.declared.item.Item.{Item}
 use Rattle.lj_wire.specs.declared.item.Item.TheVariants.{Command, Bad, Last}
-use Rattle.lj_wire.specs.Items.{ends}
+use Rattle.lj_wire.specs.Items.{is_ending}
 use Rattle.lj_wire.specs.Texts.{is_memory}
-use Rattle.lj_wire.specs.Told.{told}
+use Rattle.lj_wire.specs.Told.{item_text}
 use Rattle.lj_wire.specs.Streams.{IsItem, Dialogue}
 use Rattle.lj_wire.specs.Progress.{Progress}
 use Rattle.lj_pool.specs.declared.engine.served.Served.{Served}
@@ -26,7 +26,7 @@ use Rattle.lj_pool.specs.Owing.{MayOwe}
 
 -- no item ends the connection
 abbrev pub NoneEnds : List Item → Type 0
-NoneEnds items = list_any ends items ≡ false
+NoneEnds items = list_any is_ending items ≡ false
 
 -- the last item is BYE
 abbrev pub EndsByBye : List Item → Type 0
@@ -38,8 +38,8 @@ EndsByFault items = (earlier : List Item) × (fault : Fault) × (items ≡ earli
 
 -- The dialogue of what was read, whose items end so. The pool's counts have together risen by the tiles of the steps that the
 -- items took and of those that were owed before, without those that are owed now, or one of them stands at its last value.
-pub record AnswersAll (Ending : List Item → Type 0) (state : Owned) (read written : List ℕ) (old new : Seen)
-    (next : Owned) : Type 0 where
+pub record AnswersAll (Ending : List Item → Type 0) (state : UserState) (read written : List ℕ) (old new : Seen)
+    (next : UserState) : Type 0 where
   pub dialogue : Dialogue (user_of state) read written (user_of next)
   pub ending : Ending dialogue.items
   pub counted : CountsRise
@@ -62,21 +62,21 @@ pub record BreaksOff (user : User) (read written : List ℕ) (next : User) : Typ
   pub item : Item
   pub reaches : Reaches user read before between item
   pub mark : Bool
-  pub only_memory : mark ≡ true → is_memory (told between item mark).0 ≡ true
+  pub only_memory : mark ≡ true → is_memory (item_text between item mark).0 ≡ true
   pub bytes : ℕ
-  pub within : bytes ≤ length (told between item mark).0
-  pub written_is : written ≡ before ++ take bytes (told between item mark).0
-  pub next_is : next ≡ (told between item mark).1
+  pub within : bytes ≤ length (item_text between item mark).0
+  pub written_is : written ≡ before ++ take bytes (item_text between item mark).0
+  pub next_is : next ≡ (item_text between item mark).1
 
 -- the item waits for a session of the user: it takes steps of its own, or steps may be owed there after the items before it
-abbrev pub MayWait : Owned → List Item → User → Item → Type 0
+abbrev pub MayWait : UserState → List Item → User → Item → Type 0
 MayWait state before user (Command command) = IsSomeAnd (waits_for command)
-    (λ name. IsSome (named name user.sessions) × ((0 < turns user command) ⊎ MayOwe state before name))
+    (λ name. IsSome (value_named name user.sessions) × ((0 < turns user command) ⊎ MayOwe state before name))
 MayWait state before user (Bad fault) = ⊥
 MayWait state before user (Last fault) = ⊥
 
 -- The items before one that waits are answered, and nothing is written for that.
-pub record StopsAt (state : Owned) (read written : List ℕ) : Type 0 where
+pub record StopsAt (state : UserState) (read written : List ℕ) : Type 0 where
   pub between : User
   pub item : Item
   pub reaches : Reaches (user_of state) read written between item
@@ -84,7 +84,7 @@ pub record StopsAt (state : Owned) (read written : List ℕ) : Type 0 where
 
 -- So many items of what was read are answered, steps may be owed to some session then, and the pool owes more than it may
 -- before the next item is.
-pub record StopsBetween (state : Owned) (read written : List ℕ) (new : Seen) : Type 0 where
+pub record StopsBetween (state : UserState) (read written : List ℕ) (new : Seen) : Type 0 where
   pub count : ℕ
   pub left : List ℕ
   pub between : User
@@ -93,11 +93,11 @@ pub record StopsBetween (state : Owned) (read written : List ℕ) (new : Seen) :
   pub many : MAX_AHEAD < length new.owed
 
 -- What is written where the pool was given up.
-abbrev pub StopsShort : Owned → List ℕ → List ℕ → Seen → Type 0
+abbrev pub StopsShort : UserState → List ℕ → List ℕ → Seen → Type 0
 StopsShort state read written new = StopsAt state read written ⊎ StopsBetween state read written new
 
 -- What is written for what was read, and the state that is handed back.
-abbrev pub IsServed : Served → Owned → List ℕ → List ℕ → Seen → Seen → Option Owned → Type 0
+abbrev pub IsServed : Served → UserState → List ℕ → List ℕ → Seen → Seen → Option UserState → Type 0
 IsServed End state read written old new (Some next) = AnswersAll NoneEnds state read written old new next
 IsServed Bye state read written old new (Some next) = AnswersAll EndsByBye state read written old new next
 IsServed Ended state read written old new (Some next) = AnswersAll EndsByFault state read written old new next
@@ -115,8 +115,8 @@ IsServed PoolClosed state read written old new (Some next) = ⊥
 IsServed TooManyStrays state read written old new (Some next) = ⊥
 
 -- What was read of the bytes that were left, and what was written for it after the contents.
-pub record Serves (served : Served) (state : Owned) (left rest was is : Option (List ℕ)) (old new : Seen)
-    (next : Option Owned) : Type 0 where
+pub record Serves (served : Served) (state : UserState) (left rest was is : Option (List ℕ)) (old new : Seen)
+    (next : Option UserState) : Type 0 where
   pub read : List ℕ
   pub written : List ℕ
   pub taken : Consumes left rest read

@@ -4,13 +4,13 @@ use Rattle.std.specs.List.{concat}
 use Rattle.std.specs.Io.KnownBytes.{Consumes, Appends}
 use Rattle.lj_session.specs.declared.reply.Reply.{Reply}
 use Rattle.lj_session.specs.Users.{User}
-use Rattle.lj_session.specs.States.{Owned, user_of}
+use Rattle.lj_session.specs.UserState.{UserState, user_of}
 use Rattle.lj_wire.specs.declared.item.Item.{Item}
 use Rattle.lj_wire.specs.declared.reader.phase.Phase.TheVariants.{Open}
-use Rattle.lj_wire.specs.Standings.{Standing}
+use Rattle.lj_wire.specs.LineReader.{LineReader}
 use Rattle.lj_wire.specs.Streams.{AreMarks}
 use Rattle.lj_wire.specs.Progress.{Takes}
-use Rattle.lj_wire.specs.Told.{answered, texts, last_user}
+use Rattle.lj_wire.specs.Told.{item_reply, texts, last_user}
 use Rattle.lj_pool.specs.Seen.{Seen}
 use Rattle.lj_pool.specs.Counting.{tiles, tiles_owed, CountsRise}
 use Rattle.lj_pool.specs.Coming.{tiles_to_come}
@@ -18,11 +18,11 @@ use Rattle.lj_pool.specs.Owing.{OwesAfter}
 
 -- an item is answered by a reply, which leaves the next user, under some mark
 abbrev pub AnswersItem : User → Item → Reply → User → Type 0
-AnswersItem user item reply next = (mark : Bool) × (answered user item mark ≡ (reply, next))
+AnswersItem user item reply next = (mark : Bool) × (item_reply user item mark ≡ (reply, next))
 
 -- The items that were handed out are answered, and what were read are their bytes.
-pub record Serving (start : Owned) (first now : Standing) (was is : Option (List ℕ)) (old new : Seen)
-    (owned : Owned) : Type 0 where
+pub record Serving (start : UserState) (first now : LineReader) (was is : Option (List ℕ)) (old new : Seen)
+    (owned : UserState) : Type 0 where
   pub read : List ℕ
   pub written : List ℕ
   pub items : List Item
@@ -34,7 +34,8 @@ pub record Serving (start : Owned) (first now : Standing) (was is : Option (List
   pub are_marks : AreMarks marks (texts (user_of start) items marks)
   pub written_is : written ≡ concat (texts (user_of start) items marks)
   pub next_is : user_of owned ≡ last_user (user_of start) items marks
-  pub counted : CountsRise (tiles (user_of start) items marks + tiles_owed start - tiles_to_come owned) old new
+  pub counted : CountsRise
+      (tiles (user_of start) items marks + tiles_owed start - tiles_to_come owned) old new
   pub owes : OwesAfter start items owned
   pub phase : now.phase ≡ Open
   pub errors : now.errors ≡ first.errors

@@ -2,7 +2,7 @@
 ghost use Rattle.std.specs.Prelude.{◌≡◌, ◌<◌, ◌≤◌, ◌-◌, ◌↔◌, ℕ, Some, cond, length, nat_lt, slice_index_or, true, false, IfErr, IfSome, IfNone, IsTrue, OnErr, OnOk};
 ghost use Rattle.std.specs.List.{Contains, remove};
 ghost use Rattle.lj_pool.specs.declared.pool.NotPosted.TheVariants.{Closed, Full};
-ghost use Rattle.lj_pool.specs.Seen.{IsHandedOut, IsPosted, SameOwed, StaysClosed, unseen};
+ghost use Rattle.lj_pool.specs.Seen.{IsHandedOut, IsPosted, SameOwed, StaysClosed, nothing_seen};
 ghost use Rattle.lj_pool.specs.Gathering.{times};
 ghost use Rattle.lj_pool.specs.Accounts.{IsFirst};
 
@@ -26,12 +26,12 @@ pub struct Account {
 impl Model for Account {
     ghost use Rattle.std.specs.Prelude.{take};
     ghost use Rattle.lj_pool.specs.Seen.{Seen};
-    ghost use Rattle.lj_pool.specs.Accounts.{IsKept, works};
+    ghost use Rattle.lj_pool.specs.Accounts.{IsKept, tasks_owed};
 
     ghost Value = { Seen };
 
     ghost view = { λ a. record {
-      owed = works a.tasks (take a.owed a.places.items);
+      owed = tasks_owed a.tasks (take a.owed a.places.items);
       good = a.good;
       strays = a.strays;
       closed = a.closed;
@@ -43,7 +43,7 @@ impl Model for Account {
 impl Account {
     /// Nothing is owed and nothing is counted.
     pub fn new() -> Account
-        ensures { result ≡ unseen }
+        ensures { result ≡ nothing_seen }
     {
         Account {
             tasks: array::from_fn(|_| None),
@@ -121,7 +121,7 @@ impl Account {
     }
 
     /// Whether the pool was seen closed.
-    pub fn closed(&self) -> bool
+    pub fn is_closed(&self) -> bool
         ensures { result ≡ self.now.closed }
     {
         self.closed

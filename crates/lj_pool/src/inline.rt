@@ -2,7 +2,7 @@
 ghost use Rattle.std.specs.Prelude.{◌≡◌, ◌↔◌, Some, None, true, false};
 ghost use Rattle.std.specs.Prelude.{IsOk, IsSome, IfErr, OnOk, OnErr};
 ghost use Rattle.lj_pool.specs.Seen.{one_more};
-ghost use Rattle.lj_pool.specs.Inline.{empty, seen_of};
+ghost use Rattle.lj_pool.specs.InlinePool.{empty_pool, seen_of};
 ghost use Rattle.lj_pool.specs.declared.pool.NotPosted.TheVariants.{Full};
 
 use crate::pool::{NotPosted, Pool};
@@ -23,9 +23,9 @@ pub struct InlinePool {
 
 impl Model for InlinePool {
     ghost use Rattle.std.specs.Prelude.{Some, None, if◌then◌else◌};
-    ghost use Rattle.lj_pool.specs.Inline.{Inline};
+    ghost use Rattle.lj_pool.specs.InlinePool.{InlinePool};
 
-    ghost Value = { Inline };
+    ghost Value = { InlinePool };
 
     ghost view = { λ pool. record {
       held = if pool.is_held then Some pool.room else None;
@@ -37,7 +37,7 @@ impl Model for InlinePool {
 impl InlinePool {
     /// Holds nothing at first.
     pub fn new(table: Table) -> InlinePool
-        ensures { result ≡ empty }
+        ensures { result ≡ empty_pool }
     {
         InlinePool {
             table,
@@ -74,7 +74,8 @@ impl Pool for InlinePool {
     fn fetch_in(&mut self, _user: u8) -> bool
         ensures some { result ≡ true ↔ IsSome self.old.held }
         ensures held { result ≡ true → self.old.held ≡ Some self.new.last }
-        ensures taken_off { result ≡ true → self.new ≡ record self.old { held = None; good = one_more self.old.good } }
+        ensures taken_off { result ≡ true
+            → self.new ≡ record self.old { held = None; good = one_more self.old.good } }
         ensures unchanged { result ≡ false → self.new ≡ self.old }
     {
         let is_held = mem::take(&mut self.is_held);
@@ -85,7 +86,8 @@ impl Pool for InlinePool {
     fn poll_in(&mut self, user: u8) -> bool
         ensures some { result ≡ true ↔ IsSome self.old.held }
         ensures held { result ≡ true → self.old.held ≡ Some self.new.last }
-        ensures taken_off { result ≡ true → self.new ≡ record self.old { held = None; good = one_more self.old.good } }
+        ensures taken_off { result ≡ true
+            → self.new ≡ record self.old { held = None; good = one_more self.old.good } }
         ensures unchanged { result ≡ false → self.new ≡ self.old }
     {
         self.fetch_in(user)
@@ -99,7 +101,7 @@ impl Pool for InlinePool {
         usize::from(self.is_held)
     }
 
-    fn full(&self) -> bool
+    fn is_full(&self) -> bool
         ensures { result ≡ true ↔ IsSome self.now.held }
     {
         self.is_held

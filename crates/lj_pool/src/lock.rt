@@ -1,9 +1,9 @@
 //! A pool behind a lock, whose workers run in threads of their own.
 mod desk;
-mod end;
-mod pool;
-mod worker;
+mod lock_end;
+mod lock_pool;
+mod working;
 
-pub use end::LockEnd;
-pub use pool::LockPool;
-pub use worker::{Gate, gather, work};
+pub use lock_end::LockEnd;
+pub use lock_pool::LockPool;
+pub use working::{Gate, gather, work};

@@ -1,6 +1,6 @@
 //! What a pool is to the one who posts tasks: an end that takes tasks and hands out results.
 ghost use Rattle.std.specs.Prelude.{◌≡◌, ◌<◌, ◌↔◌, ℕ, length, true, false, [], IfErr, IfNone, IfSome, OnErr, OnOk};
-ghost use Rattle.lj_tile.specs.Tasks.{Work};
+ghost use Rattle.lj_tile.specs.Task.{Task};
 ghost use Rattle.lj_pool.specs.declared.pool.NotPosted.TheVariants.{Closed};
 ghost use Rattle.lj_pool.specs.Seen.{Seen, SameOwed, IsPosted, IsHandedOut, StaysClosed};
 ghost use Rattle.lj_pool.specs.Refusals.{task_of, IsClosed};
@@ -46,7 +46,7 @@ pub trait Pool {
     ghost seen: { Self → Seen };
 
     // The result that `fetched` shows.
-    ghost last: { Self → Work };
+    ghost last: { Self → Task };
 
     // How often it was asked for others than the user of this number, by a task of another, or a fetch or poll for
     // another, where that is counted.
@@ -64,7 +64,8 @@ pub trait Pool {
         ensures full { wait ≡ true → IfErr result (λ why. why ≡ Closed) }
         ensures closed { IfErr result (λ why. why ≡ Closed → (seen self.new).closed ≡ true) }
         ensures stays_closed { StaysClosed (seen self.old) (seen self.new) }
-        ensures own { let user = task.now.name.label.user in for_others self.new user ≡ for_others self.old user };
+        ensures own { let user = task.now.name.label.user in for_others self.new user
+            ≡ for_others self.old user };
 
     /// Fetches the next result for a user, which `fetched` then shows. False only where the pool is closed.
     fn fetch_in(&mut self, user: u8) -> bool
@@ -139,7 +140,7 @@ pub trait Pool {
         ensures { result ≡ length (seen self.now).owed };
 
     /// Whether there is no room now: as many tasks are owed as may be, and at least one.
-    fn full(&self) -> bool
+    fn is_full(&self) -> bool
         ensures most { result ≡ true ↔ (length (seen self.now).owed ≡ most) }
         ensures room { result ≡ false → length (seen self.now).owed < MAX_OWED }
         ensures owes { result ≡ true → 0 < length (seen self.now).owed };

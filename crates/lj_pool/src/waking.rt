@@ -46,7 +46,7 @@ impl Bells {
 
     /// Notes that an end waits at the user's bell, to which so many results are owed. It is rung once all of them were
     /// given, or the first 16; where another waits at it too, at the next result.
-    pub fn wait(&mut self, user: u8, owed: usize)
+    pub fn note_waiting(&mut self, user: u8, owed: usize)
         ensures { let old = due_at self.old user in
             self.new ≡ with_due self.old user (cond (nat_eq old 0) (max (min owed RESULTS_AT_ONCE) 1) 1) }
     {
@@ -59,7 +59,7 @@ impl Bells {
     }
 
     /// Counts a result that the user was given. Whether its bell is to be rung now.
-    pub fn count(&mut self, user: u8) -> bool
+    pub fn note_given(&mut self, user: u8) -> bool
         ensures rung { IsTrue result ↔ (due_at self.old user ≡ 1) }
         ensures due { self.new ≡ with_due self.old user (due_at self.old user - 1) }
     {
@@ -93,14 +93,14 @@ impl Untold {
     }
 
     /// Counts one more, up to `usize::MAX`.
-    pub fn count(&mut self)
+    pub fn note_posted(&mut self)
         ensures { self.new ≡ min (self.old + 1) (2 ^ 64 - 1) }
     {
         self.tasks = self.tasks.saturating_add(1);
     }
 
     /// Of how many the workers are to be told now: of all, if they are at least so many, else of none.
-    pub fn take(&mut self, least: usize) -> usize
+    pub fn take_due(&mut self, least: usize) -> usize
         ensures value { result ≡ cond (nat_lt self.old least) 0 self.old }
         ensures left { self.old ≡ self.new + result }
     {

@@ -7,12 +7,12 @@ use Rattle.std.specs.Vec.{vec_capacity}
 use Rattle.std.specs.VecDeque.{deque_len, deque_capacity}
 use Rattle.std.specs.declared.collections.VecDeque.{VecDeque}
 use Rattle.std.proofs.lemmas.List.Elements.{All-tail}
-use Rattle.lj_tile.specs.Tasks.{Work}
-use Rattle.lj_queue.specs.Lists.{HasBoxes}
+use Rattle.lj_tile.specs.Task.{Task}
+use Rattle.lj_queue.specs.ResultList.{HasBoxes}
 
 -- one result fewer, and one spare box more
-pub frees : (user : ℕ) (results rest : VecDeque (Box Work Global) Global) (spare more : Vec (Box Work Global) Global)
-    (first : Box Work Global) → HasBoxes user results spare → results.items ≡ first ∷ rest.items
+pub frees : (user : ℕ) (results rest : VecDeque (Box Task Global) Global) (spare more : Vec (Box Task Global) Global)
+    (first : Box Task Global) → HasBoxes user results spare → results.items ≡ first ∷ rest.items
     → deque_len rest + 1 ≡ deque_len results → deque_capacity rest ≡ deque_capacity results
     → vec_len more ≡ vec_len spare + 1 → vec_capacity more ≡ vec_capacity spare → HasBoxes user rest more
 frees user results rest spare more first was items fewer places one_more spare_places = record {
@@ -22,5 +22,5 @@ frees user results rest spare more first was items fewer places one_more spare_p
   whose = All-tail is_users first rest.items (subst (All is_users) items was.whose);
 }
   where
-    is_users : Box Work Global → Type 0
+    is_users : Box Task Global → Type 0
     is_users box = box.value.name.label.user ≡ user

@@ -7,9 +7,9 @@ use Rattle.std.specs.List.{sum_by}
 use Rattle.std.proofs.lemmas.List.Sums.{sum_by-append, sum_by-cons, sum_by_push}
 use Rattle.crossbeam_queue.specs.Fifo.{Pushes, Pops, Forks, Merges, Learns}
 use Rattle.crossbeam_queue.proofs.Lists.{at_set, at_snoc}
-use Rattle.lj_queue.specs.declared.ticket.Ticket.{Ticket}
+use Rattle.lj_queue.specs.declared.open_task.OpenTask.{OpenTask}
 use Rattle.lj_queue.specs.declared.rule.Hand.{Hand}
-use Rattle.lj_queue.specs.Balance.{Balanced, IdleIsEmpty, Leaves, all_parts, hand, joined, with_popped, with_pushed}
+use Rattle.lj_queue.specs.Balance.{Balanced, IdleIsEmpty, Leaves, all_parts, hand_of, joined_hand, with_popped, with_pushed}
 
 -- a sum after a change of one view
 total_set : (f : Hand → ℕ) (views : List Hand) (port : ℕ) (v w : Hand) → get_elem? views port ≡ some v
@@ -29,24 +29,24 @@ idle_set views port w mine others j u at =
 abbrev parts_of : Hand → ℕ
 parts_of v = v.parts
 
-abbrev pushed_weight : (Ticket → ℕ) → Hand → ℕ
+abbrev pushed_weight : (OpenTask → ℕ) → Hand → ℕ
 pushed_weight h v = sum_by h v.pushed
 
-abbrev popped_weight : (Ticket → ℕ) → Hand → ℕ
+abbrev popped_weight : (OpenTask → ℕ) → Hand → ℕ
 popped_weight h v = sum_by h v.popped
 
-pub begins : Balanced [] (hand all_parts [] [] ∷ [])
+pub begins : Balanced [] (hand_of all_parts [] [] ∷ [])
 begins = record {
-  parts = omega (arith, sum_by-cons parts_of (hand all_parts [] []) []);
+  parts = omega (arith, sum_by-cons parts_of (hand_of all_parts [] []) []);
   leaves = λ h. refl;
   idle = first;
 }
   where
-    first : IdleIsEmpty (hand all_parts [] [] ∷ [])
-    first zero v at none = absurd (omega (arith, ap parts_of (some-injective (hand all_parts [] []) v at), none))
+    first : IdleIsEmpty (hand_of all_parts [] [] ∷ [])
+    first zero v at none = absurd (omega (arith, ap parts_of (some-injective (hand_of all_parts [] []) v at), none))
     first (suc port) v at none = absurd (some-ne-none v (sym at))
 
-pub pushes : (n port : ℕ) (v : Hand) (x : Ticket) → 0 < v.parts
+pub pushes : (n port : ℕ) (v : Hand) (x : OpenTask) → 0 < v.parts
     → Pushes Balanced n port v x (λ w. w ≡ with_pushed v x)
 pushes n port v x some_part items views room b at = (w, b', refl)
   where
@@ -90,7 +90,7 @@ pops port v some_part x items views b at = (w, b', refl)
     }
 
 pub forks : (port : ℕ) (v : Hand) → 1 < v.parts
-    → Forks Balanced port v (hand (v.parts - 1) v.pushed v.popped) (hand 1 [] [])
+    → Forks Balanced port v (hand_of (v.parts - 1) v.pushed v.popped) (hand_of 1 [] [])
 forks port v two items views b at = record {
   parts = omega (arith, total_set parts_of views port v left at, sum_by_push parts_of vs right, b.parts, two);
   leaves = λ h.
@@ -106,10 +106,10 @@ forks port v two items views b at = record {
 }
   where
     left : Hand
-    left = hand (v.parts - 1) v.pushed v.popped
+    left = hand_of (v.parts - 1) v.pushed v.popped
 
     right : Hand
-    right = hand 1 [] []
+    right = hand_of 1 [] []
 
     vs : List Hand
     vs = set views port left
@@ -121,7 +121,7 @@ forks port v two items views b at = record {
         (λ is. subst (λ (y : Hand). (y.pushed ≡ []) × (y.popped ≡ [])) is (refl, refl)) (at_snoc vs right u j e)
 
 pub merges : (port : ℕ) (v : Hand) (other : ℕ) (w : Hand) → 0 < v.parts
-    → Merges Balanced port v other w (joined v w) (hand 0 [] [])
+    → Merges Balanced port v other w (joined_hand v w) (hand_of 0 [] [])
 merges port v other w some_part items views b at two at' = record {
   parts = omega (arith, total_set parts_of views port v both at, total_set parts_of vs other w spent at', b.parts);
   leaves = λ h.
@@ -140,10 +140,10 @@ merges port v other w some_part items views b at two at' = record {
 }
   where
     both : Hand
-    both = joined v w
+    both = joined_hand v w
 
     spent : Hand
-    spent = hand 0 [] []
+    spent = hand_of 0 [] []
 
     vs : List Hand
     vs = set views port both
@@ -169,7 +169,7 @@ alone f empty views port v at whole idle =
     omega (arith, total_set f views port v spent at, rest, empty spent (refl, refl))
   where
     spent : Hand
-    spent = hand 0 [] []
+    spent = hand_of 0 [] []
 
 pub learns : (port : ℕ) (v : Hand) → v.parts ≡ all_parts
     → Learns Balanced port v (λ items. Leaves v.pushed v.popped items)
@@ -180,7 +180,7 @@ learns port v all items views b at h =
     omega (arith, b.leaves h, pushed, popped)
 
 -- what a call that pushes owes, and one that pops, by a pass of one part
-pub push_asked : (n port : ℕ) (v : Hand) (x : Ticket) → v.parts ≡ 1
+pub push_asked : (n port : ℕ) (v : Hand) (x : OpenTask) → v.parts ≡ 1
     → Pushes Balanced n port v x (λ w. w ≡ with_pushed v x) × Learns Balanced port v (λ items. ⊤)
 push_asked n port v x one = (pushes n port v x (omega (arith, one)), λ items views b at. tt)
 

@@ -6,20 +6,20 @@ use Rattle.std.proofs.lemmas.List.Sums.{sum_by-append, sum_by-cons}
 use Rattle.atomic_table.specs.Seated.{TableId}
 use Rattle.crossbeam_queue.specs.Fifo.{Held}
 use Rattle.crossbeam_queue.specs.Passes.{Pass, view, IsSamePass}
-use Rattle.lj_queue.specs.declared.ticket.Ticket.{Ticket}
+use Rattle.lj_queue.specs.declared.open_task.OpenTask.{OpenTask}
 use Rattle.lj_queue.specs.declared.rule.Hand.{Hand}
-use Rattle.lj_queue.specs.Balance.{Leaves, all_parts, joined}
-use Rattle.lj_queue.specs.Passes.{IsCounted, Trace, trace_of}
+use Rattle.lj_queue.specs.Balance.{Leaves, all_parts, joined_hand}
+use Rattle.lj_queue.specs.PoolPass.{IsCounted, PoolPass, pass_of}
 use Rattle.lj_queue.specs.Settling.{Gathers, LeavesOf}
 
 no_item : {X : Type 0} (xs : List X) → length xs ≡ 0 → xs ≡ []
 no_item [] none = refl
 no_item (x ∷ xs) none = absurd (omega (arith, none))
 
-module _ (table : TableId) (count : ℕ) (all : List Trace) where
-  pub takes_in : (rest later : List Trace) (x : Trace) (into new other : Pass Ticket Hand) (pushed popped p q : ℕ)
+module _ (table : TableId) (count : ℕ) (all : List PoolPass) where
+  pub takes_in : (rest later : List PoolPass) (x : PoolPass) (into new other : Pass OpenTask Hand) (pushed popped p q : ℕ)
       → Gathers table count all rest into pushed popped → rest ≡ x ∷ later → IsSamePass into new
-      → view new ≡ joined (view into) (view other) → trace_of x.number other ≡ x
+      → view new ≡ joined_hand (view into) (view other) → pass_of x.number other ≡ x
       → IsCounted table other (length x.pushed) (length x.popped) → p ≡ length x.pushed → q ≡ length x.popped
       → p < 2 ^ 64 → q < 2 ^ 64 → Gathers table count all later new (pushed + p) (popped + q)
   takes_in rest later x into new other pushed popped p q was is same both trace counted p_is q_is p_most q_most =
@@ -30,8 +30,8 @@ module _ (table : TableId) (count : ℕ) (all : List Trace) where
         };
         most = at.most;
         parts = omega (arith, at.parts, ap (λ (v : Hand). v.parts) both, counted.one);
-        pushed_is = omega (arith, at.pushed_is, p_is, sum_by-cons (λ (pass : Trace). length pass.pushed) x later);
-        popped_is = omega (arith, at.popped_is, q_is, sum_by-cons (λ (pass : Trace). length pass.popped) x later);
+        pushed_is = omega (arith, at.pushed_is, p_is, sum_by-cons (λ (pass : PoolPass). length pass.pushed) x later);
+        popped_is = omega (arith, at.popped_is, q_is, sum_by-cons (λ (pass : PoolPass). length pass.popped) x later);
         pushed_all =
             omega (
               arith,
@@ -39,7 +39,7 @@ module _ (table : TableId) (count : ℕ) (all : List Trace) where
               p_is,
               ap (λ (v : Hand). length v.pushed) both,
               length-append (view into).pushed (view other).pushed,
-              ap (λ (t : Trace). length t.pushed) trace,
+              ap (λ (t : PoolPass). length t.pushed) trace,
             );
         popped_all =
             omega (
@@ -48,7 +48,7 @@ module _ (table : TableId) (count : ℕ) (all : List Trace) where
               q_is,
               ap (λ (v : Hand). length v.popped) both,
               length-append (view into).popped (view other).popped,
-              ap (λ (t : Trace). length t.popped) trace,
+              ap (λ (t : PoolPass). length t.popped) trace,
             );
         pushed_most = omega (arith, at.pushed_most, p_most);
         popped_most = omega (arith, at.popped_most, q_most);
@@ -56,19 +56,19 @@ module _ (table : TableId) (count : ℕ) (all : List Trace) where
             omega (
               arith,
               at.pushed_weight h,
-              sum_by-cons (λ (pass : Trace). sum_by h pass.pushed) x later,
+              sum_by-cons (λ (pass : PoolPass). sum_by h pass.pushed) x later,
               ap (λ (v : Hand). sum_by h v.pushed) both,
               sum_by-append h (view into).pushed (view other).pushed,
-              ap (λ (t : Trace). sum_by h t.pushed) trace,
+              ap (λ (t : PoolPass). sum_by h t.pushed) trace,
             );
         popped_weight = λ h.
             omega (
               arith,
               at.popped_weight h,
-              sum_by-cons (λ (pass : Trace). sum_by h pass.popped) x later,
+              sum_by-cons (λ (pass : PoolPass). sum_by h pass.popped) x later,
               ap (λ (v : Hand). sum_by h v.popped) both,
               sum_by-append h (view into).popped (view other).popped,
-              ap (λ (t : Trace). sum_by h t.popped) trace,
+              ap (λ (t : PoolPass). sum_by h t.popped) trace,
             );
       }
     where
@@ -76,17 +76,17 @@ module _ (table : TableId) (count : ℕ) (all : List Trace) where
       at = subst (λ l. Gathers table count all l into pushed popped) is was
 
   -- the pass that takes them in has some part: fewer than all are left
-  pub some_part : (rest : List Trace) (into : Pass Ticket Hand) (pushed popped : ℕ)
+  pub some_part : (rest : List PoolPass) (into : Pass OpenTask Hand) (pushed popped : ℕ)
       → Gathers table count all rest into pushed popped → 0 < (view into).parts
   some_part rest into pushed popped at =
       omega (arith, at.parts, at.most, at.pushed_most)
 
   -- the pass that took all in has every part
-  pub every_part : (rest : List Trace) (into : Pass Ticket Hand) (pushed popped : ℕ)
+  pub every_part : (rest : List PoolPass) (into : Pass OpenTask Hand) (pushed popped : ℕ)
       → Gathers table count all rest into pushed popped → length rest ≡ 0 → (view into).parts ≡ all_parts
   every_part rest into pushed popped at is = omega (arith, at.parts, is)
 
-  pub leaves_of : (rest : List Trace) (into : Pass Ticket Hand) (pushed popped left : ℕ)
+  pub leaves_of : (rest : List PoolPass) (into : Pass OpenTask Hand) (pushed popped left : ℕ)
       → Gathers table count all rest into pushed popped → length rest ≡ 0
       → Held left (λ items. Leaves (view into).pushed (view into).popped items) → LeavesOf all left
   leaves_of rest into pushed popped left was is held = record {
@@ -102,7 +102,7 @@ ones : {X : Type 0} (xs : List X) → sum_by (λ _. 1) xs ≡ length xs
 ones [] = refl
 ones (x ∷ xs) = omega (arith, sum_by-cons (λ _. 1) x xs, ones xs)
 
-pub left_is : (pushed popped left : ℕ) (ps qs : List Ticket) → pushed ≡ length ps → popped ≡ length qs
+pub left_is : (pushed popped left : ℕ) (ps qs : List OpenTask) → pushed ≡ length ps → popped ≡ length qs
     → Held left (λ items. Leaves ps qs items) → pushed ≡ popped + left
 left_is pushed popped left ps qs p q held =
     omega (arith, p, q, held.1, held.2 (λ _. 1), ones ps, ones qs, ones held.0)

@@ -3,7 +3,7 @@ use Rattle.std.specs.Prelude.{◌≡◌, ℕ, ◌+◌, ◌^◌, List, [], ◌∷
 use Rattle.std.specs.List.{sum_by}
 use mathlib.Core.Option.{some}
 use lib.ListN.{get_elem?}
-use Rattle.lj_queue.specs.declared.ticket.Ticket.{Ticket}
+use Rattle.lj_queue.specs.declared.open_task.OpenTask.{OpenTask}
 use Rattle.lj_queue.specs.declared.rule.Hand.{Hand}
 
 -- the parts of all passes together
@@ -11,24 +11,24 @@ abbrev pub all_parts : ℕ
 all_parts = 2 ^ 65
 
 -- what a pass with so many parts has pushed and popped
-abbrev pub hand : ℕ → List Ticket → List Ticket → Hand
-hand parts pushed popped = record { parts = parts; pushed = pushed; popped = popped }
+abbrev pub hand_of : ℕ → List OpenTask → List OpenTask → Hand
+hand_of parts pushed popped = record { parts = parts; pushed = pushed; popped = popped }
 
 -- one ticket more was pushed
-abbrev pub with_pushed : Hand → Ticket → Hand
-with_pushed v ticket = hand v.parts (v.pushed ++ ticket ∷ []) v.popped
+abbrev pub with_pushed : Hand → OpenTask → Hand
+with_pushed v ticket = hand_of v.parts (v.pushed ++ ticket ∷ []) v.popped
 
 -- one ticket more was popped
-abbrev pub with_popped : Hand → Ticket → Hand
-with_popped v ticket = hand v.parts v.pushed (v.popped ++ ticket ∷ [])
+abbrev pub with_popped : Hand → OpenTask → Hand
+with_popped v ticket = hand_of v.parts v.pushed (v.popped ++ ticket ∷ [])
 
 -- the lists of the one behind the other's
-abbrev pub joined : Hand → Hand → Hand
-joined v w = hand (v.parts + w.parts) (v.pushed ++ w.pushed) (v.popped ++ w.popped)
+abbrev pub joined_hand : Hand → Hand → Hand
+joined_hand v w = hand_of (v.parts + w.parts) (v.pushed ++ w.pushed) (v.popped ++ w.popped)
 
 -- what was pushed is what was popped together with these tickets, however tickets are weighed
-abbrev pub Leaves : List Ticket → List Ticket → List Ticket → Type 0
-Leaves pushed popped tickets = (h : Ticket → ℕ) → sum_by h pushed ≡ sum_by h popped + sum_by h tickets
+abbrev pub Leaves : List OpenTask → List OpenTask → List OpenTask → Type 0
+Leaves pushed popped tickets = (h : OpenTask → ℕ) → sum_by h pushed ≡ sum_by h popped + sum_by h tickets
 
 -- a pass of no part has pushed and popped nothing
 abbrev pub IdleIsEmpty : List Hand → Type 0
@@ -36,9 +36,9 @@ IdleIsEmpty views =
     (port : ℕ) (v : Hand) → get_elem? views port ≡ some v → v.parts ≡ 0 → (v.pushed ≡ []) × (v.popped ≡ [])
 
 -- What all passes pushed is what they popped together with what the queue holds.
-pub record Balanced (tickets : List Ticket) (views : List Hand) : Type 0 where
+pub record Balanced (tickets : List OpenTask) (views : List Hand) : Type 0 where
   pub parts : sum_by (λ v. v.parts) views ≡ all_parts
   pub leaves :
-      (h : Ticket → ℕ)
+      (h : OpenTask → ℕ)
       → sum_by (λ v. sum_by h v.pushed) views ≡ sum_by (λ v. sum_by h v.popped) views + sum_by h tickets
   pub idle : IdleIsEmpty views

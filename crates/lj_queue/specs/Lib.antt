@@ -1,7 +1,7 @@
-pub mod Tickets
+pub mod OpenTask
 pub mod Balance
-pub mod Passes
-pub mod Lists
+pub mod PoolPass
+pub mod ResultList
 pub mod Halls
 pub mod Settling
 pub mod Limits

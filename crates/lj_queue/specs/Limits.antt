@@ -3,15 +3,15 @@ use Rattle.std.specs.Prelude.{◌≡◌, refl}
 use Rattle.lj_book.specs.declared.entries.TheConstants.{MAX_ENTRIES}
 use Rattle.lj_pool.specs.declared.pool.TheConstants.{MAX_OWED}
 use Rattle.lj_queue.specs.declared.hall.TheConstants.{USERS}
-use Rattle.lj_queue.specs.declared.list.TheConstants.{MAX_RESULTS}
-use Rattle.lj_queue.specs.declared.pool.TheConstants.{CONNECTIONS, MAX_OPEN}
+use Rattle.lj_queue.specs.declared.result_list.TheConstants.{MAX_RESULTS}
+use Rattle.lj_queue.specs.declared.queue_pool.TheConstants.{CONNECTIONS, MAX_OPEN_TASKS}
 
 -- at most 1,024 tasks are open
-most_open : MAX_OPEN ≡ 1024
+most_open : MAX_OPEN_TASKS ≡ 1024
 most_open = refl
 
 -- they are as many as a book has entries
-most_open_of_book : MAX_OPEN ≡ MAX_ENTRIES
+most_open_of_book : MAX_OPEN_TASKS ≡ MAX_ENTRIES
 most_open_of_book = refl
 
 -- at most 64 results of a user are kept

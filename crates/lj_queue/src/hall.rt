@@ -1,11 +1,11 @@
 //! What lies under the lock of a pool: results for its users, and the ledger of them all.
 ghost use Rattle.std.specs.Prelude.{◌≡◌, ◌+◌, ◌-◌, ◌<◌, ◌^◌, ◌↔◌, [], None, Some, length, replicate, true, false, vec_len, IfNone, IfOk, IfSome, IsTrue};
 ghost use Rattle.std.specs.List.{All};
-ghost use Rattle.lj_queue.specs.Lists.{none_of, with_last};
+ghost use Rattle.lj_queue.specs.ResultList.{empty_list, with_last};
 ghost use Rattle.lj_pool.specs.declared.waking.TheConstants.{BELLS};
-ghost use Rattle.lj_queue.specs.Halls.{place_of, list_of, present_of, with_own};
+ghost use Rattle.lj_queue.specs.Halls.{bell_of, list_of, present_of, with_list};
 
-use crate::list::{List, MAX_RESULTS};
+use crate::result_list::{MAX_RESULTS, ResultList};
 use lj_pool::{Bells, Share};
 use lj_tile::Done;
 use std::alloc::{AllocError, Global};
@@ -17,7 +17,7 @@ pub const USERS: usize = 64;
 
 /// The place of a user.
 pub(crate) fn place_of(user: u8) -> usize
-    ensures value { result ≡ place_of user }
+    ensures value { result ≡ bell_of user }
     ensures within { result < USERS }
 {
     usize::from(user) % USERS
@@ -26,7 +26,7 @@ pub(crate) fn place_of(user: u8) -> usize
 /// Results for each user, which end of each is present, and the ledger's book of the results that were given.
 #[derive(Drop)]
 pub(crate) struct Hall<L: Ledger> {
-    lists: Vec<List>,
+    lists: Vec<ResultList>,
     /// The number of each user's present end.
     present: [Option<u64>; USERS],
     /// The number of the end that came last, from 1; 0 before one came.
@@ -69,8 +69,8 @@ impl<L: Ledger> Hall<L> {
         ensures last { IfSome result (λ number. self.new.last ≡ number) }
         ensures none { IfNone result (self.old.last ≡ 2 ^ 64 - 1) }
         ensures stays_last { IfNone result (self.new.last ≡ self.old.last) }
-        ensures present { self.new.present ≡ with_own self.old.present user result }
-        ensures lists { self.new.lists.items ≡ with_own self.old.lists.items user (none_of user) }
+        ensures present { self.new.present ≡ with_list self.old.present user result }
+        ensures lists { self.new.lists.items ≡ with_list self.old.lists.items user (empty_list user) }
         ensures bells { self.new.bells ≡ self.old.bells }
         ensures given { self.new.given ≡ self.old.given }
         ensures stays { self.new.closed ≡ self.old.closed }
@@ -84,8 +84,8 @@ impl<L: Ledger> Hall<L> {
 
     /// Drops the user's results. Its present end is gone.
     pub(crate) fn withdraw(&mut self, user: u8)
-        ensures present { self.new.present ≡ with_own self.old.present user None }
-        ensures lists { self.new.lists.items ≡ with_own self.old.lists.items user (none_of user) }
+        ensures present { self.new.present ≡ with_list self.old.present user None }
+        ensures lists { self.new.lists.items ≡ with_list self.old.lists.items user (empty_list user) }
         ensures last { self.new.last ≡ self.old.last }
         ensures bells { self.new.bells ≡ self.old.bells }
         ensures given { self.new.given ≡ self.old.given }
@@ -113,10 +113,12 @@ impl<L: Ledger> Hall<L> {
         share: &mut Share<L>,
     ) -> bool
         ensures kept { let list = list_of self.old.lists.items user in
-            IsTrue result ↔ ((present_of self.old.present user ≡ Some end) × ((length list.results < MAX_RESULTS)
+            IsTrue result
+            ↔ ((present_of self.old.present user ≡ Some end) × ((length list.results < MAX_RESULTS)
             × (done.old.value.name.label.user ≡ list.user)) × (self.old.given < 2 ^ 64 - 1)) }
         ensures lists { result ≡ true → self.new.lists.items
-            ≡ with_own self.old.lists.items user (with_last (list_of self.old.lists.items user) done.old.value) }
+            ≡ with_list self.old.lists.items user
+            (with_last (list_of self.old.lists.items user) done.old.value) }
         ensures given { result ≡ true → self.new.given ≡ self.old.given + 1 }
         ensures credited { result ≡ true → share.new ≡ share.old + 1 }
         ensures dropped { result ≡ false → self.new.lists.items ≡ self.old.lists.items }
@@ -145,12 +147,13 @@ impl<L: Ledger> Hall<L> {
     }
 
     /// Hands out all results of the user, in exchange for an empty list. False where there is none, or the pool is closed.
-    pub(crate) fn hand_out(&mut self, user: u8, hand: &mut List) -> bool
-        requires { hand.old ≡ none_of user }
+    pub(crate) fn hand_out(&mut self, user: u8, hand: &mut ResultList) -> bool
+        requires { hand.old ≡ empty_list user }
         ensures handed_out { result ≡ true → hand.new ≡ list_of self.old.lists.items user }
         ensures whose { hand.new.user ≡ user }
         ensures some { result ≡ true → 0 < length hand.new.results }
-        ensures lists { result ≡ true → self.new.lists.items ≡ with_own self.old.lists.items user (none_of user) }
+        ensures lists { result ≡ true
+            → self.new.lists.items ≡ with_list self.old.lists.items user (empty_list user) }
         ensures none { let list = list_of self.old.lists.items user in
             result ≡ false → self.old.closed ≡ false → list.user ≡ user → list.results ≡ [] }
         ensures unchanged { result ≡ false → self.new.lists.items ≡ self.old.lists.items }
@@ -210,13 +213,13 @@ impl<L: Ledger> Hall<L> {
 }
 
 /// A list of no results for each user.
-fn empty_lists(alloc: Global) -> Result<Vec<List>, AllocError>
+fn empty_lists(alloc: Global) -> Result<Vec<ResultList>, AllocError>
     ensures count { IfOk result (λ lists. vec_len lists ≡ USERS) }
     ensures empty { IfOk result (λ lists. All (λ list. list.results ≡ []) lists.items) }
 {
     let mut lists = Vec::with_capacity(alloc, USERS)?;
     for user in 0..USERS as u8 {
-        lists.push(List::new(alloc, user)?)?;
+        lists.push(ResultList::new(alloc, user)?)?;
     }
     Ok(lists)
 }

@@ -1,20 +1,20 @@
 //! A pool of workers whose open tasks lie in a queue that no lock guards.
 #![tactic(auto)]
 
-mod end;
 mod hall;
-mod list;
+mod open_task;
 mod pass;
-mod pool;
+mod queue_end;
+mod queue_pool;
+mod queue_worker;
 mod rest;
+mod result_list;
 mod rule;
 mod settled;
-mod ticket;
-mod worker;
 
-pub use end::QueueEnd;
+pub use open_task::OpenTask;
 pub use pass::{PoolPass, Room};
-pub use pool::{CONNECTIONS, MAX_OPEN, QueueBlank, QueuePool};
+pub use queue_end::QueueEnd;
+pub use queue_pool::{CONNECTIONS, MAX_OPEN_TASKS, QueueBlank, QueuePool};
+pub use queue_worker::{gather, work_queue};
 pub use settled::Settled;
-pub use ticket::Ticket;
-pub use worker::{gather, work_queue};

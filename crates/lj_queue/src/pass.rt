@@ -1,11 +1,11 @@
 //! Passes of the queue of open tasks, each counted.
 ghost use Rattle.std.specs.Prelude.{◌≡◌, ◌-◌, ◌^◌, ℕ, length, OnErr, OnOk, IfErr, IfNone, IfSome};
 ghost use Rattle.atomic_table.specs.Seated.{TableId};
-ghost use Rattle.lj_queue.specs.Passes.{IsCounted, pushing, popping, trace_of};
+ghost use Rattle.lj_queue.specs.PoolPass.{IsCounted, with_push, with_pop, pass_of};
 
-use crate::list::List;
+use crate::open_task::OpenTask;
+use crate::result_list::ResultList;
 use crate::rule::{OpenTasks, Popped, Pushed, TaskPass};
-use crate::ticket::Ticket;
 use lj_tile::Done;
 use std::alloc::{AllocError, Global};
 use std::marker::{Brand, Model, PhantomData};
@@ -21,7 +21,7 @@ pub trait Room: Ledger {
 
 impl Room for Brand {
     ghost use Rattle.std.specs.Prelude.{[]};
-    ghost use Rattle.lj_queue.specs.Passes.{no_table};
+    ghost use Rattle.lj_queue.specs.PoolPass.{no_table};
 
     ghost table = { no_table };
 
@@ -39,11 +39,11 @@ pub(crate) struct CountedPass<L: Room> {
 }
 
 impl<L: Room> Model for CountedPass<L> {
-    ghost use Rattle.lj_queue.specs.Passes.{IsCounted, Trace, trace_of};
+    ghost use Rattle.lj_queue.specs.PoolPass.{IsCounted, PoolPass, pass_of};
 
-    ghost Value = { Trace };
+    ghost Value = { PoolPass };
 
-    ghost view = { λ p. trace_of p.number p.pass };
+    ghost view = { λ p. pass_of p.number p.pass };
 
     ghost invariant = { λ p. IsCounted L.table p.pass p.pushed p.popped };
 }
@@ -52,7 +52,7 @@ impl<L: Room> CountedPass<L> {
     /// A pass that has pushed and popped nothing.
     pub(crate) fn new(pass: TaskPass, number: usize) -> CountedPass<L>
         requires { IsCounted L.table pass 0 0 }
-        ensures { result ≡ trace_of number pass }
+        ensures { result ≡ pass_of number pass }
     {
         CountedPass {
             pass,
@@ -68,10 +68,10 @@ impl<L: Room> CountedPass<L> {
         &mut self,
         rt: &R,
         queue: &OpenTasks,
-        ticket: Ticket,
-    ) -> Result<(), Ticket>
+        ticket: OpenTask,
+    ) -> Result<(), OpenTask>
         requires { queue.now.table.shared.table_id ≡ L.table }
-        ensures pushed { OnOk result (self.new ≡ pushing self.old ticket) }
+        ensures pushed { OnOk result (self.new ≡ with_push self.old ticket) }
         ensures unchanged { OnErr result (self.new ≡ self.old) }
         ensures handed_back { IfErr result (λ refused. refused ≡ ticket) }
     {
@@ -84,9 +84,9 @@ impl<L: Room> CountedPass<L> {
     }
 
     /// Pops a ticket. None where there is none, or it has popped 2^64 - 1.
-    pub(crate) fn pop<R: Wait>(&mut self, rt: &R, queue: &OpenTasks) -> Option<Ticket>
+    pub(crate) fn pop<R: Wait>(&mut self, rt: &R, queue: &OpenTasks) -> Option<OpenTask>
         requires { queue.now.table.shared.table_id ≡ L.table }
-        ensures popped { IfSome result (λ ticket. self.new ≡ popping self.old ticket) }
+        ensures popped { IfSome result (λ ticket. self.new ≡ with_pop self.old ticket) }
         ensures unchanged { IfNone result (self.new ≡ self.old) }
     {
         if self.popped == u64::MAX {
@@ -102,7 +102,7 @@ impl<L: Room> CountedPass<L> {
 #[derive(Drop)]
 pub(crate) struct Rooms {
     pub(crate) last: Box<Done>,
-    pub(crate) hand: List,
+    pub(crate) hand: ResultList,
 }
 
 impl Rooms {
@@ -113,7 +113,7 @@ impl Rooms {
     pub(crate) fn new(alloc: Global) -> Result<Rooms, AllocError> {
         Ok(Rooms {
             last: Box::new(alloc, Done::blank())?,
-            hand: List::new(alloc, 0)?,
+            hand: ResultList::new(alloc, 0)?,
         })
     }
 }
@@ -126,9 +126,9 @@ pub struct PoolPass<L: Room> {
 }
 
 impl<L: Room> Model for PoolPass<L> {
-    ghost use Rattle.lj_queue.specs.Passes.{Trace};
+    ghost use Rattle.lj_queue.specs.PoolPass.{PoolPass};
 
-    ghost Value = { Trace };
+    ghost Value = { PoolPass };
 
     ghost view = { λ p. p.counted };
 }
@@ -171,7 +171,7 @@ impl<L: Room> PoolPass<L> {
 
     /// The pass of the queue.
     pub(crate) fn into_pass(self) -> TaskPass
-        ensures pass { trace_of self.number result ≡ self }
+        ensures pass { pass_of self.number result ≡ self }
         ensures counted { IsCounted L.table result (length self.pushed) (length self.popped) }
     {
         self.counted.pass

@@ -1,6 +1,6 @@
 //! What the passes of a pool are cut from.
 ghost use Rattle.std.specs.Prelude.{◌≡◌, ◌+◌, ◌-◌, ◌<◌, ◌^◌, ℕ, [], vec_len, slice_index_or, IfOk};
-ghost use Rattle.lj_queue.specs.Passes.{IsOf, IsRest, IsCounted, untouched};
+ghost use Rattle.lj_queue.specs.PoolPass.{IsOf, IsRest, IsCounted, untouched_pass};
 
 use crate::pass::{CountedPass, PoolPass, Room, Rooms};
 use crate::rule::{Cut, OpenTasks, TaskPass};
@@ -35,7 +35,9 @@ pub(crate) fn passes_of<L: Room>(
     requires first { IsRest L.table 0 first }
     requires count { count ≡ L.passes }
     ensures count { IfOk result (λ made. vec_len made.0 ≡ L.passes) }
-    ensures numbered { IfOk result (λ made. (i : ℕ) → i < L.passes → slice_index_or made.0.items i (untouched 0) ≡ untouched i) }
+    ensures numbered { IfOk result
+        (λ made. (i : ℕ) → i < L.passes
+        → slice_index_or made.0.items i (untouched_pass 0) ≡ untouched_pass i) }
 {
     let mut first = first;
     let mut passes = Vec::with_capacity(alloc, count)?;

@@ -1,6 +1,6 @@
 //! The rule of the queue: what its passes pushed is what they popped together with what it holds.
 
-use crate::ticket::Ticket;
+use crate::open_task::OpenTask;
 use crossbeam_queue::protocol::{Join, Lesson, Outcome, Protocol, Split};
 use crossbeam_queue::{Pass, RuledArrayQueue};
 use std::collections::LinkedList;
@@ -8,20 +8,20 @@ use std::collections::LinkedList;
 /// What a pass has pushed and popped, and its parts of the right to know the whole. No value of it is made.
 pub struct Hand {
     pub parts: u64,
-    pub pushed: LinkedList<Ticket>,
-    pub popped: LinkedList<Ticket>,
+    pub pushed: LinkedList<OpenTask>,
+    pub popped: LinkedList<OpenTask>,
 }
 
 /// Nothing is added and nothing is lost.
 pub struct Fair;
 
-impl Protocol<Ticket, Hand> for Fair {
+impl Protocol<OpenTask, Hand> for Fair {
     ghost use Rattle.std.specs.Prelude.{[]};
-    ghost use Rattle.lj_queue.specs.Balance.{Balanced, all_parts, hand};
+    ghost use Rattle.lj_queue.specs.Balance.{Balanced, all_parts, hand_of};
 
     ghost holds = { Balanced };
 
-    ghost first = { hand all_parts [] [] };
+    ghost first = { hand_of all_parts [] [] };
 }
 
 /// A pass is cut in two, or takes another in.
@@ -29,33 +29,33 @@ pub struct Cut;
 
 impl Split<Hand> for Cut {
     ghost use Rattle.std.specs.Prelude.{◌-◌, []};
-    ghost use Rattle.lj_queue.specs.Balance.{hand};
+    ghost use Rattle.lj_queue.specs.Balance.{hand_of};
 
-    ghost left = { λ v. hand (v.parts - 1) v.pushed v.popped };
+    ghost left = { λ v. hand_of (v.parts - 1) v.pushed v.popped };
 
-    ghost right = { λ v. hand 1 [] [] };
+    ghost right = { λ v. hand_of 1 [] [] };
 }
 
 impl Join<Hand> for Cut {
     ghost use Rattle.std.specs.Prelude.{[]};
-    ghost use Rattle.lj_queue.specs.Balance.{hand, joined};
+    ghost use Rattle.lj_queue.specs.Balance.{hand_of, joined_hand};
 
-    ghost both = { joined };
+    ghost both = { joined_hand };
 
-    ghost spent = { hand 0 [] [] };
+    ghost spent = { hand_of 0 [] [] };
 }
 
 /// A ticket is pushed.
 pub struct Pushed;
 
-impl Outcome<Ticket, Hand> for Pushed {
+impl Outcome<OpenTask, Hand> for Pushed {
     ghost use Rattle.std.specs.Prelude.{◌≡◌};
     ghost use Rattle.lj_queue.specs.Balance.{with_pushed};
 
     ghost then = { λ v x w. w ≡ with_pushed v x };
 }
 
-impl Lesson<Ticket, Hand> for Pushed {
+impl Lesson<OpenTask, Hand> for Pushed {
     ghost use Rattle.std.specs.Prelude.{⊤};
 
     ghost fact = { λ v items. ⊤ };
@@ -64,14 +64,14 @@ impl Lesson<Ticket, Hand> for Pushed {
 /// A ticket is popped.
 pub struct Popped;
 
-impl Outcome<Ticket, Hand> for Popped {
+impl Outcome<OpenTask, Hand> for Popped {
     ghost use Rattle.std.specs.Prelude.{◌≡◌};
     ghost use Rattle.lj_queue.specs.Balance.{with_popped};
 
     ghost then = { λ v x w. w ≡ with_popped v x };
 }
 
-impl Lesson<Ticket, Hand> for Popped {
+impl Lesson<OpenTask, Hand> for Popped {
     ghost use Rattle.std.specs.Prelude.{⊤};
 
     ghost fact = { λ v items. ⊤ };
@@ -80,14 +80,14 @@ impl Lesson<Ticket, Hand> for Popped {
 /// What the pass with every part knows of the tickets in the queue.
 pub struct Total;
 
-impl Lesson<Ticket, Hand> for Total {
+impl Lesson<OpenTask, Hand> for Total {
     ghost use Rattle.lj_queue.specs.Balance.{Leaves};
 
     ghost fact = { λ v items. Leaves v.pushed v.popped items };
 }
 
 /// The open tasks, in the order of their posts.
-pub type OpenTasks = RuledArrayQueue<Ticket, Hand, Fair>;
+pub type OpenTasks = RuledArrayQueue<OpenTask, Hand, Fair>;
 
 /// A pass of the queue of open tasks.
-pub type TaskPass = Pass<Ticket, Hand>;
+pub type TaskPass = Pass<OpenTask, Hand>;

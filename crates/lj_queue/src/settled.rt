@@ -1,9 +1,9 @@
 //! What the passes of a pool pushed and popped, and what its queue still holds.
 ghost use Rattle.std.specs.Prelude.{◌≡◌, ◌+◌, vec_len};
-ghost use Rattle.lj_queue.specs.Settling.{pushed_by, popped_by, LeavesOf};
+ghost use Rattle.lj_queue.specs.Settling.{pushes_of, pops_of, LeavesOf};
 
 use crate::pass::{PoolPass, Room};
-use crate::pool::QueuePool;
+use crate::queue_pool::QueuePool;
 use crate::rule::{Cut, Total};
 use std::sync::Wait;
 
@@ -19,8 +19,8 @@ impl<L: Room> QueuePool<L> {
     /// Takes all passes of the pool back, and counts what they pushed and popped and what is left in the queue.
     pub fn settle<R: Wait>(self, rt: &R, passes: Vec<PoolPass<L>>) -> Settled
         requires all { vec_len passes ≡ L.passes }
-        ensures pushed { result.pushed ≡ pushed_by passes.items }
-        ensures popped { result.popped ≡ popped_by passes.items }
+        ensures pushed { result.pushed ≡ pushes_of passes.items }
+        ensures popped { result.popped ≡ pops_of passes.items }
         ensures left { result.pushed ≡ result.popped + result.left }
         ensures same { LeavesOf passes.items result.left }
     {

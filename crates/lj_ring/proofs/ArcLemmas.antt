@@ -10,8 +10,8 @@ use Rattle.lj_ring.proofs.RingLemmas.{upper_half, turns}
 use Rattle.lj_ring.specs.declared.coordinates.Place.{Place}
 use Rattle.lj_ring.specs.declared.arcs.Arc.{Arc}
 use Rattle.lj_ring.specs.declared.arcs.Spans.{Spans}
-use Rattle.lj_ring.specs.Spans.{arc_over, spans_below, widened}
-use Rattle.lj_ring.specs.Ring.{image, ring_sub, in_ring, IsOnRing, place_at, distance, square}
+use Rattle.lj_ring.specs.Spans.{arc_over, spans_below, wider_spans}
+use Rattle.lj_ring.specs.Ring.{image, ring_difference, ring_residue, IsOnRing, place_at, distance, square}
 use Rattle.lj_ring.specs.Arcs.{gap, IsOnArc, least_below, greatest_below, offset, arc_along, arcs_of, squared_gap, AreOn}
 
 -- the size of a residue as a signed number
@@ -24,24 +24,24 @@ size_of_signed n in_n =
 
 -- the way from one coordinate to another, over the starts of the arcs that they lie on
 way : (a b p q : ℕ) → a < 2 ^ 32 → b < 2 ^ 32 → p < 2 ^ 32 → q < 2 ^ 32
-    → ring_sub p a < ring_sub b a → ring_sub q b < ring_sub a b
-    → ring_sub q p ≡ ring_sub b a + ring_sub q b - ring_sub p a
+    → ring_difference p a < ring_difference b a → ring_difference q b < ring_difference a b
+    → ring_difference q p ≡ ring_difference b a + ring_difference q b - ring_difference p a
 way a b p q in_a in_b in_p in_q before after = omega arith
 
 -- the ways round, there and back
-back : (p q : ℕ) → p < 2 ^ 32 → q < 2 ^ 32 → 0 < ring_sub q p → ring_sub p q ≡ 2 ^ 32 - ring_sub q p
+back : (p q : ℕ) → p < 2 ^ 32 → q < 2 ^ 32 → 0 < ring_difference q p → ring_difference p q ≡ 2 ^ 32 - ring_difference q p
 back p q in_p in_q some = omega arith
 
 -- two coordinates are at least as far apart, either way round, as the shorter gap between the arcs that they lie on
 apart : (a b m n p q : ℕ) → a < 2 ^ 32 → b < 2 ^ 32 → p < 2 ^ 32 → q < 2 ^ 32
-    → ring_sub p a ≤ m → ring_sub q b ≤ n → m < ring_sub b a → n < ring_sub a b
-    → min (ring_sub b a - m) (ring_sub a b - n) ≤ min (ring_sub p q) (2 ^ 32 - ring_sub p q)
+    → ring_difference p a ≤ m → ring_difference q b ≤ n → m < ring_difference b a → n < ring_difference a b
+    → min (ring_difference b a - m) (ring_difference a b - n) ≤ min (ring_difference p q) (2 ^ 32 - ring_difference p q)
 apart a b m n p q in_a in_b in_p in_q on_p on_q before after =
-    let w : ring_sub q p ≡ ring_sub b a + ring_sub q b - ring_sub p a =
+    let w : ring_difference q p ≡ ring_difference b a + ring_difference q b - ring_difference p a =
     way a b p q in_a in_b in_p in_q (omega (arith, on_p, before)) (omega (arith, on_q, after)) in
-    let v : ring_sub a b ≡ 2 ^ 32 - ring_sub b a = back a b in_a in_b (omega (arith, before)) in
-    let u : ring_sub p q ≡ 2 ^ 32 - ring_sub q p = back p q in_p in_q (omega (arith, w, on_p, before)) in
-    shorter (ring_sub b a) (ring_sub a b) (ring_sub p a) (ring_sub q b) (ring_sub p q) (ring_sub q p) m n w v u
+    let v : ring_difference a b ≡ 2 ^ 32 - ring_difference b a = back a b in_a in_b (omega (arith, before)) in
+    let u : ring_difference p q ≡ 2 ^ 32 - ring_difference q p = back p q in_p in_q (omega (arith, w, on_p, before)) in
+    shorter (ring_difference b a) (ring_difference a b) (ring_difference p a) (ring_difference q b) (ring_difference p q) (ring_difference q p) m n w v u
     on_p on_q before after (omega arith)
   where
     shorter : (d e s t r l m n : ℕ) → l ≡ d + t - s → e ≡ 2 ^ 32 - d → r ≡ 2 ^ 32 - l
@@ -52,21 +52,21 @@ apart a b m n p q in_a in_b in_p in_q on_p on_q before after =
 pub gap_least : (a b : Arc) → (p q : ℕ) → a.start < 2 ^ 32 → b.start < 2 ^ 32 → p < 2 ^ 32 → q < 2 ^ 32
     → IsOnArc a p → IsOnArc b q → gap a b ≤ unsigned_abs (image p q)
 gap_least a b p q in_a in_b in_p in_q on_p on_q =
-    rw (size_of_signed (ring_sub p q) (omega arith))
-    (elim (cases_lt a.len (ring_sub b.start a.start)) [
+    rw (size_of_signed (ring_difference p q) (omega arith))
+    (elim (cases_lt a.len (ring_difference b.start a.start)) [
       | inl before ↦
-          elim (cases_lt b.len (ring_sub a.start b.start)) [
+          elim (cases_lt b.len (ring_difference a.start b.start)) [
             | inl after ↦
-                let far : (nat_le (ring_sub b.start a.start) a.len || nat_le (ring_sub a.start b.start) b.len) ≡ false =
+                let far : (nat_le (ring_difference b.start a.start) a.len || nat_le (ring_difference a.start b.start) b.len) ≡ false =
                 grind (arith, nat_tests) in
                 rw far (apart a.start b.start a.len b.len p q in_a in_b in_p in_q on_p on_q before after)
             | inr on ↦
-                let near : (nat_le (ring_sub b.start a.start) a.len || nat_le (ring_sub a.start b.start) b.len) ≡ true =
+                let near : (nat_le (ring_difference b.start a.start) a.len || nat_le (ring_difference a.start b.start) b.len) ≡ true =
                 grind (arith, nat_tests) in
                 rw near (omega arith)
           ]
       | inr on ↦
-          let near : (nat_le (ring_sub b.start a.start) a.len || nat_le (ring_sub a.start b.start) b.len) ≡ true =
+          let near : (nat_le (ring_difference b.start a.start) a.len || nat_le (ring_difference a.start b.start) b.len) ≡ true =
           grind (arith, nat_tests) in
           rw near (omega arith)
     ])
@@ -141,12 +141,12 @@ greatest_to zero f each = omega (arith, ints)
 greatest_to (suc n) f each = greater_to (pos (2 ^ 31)) (greatest_below n f) (f n) (greatest_to n f each) (each n)
 
 -- a coordinate that a whole number comes to is that number but for whole turns
-rounds : (z : ℤ) → (k : ℤ) × (pos (in_ring z) ≡ z +ℤ k *ℤ pos (2 ^ 32))
+rounds : (z : ℤ) → (k : ℤ) × (pos (ring_residue z) ≡ z +ℤ k *ℤ pos (2 ^ 32))
 rounds (pos a) = (neg_ℤ (pos (a / 2 ^ 32)), omega (arith, ints))
 rounds (negsuc a) = (pos (a / 2 ^ 32 + 1), omega (arith, ints))
 
 -- that coordinate lies on the ring
-in_ring_below : (z : ℤ) → in_ring z < 2 ^ 32
+in_ring_below : (z : ℤ) → ring_residue z < 2 ^ 32
 in_ring_below (pos a) = omega arith
 in_ring_below (negsuc a) = omega arith
 
@@ -154,11 +154,11 @@ in_ring_below (negsuc a) = omega arith
 from_start : (c s start : ℕ) → (f lo k turns : ℤ) → c < 2 ^ 32 → start < 2 ^ 32
     → f ≡ pos c -ℤ pos s +ℤ k *ℤ pos (2 ^ 32) → pos start ≡ pos s +ℤ lo +ℤ turns *ℤ pos (2 ^ 32)
     → neg_ℤ (pos (2 ^ 31)) ≤ℤ lo → f <ℤ pos (2 ^ 31) → lo ≤ℤ f
-    → ring_sub c start ≡ unsigned_abs (f -ℤ lo)
+    → ring_difference c start ≡ unsigned_abs (f -ℤ lo)
 from_start c s start f lo k turns in_c in_start e begins low high over =
     elim (cases_lt c start) [
-      | inl under ↦ let r : ring_sub c start ≡ c + (2 ^ 32 - start) = omega arith in rw r (omega (arith, ints))
-      | inr past ↦ let r : ring_sub c start ≡ c - start = omega arith in rw r (omega (arith, ints))
+      | inl under ↦ let r : ring_difference c start ≡ c + (2 ^ 32 - start) = omega arith in rw r (omega (arith, ints))
+      | inr past ↦ let r : ring_difference c start ≡ c - start = omega arith in rw r (omega (arith, ints))
     ]
 
 -- an image lies on the ring's half before or after
@@ -184,8 +184,8 @@ on_arc_along axis places on_ring i in_n =
     let lo = least_below n f in
     let t = turns c s (on_ring i in_n) (on_ring 0 (omega (arith, in_n))) in
     let r = rounds (pos s +ℤ lo) in
-    let e : ring_sub c (in_ring (pos s +ℤ lo)) ≡ unsigned_abs (f i -ℤ lo) =
-    from_start c s (in_ring (pos s +ℤ lo)) (f i) lo t.0 r.0 (on_ring i in_n) (in_ring_below (pos s +ℤ lo)) t.1 r.1
+    let e : ring_difference c (ring_residue (pos s +ℤ lo)) ≡ unsigned_abs (f i -ℤ lo) =
+    from_start c s (ring_residue (pos s +ℤ lo)) (f i) lo t.0 r.0 (on_ring i in_n) (in_ring_below (pos s +ℤ lo)) t.1 r.1
     (least_from n f (λ j. image_from (axis (place_at places j)) s)) (image_to c s) (least_each n f i in_n) in
     rw e (within (f i) lo (greatest_below n f) (least_each n f i in_n) (greatest_each n f i in_n))
 
@@ -231,7 +231,7 @@ squared_gap_least ps qs ring_p ring_q i j in_p in_q =
 
 -- spans widened by the next place
 pub next_spans : (spans more : Spans) → (places : List Place) → (n : ℕ) → (first : Place) → (place : Place)
-    → spans ≡ spans_below n places → more ≡ widened spans place first → first ≡ place_at places 0
+    → spans ≡ spans_below n places → more ≡ wider_spans spans place first → first ≡ place_at places 0
     → place ≡ place_at places n → more ≡ spans_below (n + 1) places
 next_spans spans more places n first place held is at_first at_n =
     let e : suc n ≡ n + 1 = omega arith in

@@ -5,7 +5,7 @@ use Rattle.std.specs.Int.{int_min, int_max}
 use Rattle.lj_ring.specs.declared.coordinates.Place.{Place}
 use Rattle.lj_ring.specs.declared.arcs.Arc.{Arc}
 use Rattle.lj_ring.specs.declared.arcs.Arcs.{Arcs}
-use Rattle.lj_ring.specs.Ring.{image, in_ring, ring_sub, place_at}
+use Rattle.lj_ring.specs.Ring.{image, ring_residue, ring_difference, place_at}
 
 -- the least of 0 and the first n of some numbers
 abbrev pub least_below : ℕ → (ℕ → ℤ) → ℤ
@@ -27,7 +27,7 @@ abbrev pub arc_along : (Place → ℕ) → List Place → Arc
 arc_along axis places =
     let lo = least_below (length places) (offset axis places) in
     let hi = greatest_below (length places) (offset axis places) in
-    record { start = in_ring (pos (axis (place_at places 0)) +ℤ lo); len = unsigned_abs (hi -ℤ lo) }
+    record { start = ring_residue (pos (axis (place_at places 0)) +ℤ lo); len = unsigned_abs (hi -ℤ lo) }
 
 -- the arcs of some atoms
 unfoldable pub arcs_of : List Place → Arcs
@@ -39,7 +39,7 @@ arcs_of places = record {
 
 -- a coordinate lies on an arc: it is reached by going on from the start, at most to the end
 abbrev pub IsOnArc : Arc → ℕ → Type 0
-IsOnArc arc c = ring_sub c arc.start ≤ arc.len
+IsOnArc arc c = ring_difference c arc.start ≤ arc.len
 
 -- a place lies on the arcs along each axis
 pub record IsOn (arcs : Arcs) (place : Place) : Type 0 where
@@ -54,8 +54,8 @@ AreOn arcs places = (i : ℕ) → i < length places → IsOn arcs (place_at plac
 -- the gap between two arcs, the shorter way round the ring: 0 where one begins on the other
 abbrev pub gap : Arc → Arc → ℕ
 gap a b =
-    let d = ring_sub b.start a.start in
-    let e = ring_sub a.start b.start in
+    let d = ring_difference b.start a.start in
+    let e = ring_difference a.start b.start in
     if nat_le d a.len || nat_le e b.len then 0 else min (d - a.len) (e - b.len)
 
 -- the squared gap of two blocks: the sum of the squares of the gaps along each axis

@@ -1,7 +1,7 @@
 -- What a scale keeps beside its three numbers.
 use Rattle.std.specs.Prelude.{ℕ, ◌*◌, ◌^◌, ◌<◌, ◌≤◌, ◌≡◌}
 use Rattle.std.specs.Int.{div_ceil}
-use Rattle.lj_ring.specs.Scales.{Units}
+use Rattle.lj_ring.specs.Scale.{Scale}
 use Rattle.lj_ring.specs.declared.scales.TheConstants.{MIN_SIGMA, MAX_STEP_FACTOR, CUTOFF_HALVES}
 use Rattle.lj_ring.specs.declared.scales.Scale.TheInside.{Inside}
 
@@ -14,8 +14,8 @@ abbrev pub inverse_of : ℕ → ℕ
 inverse_of square = div_ceil (2 ^ 95) square
 
 -- the scale that is kept
-abbrev pub units_of_kept : Inside → Units
-units_of_kept a = record { edge = a.edge; sigma = a.sigma; strength = a.strength }
+abbrev pub scale_of_kept : Inside → Scale
+scale_of_kept a = record { edge = a.edge; sigma = a.sigma; strength = a.strength }
 
 -- the kept numbers are those of sigma
 pub record IsKept (a : Inside) : Type 0 where
@@ -27,7 +27,7 @@ pub record IsKept (a : Inside) : Type 0 where
   pub inverse_is : a.inverse ≡ inverse_of (a.sigma * a.sigma)
 
 -- what is kept of a scale
-abbrev pub kept_of : Units → Inside
+abbrev pub kept_of : Scale → Inside
 kept_of u = record {
   edge = u.edge;
   sigma = u.sigma;
@@ -60,6 +60,6 @@ same_kept : (edge sigma strength square square' reach reach' inverse inverse' : 
     b ≡ a)
 same_kept edge sigma strength square square' reach reach' inverse inverse' p q r = cc
 
-pub kept_of-units : (a : Inside) → IsKept a → kept_of (units_of_kept a) ≡ a
+pub kept_of-units : (a : Inside) → IsKept a → kept_of (scale_of_kept a) ≡ a
 kept_of-units a h =
     same_kept a.edge a.sigma a.strength a.sigma_square _ a.reach _ a.inverse _ h.square_is h.reach_is h.inverse_is

@@ -2,8 +2,8 @@ pub mod Ring
 pub mod Places
 pub mod Arcs
 pub mod Spans
-pub mod Scales
-pub mod Mixes
+pub mod Scale
+pub mod Mix
 pub mod Kept
 pub mod FaultTexts
 pub mod Worked

@@ -1,6 +1,6 @@
 -- Places in the ring of positions in file units, of which a Nano counts the billionths.
 use Rattle.std.specs.Prelude.{ℕ, ◌*◌, ◌/◌, ◌^◌, ℤ, pos, negsuc, ◌*ℤ◌}
-use Rattle.lj_ring.specs.Ring.{in_ring}
+use Rattle.lj_ring.specs.Ring.{ring_residue}
 
 -- the quotient rounded down
 abbrev pub floor_div : ℤ → ℕ → ℤ
@@ -13,7 +13,7 @@ units_of edge length = floor_div (length *ℤ pos (2 ^ 32)) edge
 
 -- the place on the ring of a coordinate
 abbrev pub place_of : ℕ → ℤ → ℕ
-place_of edge position = in_ring (units_of edge position)
+place_of edge position = ring_residue (units_of edge position)
 
 -- the coordinate of a place in millionths of a file unit, rounded down
 abbrev pub micro_of : ℕ → ℕ → ℕ

@@ -15,12 +15,12 @@ abbrev pub place_at : List Place → ℕ → Place
 place_at places i = slice_index_or places i (record { x = 0; y = 0; z = 0 })
 
 -- a difference on the ring
-abbrev pub ring_sub : ℕ → ℕ → ℕ
-ring_sub a b = (a + (2 ^ 32 - b)) % 2 ^ 32
+abbrev pub ring_difference : ℕ → ℕ → ℕ
+ring_difference a b = (a + (2 ^ 32 - b)) % 2 ^ 32
 
 -- the coordinate that a whole number of units comes to, once round the ring as often as need be
-abbrev pub in_ring : ℤ → ℕ
-in_ring z = unsigned_abs (int_rem_euclid z (pos (2 ^ 32)))
+abbrev pub ring_residue : ℤ → ℕ
+ring_residue z = unsigned_abs (int_rem_euclid z (pos (2 ^ 32)))
 
 -- the least image of the difference a - b, in -2^31 ..= 2^31 - 1
 abbrev pub image : ℕ → ℕ → ℤ

@@ -6,7 +6,7 @@ use Rattle.lj_ring.specs.declared.arcs.Arc.{Arc}
 use Rattle.lj_ring.specs.declared.arcs.Span.{Span}
 use Rattle.lj_ring.specs.declared.arcs.Spans.{Spans}
 use Rattle.lj_ring.specs.Arcs.{greatest_below, least_below, offset}
-use Rattle.lj_ring.specs.Ring.{image, in_ring}
+use Rattle.lj_ring.specs.Ring.{image, ring_residue}
 
 -- what the first n places come to along an axis
 abbrev pub span_below : ℕ → (Place → ℕ) → List Place → Span
@@ -24,21 +24,21 @@ spans_below n places = record {
 }
 
 -- with an image more
-abbrev pub reaching : Span → ℕ → ℕ → Span
-reaching span to from = record {
+abbrev pub span_reaching : Span → ℕ → ℕ → Span
+span_reaching span to from = record {
   least = int_min span.least (image to from);
   greatest = int_max span.greatest (image to from);
 }
 
 -- with a place more
-abbrev pub widened : Spans → Place → Place → Spans
-widened spans place first = record {
-  x = reaching spans.x place.x first.x;
-  y = reaching spans.y place.y first.y;
-  z = reaching spans.z place.z first.z;
+abbrev pub wider_spans : Spans → Place → Place → Spans
+wider_spans spans place first = record {
+  x = span_reaching spans.x place.x first.x;
+  y = span_reaching spans.y place.y first.y;
+  z = span_reaching spans.z place.z first.z;
 }
 
 -- the arc that reaches so far on both sides of a coordinate
 abbrev pub arc_over : Span → ℕ → Arc
 arc_over span middle =
-    record { start = in_ring (pos middle +ℤ span.least); len = unsigned_abs (span.greatest -ℤ span.least) }
+    record { start = ring_residue (pos middle +ℤ span.least); len = unsigned_abs (span.greatest -ℤ span.least) }

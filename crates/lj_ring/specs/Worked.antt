@@ -2,7 +2,7 @@
 use Rattle.std.specs.Prelude.{◌≡◌, ◌+◌, ◌-◌, ◌*◌, ◌^◌, true, false, pos, negsuc, [], ◌∷◌, Ok, Err, refl}
 use Rattle.lj_ring.specs.declared.scales.ScaleFault.TheVariants.{Edge, Sigma, StepFactor}
 use Rattle.lj_ring.specs.Arcs.{arcs_of, gap, squared_gap}
-use Rattle.lj_ring.specs.Scales.{Units, scale_of, interacts, entry}
+use Rattle.lj_ring.specs.Scale.{Scale, scale_of, is_in_cutoff, entry}
 
 least_edge : scale_of (pos (10 ^ 6)) (pos (10 ^ 5)) 1 ≡ Ok (record { edge = 10 ^ 6; sigma = 429496729; strength = 1 })
 least_edge = refl
@@ -33,14 +33,14 @@ step_factor_too_large : scale_of (pos (2 ^ 32)) (pos 65536) (2 ^ 24 + 1) ≡ Err
 step_factor_too_large = refl
 
 -- 2.5 sigma of 65,536 units are 163,840
-units : Units
+units : Scale
 units = record { edge = 2 ^ 32; sigma = 65536; strength = 1 }
 
-below_the_cutoff : interacts units (163840 ^ 2 - 1) ≡ true
+below_the_cutoff : is_in_cutoff units (163840 ^ 2 - 1) ≡ true
 unfolding units
 below_the_cutoff = refl
 
-at_the_cutoff : interacts units (163840 ^ 2) ≡ false
+at_the_cutoff : is_in_cutoff units (163840 ^ 2) ≡ false
 unfolding units
 at_the_cutoff = refl
 

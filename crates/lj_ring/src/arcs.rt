@@ -2,7 +2,7 @@
 ghost use Rattle.std.specs.Prelude.{ℕ, ◌≡◌, ◌≤◌, ◌<◌, ◌^◌, ◌*◌, length, unsigned_abs};
 ghost use Rattle.lj_ring.specs.Arcs as arcs;
 ghost use Rattle.lj_ring.specs.Ring.{IsOnRing, image, place_at};
-ghost use Rattle.lj_ring.specs.Spans.{arc_over, reaching, spans_below, widened};
+ghost use Rattle.lj_ring.specs.Spans.{arc_over, span_reaching, spans_below, wider_spans};
 
 use crate::coordinates::{self, Place};
 
@@ -85,7 +85,7 @@ impl Span {
     /// It, with the image of a coordinate more.
     #[inline(always)]
     fn with(self, to: u32, from: u32) -> Span
-        ensures { result ≡ reaching self to from }
+        ensures { result ≡ span_reaching self to from }
     {
         let image = coordinates::image(to, from);
         Span {
@@ -136,7 +136,7 @@ impl Spans {
 
     #[inline(always)]
     fn with(self, place: Place, first: Place) -> Spans
-        ensures value { result ≡ widened self place first }
+        ensures value { result ≡ wider_spans self place first }
         ensures on_ring { IsOnRing place }
     {
         Spans {

@@ -1,7 +1,7 @@
 //! Mixtures of two species of atoms.
 ghost use Rattle.std.specs.Prelude.{ℕ, ℤ, ◌≡◌, ◌≤◌, ◌^◌, ◌∷◌, [], IsTrue, SomeIff, nat_lt};
-ghost use Rattle.lj_ring.specs.Mixes as mixtures;
-ghost use Rattle.lj_ring.specs.Mixes.{class_of, edge_of, can_interact, weight_fits, mixture_of, IsMixture};
+ghost use Rattle.lj_ring.specs.Mix as mixtures;
+ghost use Rattle.lj_ring.specs.Mix.{class_of, edge_of, can_interact, is_weight, mixture_of, IsMixture};
 
 use crate::scales::{Edge, Scale, ScaleFault};
 use lj_fixed::Nano;
@@ -51,7 +51,7 @@ impl Weight {
 
     /// The weight of so many 256ths, where it fits.
     fn new(parts: u64) -> Option<Weight>
-        ensures { SomeIff result (IsTrue (weight_fits parts)) parts }
+        ensures { SomeIff result (IsTrue (is_weight parts)) parts }
     {
         if 1 <= parts && parts <= u64::from(MAX_WEIGHT) {
             Some(Weight {
@@ -140,11 +140,11 @@ pub struct Mix {
 }
 
 impl Model for Mix {
-    ghost use Rattle.lj_ring.specs.Mixes.{Mixture};
+    ghost use Rattle.lj_ring.specs.Mix.{Mix};
 
-    ghost Value = { Mixture };
+    ghost Value = { Mix };
 
-    ghost use Rattle.lj_ring.specs.Mixes.{mixed, class_of};
+    ghost use Rattle.lj_ring.specs.Mix.{mixed, class_of};
     ghost use Rattle.lj_ring.specs.declared.mixes.Species.TheVariants.{First, Second};
 
     ghost view = { λ m. mixed m.first m.unlike m.second };
@@ -177,7 +177,7 @@ impl Mix {
 
     /// The mixture in which all atoms are alike: one class of the whole weight.
     pub fn one(scale: Scale) -> Mix
-        ensures { result ≡ mixtures.pure scale }
+        ensures { result ≡ mixtures.pure_mix scale }
     {
         Mix {
             first: whole_class(&scale),

@@ -2,7 +2,7 @@
 ghost use Rattle.std.specs.Prelude.{ℕ, ◌≡◌, ◌≤◌, ◌<◌, ◌+◌, ◌*◌, ◌/◌, ◌^◌, ◌⊎◌, IsTrue, IsFalse, IfSome, MatchOption};
 ghost use Rattle.std.specs.Prelude.{SomeIff, unsigned_abs, nat_lt, true, false};
 ghost use Rattle.lj_ring.specs.Places.{units_of};
-ghost use Rattle.lj_ring.specs.Scales.{edge_fits, sigma_fits, strength_fits, scale_of, bin, interacts, least, IsScale};
+ghost use Rattle.lj_ring.specs.Scale.{is_edge, is_sigma, is_strength, scale_of, bin, is_in_cutoff, least_scale, IsScale};
 
 use lj_fixed::{MAX_NANO, Nano};
 use std::fmt;
@@ -65,7 +65,7 @@ impl Edge {
 
     /// An edge of this length, where it fits.
     fn new(length: Nano) -> Option<Edge>
-        ensures { SomeIff result (IsTrue (edge_fits length)) (unsigned_abs length) }
+        ensures { SomeIff result (IsTrue (is_edge length)) (unsigned_abs length) }
     {
         let nano = u64::try_from(length.get()).ok()?;
         if MIN_EDGE <= nano && nano <= MAX_EDGE {
@@ -117,13 +117,13 @@ pub struct Scale {
 }
 
 impl Model for Scale {
-    ghost use Rattle.lj_ring.specs.Scales.{Units};
+    ghost use Rattle.lj_ring.specs.Scale.{Scale};
 
-    ghost Value = { Units };
+    ghost Value = { Scale };
 
-    ghost use Rattle.lj_ring.specs.Kept.{units_of_kept, IsKept, kept_of, kept_of-units};
+    ghost use Rattle.lj_ring.specs.Kept.{scale_of_kept, IsKept, kept_of, kept_of-units};
 
-    ghost view = { units_of_kept };
+    ghost view = { scale_of_kept };
 
     ghost invariant = { IsKept };
 
@@ -152,7 +152,7 @@ impl Scale {
 
     /// The scale of the greatest box, with the least sigma and the least step factor.
     pub fn least() -> Scale
-        ensures { result ≡ least }
+        ensures { result ≡ least_scale }
     {
         Scale::of(Edge { nano: MAX_EDGE }, MIN_SIGMA, 1)
     }
@@ -178,7 +178,7 @@ impl Scale {
     /// it.
     #[inline]
     pub fn reach(&self) -> u64
-        ensures value { (s : ℕ) → interacts self.now s ≡ nat_lt s result }
+        ensures value { (s : ℕ) → is_in_cutoff self.now s ≡ nat_lt s result }
         ensures most { result ≤ 2 ^ 62 }
     {
         self.reach
@@ -187,7 +187,8 @@ impl Scale {
     /// The bin, below [`BINS`], of a pair at squared distance `s`, or None where it does not interact.
     #[inline]
     pub fn bin_within_reach(&self, s: u64) -> Option<usize>
-        ensures reach { MatchOption result (interacts self.now s ≡ false) (λ _. interacts self.now s ≡ true) }
+        ensures reach { MatchOption result (is_in_cutoff self.now s ≡ false)
+            (λ _. is_in_cutoff self.now s ≡ true) }
         ensures value { IfSome result (λ k. k ≡ bin self.now s) }
         ensures within { IfSome result (λ k. k < BINS) }
     {
@@ -219,7 +220,8 @@ impl Scale {
 
 /// Sigma in ring units, where it fits.
 fn sigma_in_units(sigma: Nano, edge: &Edge) -> Option<u32>
-    ensures { SomeIff result (IsTrue (sigma_fits (units_of edge.now sigma))) (unsigned_abs (units_of edge.now sigma)) }
+    ensures { SomeIff result (IsTrue (is_sigma (units_of edge.now sigma)))
+        (unsigned_abs (units_of edge.now sigma)) }
 {
     let sigma = sigma.get();
     if sigma < 0 {
@@ -234,7 +236,7 @@ fn sigma_in_units(sigma: Nano, edge: &Edge) -> Option<u32>
 }
 
 fn step_factor(h: u64) -> Option<u32>
-    ensures { SomeIff result (IsTrue (strength_fits h)) h }
+    ensures { SomeIff result (IsTrue (is_strength h)) h }
 {
     if 1 <= h && h <= u64::from(MAX_STEP_FACTOR) {
         Some(h as u32)

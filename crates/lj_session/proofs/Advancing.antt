@@ -7,9 +7,9 @@ use Rattle.lj_session.specs.declared.command.Command.{Command}
 use Rattle.lj_session.specs.declared.command.Command.TheVariants.{Advance}
 use Rattle.lj_session.specs.declared.reply.Reply.{Reply}
 use Rattle.lj_session.specs.declared.reply.Reply.TheVariants as reply
-use Rattle.lj_branch.specs.Named.{named}
+use Rattle.lj_branch.specs.Named.{value_named}
 use Rattle.lj_session.specs.Users.{Session, User}
-use Rattle.lj_session.specs.Answers.{performed, answer, settled, can_advance, with_sim}
+use Rattle.lj_session.specs.Answers.{command_result, answer, reply_and_user, can_advance, with_sim}
 use Rattle.lj_session.proofs.Entries.{named-put, put-put}
 use Rattle.lj_session.proofs.Owed.{step-steps}
 use Rattle.lj_session.proofs.Performing.{advance-on}
@@ -17,10 +17,10 @@ use Rattle.lj_session.proofs.Turning.{near-nothing}
 
 -- what is answered where no refusal is
 pub answered : (user : User) (command : Command) (mark : Bool) (reply : Reply) (next : User)
-    → performed user command mark ≡ Ok (reply, next) → (reply, next) ≡ answer user command mark
-answered user command mark reply next h = sym (ap (settled user) h)
+    → command_result user command mark ≡ Ok (reply, next) → (reply, next) ≡ answer user command mark
+answered user command mark reply next h = sym (ap (reply_and_user user) h)
 
-module _ (user : User) (name : List ℕ) (session : Session) (found : named name user.sessions ≡ Some session)
+module _ (user : User) (name : List ℕ) (session : Session) (found : value_named name user.sessions ≡ Some session)
     (n : ℕ) (near : can_advance session n ≡ true) where
   -- the session with the steps done
   abbrev pub after : Session
@@ -29,7 +29,7 @@ module _ (user : User) (name : List ℕ) (session : Session) (found : named name
   -- what the ADVANCE is answered
   pub advanced : (mark : Bool) → answer user (Advance name n) mark
       ≡ (reply.Advanced name after.sim.step, with_sim name session after.sim user)
-  advanced mark = ap (settled user) (advance-on user name mark session found n near)
+  advanced mark = ap (reply_and_user user) (advance-on user name mark session found n near)
 
   -- the step number after the steps is in range
   pub in_range : unsigned_abs (steps session.composition n session.sim).step ≤ 10 ^ 12
@@ -43,11 +43,11 @@ module _ (user : User) (name : List ℕ) (session : Session) (found : named name
   pub alike : (mark : Bool) → answer (with_sim name session after.sim user) (Advance name 0) mark
       ≡ answer user (Advance name n) mark
   alike mark =
-      let then : named name (with_sim name session after.sim user).sessions ≡ Some after =
+      let then : value_named name (with_sim name session after.sim user).sessions ≡ Some after =
       named-put name user.sessions session after found in
       let still = near-nothing after in_range in
       let again = put-put name user.sessions session after after found in
-      ap (settled (with_sim name session after.sim user))
+      ap (reply_and_user (with_sim name session after.sim user))
       (advance-on (with_sim name session after.sim user) name mark after then 0 still)
       ∙ ap (λ (entries : List (List ℕ × Session)). (reply.Advanced name after.sim.step, record user { sessions = entries })) again
       ∙ sym (advanced mark)

@@ -4,9 +4,9 @@ use Rattle.std.proofs.lemmas.Bool.{false≢true, lt-ltb, le-ltb, le-leb, lt-leb,
 use Rattle.lj_quota.specs.declared.Used.{Used}
 use Rattle.lj_quota.specs.declared.Over.{Over}
 use Rattle.lj_session.specs.declared.state.UserState.TheInside.{Inside}
-use Rattle.lj_session.specs.Totals.{owned_of}
+use Rattle.lj_session.specs.Totals.{state_of_kept}
 use Rattle.lj_session.specs.Users.{sessions_used, atoms_used, branches_used}
-use Rattle.lj_session.specs.States.{Owned, user_of, used_by}
+use Rattle.lj_session.specs.UserState.{UserState, user_of, used_by}
 use Rattle.lj_session.proofs.Entries.{by_test}
 
 -- what is not within a limit is over it
@@ -26,45 +26,45 @@ module _ {total limit m n : ℕ} (same : total ≡ m) (allowed : limit ≡ n) wh
   more-room : total + 1 ≤ limit → nat_lt m n ≡ true
   more-room h = lt-ltb m n (omega (arith, h, same, allowed))
 
-module _ (a : Inside) (old : Owned) (view : owned_of a ≡ old) (counted : a.used ≡ used_by (owned_of a)) where
+module _ (a : Inside) (old : UserState) (view : state_of_kept a ≡ old) (counted : a.used ≡ used_by (state_of_kept a)) where
   before : a.used ≡ used_by old
   before = counted ∙ ap used_by view
 
   pub sessions-over : a.quota.sessions < a.used.sessions + 1
       → nat_lt (sessions_used (user_of old)) old.quota.sessions ≡ false
-  sessions-over = more-over (ap (λ (v : Used). v.sessions) before) (ap (λ (o : Owned). o.quota.sessions) view)
+  sessions-over = more-over (ap (λ (v : Used). v.sessions) before) (ap (λ (o : UserState). o.quota.sessions) view)
 
   pub sessions-room : a.used.sessions + 1 ≤ a.quota.sessions
       → nat_lt (sessions_used (user_of old)) old.quota.sessions ≡ true
-  sessions-room = more-room (ap (λ (v : Used). v.sessions) before) (ap (λ (o : Owned). o.quota.sessions) view)
+  sessions-room = more-room (ap (λ (v : Used). v.sessions) before) (ap (λ (o : UserState). o.quota.sessions) view)
 
   pub sessions-within : nat_lt (sessions_used (user_of old)) old.quota.sessions ≡ true
       → a.used.sessions + 1 ≤ a.quota.sessions
   sessions-within room =
       let u = ap (λ (v : Used). v.sessions) before in
-      let q = ap (λ (o : Owned). o.quota.sessions) view in
+      let q = ap (λ (o : UserState). o.quota.sessions) view in
       let h = ltb-true (sessions_used (user_of old)) old.quota.sessions room in
       omega (arith, h, u, q)
 
   pub branches-over : a.quota.branches < a.used.branches + 1
       → nat_lt (branches_used (user_of old)) old.quota.branches ≡ false
-  branches-over = more-over (ap (λ (v : Used). v.branches) before) (ap (λ (o : Owned). o.quota.branches) view)
+  branches-over = more-over (ap (λ (v : Used). v.branches) before) (ap (λ (o : UserState). o.quota.branches) view)
 
   pub branches-room : a.used.branches + 1 ≤ a.quota.branches
       → nat_lt (branches_used (user_of old)) old.quota.branches ≡ true
-  branches-room = more-room (ap (λ (v : Used). v.branches) before) (ap (λ (o : Owned). o.quota.branches) view)
+  branches-room = more-room (ap (λ (v : Used). v.branches) before) (ap (λ (o : UserState). o.quota.branches) view)
 
   module _ (atoms count : ℕ) (same : atoms ≡ count) where
     pub atoms-over : a.quota.atoms < a.used.atoms + atoms
         → nat_le (atoms_used (user_of old) + count) old.quota.atoms ≡ false
     atoms-over h =
         let u = ap (λ (v : Used). v.atoms) before in
-        let q = ap (λ (o : Owned). o.quota.atoms) view in
+        let q = ap (λ (o : UserState). o.quota.atoms) view in
         lt-leb (atoms_used (user_of old) + count) old.quota.atoms (omega (arith, h, u, q, same))
 
     pub atoms-room : a.used.atoms + atoms ≤ a.quota.atoms
         → nat_le (atoms_used (user_of old) + count) old.quota.atoms ≡ true
     atoms-room h =
         let u = ap (λ (v : Used). v.atoms) before in
-        let q = ap (λ (o : Owned). o.quota.atoms) view in
+        let q = ap (λ (o : UserState). o.quota.atoms) view in
         le-leb (atoms_used (user_of old) + count) old.quota.atoms (omega (arith, h, u, q, same))

@@ -5,11 +5,11 @@ use Rattle.std.specs.Prelude.{is_some}
 use Rattle.std.specs.Option.{option_map}
 use Rattle.std.proofs.lemmas.Bool.{true≢false}
 use Rattle.std.proofs.lemmas.List.{length-map}
-use Rattle.lj_ring.specs.Mixes.{Mixture, edge_of}
-use Rattle.lj_xyz.specs.declared.fault.XyzFault.{XyzFault}
-use Rattle.lj_xyz.specs.declared.fault.XyzError.{XyzError}
-use Rattle.lj_xyz.specs.declared.fault.XyzError.TheVariants as errors
-use Rattle.lj_xyz.specs.declared.row.Row.{Row}
+use Rattle.lj_ring.specs.Mix.{Mix, edge_of}
+use Rattle.lj_xyz.specs.declared.xyz_fault.XyzFault.{XyzFault}
+use Rattle.lj_xyz.specs.declared.xyz_fault.XyzError.{XyzError}
+use Rattle.lj_xyz.specs.declared.xyz_fault.XyzError.TheVariants as errors
+use Rattle.lj_xyz.specs.declared.atom_row.Row.{Row}
 use Rattle.lj_xyz.specs.Lines.{lines_of}
 use Rattle.lj_xyz.specs.Reading.{reading, Fails}
 use Rattle.lj_xyz.specs.Symbols.{SymbolPair}
@@ -19,15 +19,15 @@ use Rattle.lj_session.specs.declared.command.Load.{Load}
 use Rattle.lj_session.specs.declared.command.Command.TheVariants as commands
 use Rattle.lj_session.specs.declared.refusal.Refusal.{Refusal}
 use Rattle.lj_session.specs.declared.refusal.Refusal.TheVariants.{Exists, QuotaSessions, QuotaAtoms, Xyz, Memory}
-use Rattle.lj_branch.specs.Named.{named}
+use Rattle.lj_branch.specs.Named.{value_named}
 use Rattle.lj_session.specs.Users.{Session, User, with_session, atoms_of, atoms_used, sessions_used}
-use Rattle.lj_session.specs.Loads.{admitted, body_held, reading_mode, place_in}
+use Rattle.lj_session.specs.Loads.{admission, body_or_refusal, reading_mode, place_in}
 use Rattle.lj_session.specs.Loads.{session_from, session_of_frames}
-use Rattle.lj_session.specs.Substances.{loaded, mixture_said, nano_or_zero, symbols_of}
-use Rattle.lj_session.specs.Answers.{performed}
+use Rattle.lj_session.specs.Substances.{load_reply, mix_of_substance, nano_or_zero, symbols_of}
+use Rattle.lj_session.specs.Answers.{command_result}
 use Rattle.lj_session.specs.Openings.{frames_of, last_of, held_from}
 use Rattle.lj_session.specs.Faults.{xyz_refusal}
-use Rattle.lj_session.specs.States.{Held, Owned, IsIdle, Performs, session_meant, user_of, held_in, with_held}
+use Rattle.lj_session.specs.UserState.{HeldSession, UserState, IsIdle, Performs, session_meant, user_of, held_session, with_held_session}
 use Rattle.lj_step.specs.OpenSteps.{kind_of}
 use Rattle.lj_session.proofs.Entries.{by_test, named-put_any, named-seen}
 use Rattle.lj_session.proofs.Holding.{user_of-put}
@@ -35,58 +35,58 @@ use Rattle.lj_session.proofs.Others.{others-put}
 use Rattle.lj_session.proofs.Performing.{done, refused, starved}
 
 -- the session of the frames that were read
-pub session-frames : (mix : Mixture) (symbols : Option SymbolPair) (first : List Row) (second : Option (List Row))
+pub session-frames : (mix : Mix) (symbols : Option SymbolPair) (first : List Row) (second : Option (List Row))
     → session_of_frames mix symbols (frames_of first second) ≡ session_from mix symbols first (last_of first second)
 session-frames mix symbols first None = refl
 session-frames mix symbols first (Some second) = refl
 
 -- a load that memory is refused to has no body
-body-refused : (body : LoadBody) → body_held body true ≡ Err Memory
+body-refused : (body : LoadBody) → body_or_refusal body true ≡ Err Memory
 body-refused Unread = refl
 body-refused Lost = refl
 body-refused (Read body) = refl
 
 module _ (user : User) (load : Load) where
-  pub admitted-exists : is_some (named load.name user.sessions) ≡ true → admitted user load ≡ Err Exists
+  pub admitted-exists : is_some (value_named load.name user.sessions) ≡ true → admission user load ≡ Err Exists
   admitted-exists taken = rw taken refl
 
-  module _ (new : is_some (named load.name user.sessions) ≡ false) where
-    pub admitted-over : nat_lt (sessions_used user) user.quota.sessions ≡ false → admitted user load ≡ Err QuotaSessions
+  module _ (new : is_some (value_named load.name user.sessions) ≡ false) where
+    pub admitted-over : nat_lt (sessions_used user) user.quota.sessions ≡ false → admission user load ≡ Err QuotaSessions
     admitted-over over = rw (new, over) refl
 
     module _ (room : nat_lt (sessions_used user) user.quota.sessions ≡ true) where
-      pub admitted-mix : admitted user load ≡ mixture_said (nano_or_zero load.edge) load.substance
+      pub admitted-mix : admission user load ≡ mix_of_substance (nano_or_zero load.edge) load.substance
       admitted-mix = rw (new, room) refl
 
-  pub load-refused : (mark : Bool) (refusal : Refusal) → admitted user load ≡ Err refusal
-      → performed user (commands.Load load) mark ≡ Err refusal
-  unfolding performed
+  pub load-refused : (mark : Bool) (refusal : Refusal) → admission user load ≡ Err refusal
+      → command_result user (commands.Load load) mark ≡ Err refusal
+  unfolding command_result
   load-refused mark refusal e = rw e refl
 
   -- what a load that is admitted may rest on
-  pub new-admitted : (mix : Mixture) → admitted user load ≡ Ok mix
-      → (is_some (named load.name user.sessions) ≡ false) × (nat_lt (sessions_used user) user.quota.sessions ≡ true)
-  new-admitted mix admitted = by_test (is_some (named load.name user.sessions))
-      (λ taken. absurd (not_refused Exists (sym (admitted-exists taken) ∙ admitted)))
+  pub new-admitted : (mix : Mix) → admission user load ≡ Ok mix
+      → (is_some (value_named load.name user.sessions) ≡ false) × (nat_lt (sessions_used user) user.quota.sessions ≡ true)
+  new-admitted mix admission = by_test (is_some (value_named load.name user.sessions))
+      (λ taken. absurd (not_refused Exists (sym (admitted-exists taken) ∙ admission)))
       (λ new. (
         new,
         by_test (nat_lt (sessions_used user) user.quota.sessions)
             (λ room. room)
-            (λ over. absurd (not_refused QuotaSessions (sym (admitted-over new over) ∙ admitted))),
+            (λ over. absurd (not_refused QuotaSessions (sym (admitted-over new over) ∙ admission))),
       ))
     where
-      not_refused : (refusal : Refusal) → ◌≡◌ {A = Result Mixture Refusal} (Err refusal) (Ok mix) → ⊥
+      not_refused : (refusal : Refusal) → ◌≡◌ {A = Result Mix Refusal} (Err refusal) (Ok mix) → ⊥
       not_refused refusal e = cc
 
-  module _ (mix : Mixture) (is_mix : admitted user load ≡ Ok mix) where
-    pub load-memory : performed user (commands.Load load) true ≡ Err Memory
-    unfolding performed
+  module _ (mix : Mix) (is_mix : admission user load ≡ Ok mix) where
+    pub load-memory : command_result user (commands.Load load) true ≡ Err Memory
+    unfolding command_result
     load-memory = rw (is_mix, body-refused load.body) refl
 
     module _ (body : List ℕ) (held : load.body ≡ Read body) where
       pub load-fault : (fault : XyzFault) → reading (symbols_of load.substance) (reading_mode load.mode) (lines_of body) ≡ Err fault
-          → performed user (commands.Load load) false ≡ Err (Xyz fault)
-      unfolding performed
+          → command_result user (commands.Load load) false ≡ Err (Xyz fault)
+      unfolding command_result
       load-fault fault read = rw (is_mix, held, read) refl
 
       module _ (first : List Row) (second : Option (List Row))
@@ -95,39 +95,39 @@ module _ (user : User) (load : Load) where
         session_loaded = session_from mix (symbols_of load.substance) first (last_of first second)
 
         pub load-over : nat_le (atoms_used user + atoms_of session_loaded) user.quota.atoms ≡ false
-            → performed user (commands.Load load) false ≡ Err QuotaAtoms
-        unfolding performed
+            → command_result user (commands.Load load) false ≡ Err QuotaAtoms
+        unfolding command_result
         load-over over = rw (is_mix, held, read, session-frames mix (symbols_of load.substance) first second, over) refl
 
         pub load-done : nat_le (atoms_used user + atoms_of session_loaded) user.quota.atoms ≡ true
-            → performed user (commands.Load load) false
-            ≡ Ok (loaded load.substance load.name (atoms_of session_loaded), with_session load.name session_loaded user)
-        unfolding performed
+            → command_result user (commands.Load load) false
+            ≡ Ok (load_reply load.substance load.name (atoms_of session_loaded), with_session load.name session_loaded user)
+        unfolding command_result
         load-done room = rw (is_mix, held, read, session-frames mix (symbols_of load.substance) first second, room) refl
 
 -- how many atoms a session has that opens with frames of one count
-pub atoms-opened : (mix : Mixture) (symbols : Option SymbolPair) (first last : List Row) → length last ≡ length first
+pub atoms-opened : (mix : Mix) (symbols : Option SymbolPair) (first last : List Row) → length last ≡ length first
     → atoms_of (session_from mix symbols first last) ≡ length first
 atoms-opened mix symbols first last same = length-map last (place_in (edge_of mix)) ∙ same
 
 -- a session that has just been loaded is idle
-idle_of : (made after : Held) → Some made ≡ Some after → made.owed ≡ 0 → kind_of made.live.part ≡ None → IsIdle after
+idle_of : (made after : HeldSession) → Some made ≡ Some after → made.owed ≡ 0 → kind_of made.live.part ≡ None → IsIdle after
 idle_of made after is owed closed = subst IsIdle (same made after is) (record { owed = owed; closed = closed })
   where
-    same : (a b : Held) → Some a ≡ Some b → a ≡ b
+    same : (a b : HeldSession) → Some a ≡ Some b → a ≡ b
     same a b e = cc
 
 same_name : (name other : List ℕ) → Some other ≡ Some name → name ≡ other
 same_name name other e = cc
 
-module _ (old new : Owned) (load : Load) (mix : Mixture) (is_mix : admitted (user_of old) load ≡ Ok mix) where
+module _ (old new : UserState) (load : Load) (mix : Mix) (is_mix : admission (user_of old) load ≡ Ok mix) where
   -- the name is new among those that are held
-  pub absent-admitted : held_in old load.name ≡ None
+  pub absent-admitted : held_session old load.name ≡ None
   absent-admitted =
-      none-held (held_in old load.name) (sym (ap is_some (named-seen session_meant load.name old.sessions))
+      none-held (held_session old load.name) (sym (ap is_some (named-seen session_meant load.name old.sessions))
       ∙ (new-admitted (user_of old) load mix is_mix).0)
     where
-      none-held : (o : Option Held) → is_some (option_map session_meant o) ≡ false → o ≡ None
+      none-held : (o : Option HeldSession) → is_some (option_map session_meant o) ≡ false → o ≡ None
       none-held None h = refl
       none-held (Some held) h = absurd (true≢false h)
 
@@ -153,23 +153,23 @@ module _ (old new : Owned) (load : Load) (mix : Mixture) (is_mix : admitted (use
 
       pub load-loads : (atoms : ℕ) → atoms ≡ length first
           → nat_le (atoms_used (user_of old) + length first) old.quota.atoms ≡ true
-          → new ≡ with_held load.name (held_from mix (symbols_of load.substance) first (last_of first second)) old
-          → Performs old (commands.Load load) (Ok (loaded load.substance load.name atoms)) new
+          → new ≡ with_held_session load.name (held_from mix (symbols_of load.substance) first (last_of first second)) old
+          → Performs old (commands.Load load) (Ok (load_reply load.substance load.name atoms)) new
       load-loads atoms its room is = done old new _ _
           (load-done (user_of old) load mix is_mix body held first second read
           (ap (λ n. nat_le (atoms_used (user_of old) + n) old.quota.atoms) count ∙ room)
           ∙ (ap (λ n. Ok (
-            loaded load.substance load.name n,
+            load_reply load.substance load.name n,
             with_session load.name (session_from mix (symbols_of load.substance) first (last_of first second)) (user_of old),
           )) (count ∙ sym its)
-          ∙ ap (λ (u : User). Ok (loaded load.substance load.name atoms, u))
+          ∙ ap (λ (u : User). Ok (load_reply load.substance load.name atoms, u))
           (sym (ap user_of is ∙ user_of-put old load.name (held_from mix (symbols_of load.substance) first (last_of first second))))))
-          (λ other apart. ap (λ (o : Owned). held_in o other) is
+          (λ other apart. ap (λ (o : UserState). held_session o other) is
           ∙ others-put old load.name (held_from mix (symbols_of load.substance) first (last_of first second)) other apart)
-          (λ name after named there. inl (idle_of (held_from mix (symbols_of load.substance) first (last_of first second)) after
+          (λ name after value_named there. inl (idle_of (held_from mix (symbols_of load.substance) first (last_of first second)) after
           (sym (named-put_any name old.sessions (held_from mix (symbols_of load.substance) first (last_of first second)))
-          ∙ ap (λ n. held_in (with_held n (held_from mix (symbols_of load.substance) first (last_of first second)) old) name) (same_name name load.name named)
-          ∙ ap (λ (o : Owned). held_in o name) (sym is) ∙ there) refl refl))
+          ∙ ap (λ n. held_session (with_held_session n (held_from mix (symbols_of load.substance) first (last_of first second)) old) name) (same_name name load.name value_named)
+          ∙ ap (λ (o : UserState). held_session o name) (sym is) ∙ there) refl refl))
         where
           count : atoms_of (session_from mix (symbols_of load.substance) first (last_of first second)) ≡ length first
           count = atoms-opened mix (symbols_of load.substance) first (last_of first second) same

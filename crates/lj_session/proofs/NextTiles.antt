@@ -8,40 +8,40 @@ use Rattle.std.specs.Option.{option_map}
 use Rattle.std.specs.Str.{bytes_eq}
 use Rattle.lj_tile.specs.declared.names.Label.{Label}
 use Rattle.lj_step.specs.OpenSteps.{tiles_of}
-use Rattle.lj_session.specs.States.{Held, Owned, IsNextTile, first_with_task, names, held_at, held_in, next_of, next_task, next_tile}
+use Rattle.lj_session.specs.UserState.{HeldSession, UserState, IsNextTile, first_with_task, names, held_session_at, held_session, next_of, next_task, next_tile}
 use Rattle.lj_session.proofs.Firsts.{NoneBefore, none-first, none-next, find-at, find-nowhere}
 use Rattle.lj_session.proofs.Holding.{held-there}
 use Rattle.lj_session.proofs.Tiles.{found-task}
 
 -- whether the session of a name has a task of a user
-abbrev pub has_task : Owned → ℕ → List ℕ → Bool
+abbrev pub has_task : UserState → ℕ → List ℕ → Bool
 has_task owned user name = is_some (next_task owned (record { user = user; session = name }))
 
 -- none of the first so many sessions has one, whatever the user
-abbrev pub NoTaskBefore : Owned → ℕ → Type 0
+abbrev pub NoTaskBefore : UserState → ℕ → Type 0
 NoTaskBefore owned i = (user : ℕ) → NoneBefore (has_task owned user) (names owned) i
 
-has-task : (owned : Owned) (user : ℕ) (name : List ℕ) (held : Held) → held_in owned name ≡ Some held
+has-task : (owned : UserState) (user : ℕ) (name : List ℕ) (held : HeldSession) → held_session owned name ≡ Some held
     → has_task owned user name ≡ is_some (next_tile held)
 has-task owned user name held there =
     let label : Label = record { user = user; session = name } in
     ap (λ o. is_some (next_of label o)) there ∙ found-task held label
 
 -- where a session stands, its name does
-record Stands (owned : Owned) (i : ℕ) (held : Held) : Type 0 where
+record Stands (owned : UserState) (i : ℕ) (held : HeldSession) : Type 0 where
   name : List ℕ
   named : slice_get (names owned) i ≡ Some name
-  there : held_in owned name ≡ Some held
+  there : held_session owned name ≡ Some held
 
-module _ (owned : Owned) (distinct : IsDistinct bytes_eq (names owned)) (i : ℕ) (held : Held)
-    (at : held_at owned i ≡ Some held) where
+module _ (owned : UserState) (distinct : IsDistinct bytes_eq (names owned)) (i : ℕ) (held : HeldSession)
+    (at : held_session_at owned i ≡ Some held) where
   stands : Stands owned i held
   stands = by (slice_get owned.sessions i) refl
     where
       none_some : None ≡ Some held → ⊥
       none_some e = cc
 
-      by : (o : Option (List ℕ × Held)) → slice_get owned.sessions i ≡ o → Stands owned i held
+      by : (o : Option (List ℕ × HeldSession)) → slice_get owned.sessions i ≡ o → Stands owned i held
       by None e = absurd (none_some (sym (ap (option_map (λ entry. entry.1)) e) ∙ at))
       by (Some (key, value)) e =
           let named = slice_get-map (λ entry. entry.0) owned.sessions i ∙ ap (option_map (λ entry. entry.0)) e in
@@ -66,21 +66,21 @@ module _ (owned : Owned) (distinct : IsDistinct bytes_eq (names owned)) (i : ℕ
   next-on none before user = none-next (has_task owned user) (names owned) i stands.name stands.named
       (has-task owned user stands.name held stands.there ∙ ap is_some none) (before user)
 
-pub next-first : (owned : Owned) → NoTaskBefore owned 0
+pub next-first : (owned : UserState) → NoTaskBefore owned 0
 next-first owned user = none-first (has_task owned user) (names owned)
 
-pub next-nowhere : (owned : Owned) (i : ℕ) → i ≡ length owned.sessions → NoTaskBefore owned i
+pub next-nowhere : (owned : UserState) (i : ℕ) → i ≡ length owned.sessions → NoTaskBefore owned i
     → (user : ℕ) → first_with_task owned user ≡ None
 next-nowhere owned i end before user =
     find-nowhere (has_task owned user) (names owned)
     (subst (NoneBefore (has_task owned user) (names owned)) (end ∙ sym (length-map owned.sessions (λ entry. entry.0)))
     (before user))
 
-module _ {owned : Owned} {i k : ℕ} (next : IsNextTile owned i k) where
-  pub next-held : (held : Held) → held_at owned i ≡ Some held → held ≡ next.held
+module _ {owned : UserState} {i k : ℕ} (next : IsNextTile owned i k) where
+  pub next-held : (held : HeldSession) → held_session_at owned i ≡ Some held → held ≡ next.held
   next-held held at = same held next.held (sym at ∙ next.at)
     where
-      same : (a b : Held) → Some a ≡ Some b → a ≡ b
+      same : (a b : HeldSession) → Some a ≡ Some b → a ≡ b
       same a b e = cc
 
   pub next-name : (name : List ℕ) → slice_get (names owned) i ≡ Some name → next.name ≡ name
@@ -90,7 +90,7 @@ module _ {owned : Owned} {i k : ℕ} (next : IsNextTile owned i k) where
       same a b e = cc
 
   -- the next task is that of the session that stands there
-  pub next-of : (held : Held) → held_at owned i ≡ Some held → (label : Label)
+  pub next-of : (held : HeldSession) → held_session_at owned i ≡ Some held → (label : Label)
       → slice_get (names owned) i ≡ Some label.session → next_task owned label ≡ next_of label (Some held)
-  next-of held at label named = ap (next_of label) (ap (held_in owned) (sym (next-name label.session named))
-      ∙ next.there ∙ ap (λ (h : Held). Some h) (sym (next-held held at)))
+  next-of held at label named = ap (next_of label) (ap (held_session owned) (sym (next-name label.session named))
+      ∙ next.there ∙ ap (λ (h : HeldSession). Some h) (sym (next-held held at)))

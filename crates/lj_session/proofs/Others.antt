@@ -2,7 +2,7 @@
 use Rattle.std.proofs.Common.{◌≡◌, ◌≢◌, inl, inr, Bool, false, List, ℕ, Option, Some, None, Result, Ok, Err, refl, sym, ◌∙◌, ap, subst}
 use Rattle.std.specs.Option.{option_map_or}
 use Rattle.std.specs.Prelude.{IfOk, OnErr, not, nat_lt, is_some}
-use Rattle.lj_branch.specs.Named.{named, taken_out}
+use Rattle.lj_branch.specs.Named.{value_named, without_value}
 use Rattle.lj_xyz.specs.Atoms.{◌>>=◌}
 use Rattle.lj_session.specs.declared.command.Command.{Command}
 use Rattle.lj_session.specs.declared.command.Command.TheVariants.{Load, Advance, Start, Reverse, Branch, Restore, Forget, Tug}
@@ -14,45 +14,45 @@ use Rattle.lj_session.specs.declared.reply.Reply.{Reply}
 use Rattle.lj_session.specs.declared.reply.Reply.TheVariants as reply
 use Rattle.lj_session.specs.declared.substance.Substance.{Substance}
 use Rattle.lj_session.specs.declared.substance.Substance.TheVariants.{Pure, Mixed}
-use Rattle.lj_session.specs.Substances.{loaded}
+use Rattle.lj_session.specs.Substances.{load_reply}
 use Rattle.lj_session.specs.Users.{User, atoms_of, branches_used}
-use Rattle.lj_session.specs.Answers.{session_of, saved_in, has_atom, can_advance, performed, session_named}
-use Rattle.lj_session.specs.Loads.{admitted, body_held, session_read, unless}
+use Rattle.lj_session.specs.Answers.{session_of, simulation_saved, atom_or_refusal, can_advance, command_result, session_named}
+use Rattle.lj_session.specs.Loads.{admission, body_or_refusal, session_read, refusal_unless}
 use Rattle.lj_session.specs.Begins.{OnRefusal, reply_of}
-use Rattle.lj_session.specs.States.{Held, Owned, OthersKept, Reads, StepsAfter, Performs, held_in, with_held, changed, owed_in, steps_before}
-use Rattle.lj_session.specs.Owners.{IsSettled}
+use Rattle.lj_session.specs.UserState.{HeldSession, UserState, OthersKept, Reads, StepsAfter, Performs, held_session, with_held_session, with_session_changed, owed_in, steps_before}
+use Rattle.lj_session.specs.Owner.{IsSettled}
 use Rattle.lj_session.specs.Turns.{waits_for}
 use Rattle.lj_session.proofs.Entries.{named-put_other, named-taken_other}
 
-module _ (owned : Owned) (name : List ℕ) where
+module _ (owned : UserState) (name : List ℕ) where
   apart_of : (other : List ℕ) → Some name ≢ Some other → name ≢ other
   apart_of other apart same = apart (ap (λ (n : List ℕ). Some n) same)
 
   -- one session put, changed or taken out leaves the others
-  pub others-put : (held : Held) (other : List ℕ) → Some name ≢ Some other
-      → held_in (with_held name held owned) other ≡ held_in owned other
+  pub others-put : (held : HeldSession) (other : List ℕ) → Some name ≢ Some other
+      → held_session (with_held_session name held owned) other ≡ held_session owned other
   others-put held other apart = named-put_other name other (apart_of other apart) owned.sessions held
 
-  pub others-changed : (change : Held → Held) (other : List ℕ) → Some name ≢ Some other
-      → held_in (changed name change owned) other ≡ held_in owned other
-  others-changed change other apart = by (held_in owned name) refl
+  pub others-changed : (change : HeldSession → HeldSession) (other : List ℕ) → Some name ≢ Some other
+      → held_session (with_session_changed name change owned) other ≡ held_session owned other
+  others-changed change other apart = by (held_session owned name) refl
     where
-      by : (found : Option Held) → held_in owned name ≡ found
-          → held_in (changed name change owned) other ≡ held_in owned other
+      by : (found : Option HeldSession) → held_session owned name ≡ found
+          → held_session (with_session_changed name change owned) other ≡ held_session owned other
       by None e = rw e refl
       by (Some held) e = rw e (others-put (change held) other apart)
 
   pub others-taken : (other : List ℕ) → Some name ≢ Some other
-      → held_in (record owned { sessions = taken_out name owned.sessions }) other ≡ held_in owned other
+      → held_session (record owned { sessions = without_value name owned.sessions }) other ≡ held_session owned other
   others-taken other apart = named-taken_other name other (apart_of other apart) owned.sessions
 
 -- where a command is refused nothing is changed, so the other sessions are as they were in any case
-pub others-performed : (old new : Owned) (command : Command) (result : Result Reply Refusal)
+pub others-performed : (old new : UserState) (command : Command) (result : Result Reply Refusal)
     → Performs old command result new → OnErr result (new ≡ old)
     → OthersKept command old new
 others-performed old new command (Ok reply) performs same = performs.others
 others-performed old new command (Err refusal) performs same =
-    λ other apart. ap (λ (owned : Owned). held_in owned other) same
+    λ other apart. ap (λ (owned : UserState). held_session owned other) same
 
 -- a reply that is no refusal
 abbrev IsDone : Reply → Type 0
@@ -69,7 +69,7 @@ abbrev Replies : Command → Reply → Type 0
 Replies command made = IsDone made × DumpsOwn command made
 
 loaded-replies : (command : Command) (substance : Substance) (name : List ℕ) (atoms : ℕ)
-    → Replies command (loaded substance name atoms)
+    → Replies command (load_reply substance name atoms)
 loaded-replies command (Pure sigma step_factor) name atoms = (tt, tt)
 loaded-replies command (Mixed symbols first unlike second) name atoms = (tt, tt)
 
@@ -81,30 +81,30 @@ module _ (command : Command) where
   after (Err refusal) f h = tt
 
 -- what a command does is no refusal
-is_done : (user : User) (command : Command) (mark : Bool) → IfOk (performed user command mark) (λ made. Replies command made.0)
-unfolding performed
+is_done : (user : User) (command : Command) (mark : Bool) → IfOk (command_result user command mark) (λ made. Replies command made.0)
+unfolding command_result
 is_done user (Load load) mark =
-    after (Load load) (admitted user load) _ (λ mix. after (Load load) (body_held load.body mark) _
+    after (Load load) (admission user load) _ (λ mix. after (Load load) (body_or_refusal load.body mark) _
     (λ body. after (Load load) (session_read user mix load body) _
     (λ session. loaded-replies (Load load) load.substance load.name (atoms_of session))))
 is_done user (Advance name n) mark = after (Advance name n) (session_of user name) _
-    (λ session. after (Advance name n) (unless (can_advance session n) StepRange) _ (λ near. (tt, tt)))
+    (λ session. after (Advance name n) (refusal_unless (can_advance session n) StepRange) _ (λ near. (tt, tt)))
 is_done user (Start name n) mark = after (Start name n) (session_of user name) _
-    (λ session. after (Start name n) (unless (can_advance session n) StepRange) _ (λ near. (tt, tt)))
+    (λ session. after (Start name n) (refusal_unless (can_advance session n) StepRange) _ (λ near. (tt, tt)))
 is_done user (Reverse name) mark = after (Reverse name) (session_of user name) _ (λ session. (tt, tt))
 is_done user (Branch name branch) mark = after (Branch name branch) (session_of user name) _ (λ session.
-    after (Branch name branch) (unless (not (is_some (named branch session.saved))) BranchExists) _ (λ new.
-    after (Branch name branch) (unless (nat_lt (branches_used user) user.quota.branches) QuotaBranches) _ (λ room.
-    after (Branch name branch) (unless (not mark) Memory) _ (λ held. (tt, tt)))))
+    after (Branch name branch) (refusal_unless (not (is_some (value_named branch session.saved))) BranchExists) _ (λ new.
+    after (Branch name branch) (refusal_unless (nat_lt (branches_used user) user.quota.branches) QuotaBranches) _ (λ room.
+    after (Branch name branch) (refusal_unless (not mark) Memory) _ (λ held. (tt, tt)))))
 is_done user (Restore name branch) mark = after (Restore name branch) (session_of user name) _
-    (λ session. after (Restore name branch) (saved_in session branch) _ (λ sim. (tt, tt)))
+    (λ session. after (Restore name branch) (simulation_saved session branch) _ (λ sim. (tt, tt)))
 is_done user (Forget name branch) mark = after (Forget name branch) (session_of user name) _
-    (λ session. after (Forget name branch) (saved_in session branch) _ (λ sim. (tt, tt)))
+    (λ session. after (Forget name branch) (simulation_saved session branch) _ (λ sim. (tt, tt)))
 is_done user (Tug name atom x y z) mark = after (Tug name atom x y z) (session_of user name) _
-    (λ session. after (Tug name atom x y z) (has_atom session atom) _ (λ there. (tt, tt)))
+    (λ session. after (Tug name atom x y z) (atom_or_refusal session atom) _ (λ there. (tt, tt)))
 is_done user (Measure name) mark = after (Measure name) (session_of user name) _ (λ session. (tt, tt))
 is_done user (Show name atom) mark = after (Show name atom) (session_of user name) _
-    (λ session. after (Show name atom) (has_atom session atom) _ (λ there. (tt, tt)))
+    (λ session. after (Show name atom) (atom_or_refusal session atom) _ (λ there. (tt, tt)))
 is_done user (Dump name) mark = after (Dump name) (session_of user name) _ (λ session. (tt, refl))
 is_done user ListSessions mark = (tt, tt)
 is_done user (ListBranches name) mark = after (ListBranches name) (session_of user name) _ (λ session. (tt, tt))
@@ -112,7 +112,7 @@ is_done user (Unload name) mark = after (Unload name) (session_of user name) _ (
 is_done user Bye mark = (tt, tt)
 
 -- so a refusal that is replied is an error, which changes nothing
-pub refused-unchanged : (P : Type 0) (old new : Owned) (command : Command) (result : Result Reply Refusal)
+pub refused-unchanged : (P : Type 0) (old new : UserState) (command : Command) (result : Result Reply Refusal)
     → Performs old command result new → OnErr result P → OnRefusal (reply_of result) P
 refused-unchanged P old new command (Err refusal) performs same = same
 refused-unchanged P old new command (Ok made) performs same = by made
@@ -123,7 +123,7 @@ refused-unchanged P old new command (Ok made) performs same = by made
     by _ h = tt
 
 -- to a session whose frame is told no step is owed
-pub settled-performed : (old new : Owned) (command : Command) (result : Result Reply Refusal)
+pub settled-performed : (old new : UserState) (command : Command) (result : Result Reply Refusal)
     → Performs old command result new → steps_before old command ≡ 0 → IsSettled new (reply_of result)
 unfolding waits_for
 settled-performed old new command (Err refusal) performs none = tt
@@ -131,28 +131,28 @@ settled-performed old new command (Ok made) performs none = by made
     (subst (λ r. IfOk r (λ made. Replies command made.0)) performs.performs (is_done _ command performs.mark)).1
   where
     told : (name : List ℕ) → command ≡ Dump name → owed_in new name ≡ 0
-    told name is = there (held_in new name) refl
+    told name is = there (held_session new name) refl
       where
         before : owed_in old name ≡ 0
         before = rw is at none
 
-        owed : (held : Held) (o : Option Held) → held_in old name ≡ o → StepsAfter (Dump name) o held → held.owed ≡ 0
+        owed : (held : HeldSession) (o : Option HeldSession) → held_session old name ≡ o → StepsAfter (Dump name) o held → held.owed ≡ 0
         owed held o e (inl idle) = idle.owed
         owed held None e (inr lacking) = absurd lacking
         owed held (Some was) e (inr same) =
-            same.owed ∙ (sym (ap (λ o. option_map_or (λ (h : Held). h.owed) o 0) e) ∙ before)
+            same.owed ∙ (sym (ap (λ o. option_map_or (λ (h : HeldSession). h.owed) o 0) e) ∙ before)
 
-        there : (o : Option Held) → held_in new name ≡ o → owed_in new name ≡ 0
+        there : (o : Option HeldSession) → held_session new name ≡ o → owed_in new name ≡ 0
         there None e = rw e refl
-        there (Some held) e = rw e (owed held (held_in old name) refl
-            (subst (λ (k : Command). StepsAfter k (held_in old name) held) is (performs.steps name held (ap session_named is) e)))
+        there (Some held) e = rw e (owed held (held_session old name) refl
+            (subst (λ (k : Command). StepsAfter k (held_session old name) held) is (performs.steps name held (ap session_named is) e)))
 
     by : (made : Reply) → DumpsOwn command made → IsSettled new made
     by (reply.Dumped name) h = told name h
     by _ h = tt
 
 -- nor does MEASURE tell a frame
-pub settled-measured : (old new : Owned) (name : List ℕ) (made : Reply) → Reads old (Measure name) (Ok made) → IsSettled new made
+pub settled-measured : (old new : UserState) (name : List ℕ) (made : Reply) → Reads old (Measure name) (Ok made) → IsSettled new made
 settled-measured old new name made reads = by made
     (subst (λ r. IfOk r (λ made. Replies (Measure name) made.0)) (reads false) (is_done _ (Measure name) false)).1
   where

@@ -6,63 +6,63 @@ use Rattle.std.specs.Int.{w128}
 use Rattle.std.proofs.lemmas.Int.{to_z-of_z, fits_signed_from_abs}
 use Rattle.std.proofs.lemmas.Bool.{lt-ltb, le-ltb}
 use Rattle.lj_ring.specs.declared.coordinates.Place.{Place}
-use Rattle.lj_step.specs.Motion.{Simulation, reversed, tugged}
+use Rattle.lj_step.specs.Motion.{Simulation, reversal, with_tug}
 use Rattle.lj_session.specs.declared.command.Command.{Command}
 use Rattle.lj_session.specs.declared.command.Command.TheVariants.{Advance, Start, Reverse, Branch, Restore, Forget, Tug}
 use Rattle.lj_session.specs.declared.command.Command.TheVariants.{Unload}
 use Rattle.lj_session.specs.declared.refusal.Refusal.{Refusal}
 use Rattle.lj_session.specs.declared.reply.Reply.{Reply}
 use Rattle.lj_session.specs.declared.reply.Reply.TheVariants as reply
-use Rattle.lj_branch.specs.Named.{named, put, taken_out}
+use Rattle.lj_branch.specs.Named.{value_named, with_value, without_value}
 use Rattle.lj_session.specs.Users.{Session, User, with_session, branches_used}
-use Rattle.lj_session.specs.Answers.{session_named, performed, answer, settled, can_advance, with_sim}
-use Rattle.lj_session.specs.States.{Held, Owned, Performs, moved_to, keeping, as_session, session_meant, user_of, held_in, with_held}
-use Rattle.lj_session.specs.States.{StepsFollow, StepsAfter, owing}
+use Rattle.lj_session.specs.Answers.{session_named, command_result, answer, reply_and_user, can_advance, with_sim}
+use Rattle.lj_session.specs.UserState.{HeldSession, UserState, Performs, with_simulation, with_saved, as_session, session_meant, user_of, held_session, with_held_session}
+use Rattle.lj_session.specs.UserState.{StepsFollow, StepsAfter, with_more_owed}
 use Rattle.lj_session.proofs.Entries.{put-same, named-put_any}
 use Rattle.lj_session.proofs.Holding.{named-held, named-settled, user_of-put, user_of-taken}
 use Rattle.lj_session.proofs.Owed.{meant-settled, meant-owing}
 use Rattle.lj_session.proofs.Others.{others-put, others-taken}
 use Rattle.lj_session.proofs.Performing as performing
 
-module _ (old : Owned) (name : List ℕ) (held : Held) (found : held_in old name ≡ Some held) where
+module _ (old : UserState) (name : List ℕ) (held : HeldSession) (found : held_session old name ≡ Some held) where
   -- the steps of a session that was put
-  steps-put : (command : Command) (new : Held) → session_named command ≡ Some name
-      → StepsAfter command (Some held) new → StepsFollow command old (with_held name new old)
-  steps-put command new is steps other after named there =
-      let one : name ≡ other = same_name name other (sym is ∙ named) in
+  steps-put : (command : Command) (new : HeldSession) → session_named command ≡ Some name
+      → StepsAfter command (Some held) new → StepsFollow command old (with_held_session name new old)
+  steps-put command new is steps other after value_named there =
+      let one : name ≡ other = same_name name other (sym is ∙ value_named) in
       let new_is : new ≡ after =
-      same_held new after (sym (named-put_any name old.sessions new) ∙ ap (held_in (with_held name new old)) one ∙ there) in
-      subst (λ (h : Held). StepsAfter command (held_in old other) h) new_is
-      (subst (λ (n : List ℕ). StepsAfter command (held_in old n) new) one
-      (subst (λ (o : Option Held). StepsAfter command o new) (sym found) steps))
+      same_held new after (sym (named-put_any name old.sessions new) ∙ ap (held_session (with_held_session name new old)) one ∙ there) in
+      subst (λ (h : HeldSession). StepsAfter command (held_session old other) h) new_is
+      (subst (λ (n : List ℕ). StepsAfter command (held_session old n) new) one
+      (subst (λ (o : Option HeldSession). StepsAfter command o new) (sym found) steps))
     where
       same_name : (a b : List ℕ) → Some a ≡ Some b → a ≡ b
       same_name a b e = cc
 
-      same_held : (a b : Held) → Some a ≡ Some b → a ≡ b
+      same_held : (a b : HeldSession) → Some a ≡ Some b → a ≡ b
       same_held a b e = cc
 
   -- a command that puts its session
-  put_in : (command : Command) (made : Reply) (new : Held) → session_named command ≡ Some name
-      → performed (user_of old) command false ≡ Ok (made, with_session name (session_meant new) (user_of old))
+  put_in : (command : Command) (made : Reply) (new : HeldSession) → session_named command ≡ Some name
+      → command_result (user_of old) command false ≡ Ok (made, with_session name (session_meant new) (user_of old))
       → StepsAfter command (Some held) new
-      → Performs old command (Ok made) (with_held name new old)
+      → Performs old command (Ok made) (with_held_session name new old)
   put_in command made new is h steps = performing.done old _ command made
       (h ∙ ap (λ (u : User). Ok (made, u)) (sym (user_of-put old name new)))
       (λ other apart. others-put old name new other (rw is at apart))
       (steps-put command new is steps)
 
-  pub forget : (branch : List ℕ) (sim : Simulation) → named branch held.saved ≡ Some sim
+  pub forget : (branch : List ℕ) (sim : Simulation) → value_named branch held.saved ≡ Some sim
       → Performs old (Forget name branch) (Ok (reply.Forgotten name branch))
-      (with_held name (keeping held (taken_out branch held.saved)) old)
-  forget branch sim saved = put_in _ _ (keeping held (taken_out branch held.saved)) refl
+      (with_held_session name (with_saved held (without_value branch held.saved)) old)
+  forget branch sim saved = put_in _ _ (with_saved held (without_value branch held.saved)) refl
       (performing.forget-done (user_of old) name false (session_meant held) (named-held old name held found) branch sim saved)
       (record { live = refl; passed = refl; owed = refl })
 
   pub start : (n : ℕ) → can_advance (session_meant held) n ≡ true
-      → Performs old (Start name n) (Ok (reply.Started name (session_meant (owing n held)).sim.step))
-      (with_held name (owing n held) old)
-  start n near = put_in _ _ (owing n held) refl
+      → Performs old (Start name n) (Ok (reply.Started name (session_meant (with_more_owed n held)).sim.step))
+      (with_held_session name (with_more_owed n held) old)
+  start n near = put_in _ _ (with_more_owed n held) refl
       (performing.start-done (user_of old) name false (session_meant held) (named-held old name held found) n near
       ∙ ap (λ (s : Session). Ok (reply.Started name s.sim.step, with_session name s (user_of old)))
       (sym (meant-owing n held)))
@@ -70,16 +70,16 @@ module _ (old : Owned) (name : List ℕ) (held : Held) (found : held_in old name
 
   -- the steps of an ADVANCE, owed to its session
   pub owed-user : (n : ℕ) → can_advance (session_meant held) n ≡ true
-      → user_of (with_held name (owing n held) old) ≡ (answer (user_of old) (Advance name n) false).1
+      → user_of (with_held_session name (with_more_owed n held) old) ≡ (answer (user_of old) (Advance name n) false).1
   owed-user n near =
-      user_of-put old name (owing n held)
+      user_of-put old name (with_more_owed n held)
       ∙ ap (λ (s : Session). with_session name s (user_of old)) (meant-owing n held)
-      ∙ sym (ap (λ r. (settled (user_of old) r).1)
+      ∙ sym (ap (λ r. (reply_and_user (user_of old) r).1)
       (performing.advance-on (user_of old) name false (session_meant held) (named-held old name held found) n near))
 
   -- an ADVANCE by 0 leaves the user
   pub advance-nothing : can_advance (session_meant held) 0 ≡ true → (mark : Bool)
-      → performed (user_of old) (Advance name 0) mark ≡ Ok (reply.Advanced name (session_meant held).sim.step, user_of old)
+      → command_result (user_of old) (Advance name 0) mark ≡ Ok (reply.Advanced name (session_meant held).sim.step, user_of old)
   advance-nothing near mark =
       let session = named-held old name held found in
       performing.advance-on (user_of old) name mark (session_meant held) session 0 near
@@ -91,62 +91,62 @@ module _ (old : Owned) (name : List ℕ) (held : Held) (found : held_in old name
 
   -- commands of a session to which nothing is owed
   module _ (none : held.owed ≡ 0) where
-    session : named name (user_of old).sessions ≡ Some (as_session held)
+    session : value_named name (user_of old).sessions ≡ Some (as_session held)
     session = named-settled old name held found none
 
     -- with another simulation, and no step open
     move : (command : Command) (made : Reply) (sim : Simulation) → session_named command ≡ Some name
-        → performed (user_of old) command false ≡ Ok (made, with_sim name (as_session held) sim (user_of old))
-        → StepsAfter command (Some held) (moved_to held sim)
-        → Performs old command (Ok made) (with_held name (moved_to held sim) old)
-    move command made sim is h steps = put_in command made (moved_to held sim) is
+        → command_result (user_of old) command false ≡ Ok (made, with_sim name (as_session held) sim (user_of old))
+        → StepsAfter command (Some held) (with_simulation held sim)
+        → Performs old command (Ok made) (with_held_session name (with_simulation held sim) old)
+    move command made sim is h steps = put_in command made (with_simulation held sim) is
         (h ∙ ap (λ (s : Session). Ok (made, with_session name s (user_of old)))
-        (sym (meant-settled (moved_to held sim) none)))
+        (sym (meant-settled (with_simulation held sim) none)))
         steps
 
-    pub reverse : Performs old (Reverse name) (Ok (reply.Reversed name (reversed held.live.sim).step))
-        (with_held name (moved_to held (reversed held.live.sim)) old)
-    reverse = move _ _ (reversed held.live.sim) refl
+    pub reverse : Performs old (Reverse name) (Ok (reply.Reversed name (reversal held.live.sim).step))
+        (with_held_session name (with_simulation held (reversal held.live.sim)) old)
+    reverse = move _ _ (reversal held.live.sim) refl
         (performing.reverse-done (user_of old) name false (as_session held) session)
         (inl (record { owed = none; closed = refl }))
 
     pub tug : (atom : ℕ) (x y z : ℤ) → nat_lt atom (length held.live.sim.cur) ≡ true
         → Performs old (Tug name atom x y z) (Ok (reply.Tugged name atom held.live.sim.step))
-        (with_held name (moved_to held (tugged atom (record { x = x; y = y; z = z }) held.live.sim)) old)
-    tug atom x y z there = move _ _ (tugged atom (record { x = x; y = y; z = z }) held.live.sim) refl
+        (with_held_session name (with_simulation held (with_tug atom (record { x = x; y = y; z = z }) held.live.sim)) old)
+    tug atom x y z there = move _ _ (with_tug atom (record { x = x; y = y; z = z }) held.live.sim) refl
         (performing.tug-done (user_of old) name false (as_session held) session atom x y z there)
         (inl (record { owed = none; closed = refl }))
 
-    pub restore : (branch : List ℕ) (sim : Simulation) → named branch held.saved ≡ Some sim
+    pub restore : (branch : List ℕ) (sim : Simulation) → value_named branch held.saved ≡ Some sim
         → Performs old (Restore name branch) (Ok (reply.Restored name branch sim.step))
-        (with_held name (moved_to held sim) old)
+        (with_held_session name (with_simulation held sim) old)
     restore branch sim saved = move _ _ sim refl
         (performing.restore-done (user_of old) name false (as_session held) session branch sim saved)
         (inl (record { owed = none; closed = refl }))
 
-    pub branch : (saved_as : List ℕ) → is_some (named saved_as held.saved) ≡ false
+    pub branch : (saved_as : List ℕ) → is_some (value_named saved_as held.saved) ≡ false
         → nat_lt (branches_used (user_of old)) old.quota.branches ≡ true
         → Performs old (Branch name saved_as) (Ok (reply.Branched name saved_as held.live.sim.step))
-        (with_held name (keeping held (put saved_as held.live.sim held.saved)) old)
+        (with_held_session name (with_saved held (with_value saved_as held.live.sim held.saved)) old)
     branch saved_as new room =
-        let next = keeping held (put saved_as held.live.sim held.saved) in
+        let next = with_saved held (with_value saved_as held.live.sim held.saved) in
         put_in _ _ next refl
         (performing.branch-done (user_of old) name (as_session held) session saved_as new room
         ∙ ap (λ (s : Session). Ok (reply.Branched name saved_as held.live.sim.step, with_session name s (user_of old)))
         (sym (meant-settled next none)))
         (inr (record { live = refl; passed = refl; owed = refl }))
 
-    pub unload : named name (taken_out name old.sessions) ≡ None
+    pub unload : value_named name (without_value name old.sessions) ≡ None
         → Performs old (Unload name) (Ok (reply.Unloaded name))
-        (record old { sessions = taken_out name old.sessions })
+        (record old { sessions = without_value name old.sessions })
     unload gone = performing.done old _ _ _
         (performing.unload-done (user_of old) name false (as_session held) session
         ∙ ap (λ (u : User). Ok (reply.Unloaded name, u)) (sym (user_of-taken old name)))
         (others-taken old name)
         (λ other after is there. absurd (none_some after (sym gone
-        ∙ ap (λ n. named n (taken_out name old.sessions)) (same_name name other is) ∙ there)))
+        ∙ ap (λ n. value_named n (without_value name old.sessions)) (same_name name other is) ∙ there)))
       where
-        none_some : (x : Held) → None ≡ Some x → ⊥
+        none_some : (x : HeldSession) → None ≡ Some x → ⊥
         none_some x e = cc
 
         same_name : (a b : List ℕ) → Some a ≡ Some b → a ≡ b
@@ -164,7 +164,7 @@ pub past : (atom count : ℕ) → count ≤ atom → nat_lt atom count ≡ false
 past atom count above = le-ltb atom count above
 
 -- what is held, read as the code has it
-pub written-to : (old new new' : Owned) (command : Command) (result : Result Reply Refusal)
+pub written-to : (old new new' : UserState) (command : Command) (result : Result Reply Refusal)
     → Performs old command result new → new' ≡ new → Performs old command result new'
 written-to old new new' command result performs next = rw next performs
 

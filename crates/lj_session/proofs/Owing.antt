@@ -10,8 +10,8 @@ use Rattle.lj_tile.specs.declared.names.Kind.{Kind}
 use Rattle.lj_session.specs.declared.command.Command.{Command}
 use Rattle.lj_session.specs.Users.{User}
 use Rattle.lj_session.specs.Turns.{turns, waits_for}
-use Rattle.lj_session.specs.States.{Held, Owned, IsAtWork, user_of, held_in, owed_in, with_held, changed, step_passed, is_whole_in, is_measured, steps_before, turns_before}
-use Rattle.lj_session.specs.Owners.{Owning, owes, is_waited_for}
+use Rattle.lj_session.specs.UserState.{HeldSession, UserState, IsAtWork, user_of, held_session, owed_in, with_held_session, with_session_changed, with_step_passed, is_whole_in, is_measured, steps_before, turns_before}
+use Rattle.lj_session.specs.Owner.{Owner, is_owing, is_waited_for}
 use Rattle.lj_session.proofs.Entries.{by_test, named-put_any, named-put_other}
 use Rattle.lj_session.proofs.Holding.{changed-none, changed-some}
 use Rattle.lj_session.proofs.Others.{others-changed}
@@ -24,33 +24,33 @@ either-way (Ok a) x y good bad = good x
 either-way (Err b) x y good bad = bad y
 
 -- what is owed to a session that stays
-pub owed-changed : (owned : Owned) (name : List ℕ) (change : Held → Held) → ((held : Held) → (change held).owed ≡ held.owed)
-    → (other : List ℕ) → owed_in (changed name change owned) other ≡ owed_in owned other
-owed-changed owned name change same other = by (held_in owned name) refl
+pub owed-changed : (owned : UserState) (name : List ℕ) (change : HeldSession → HeldSession) → ((held : HeldSession) → (change held).owed ≡ held.owed)
+    → (other : List ℕ) → owed_in (with_session_changed name change owned) other ≡ owed_in owned other
+owed-changed owned name change same other = by (held_session owned name) refl
   where
-    owed : Option Held → ℕ
-    owed o = option_map_or (λ (h : Held). h.owed) o 0
+    owed : Option HeldSession → ℕ
+    owed o = option_map_or (λ (h : HeldSession). h.owed) o 0
 
-    by : (o : Option Held) → held_in owned name ≡ o → owed_in (changed name change owned) other ≡ owed_in owned other
-    by None e = ap (λ (x : Owned). owed_in x other) (changed-none owned name change e)
-    by (Some held) e = ap (λ (x : Owned). owed_in x other) (changed-some owned name change held e) ∙ by_test (bytes_eq name other)
+    by : (o : Option HeldSession) → held_session owned name ≡ o → owed_in (with_session_changed name change owned) other ≡ owed_in owned other
+    by None e = ap (λ (x : UserState). owed_in x other) (changed-none owned name change e)
+    by (Some held) e = ap (λ (x : UserState). owed_in x other) (changed-some owned name change held e) ∙ by_test (bytes_eq name other)
         (λ t. let is = (bytes_eq-Decides name other).0 t in
-        ap (λ (n : List ℕ). owed_in (with_held name (change held) owned) n) (sym is)
+        ap (λ (n : List ℕ). owed_in (with_held_session name (change held) owned) n) (sym is)
         ∙ ap owed (named-put_any name owned.sessions (change held)) ∙ same held ∙ sym (ap owed e) ∙ ap (owed_in owned) is)
         (λ t. ap owed (named-put_other name other (λ is. true≢false (sym ((bytes_eq-Decides name other).1 is) ∙ t))
         owned.sessions (change held)))
 
 -- and to another session than the one that changes
-pub owed-apart : (owned : Owned) (name other : List ℕ) (change : Held → Held) → name ≢ other
-    → owed_in (changed name change owned) other ≡ owed_in owned other
-owed-apart owned name other change apart = ap (λ o. option_map_or (λ (h : Held). h.owed) o 0)
+pub owed-apart : (owned : UserState) (name other : List ℕ) (change : HeldSession → HeldSession) → name ≢ other
+    → owed_in (with_session_changed name change owned) other ≡ owed_in owned other
+owed-apart owned name other change apart = ap (λ o. option_map_or (λ (h : HeldSession). h.owed) o 0)
     (others-changed owned name change other (λ e. apart (same_Some name other e)))
   where
     same_Some : (a b : List ℕ) → Some a ≡ Some b → a ≡ b
     same_Some a b e = cc
 
 -- how many turns come before a command where the user, and what is owed to its session, stay
-pub turns-kept : (old new : Owned) (command : Command) → user_of new ≡ user_of old
+pub turns-kept : (old new : UserState) (command : Command) → user_of new ≡ user_of old
     → ((name : List ℕ) → waits_for command ≡ Some name → owed_in new name ≡ owed_in old name)
     → turns_before new command ≡ turns_before old command
 turns-kept old new command user owed =
@@ -62,21 +62,21 @@ turns-kept old new command user owed =
     by (Some name) e =
         ap (λ o. option_map_or (owed_in new) o 0) e ∙ owed name e ∙ sym (ap (λ o. option_map_or (owed_in old) o 0) e)
 
-pub turns-some : (waiting : Option Command) (old new : Owned)
+pub turns-some : (waiting : Option Command) (old new : UserState)
     → ((command : Command) → waiting ≡ Some command → turns_before new command ≡ turns_before old command)
     → IfSome waiting (λ command. 0 < turns_before old command) → IfSome waiting (λ command. 0 < turns_before new command)
 turns-some None old new same some = some
 turns-some (Some command) old new same some = subst (λ n. 0 < n) (sym (same command refl)) some
 
 -- a session with a whole step owes it
-pub whole-owes : (owner : Owning) (name : List ℕ) → is_whole_in owner.state name ≡ true → IsAtWork owner.waiting owner.state
-    → owes owner name ≡ true
+pub whole-owes : (owner : Owner) (name : List ℕ) → is_whole_in owner.state name ≡ true → IsAtWork owner.waiting owner.state
+    → is_owing owner name ≡ true
 whole-owes owner name whole work = by_test (nat_lt 0 (owed_in owner.state name)) (λ t. rw t refl) measured
   where
     o : Open owner.waiting owner.state name
     o = opens owner.waiting owner.state name whole work
 
-    measured : nat_lt 0 (owed_in owner.state name) ≡ false → owes owner name ≡ true
+    measured : nat_lt 0 (owed_in owner.state name) ≡ false → is_owing owner name ≡ true
     measured t = by_test (is_measured owner.waiting name) (λ m. rw (t, m) refl)
         (λ m. absurd (none_some o.kind (sym (kind-none owner.waiting name o.held none m) ∙ o.owes)))
       where
@@ -100,7 +100,7 @@ unwaited-quiet waiting name not = by_test (is_measured waiting name)
     (λ t. t)
 
 -- the whole step of a session that nothing waits for is one that is owed
-pub unwaited-owed : (waiting : Option Command) (owned : Owned) (name : List ℕ) → is_waited_for waiting name ≡ false
+pub unwaited-owed : (waiting : Option Command) (owned : UserState) (name : List ℕ) → is_waited_for waiting name ≡ false
     → is_whole_in owned name ≡ true → IsAtWork waiting owned → 0 < owed_in owned name
 unwaited-owed waiting owned name not whole work = by_test (nat_lt 0 (owed_in owned name))
     (ltb-true 0 (owed_in owned name))
@@ -108,9 +108,9 @@ unwaited-owed waiting owned name not whole work = by_test (nat_lt 0 (owed_in own
     let none : owed_in owned name ≡ 0 = omega (arith, z) in
     absurd (true≢false (sym (energies waiting owned name whole work none).measured ∙ unwaited-quiet waiting name not)))
 
-pub unwaited-work : (waiting : Option Command) (owned : Owned) (name : List ℕ) → is_waited_for waiting name ≡ false
-    → IsAtWork waiting owned → IsAtWork waiting (changed name step_passed owned)
-unwaited-work waiting owned name not work = at_work-changed waiting owned name step_passed
+pub unwaited-work : (waiting : Option Command) (owned : UserState) (name : List ℕ) → is_waited_for waiting name ≡ false
+    → IsAtWork waiting owned → IsAtWork waiting (with_session_changed name with_step_passed owned)
+unwaited-work waiting owned name not work = at_work-changed waiting owned name with_step_passed
     (λ held e. kind-passed waiting name held (unwaited-quiet waiting name not)) work
 
 pub unwaited-apart : (command : Command) (name other : List ℕ) → waits_for command ≡ Some other

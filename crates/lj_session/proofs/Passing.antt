@@ -7,17 +7,17 @@ use Rattle.std.specs.Str.{bytes_eq}
 use Rattle.std.proofs.lemmas.Slice.Eq.{bytes_eq-Decides}
 use Rattle.lj_tile.specs.declared.names.Kind.{Kind}
 use Rattle.lj_tile.specs.declared.names.Kind.TheVariants.{Force, Energy}
-use Rattle.lj_step.specs.Live.{OpenStep}
+use Rattle.lj_step.specs.Sim.{OpenStep}
 use Rattle.lj_step.specs.OpenSteps.{kind_of, is_whole}
 use Rattle.lj_session.specs.declared.command.Command.{Command}
 use Rattle.lj_session.specs.declared.command.Command.TheVariants.{Load, Advance, Start, Reverse, Branch, Restore, Forget, Tug}
 use Rattle.lj_session.specs.declared.command.Command.TheVariants.{Measure, Show, Dump, List as ListSessions}
 use Rattle.lj_session.specs.declared.command.Command.TheVariants.{ListBranches, Unload, Bye}
 use Rattle.lj_session.specs.declared.reply.Reply.{Reply}
-use Rattle.lj_session.specs.Answers.{performed, settled, session_named}
+use Rattle.lj_session.specs.Answers.{command_result, reply_and_user, session_named}
 use Rattle.lj_session.specs.Turns.{turns, waits_for}
-use Rattle.lj_session.specs.States.{Held, Owned, OthersKept, OtherSessionsKept, StepsFollow, StepsAfter, SameSteps, IsIdle, IsIdleIn, IsAtWork, IsWhole, Reads, user_of, held_in, owed_in, changed, with_held, step_passed, step_closed, is_whole_in, is_measured, kind_owed, turns_before}
-use Rattle.lj_session.specs.Owners.{IsAnswered}
+use Rattle.lj_session.specs.UserState.{HeldSession, UserState, OthersKept, OtherSessionsKept, StepsFollow, StepsAfter, SameSteps, IsIdle, IsIdleIn, IsAtWork, IsWhole, Reads, user_of, held_session, owed_in, with_session_changed, with_held_session, with_step_passed, with_no_step, is_whole_in, is_measured, kind_owed, turns_before}
+use Rattle.lj_session.specs.Owner.{IsAnswered}
 use Rattle.lj_session.proofs.AtWork.{kind-none, kind-passed}
 use Rattle.lj_session.proofs.Entries.{by_test, named-put_any, named-put_other}
 use Rattle.lj_session.proofs.Holding.{changed-none, changed-some, named-held, none-before}
@@ -28,19 +28,19 @@ same_Some : {A : Type 0} (x y : A) → Some x ≡ Some y → x ≡ y
 same_Some x y e = cc
 
 -- a session whose open step is whole, and the step that it owes
-pub record Open (waiting : Option Command) (owned : Owned) (name : List ℕ) : Type 0 where
-  pub held : Held
-  pub there : held_in owned name ≡ Some held
+pub record Open (waiting : Option Command) (owned : UserState) (name : List ℕ) : Type 0 where
+  pub held : HeldSession
+  pub there : held_session owned name ≡ Some held
   pub kind : Kind
   pub is : kind_of held.live.part ≡ Some kind
   pub whole : is_whole held.live.part ≡ true
   pub owes : kind_owed waiting name held ≡ Some kind
 
-pub opens : (waiting : Option Command) (owned : Owned) (name : List ℕ) → is_whole_in owned name ≡ true
+pub opens : (waiting : Option Command) (owned : UserState) (name : List ℕ) → is_whole_in owned name ≡ true
     → IsAtWork waiting owned → Open waiting owned name
-opens waiting owned name whole work = by (held_in owned name) refl
+opens waiting owned name whole work = by (held_session owned name) refl
   where
-    of : (held : Held) (part : Option OpenStep) → held_in owned name ≡ Some held → held.live.part ≡ part → is_whole part ≡ true
+    of : (held : HeldSession) (part : Option OpenStep) → held_session owned name ≡ Some held → held.live.part ≡ part → is_whole part ≡ true
         → Open waiting owned name
     of held None e is all = absurd (true≢false (sym all))
     of held (Some p) e is all = record {
@@ -52,34 +52,34 @@ opens waiting owned name whole work = by (held_in owned name) refl
       owes = sym (work name held e) ∙ ap kind_of is;
     }
 
-    by : (o : Option Held) → held_in owned name ≡ o → Open waiting owned name
+    by : (o : Option HeldSession) → held_session owned name ≡ o → Open waiting owned name
     by None e = absurd (true≢false (sym (rw e at whole)))
     by (Some held) e = of held held.live.part e refl (rw e at whole)
 
-pub owed-held : (owned : Owned) (name : List ℕ) (held : Held) → held_in owned name ≡ Some held → owed_in owned name ≡ held.owed
-owed-held owned name held e = ap (λ o. option_map_or (λ (h : Held). h.owed) o 0) e
+pub owed-held : (owned : UserState) (name : List ℕ) (held : HeldSession) → held_session owned name ≡ Some held → owed_in owned name ≡ held.owed
+owed-held owned name held e = ap (λ o. option_map_or (λ (h : HeldSession). h.owed) o 0) e
 
 -- where steps are owed it is one of pushes
-pub forces : (waiting : Option Command) (owned : Owned) (name : List ℕ) → is_whole_in owned name ≡ true
-    → IsAtWork waiting owned → 0 < owed_in owned name → (held : Held) → held_in owned name ≡ Some held → IsWhole Force held
+pub forces : (waiting : Option Command) (owned : UserState) (name : List ℕ) → is_whole_in owned name ≡ true
+    → IsAtWork waiting owned → 0 < owed_in owned name → (held : HeldSession) → held_session owned name ≡ Some held → IsWhole Force held
 forces waiting owned name whole work some held e =
     let o = opens waiting owned name whole work in
     let is : o.held ≡ held = same_Some o.held held (sym o.there ∙ e) in
-    subst (λ (h : Held). IsWhole Force h) is
+    subst (λ (h : HeldSession). IsWhole Force h) is
     (record { kind = o.is ∙ sym o.owes ∙ kind o.held (subst (λ n. 0 < n) (owed-held owned name o.held o.there) some); whole = o.whole })
   where
-    kind : (h : Held) → 0 < h.owed → kind_owed waiting name h ≡ Some Force
+    kind : (h : HeldSession) → 0 < h.owed → kind_owed waiting name h ≡ Some Force
     kind h more = rw (lt-ltb 0 h.owed more) refl
 
 -- where none are it is one of energies, since what waits measures the session
-pub record Energies (waiting : Option Command) (owned : Owned) (name : List ℕ) : Type 0 where
-  pub held : Held
-  pub there : held_in owned name ≡ Some held
+pub record Energies (waiting : Option Command) (owned : UserState) (name : List ℕ) : Type 0 where
+  pub held : HeldSession
+  pub there : held_session owned name ≡ Some held
   pub none : held.owed ≡ 0
   pub whole : IsWhole Energy held
   pub measured : is_measured waiting name ≡ true
 
-pub energies : (waiting : Option Command) (owned : Owned) (name : List ℕ) → is_whole_in owned name ≡ true
+pub energies : (waiting : Option Command) (owned : UserState) (name : List ℕ) → is_whole_in owned name ≡ true
     → IsAtWork waiting owned → owed_in owned name ≡ 0 → Energies waiting owned name
 energies waiting owned name whole work none = by_test (is_measured waiting name) some lacking
   where
@@ -134,7 +134,7 @@ unmeasured command name other waits apart = by_test (is_measured (Some command) 
     (λ t. t)
 
 -- one turn is left then
-pub measured_last : (command : Command) (owned : Owned) (name : List ℕ) → Energies (Some command) owned name
+pub measured_last : (command : Command) (owned : UserState) (name : List ℕ) → Energies (Some command) owned name
     → turns_before owned command ≡ 1
 unfolding waits_for
 measured_last command owned name e =
@@ -143,71 +143,71 @@ measured_last command owned name e =
     let one = measure-turns-one (user_of owned) name _ (named-held owned name e.held e.there) in
     ap (turns_before owned) is ∙ (let sum : owed_in owned name + turns (user_of owned) (Measure name) ≡ 1 = omega (arith, owed, one) in sum)
 
-pub measured_answered : (command : Command) (owned next : Owned) (name : List ℕ) (reply : Reply) → command ≡ Measure name
+pub measured_answered : (command : Command) (owned next : UserState) (name : List ℕ) (reply : Reply) → command ≡ Measure name
     → Reads owned (Measure name) (Ok reply) → user_of next ≡ user_of owned
     → IsAnswered (user_of owned) command reply (user_of next)
 measured_answered command owned next name reply is reads same = record {
   mark = false;
-  answers = ap (λ u. (reply, u)) same ∙ sym (ap (settled (user_of owned)) (reads false))
-      ∙ ap (λ (k : Command). settled (user_of owned) (performed (user_of owned) k false)) (sym is);
+  answers = ap (λ u. (reply, u)) same ∙ sym (ap (reply_and_user (user_of owned)) (reads false))
+      ∙ ap (λ (k : Command). reply_and_user (user_of owned) (command_result (user_of owned) k false)) (sym is);
   only_memory = λ set. absurd (true≢false (sym set));
 }
 
 -- and no step is open then but where steps are owed
-pub at_work-closed : (command : Command) (owned : Owned) (name : List ℕ) → waits_for command ≡ Some name
-    → Energies (Some command) owned name → IsAtWork (Some command) owned → IsAtWork None (changed name step_closed owned)
+pub at_work-closed : (command : Command) (owned : UserState) (name : List ℕ) → waits_for command ≡ Some name
+    → Energies (Some command) owned name → IsAtWork (Some command) owned → IsAtWork None (with_session_changed name with_no_step owned)
 at_work-closed command owned name waits en work other h e = by_test (bytes_eq name other) here there
   where
-    now : changed name step_closed owned ≡ with_held name (step_closed en.held) owned
-    now = changed-some owned name step_closed en.held en.there
+    now : with_session_changed name with_no_step owned ≡ with_held_session name (with_no_step en.held) owned
+    now = changed-some owned name with_no_step en.held en.there
 
     here : bytes_eq name other ≡ true → kind_of h.live.part ≡ kind_owed None other h
     here t =
         let same = (bytes_eq-Decides name other).0 t in
-        let is : step_closed en.held ≡ h =
-        same_Some (step_closed en.held) h (sym (named-put_any name owned.sessions (step_closed en.held))
-        ∙ ap (λ (o : Owned). held_in o name) (sym now)
-        ∙ ap (held_in (changed name step_closed owned)) same ∙ e) in
-        subst (λ (x : Held). kind_of x.live.part ≡ kind_owed None other x) is (rw en.none refl)
+        let is : with_no_step en.held ≡ h =
+        same_Some (with_no_step en.held) h (sym (named-put_any name owned.sessions (with_no_step en.held))
+        ∙ ap (λ (o : UserState). held_session o name) (sym now)
+        ∙ ap (held_session (with_session_changed name with_no_step owned)) same ∙ e) in
+        subst (λ (x : HeldSession). kind_of x.live.part ≡ kind_owed None other x) is (rw en.none refl)
 
     there : bytes_eq name other ≡ false → kind_of h.live.part ≡ kind_owed None other h
     there t =
         let apart : name ≢ other = λ same. true≢false (sym ((bytes_eq-Decides name other).1 same) ∙ t) in
-        let was : held_in owned other ≡ Some h =
-        sym (named-put_other name other apart owned.sessions (step_closed en.held))
-        ∙ ap (λ (o : Owned). held_in o other) (sym now) ∙ e in
+        let was : held_session owned other ≡ Some h =
+        sym (named-put_other name other apart owned.sessions (with_no_step en.held))
+        ∙ ap (λ (o : UserState). held_session o other) (sym now) ∙ e in
         work other h was ∙ rw (unmeasured command name other waits apart) refl
 
 -- a step passed of the session that is waited for: nothing waits then
-pub at_work-passed : (command : Command) (owned : Owned) (name : List ℕ) → waits_for command ≡ Some name → 0 < owed_in owned name
-    → IsAtWork (Some command) owned → IsAtWork None (changed name step_passed owned)
+pub at_work-passed : (command : Command) (owned : UserState) (name : List ℕ) → waits_for command ≡ Some name → 0 < owed_in owned name
+    → IsAtWork (Some command) owned → IsAtWork None (with_session_changed name with_step_passed owned)
 at_work-passed command owned name waits some work other h e = by_test (bytes_eq name other) here there
   where
-    by : (o : Option Held) → held_in owned name ≡ o → (was : Held) × (held_in owned name ≡ Some was)
+    by : (o : Option HeldSession) → held_session owned name ≡ o → (was : HeldSession) × (held_session owned name ≡ Some was)
     by None k = absurd (let none = rw k at some in omega (arith, none))
     by (Some was) k = (was, k)
 
-    found : (was : Held) × (held_in owned name ≡ Some was)
-    found = by (held_in owned name) refl
+    found : (was : HeldSession) × (held_session owned name ≡ Some was)
+    found = by (held_session owned name) refl
 
-    now : changed name step_passed owned ≡ with_held name (step_passed found.0) owned
-    now = changed-some owned name step_passed found.0 found.1
+    now : with_session_changed name with_step_passed owned ≡ with_held_session name (with_step_passed found.0) owned
+    now = changed-some owned name with_step_passed found.0 found.1
 
     here : bytes_eq name other ≡ true → kind_of h.live.part ≡ kind_owed None other h
     here t =
         let same = (bytes_eq-Decides name other).0 t in
-        let is : step_passed found.0 ≡ h =
-        same_Some (step_passed found.0) h (sym (named-put_any name owned.sessions (step_passed found.0))
-        ∙ ap (λ (o : Owned). held_in o name) (sym now)
-        ∙ ap (held_in (changed name step_passed owned)) same ∙ e) in
-        subst (λ (x : Held). kind_of x.live.part ≡ kind_owed None other x) is (kind-passed None other found.0 refl)
+        let is : with_step_passed found.0 ≡ h =
+        same_Some (with_step_passed found.0) h (sym (named-put_any name owned.sessions (with_step_passed found.0))
+        ∙ ap (λ (o : UserState). held_session o name) (sym now)
+        ∙ ap (held_session (with_session_changed name with_step_passed owned)) same ∙ e) in
+        subst (λ (x : HeldSession). kind_of x.live.part ≡ kind_owed None other x) is (kind-passed None other found.0 refl)
 
     there : bytes_eq name other ≡ false → kind_of h.live.part ≡ kind_owed None other h
     there t =
         let apart : name ≢ other = λ same. true≢false (sym ((bytes_eq-Decides name other).1 same) ∙ t) in
-        let was : held_in owned other ≡ Some h =
-        sym (named-put_other name other apart owned.sessions (step_passed found.0))
-        ∙ ap (λ (o : Owned). held_in o other) (sym now) ∙ e in
+        let was : held_session owned other ≡ Some h =
+        sym (named-put_other name other apart owned.sessions (with_step_passed found.0))
+        ∙ ap (λ (o : UserState). held_session o other) (sym now) ∙ e in
         work other h was ∙ rw (unmeasured command name other waits apart) refl
 
 -- the session that a command waits for is the one that it names
@@ -248,13 +248,13 @@ waited_named Bye name e = absurd (none_some e)
     none_some k = cc
 
 -- what waited is answered, and no step is owed or open in its session
-pub rests-followed : (command : Command) (old new : Owned) (name : List ℕ) → waits_for command ≡ Some name
+pub rests-followed : (command : Command) (old new : UserState) (name : List ℕ) → waits_for command ≡ Some name
     → turns_before old command ≡ 0 → IsAtWork None old → StepsFollow command old new → IsIdleIn new name
 unfolding waits_for
 rests-followed command old new name waits none work steps held there =
     after command waits (steps name held (waited_named command name waits) there)
   where
-    same : (o : Option Held) → held_in old name ≡ o → IsSomeAnd o (λ before. SameSteps before held) → IsIdle held
+    same : (o : Option HeldSession) → held_session old name ≡ o → IsSomeAnd o (λ before. SameSteps before held) → IsIdle held
     same None h lacking = absurd lacking
     same (Some before) h s =
         let owed : before.owed ≡ 0 = sym (owed-held old name before h) ∙ none-before old command name waits none in record {
@@ -265,35 +265,35 @@ rests-followed command old new name waits none work steps held there =
     none_some : None ≡ Some name → ⊥
     none_some e = cc
 
-    after : (command : Command) → waits_for command ≡ Some name → StepsAfter command (held_in old name) held → IsIdle held
+    after : (command : Command) → waits_for command ≡ Some name → StepsAfter command (held_session old name) held → IsIdle held
     after (Start session n) w s = absurd (none_some w)
     after (Forget session branch) w s = absurd (none_some w)
     after (ListBranches session) w s = absurd (none_some w)
     after command w s = either s
       where
-        either : IsIdle held ⊎ IsSomeAnd (held_in old name) (λ before. SameSteps before held) → IsIdle held
+        either : IsIdle held ⊎ IsSomeAnd (held_session old name) (λ before. SameSteps before held) → IsIdle held
         either (inl i) = i
-        either (inr s) = same (held_in old name) refl s
+        either (inr s) = same (held_session old name) refl s
 
-pub rests-closed : (old : Owned) (name : List ℕ) → owed_in old name ≡ 0 → IsIdleIn (changed name step_closed old) name
-rests-closed old name none held there = by (held_in old name) refl
+pub rests-closed : (old : UserState) (name : List ℕ) → owed_in old name ≡ 0 → IsIdleIn (with_session_changed name with_no_step old) name
+rests-closed old name none held there = by (held_session old name) refl
   where
-    none_some : (x : Held) → None ≡ Some x → ⊥
+    none_some : (x : HeldSession) → None ≡ Some x → ⊥
     none_some x e = cc
 
-    by : (o : Option Held) → held_in old name ≡ o → IsIdle held
-    by None e = absurd (none_some held (sym e ∙ ap (λ (o : Owned). held_in o name) (sym (changed-none old name step_closed e)) ∙ there))
+    by : (o : Option HeldSession) → held_session old name ≡ o → IsIdle held
+    by None e = absurd (none_some held (sym e ∙ ap (λ (o : UserState). held_session o name) (sym (changed-none old name with_no_step e)) ∙ there))
     by (Some was) e =
-        let is : step_closed was ≡ held = same_Some (step_closed was) held (sym (named-put_any name old.sessions (step_closed was))
-        ∙ ap (λ (o : Owned). held_in o name) (sym (changed-some old name step_closed was e)) ∙ there) in
+        let is : with_no_step was ≡ held = same_Some (with_no_step was) held (sym (named-put_any name old.sessions (with_no_step was))
+        ∙ ap (λ (o : UserState). held_session o name) (sym (changed-some old name with_no_step was e)) ∙ there) in
         subst IsIdle is (record { owed = sym (owed-held old name was e) ∙ none; closed = refl })
 
 -- the others are left by the step and by what is begun again
-pub others-passed : (command : Command) (old new : Owned) (name : List ℕ) → waits_for command ≡ Some name
-    → OthersKept command (changed name step_passed old) new → OtherSessionsKept name old new
+pub others-passed : (command : Command) (old new : UserState) (name : List ℕ) → waits_for command ≡ Some name
+    → OthersKept command (with_session_changed name with_step_passed old) new → OtherSessionsKept name old new
 others-passed command old new name waits kept other apart =
     kept other (λ same. apart (same_Some name other (sym (waited_named command name waits) ∙ same)))
-    ∙ others-changed old name step_passed other (λ same. apart (same_Some name other same))
+    ∙ others-changed old name with_step_passed other (λ same. apart (same_Some name other same))
 
-pub others-closed : (old : Owned) (name : List ℕ) → OtherSessionsKept name old (changed name step_closed old)
-others-closed old name other apart = others-changed old name step_closed other (λ same. apart (same_Some name other same))
+pub others-closed : (old : UserState) (name : List ℕ) → OtherSessionsKept name old (with_session_changed name with_no_step old)
+others-closed old name other apart = others-changed old name with_no_step other (λ same. apart (same_Some name other same))

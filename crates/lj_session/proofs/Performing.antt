@@ -2,7 +2,7 @@
 use Rattle.std.specs.Prelude.{is_some}
 use Rattle.std.proofs.Common.{◌≡◌, ℕ, Bool, true, false, ℤ, List, [], ◌∷◌, Option, Some, None, Result, Ok, Err, nat_lt}
 use Rattle.std.proofs.Common.{refl, sym, subst, inr}
-use Rattle.lj_step.specs.Motion.{Simulation, place_at, steps, reversed, tugged, momentum, kinetic, potential}
+use Rattle.lj_step.specs.Motion.{Simulation, place_at, steps, reversal, with_tug, momentum, kinetic, potential}
 use Rattle.lj_session.specs.declared.command.Command.{Command}
 use Rattle.lj_session.specs.declared.command.Command.TheVariants.{Load, Advance, Start, Reverse, Branch, Restore, Forget, Tug}
 use Rattle.lj_session.specs.declared.command.Command.TheVariants.{Measure, Show, Dump, List as ListSessions}
@@ -12,61 +12,61 @@ use Rattle.lj_session.specs.declared.refusal.Refusal.TheVariants.{NoSession, NoB
 use Rattle.lj_session.specs.declared.refusal.Refusal.TheVariants.{QuotaBranches, StepRange, Memory}
 use Rattle.lj_session.specs.declared.reply.Reply.{Reply}
 use Rattle.lj_session.specs.declared.reply.Reply.TheVariants as reply
-use Rattle.lj_branch.specs.Named.{named, put, taken_out}
+use Rattle.lj_branch.specs.Named.{value_named, with_value, without_value}
 use Rattle.lj_session.specs.Users.{Session, User, with_session, atoms_of, branches_used}
-use Rattle.lj_session.specs.Answers.{session_named, performed, can_advance, with_sim}
-use Rattle.lj_session.specs.States.{Held, Owned, OthersKept, StepsFollow, StepsAfter, Performs, outcome, user_of, held_in, session_meant}
+use Rattle.lj_session.specs.Answers.{session_named, command_result, can_advance, with_sim}
+use Rattle.lj_session.specs.UserState.{HeldSession, UserState, OthersKept, StepsFollow, StepsAfter, Performs, outcome, user_of, held_session, session_meant}
 
 -- a command that is done without the mark
-pub done : (old new : Owned) (command : Command) (reply : Reply)
-    → performed (user_of old) command false ≡ Ok (reply, user_of new) → OthersKept command old new
+pub done : (old new : UserState) (command : Command) (reply : Reply)
+    → command_result (user_of old) command false ≡ Ok (reply, user_of new) → OthersKept command old new
     → StepsFollow command old new
     → Performs old command (Ok reply) new
 done old new command reply h others steps =
     record { mark = false; performs = h; only_memory = λ marked. cc; others = others; steps = steps }
 
 -- a START that the range does not allow, or another command
-abbrev pub IsFar : Command → Held → Type 0
+abbrev pub IsFar : Command → HeldSession → Type 0
 IsFar (Start name n) held = can_advance (session_meant held) n ≡ false
 IsFar command held = Unit {0}
 
-abbrev pub IsFarIn : Owned → Command → Type 0
+abbrev pub IsFarIn : UserState → Command → Type 0
 IsFarIn owned command =
-    (name : List ℕ) (held : Held) → session_named command ≡ Some name → held_in owned name ≡ Some held → IsFar command held
+    (name : List ℕ) (held : HeldSession) → session_named command ≡ Some name → held_session owned name ≡ Some held → IsFar command held
 
 -- nothing has changed
-same-after : (command : Command) (held : Held) → IsFar command held → StepsAfter command (Some held) held
+same-after : (command : Command) (held : HeldSession) → IsFar command held → StepsAfter command (Some held) held
 same-after (Start name n) held far = rw far refl
 same-after (Forget name branch) held far = record { live = refl; passed = refl; owed = refl }
 same-after (ListBranches name) held far = record { live = refl; passed = refl; owed = refl }
 same-after command held far = inr (record { live = refl; passed = refl; owed = refl })
 
-pub steps-same : (owned : Owned) (command : Command) → IsFarIn owned command → StepsFollow command owned owned
+pub steps-same : (owned : UserState) (command : Command) → IsFarIn owned command → StepsFollow command owned owned
 steps-same owned command far name held is there =
-    subst (λ (o : Option Held). StepsAfter command o held) (sym there) (same-after command held (far name held is there))
+    subst (λ (o : Option HeldSession). StepsAfter command o held) (sym there) (same-after command held (far name held is there))
 
 -- a command that is refused without it
-pub refused : (old new : Owned) (command : Command) (refusal : Refusal)
-    → performed (user_of old) command false ≡ Err refusal → Performs old command (Err refusal) new
+pub refused : (old new : UserState) (command : Command) (refusal : Refusal)
+    → command_result (user_of old) command false ≡ Err refusal → Performs old command (Err refusal) new
 refused old new command refusal h =
     record { mark = false; performs = h; only_memory = λ marked. cc; others = tt; steps = tt }
 
 -- a command that memory was refused to
-pub starved : (old new : Owned) (command : Command) → performed (user_of old) command true ≡ Err Memory
+pub starved : (old new : UserState) (command : Command) → command_result (user_of old) command true ≡ Err Memory
     → Performs old command (Err Memory) new
 starved old new command h =
     record { mark = true; performs = h; only_memory = λ marked. refl; others = tt; steps = tt }
 
 -- a command that only reads
-pub read : (owned : Owned) (command : Command) (result : Result Reply Refusal)
-    → ((mark : Bool) → performed (user_of owned) command mark ≡ outcome result (user_of owned))
+pub read : (owned : UserState) (command : Command) (result : Result Reply Refusal)
+    → ((mark : Bool) → command_result (user_of owned) command mark ≡ outcome result (user_of owned))
     → IsFarIn owned command → Performs owned command result owned
 read owned command (Ok reply) h far = done owned owned command reply (h false) (λ other apart. refl) (steps-same owned command far)
 read owned command (Err refusal) h far = refused owned owned command refusal (h false)
 
 -- no session has the name
 abbrev pub IsNone : User → Option (List ℕ) → Type 0
-IsNone user (Some name) = named name user.sessions ≡ None
+IsNone user (Some name) = value_named name user.sessions ≡ None
 IsNone user None = ⊥
 
 -- the session of a command is not there; a load makes one
@@ -76,8 +76,8 @@ IsAbsent user command = IsNone user (session_named command)
 
 -- every command of a session but a load is refused where there is none
 pub none : (user : User) (command : Command) (mark : Bool) → IsAbsent user command
-    → performed user command mark ≡ Err NoSession
-unfolding performed
+    → command_result user command mark ≡ Err NoSession
+unfolding command_result
 none user (Load load) mark absent = absurd absent
 none user (Advance name n) mark absent = rw absent refl
 none user (Start name n) mark absent = rw absent refl
@@ -95,143 +95,143 @@ none user (Unload name) mark absent = rw absent refl
 none user Bye mark absent = absurd absent
 
 module _ (user : User) (name : List ℕ) (mark : Bool) where
-  module _ (session : Session) (found : named name user.sessions ≡ Some session) where
-    pub advance-far : (n : ℕ) → can_advance session n ≡ false → performed user (Advance name n) mark ≡ Err StepRange
-    unfolding performed
+  module _ (session : Session) (found : value_named name user.sessions ≡ Some session) where
+    pub advance-far : (n : ℕ) → can_advance session n ≡ false → command_result user (Advance name n) mark ≡ Err StepRange
+    unfolding command_result
     advance-far n far = rw (found, far) refl
 
     pub advance-on : (n : ℕ) → can_advance session n ≡ true
-        → performed user (Advance name n) mark ≡ Ok (
+        → command_result user (Advance name n) mark ≡ Ok (
           reply.Advanced name (steps session.composition n session.sim).step,
           with_sim name session (steps session.composition n session.sim) user,
         )
-    unfolding performed
+    unfolding command_result
     advance-on n near = rw (found, near) refl
 
-    pub start-far : (n : ℕ) → can_advance session n ≡ false → performed user (Start name n) mark ≡ Err StepRange
-    unfolding performed
+    pub start-far : (n : ℕ) → can_advance session n ≡ false → command_result user (Start name n) mark ≡ Err StepRange
+    unfolding command_result
     start-far n far = rw (found, far) refl
 
     pub start-done : (n : ℕ) → can_advance session n ≡ true
-        → performed user (Start name n) mark ≡ Ok (
+        → command_result user (Start name n) mark ≡ Ok (
           reply.Started name (steps session.composition n session.sim).step,
           with_sim name session (steps session.composition n session.sim) user,
         )
-    unfolding performed
+    unfolding command_result
     start-done n near = rw (found, near) refl
 
-    pub reverse-done : performed user (Reverse name) mark
-        ≡ Ok (reply.Reversed name (reversed session.sim).step, with_sim name session (reversed session.sim) user)
-    unfolding performed
+    pub reverse-done : command_result user (Reverse name) mark
+        ≡ Ok (reply.Reversed name (reversal session.sim).step, with_sim name session (reversal session.sim) user)
+    unfolding command_result
     reverse-done = rw found refl
 
-    pub restore-no_branch : (branch : List ℕ) → named branch session.saved ≡ None
-        → performed user (Restore name branch) mark ≡ Err NoBranch
-    unfolding performed
+    pub restore-no_branch : (branch : List ℕ) → value_named branch session.saved ≡ None
+        → command_result user (Restore name branch) mark ≡ Err NoBranch
+    unfolding command_result
     restore-no_branch branch none = rw (found, none) refl
 
-    pub restore-done : (branch : List ℕ) (sim : Simulation) → named branch session.saved ≡ Some sim
-        → performed user (Restore name branch) mark
+    pub restore-done : (branch : List ℕ) (sim : Simulation) → value_named branch session.saved ≡ Some sim
+        → command_result user (Restore name branch) mark
         ≡ Ok (reply.Restored name branch sim.step, with_sim name session sim user)
-    unfolding performed
+    unfolding command_result
     restore-done branch sim saved = rw (found, saved) refl
 
-    pub forget-no_branch : (branch : List ℕ) → named branch session.saved ≡ None
-        → performed user (Forget name branch) mark ≡ Err NoBranch
-    unfolding performed
+    pub forget-no_branch : (branch : List ℕ) → value_named branch session.saved ≡ None
+        → command_result user (Forget name branch) mark ≡ Err NoBranch
+    unfolding command_result
     forget-no_branch branch none = rw (found, none) refl
 
-    pub forget-done : (branch : List ℕ) (sim : Simulation) → named branch session.saved ≡ Some sim
-        → performed user (Forget name branch) mark
+    pub forget-done : (branch : List ℕ) (sim : Simulation) → value_named branch session.saved ≡ Some sim
+        → command_result user (Forget name branch) mark
         ≡ Ok (
           reply.Forgotten name branch,
           with_session name
-              (record session { saved = taken_out branch session.saved }) user,
+              (record session { saved = without_value branch session.saved }) user,
         )
-    unfolding performed
+    unfolding command_result
     forget-done branch sim saved = rw (found, saved) refl
 
-    pub branch-exists : (branch : List ℕ) → is_some (named branch session.saved) ≡ true
-        → performed user (Branch name branch) mark ≡ Err BranchExists
-    unfolding performed
+    pub branch-exists : (branch : List ℕ) → is_some (value_named branch session.saved) ≡ true
+        → command_result user (Branch name branch) mark ≡ Err BranchExists
+    unfolding command_result
     branch-exists branch taken = rw (found, taken) refl
 
-    pub branch-over : (branch : List ℕ) → is_some (named branch session.saved) ≡ false
+    pub branch-over : (branch : List ℕ) → is_some (value_named branch session.saved) ≡ false
         → nat_lt (branches_used user) user.quota.branches ≡ false
-        → performed user (Branch name branch) mark ≡ Err QuotaBranches
-    unfolding performed
+        → command_result user (Branch name branch) mark ≡ Err QuotaBranches
+    unfolding command_result
     branch-over branch new over = rw (found, new, over) refl
 
     pub tug-no_atom : (atom : ℕ) (x y z : ℤ) → nat_lt atom (atoms_of session) ≡ false
-        → performed user (Tug name atom x y z) mark ≡ Err NoAtom
-    unfolding performed
+        → command_result user (Tug name atom x y z) mark ≡ Err NoAtom
+    unfolding command_result
     tug-no_atom atom x y z past = rw (found, past) refl
 
     pub tug-done : (atom : ℕ) (x y z : ℤ) → nat_lt atom (atoms_of session) ≡ true
-        → performed user (Tug name atom x y z) mark
+        → command_result user (Tug name atom x y z) mark
         ≡ Ok (
           reply.Tugged name atom session.sim.step,
-          with_sim name session (tugged atom (record { x = x; y = y; z = z }) session.sim) user,
+          with_sim name session (with_tug atom (record { x = x; y = y; z = z }) session.sim) user,
         )
-    unfolding performed
+    unfolding command_result
     tug-done atom x y z there = rw (found, there) refl
 
-    pub measure-done : performed user (Measure name) mark
+    pub measure-done : command_result user (Measure name) mark
         ≡ Ok (
           reply.Measured name session.sim.step (atoms_of session)
               (let m = momentum session.sim in m.x ∷ m.y ∷ m.z ∷ []) (kinetic session.sim)
               (potential session.composition session.sim.cur),
           user,
         )
-    unfolding performed
+    unfolding command_result
     measure-done = rw found refl
 
     pub show-no_atom : (atom : ℕ) → nat_lt atom (atoms_of session) ≡ false
-        → performed user (Show name atom) mark ≡ Err NoAtom
-    unfolding performed
+        → command_result user (Show name atom) mark ≡ Err NoAtom
+    unfolding command_result
     show-no_atom atom past = rw (found, past) refl
 
     pub show-done : (atom : ℕ) → nat_lt atom (atoms_of session) ≡ true
-        → performed user (Show name atom) mark ≡ Ok
+        → command_result user (Show name atom) mark ≡ Ok
         (reply.Shown name session.sim.step atom (place_at session.sim.cur atom), user)
-    unfolding performed
+    unfolding command_result
     show-done atom there = rw (found, there) refl
 
-    pub dump-done : performed user (Dump name) mark ≡ Ok (reply.Dumped name, user)
-    unfolding performed
+    pub dump-done : command_result user (Dump name) mark ≡ Ok (reply.Dumped name, user)
+    unfolding command_result
     dump-done = rw found refl
 
-    pub list_branches-done : performed user (ListBranches name) mark ≡ Ok (reply.ListedBranches name, user)
-    unfolding performed
+    pub list_branches-done : command_result user (ListBranches name) mark ≡ Ok (reply.ListedBranches name, user)
+    unfolding command_result
     list_branches-done = rw found refl
 
-    pub unload-done : performed user (Unload name) mark
-        ≡ Ok (reply.Unloaded name, record user { sessions = taken_out name user.sessions })
-    unfolding performed
+    pub unload-done : command_result user (Unload name) mark
+        ≡ Ok (reply.Unloaded name, record user { sessions = without_value name user.sessions })
+    unfolding command_result
     unload-done = rw found refl
 
 -- a BRANCH that is refused for nothing else has memory, or not
 module _ (user : User) (name : List ℕ) (session : Session)
-    (found : named name user.sessions ≡ Some session) (branch : List ℕ)
-    (new : is_some (named branch session.saved) ≡ false)
+    (found : value_named name user.sessions ≡ Some session) (branch : List ℕ)
+    (new : is_some (value_named branch session.saved) ≡ false)
     (room : nat_lt (branches_used user) user.quota.branches ≡ true) where
-  pub branch-memory : performed user (Branch name branch) true ≡ Err Memory
-  unfolding performed
+  pub branch-memory : command_result user (Branch name branch) true ≡ Err Memory
+  unfolding command_result
   branch-memory = rw (found, new, room) refl
 
-  pub branch-done : performed user (Branch name branch) false
+  pub branch-done : command_result user (Branch name branch) false
       ≡ Ok (
         reply.Branched name branch session.sim.step,
-        with_session name (record session { saved = put branch session.sim session.saved }) user,
+        with_session name (record session { saved = with_value branch session.sim session.saved }) user,
       )
-  unfolding performed
+  unfolding command_result
   branch-done = rw (found, new, room) refl
 
 -- LIST and BYE are always answered
-pub list-done : (user : User) (mark : Bool) → performed user ListSessions mark ≡ Ok (reply.Listed, user)
-unfolding performed
+pub list-done : (user : User) (mark : Bool) → command_result user ListSessions mark ≡ Ok (reply.Listed, user)
+unfolding command_result
 list-done user mark = refl
 
-pub bye-done : (user : User) (mark : Bool) → performed user Bye mark ≡ Ok (reply.Bye, user)
-unfolding performed
+pub bye-done : (user : User) (mark : Bool) → command_result user Bye mark ≡ Ok (reply.Bye, user)
+unfolding command_result
 bye-done user mark = refl

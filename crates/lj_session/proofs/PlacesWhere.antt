@@ -7,7 +7,7 @@ use Rattle.std.proofs.Math.Pow.{pow_mono}
 use Rattle.std.proofs.lemmas.Bool.{cases_lt}
 use Rattle.std.proofs.lemmas.List.{length-append}
 use Rattle.std.proofs.lemmas.Nat.{pow-add}
-use Rattle.lj_step.specs.Sets.{joined}
+use Rattle.lj_step.specs.Sets.{number_of_bits}
 use Rattle.lj_session.specs.Substances.{places_where}
 
 pub bit_of : (t : ℕ) → t < 64 → 1 * 2 ^ t % 2 ^ 64 ≡ 2 ^ t * 1
@@ -45,7 +45,7 @@ module _ {A : Type 0} (test : A → Bool) where
 
 -- one block more
 pub joined-more : (list : List ℕ) (word : ℕ) → word < 2 ^ 64
-    → joined (list ++ word ∷ []) ≡ joined list + 2 ^ (64 * length list) * word
+    → number_of_bits (list ++ word ∷ []) ≡ number_of_bits list + 2 ^ (64 * length list) * word
 joined-more [] word fits = omega (arith, mod-eq_of_lt fits)
 joined-more (seconds ∷ others) word fits =
     let n = length others in
@@ -79,8 +79,8 @@ module _ {A : Type 0} (test : A → Bool) (list : List ℕ) (block others : List
       ]
 
   pub block-more : length block ≤ 64 → (length block < 64 → others ≡ [])
-      → joined list + 2 ^ (64 * length list) * places_where test (block ++ others)
-      ≡ joined (list ++ word ∷ []) + 2 ^ (64 * length (list ++ word ∷ [])) * behind
+      → number_of_bits list + 2 ^ (64 * length list) * places_where test (block ++ others)
+      ≡ number_of_bits (list ++ word ∷ []) + 2 ^ (64 * length (list ++ word ∷ [])) * behind
   block-more most last =
       let few : word < 2 ^ 64 = omega (arith, places-few test block, pow_mono {i = length block} {j = 64} most) in
       let parts : 2 ^ (64 * length list) * places_where test (block ++ others)

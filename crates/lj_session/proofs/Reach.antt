@@ -4,12 +4,12 @@ use Rattle.std.specs.Prelude.{nat_le, unsigned_abs}
 use Rattle.std.specs.List.{AllByRecursion}
 use Rattle.std.proofs.lemmas.Bool.{and_parts, leb-true}
 use Rattle.std.proofs.lemmas.Int.{ints, to_z-of_z, to_z_pos, fits_signed_from_abs}
-use Rattle.lj_step.specs.Motion.{Simulation, stepped}
-use Rattle.lj_step.specs.Live.{Live}
-use Rattle.lj_session.specs.declared.session.Session.TheInside.{Inside}
+use Rattle.lj_step.specs.Motion.{Simulation, next_simulation}
+use Rattle.lj_step.specs.Sim.{Sim}
+use Rattle.lj_session.specs.declared.session.HeldSession.TheInside.{Inside}
 use Rattle.lj_session.specs.Answers.{can_advance}
-use Rattle.lj_session.specs.Kept.{IsHeld, held_of}
-use Rattle.lj_session.specs.States.{HasCount, session_meant}
+use Rattle.lj_session.specs.Kept.{IsHeld, session_of_kept}
+use Rattle.lj_session.specs.UserState.{HasCount, session_meant}
 use Rattle.lj_session.proofs.Counts.{count-stepped}
 use Rattle.lj_session.proofs.Owed.{target_is, dir-steps}
 
@@ -27,14 +27,14 @@ together : (step dir : ℤ) (m n : ℕ) → step +ℤ dir *ℤ pos m +ℤ dir *�
 together step dir m n = omega (arith, ints)
 
 pub owed_more : (a : Inside) → IsHeld a → (n : ℕ) → unsigned_abs a.sim.sim.step ≤ 10 ^ 12 → unsigned_abs a.sim.sim.dir ≡ 1
-    → can_advance (session_meant (held_of a)) n ≡ true → IsHeld (record a { owed = a.owed + n })
+    → can_advance (session_meant (session_of_kept a)) n ≡ true → IsHeld (record a { owed = a.owed + n })
 owed_more a kept n here one near =
     let sim = a.sim.sim in
-    let meant = (session_meant (held_of a)).sim in
+    let meant = (session_meant (session_of_kept a)).sim in
     let p = and_parts (nat_le n 1000000) (nat_le (unsigned_abs (meant.step +ℤ meant.dir *ℤ pos n)) (10 ^ 12)) near in
     let far = leb-true (unsigned_abs (meant.step +ℤ meant.dir *ℤ pos n)) (10 ^ 12) p.1 in
     let is : meant.step +ℤ meant.dir *ℤ pos n ≡ sim.step +ℤ sim.dir *ℤ pos (a.owed + n) =
-    ap (λ s. s +ℤ meant.dir *ℤ pos n) (target_is (held_of a))
+    ap (λ s. s +ℤ meant.dir *ℤ pos n) (target_is (session_of_kept a))
     ∙ ap (λ d. sim.step +ℤ sim.dir *ℤ pos a.owed +ℤ d *ℤ pos n) (dir-steps a.sim.composition a.owed sim)
     ∙ together sim.step sim.dir a.owed n in
     let then : unsigned_abs (sim.step +ℤ sim.dir *ℤ pos (a.owed + n)) ≤ 10 ^ 12 = subst (λ z. unsigned_abs z ≤ 10 ^ 12) is far in
@@ -52,8 +52,8 @@ onward step dir n some =
     let next : step +ℤ dir +ℤ dir *ℤ pos (n - 1) ≡ step +ℤ dir *ℤ pos (suc (n - 1)) = omega (arith, ints) in
     next ∙ ap (λ m. step +ℤ dir *ℤ pos m) (sym more)
 
-pub passed_on : (a : Inside) → IsHeld a → 0 < a.owed → (live : Live) (passed : ℕ)
-    → live.sim ≡ stepped a.sim.composition a.sim.sim
+pub passed_on : (a : Inside) → IsHeld a → 0 < a.owed → (live : Sim) (passed : ℕ)
+    → live.sim ≡ next_simulation a.sim.composition a.sim.sim
     → IsHeld (record { symbols = a.symbols; sim = live; passed = passed; branches = a.branches; owed = a.owed - 1 })
 passed_on a kept some live passed is =
     let sim = a.sim.sim in

@@ -3,25 +3,25 @@ use Rattle.std.proofs.Common.{◌≡◌, ℕ, Bool, true, false, List, length, O
 use Rattle.std.proofs.Common.{ap, ◌∙◌, subst}
 use Rattle.std.specs.Option.{option_map}
 use Rattle.lj_step.specs.Motion.{Simulation}
-use Rattle.lj_branch.specs.Named.{named}
+use Rattle.lj_branch.specs.Named.{value_named}
 use Rattle.std.specs.Prelude.{is_some, IsSome, IfSome, IsErrAnd, OnOk, OnErr}
 use Rattle.std.proofs.lemmas.Bool.{true≢false, false≢true}
-use Rattle.lj_branch.specs.declared.faults.SaveFault.{SaveFault}
-use Rattle.lj_branch.specs.declared.faults.SaveFault.TheVariants as save
+use Rattle.lj_branch.specs.declared.branch_faults.SaveFault.{SaveFault}
+use Rattle.lj_branch.specs.declared.branch_faults.SaveFault.TheVariants as save
 use Rattle.lj_session.specs.declared.command.Command.{Command}
 use Rattle.lj_session.specs.declared.refusal.Refusal.{Refusal}
 use Rattle.lj_session.specs.declared.refusal.Refusal.TheVariants.{Memory}
 use Rattle.lj_session.specs.declared.reply.Reply.{Reply}
 use Rattle.lj_session.specs.Faults.{save_refusal}
-use Rattle.lj_session.specs.Answers.{performed}
-use Rattle.lj_session.specs.States.{Owned, Performs, user_of}
+use Rattle.lj_session.specs.Answers.{command_result}
+use Rattle.lj_session.specs.UserState.{UserState, Performs, user_of}
 
 -- a refusal that is handed on
 pub refused : {A : Type 0} (r : Result A Refusal) (refusal : Refusal) → IsErrAnd r (λ e. e ≡ refusal) → r ≡ Err refusal
 refused (Ok x) refusal h = absurd h
 refused (Err e) refusal h = ap Err h
 
-pub performs-refused : (old new : Owned) (command : Command) (r : Result Reply Refusal) (refusal : Refusal)
+pub performs-refused : (old new : UserState) (command : Command) (r : Result Reply Refusal) (refusal : Refusal)
     → IsErrAnd r (λ e. e ≡ refusal)
     → Performs old command (Err refusal) new → Performs old command r new
 performs-refused old new command r refusal h performs =
@@ -57,17 +57,17 @@ not-saved save.Exists taken h new = absurd (true≢false (sym (h refl) ∙ new))
 not-saved save.Memory taken h new = refl
 
 -- a fault that is want of memory
-pub performs-starved : (old new : Owned) (command : Command) (fault : Refusal) → fault ≡ Memory
-    → performed (user_of old) command true ≡ Err Memory → Performs old command (Err fault) new
+pub performs-starved : (old new : UserState) (command : Command) (fault : Refusal) → fault ≡ Memory
+    → command_result (user_of old) command true ≡ Err Memory → Performs old command (Err fault) new
 performs-starved old new command fault is h =
     record { mark = true; performs = h ∙ ap Err (sym is); only_memory = λ marked. ap Err is; others = tt; steps = tt }
 
 -- what is saved under a name is found by its count of atoms
 pub is_some-counted : (name : List ℕ) (saved seen : List (List ℕ × Simulation)) (count : Option ℕ) → seen ≡ saved
-    → count ≡ option_map (λ (s : Simulation). length s.cur) (named name seen)
-    → is_some (named name saved) ≡ is_some count
+    → count ≡ option_map (λ (s : Simulation). length s.cur) (value_named name seen)
+    → is_some (value_named name saved) ≡ is_some count
 is_some-counted name saved seen count same is =
-    ap (λ l. is_some (named name l)) (sym same) ∙ sym (ap is_some is ∙ mapped (named name seen))
+    ap (λ l. is_some (value_named name l)) (sym same) ∙ sym (ap is_some is ∙ mapped (value_named name seen))
   where
     mapped : (o : Option Simulation) → is_some (option_map (λ (s : Simulation). length s.cur) o) ≡ is_some o
     mapped None = refl

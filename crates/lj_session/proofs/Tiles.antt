@@ -6,9 +6,9 @@ use Rattle.std.specs.Prelude.{is_some}
 use Rattle.std.specs.Option.{option_and_then}
 use Rattle.std.specs.List.{find, range_with_len}
 use Rattle.lj_tile.specs.declared.names.Label.{Label}
-use Rattle.lj_step.specs.Live.{Live, OpenStep}
-use Rattle.lj_step.specs.OpenSteps.{awaits_tile, cover, task_at, tiles_of}
-use Rattle.lj_session.specs.States.{Held, as_session, next_of, next_tile, passed_to, with_posted}
+use Rattle.lj_step.specs.Sim.{Sim, OpenStep}
+use Rattle.lj_step.specs.OpenSteps.{is_tile_awaited, cover, task_at, tiles_of}
+use Rattle.lj_session.specs.UserState.{HeldSession, as_session, next_of, next_tile, with_passed_to, with_posted}
 
 pub find-step : (test : ℕ → Bool) (i n : ℕ) → i < n
     → find test (range_with_len i (n - i)) ≡ cond (test i) (Some i) (find test (range_with_len (i + 1) (n - (i + 1))))
@@ -33,17 +33,17 @@ find-here test i n o below passes found =
     ∙ found
 
 -- noting a tile as posted leaves the simulation and the session
-pub posted-live : (held : Held) → (with_posted held).live ≡ held.live
+pub posted-live : (held : HeldSession) → (with_posted held).live ≡ held.live
 posted-live held = by (next_tile held)
   where
-    by : (o : Option ℕ) → (passed_to o held).live ≡ held.live
+    by : (o : Option ℕ) → (with_passed_to o held).live ≡ held.live
     by None = refl
     by (Some i) = refl
 
-pub posted-session : (held : Held) → as_session (with_posted held) ≡ as_session held
+pub posted-session : (held : HeldSession) → as_session (with_posted held) ≡ as_session held
 posted-session held = by (next_tile held)
   where
-    by : (o : Option ℕ) → as_session (passed_to o held) ≡ as_session held
+    by : (o : Option ℕ) → as_session (with_passed_to o held) ≡ as_session held
     by None = refl
     by (Some i) = refl
 
@@ -63,7 +63,7 @@ find-passes test (first ∷ xs) x e = by (test first) refl (find-passes test xs 
     by false t later = later (rw t at e)
 
 -- a tile that is awaited has its task
-awaited-task : (live : Live) (label : Label) (i : ℕ) → awaits_tile live i ≡ true → is_some (task_at live label i) ≡ true
+awaited-task : (live : Sim) (label : Label) (i : ℕ) → is_tile_awaited live i ≡ true → is_some (task_at live label i) ≡ true
 awaited-task live label i h = by live.part refl
   where
     with_part : (p : OpenStep) → live.part ≡ Some p → (o : Option ℕ) → slice_get (cover live.composition live.sim.cur) i ≡ o
@@ -76,11 +76,11 @@ awaited-task live label i h = by live.part refl
     by (Some p) e = with_part p e (slice_get (cover live.composition live.sim.cur) i) refl
 
 -- so there is a next task exactly where a tile is found
-pub found-task : (held : Held) (label : Label) → is_some (next_of label (Some held)) ≡ is_some (next_tile held)
+pub found-task : (held : HeldSession) (label : Label) → is_some (next_of label (Some held)) ≡ is_some (next_tile held)
 found-task held label = by (next_tile held) refl
   where
     by : (o : Option ℕ) → next_tile held ≡ o → is_some (next_of label (Some held)) ≡ is_some o
     by None e = rw e refl
     by (Some i) e =
         ap (λ o. is_some (option_and_then (task_at held.live label) o)) e
-        ∙ awaited-task held.live label i (find-passes (awaits_tile held.live) (range_with_len held.passed (tiles_of held.live - held.passed)) i e)
+        ∙ awaited-task held.live label i (find-passes (is_tile_awaited held.live) (range_with_len held.passed (tiles_of held.live - held.passed)) i e)

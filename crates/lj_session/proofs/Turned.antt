@@ -9,12 +9,12 @@ use Rattle.lj_session.specs.declared.command.Command.TheVariants.{Measure}
 use Rattle.lj_session.specs.declared.reply.Reply.{Reply}
 use Rattle.lj_session.specs.Users.{User}
 use Rattle.lj_session.specs.Turns.{waits_for}
-use Rattle.lj_session.specs.States.{Held, Owned, IsAtWork, IsIdleIn, IsWhole, OthersKept, OtherSessionsKept, Reads, StepsFollow, user_of, held_in, owed_in, changed, step_passed, step_closed, is_whole_in, turns_before}
-use Rattle.lj_session.specs.Owners.{Owning, IsAnswered, IsLastTurn, IsReplied, is_waited_for, user_in}
+use Rattle.lj_session.specs.UserState.{HeldSession, UserState, IsAtWork, IsIdleIn, IsWhole, OthersKept, OtherSessionsKept, Reads, StepsFollow, user_of, held_session, owed_in, with_session_changed, with_step_passed, with_no_step, is_whole_in, turns_before}
+use Rattle.lj_session.specs.Owner.{Owner, IsAnswered, IsLastTurn, IsReplied, is_waited_for, user_in}
 use Rattle.lj_session.proofs.Passing.{Energies, energies, forces, measures, measured_last, measured_answered, at_work-closed, at_work-passed, others-passed, rests-followed}
 use Rattle.lj_session.proofs.Waiting.{passed_turns, same_name}
 
-module _ (old : Owning) (name : List ℕ) (command : Command) (waiting : Some command ≡ old.waiting)
+module _ (old : Owner) (name : List ℕ) (command : Command) (waiting : Some command ≡ old.waiting)
     (waited : is_waited_for old.waiting name ≡ true) (work : IsAtWork old.waiting old.state)
     (whole : is_whole_in old.state name ≡ true) where
   waits : waits_for command ≡ Some name
@@ -39,36 +39,36 @@ module _ (old : Owning) (name : List ℕ) (command : Command) (waiting : Some co
     measured : Energies (Some command) old.state name
     measured = energies (Some command) old.state name whole at_work none
 
-    pub measured-whole : (held : Held) → held_in old.state name ≡ Some held → IsWhole Energy held
+    pub measured-whole : (held : HeldSession) → held_session old.state name ≡ Some held → IsWhole Energy held
     measured-whole held there =
-        subst (λ (h : Held). IsWhole Energy h) (same measured.held held (sym measured.there ∙ there)) measured.whole
+        subst (λ (h : HeldSession). IsWhole Energy h) (same measured.held held (sym measured.there ∙ there)) measured.whole
       where
-        same : (a b : Held) → Some a ≡ Some b → a ≡ b
+        same : (a b : HeldSession) → Some a ≡ Some b → a ≡ b
         same a b k = cc
 
     pub measured-last : IsLastTurn name old
     measured-last = last_where (measured_last command old.state name measured)
 
-    pub measured-replied : (next : Owned) (copy : List ℕ) (reply : Reply) → copy ≡ name
+    pub measured-replied : (next : UserState) (copy : List ℕ) (reply : Reply) → copy ≡ name
         → Reads old.state (Measure copy) (Ok reply) → user_of next ≡ user_of old.state → IsReplied old reply (user_of next)
     measured-replied next copy reply same reads user =
         replied_where reply (user_of next) (measured_answered command old.state next copy reply
         (measures command name measured.measured ∙ ap Measure (sym same)) reads user)
 
-    pub measured-work : IsAtWork None (changed name step_closed old.state)
+    pub measured-work : IsAtWork None (with_session_changed name with_no_step old.state)
     measured-work = at_work-closed command old.state name waits measured at_work
 
   -- a step that was owed
   module _ (some : 0 < owed_in old.state name) where
-    pub passed-whole : (held : Held) → held_in old.state name ≡ Some held → IsWhole Force held
+    pub passed-whole : (held : HeldSession) → held_session old.state name ≡ Some held → IsWhole Force held
     passed-whole = forces (Some command) old.state name whole at_work some
 
-    module _ (passed : Owned) (is : passed ≡ changed name step_passed old.state) where
+    module _ (passed : UserState) (is : passed ≡ with_session_changed name with_step_passed old.state) where
       pub passed-work : IsAtWork None passed
-      passed-work = subst (λ (o : Owned). IsAtWork None o) (sym is) (at_work-passed command old.state name waits some at_work)
+      passed-work = subst (λ (o : UserState). IsAtWork None o) (sym is) (at_work-passed command old.state name waits some at_work)
 
       fewer : turns_before passed command + 1 ≡ turns_before old.state command
-      fewer = ap (λ (o : Owned). turns_before o command + 1) is ∙ passed_turns old.state name command waits some
+      fewer = ap (λ (o : UserState). turns_before o command + 1) is ∙ passed_turns old.state name command waits some
 
       pub passed-last : turns_before passed command ≡ 0 → IsLastTurn name old
       passed-last none = let less = fewer in last_where (omega (arith, less, none))
@@ -82,9 +82,9 @@ module _ (old : Owning) (name : List ℕ) (command : Command) (waiting : Some co
           few : (m n : ℕ) → 0 < m → m + 1 ≡ n → n ≡ 1 → ⊥
           few m n more less one = omega (arith, more, less, one)
 
-      pub passed-rests : (new : Owned) → turns_before passed command ≡ 0 → StepsFollow command passed new → IsIdleIn new name
+      pub passed-rests : (new : UserState) → turns_before passed command ≡ 0 → StepsFollow command passed new → IsIdleIn new name
       passed-rests new none steps = rests-followed command passed new name waits none passed-work steps
 
-      pub passed-others : (new : Owned) → OthersKept command passed new → OtherSessionsKept name old.state new
+      pub passed-others : (new : UserState) → OthersKept command passed new → OtherSessionsKept name old.state new
       passed-others new others = others-passed command old.state new name waits
-          (subst (λ (o : Owned). OthersKept command o new) is others)
+          (subst (λ (o : UserState). OthersKept command o new) is others)

@@ -7,39 +7,39 @@ use Rattle.lj_session.specs.declared.command.Command.{Command}
 use Rattle.lj_session.specs.declared.command.Command.TheVariants.{Load, Advance, Start, Reverse, Branch, Restore, Forget, Tug}
 use Rattle.lj_session.specs.declared.command.Command.TheVariants.{Measure, Show, Dump, List as ListSessions}
 use Rattle.lj_session.specs.declared.command.Command.TheVariants.{ListBranches, Unload, Bye}
-use Rattle.lj_branch.specs.Named.{named}
+use Rattle.lj_branch.specs.Named.{value_named}
 use Rattle.lj_session.specs.Users.{Session, User}
 use Rattle.lj_session.specs.Answers.{can_advance}
 use Rattle.lj_session.specs.Turns.{turns}
 
 module _ (user : User) (name : List ℕ) where
-  pub advance-turns-none : (n : ℕ) → named name user.sessions ≡ None → turns user (Advance name n) ≡ 0
+  pub advance-turns-none : (n : ℕ) → value_named name user.sessions ≡ None → turns user (Advance name n) ≡ 0
   unfolding turns
   advance-turns-none n absent = rw absent refl
 
-  pub advance-turns-far : (n : ℕ) (session : Session) → named name user.sessions ≡ Some session
+  pub advance-turns-far : (n : ℕ) (session : Session) → value_named name user.sessions ≡ Some session
       → can_advance session n ≡ false → turns user (Advance name n) ≡ 0
   unfolding turns
   advance-turns-far n session found far = rw (found, far) refl
 
-  pub advance-turns-near : (n : ℕ) (session : Session) → named name user.sessions ≡ Some session
+  pub advance-turns-near : (n : ℕ) (session : Session) → value_named name user.sessions ≡ Some session
       → can_advance session n ≡ true → turns user (Advance name n) ≡ n
   unfolding turns
   advance-turns-near n session found near = rw (found, near) refl
 
-  pub measure-turns-none : named name user.sessions ≡ None → turns user (Measure name) ≡ 0
+  pub measure-turns-none : value_named name user.sessions ≡ None → turns user (Measure name) ≡ 0
   unfolding turns
   measure-turns-none absent = rw absent refl
 
-  pub measure-turns-one : (session : Session) → named name user.sessions ≡ Some session → turns user (Measure name) ≡ 1
+  pub measure-turns-one : (session : Session) → value_named name user.sessions ≡ Some session → turns user (Measure name) ≡ 1
   unfolding turns
   measure-turns-one session found = rw found refl
 
   -- where MEASURE takes no turn, there is no such session
-  pub measure-nothing : turns user (Measure name) ≡ 0 → named name user.sessions ≡ None
-  measure-nothing none = by (named name user.sessions) refl
+  pub measure-nothing : turns user (Measure name) ≡ 0 → value_named name user.sessions ≡ None
+  measure-nothing none = by (value_named name user.sessions) refl
     where
-      by : (o : Option Session) → named name user.sessions ≡ o → o ≡ None
+      by : (o : Option Session) → value_named name user.sessions ≡ o → o ≡ None
       by None e = refl
       by (Some session) e = let one = measure-turns-one session e in absurd (omega (arith, one, none))
 

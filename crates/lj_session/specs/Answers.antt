@@ -1,7 +1,7 @@
 -- What a command answers: a reply, and the user after it. A refusal leaves the user as it was.
 use Rattle.std.specs.Prelude.{◌≡◌, ℕ, Bool, ◌&&◌, not, nat_le, nat_lt, is_some, pos, ◌+ℤ◌, ◌*ℤ◌, unsigned_abs, List, []}
 use Rattle.std.specs.Prelude.{◌∷◌, Option, Some, None, Result, Ok, Err}
-use Rattle.lj_step.specs.Motion.{Simulation, place_at, steps, reversed, tugged, momentum, kinetic, potential}
+use Rattle.lj_step.specs.Motion.{Simulation, place_at, steps, reversal, with_tug, momentum, kinetic, potential}
 use Rattle.lj_xyz.specs.Atoms.{◌>>=◌}
 use Rattle.lj_session.specs.declared.command.Command.{Command}
 use Rattle.lj_session.specs.declared.command.Command.TheVariants.{Load, Advance, Start, Reverse, Branch, Restore, Forget, Tug}
@@ -12,28 +12,29 @@ use Rattle.lj_session.specs.declared.refusal.Refusal.TheVariants.{NoSession, NoB
 use Rattle.lj_session.specs.declared.refusal.Refusal.TheVariants.{QuotaBranches, StepRange, Memory}
 use Rattle.lj_session.specs.declared.reply.Reply.{Reply}
 use Rattle.lj_session.specs.declared.reply.Reply.TheVariants as reply
-use Rattle.lj_session.specs.declared.session.TheConstants.{MAX_STEPS, MAX_STEP_NUMBER}
-use Rattle.lj_branch.specs.Named.{named, put, taken_out}
+use Rattle.lj_session.specs.declared.session.TheConstants.{MAX_STEPS}
+use Rattle.lj_step.specs.declared.simulations.TheConstants.{MAX_STEP}
+use Rattle.lj_branch.specs.Named.{value_named, with_value, without_value}
 use Rattle.lj_session.specs.Users.{Session, User, with_session, atoms_of, branches_used}
-use Rattle.lj_session.specs.Loads.{unless, admitted, body_held, session_read}
-use Rattle.lj_session.specs.Substances.{loaded}
+use Rattle.lj_session.specs.Loads.{refusal_unless, admission, body_or_refusal, session_read}
+use Rattle.lj_session.specs.Substances.{load_reply}
 
 -- what stands under a name, else a refusal
-abbrev pub or_refusal : {A : Type 0} → Option A → Refusal → Result A Refusal
-or_refusal (Some value) refusal = Ok value
-or_refusal None refusal = Err refusal
+abbrev pub value_or_refusal : {A : Type 0} → Option A → Refusal → Result A Refusal
+value_or_refusal (Some value) refusal = Ok value
+value_or_refusal None refusal = Err refusal
 
 -- the session of a name
 abbrev pub session_of : User → List ℕ → Result Session Refusal
-session_of user name = or_refusal (named name user.sessions) NoSession
+session_of user name = value_or_refusal (value_named name user.sessions) NoSession
 
 -- what is saved in a session under a name
-abbrev pub saved_in : Session → List ℕ → Result Simulation Refusal
-saved_in session branch = or_refusal (named branch session.saved) NoBranch
+abbrev pub simulation_saved : Session → List ℕ → Result Simulation Refusal
+simulation_saved session branch = value_or_refusal (value_named branch session.saved) NoBranch
 
 -- a session has atoms 0, 1, .. and no more than its count
-abbrev pub has_atom : Session → ℕ → Result (Unit {0}) Refusal
-has_atom session atom = unless (nat_lt atom (atoms_of session)) NoAtom
+abbrev pub atom_or_refusal : Session → ℕ → Result (Unit {0}) Refusal
+atom_or_refusal session atom = refusal_unless (nat_lt atom (atoms_of session)) NoAtom
 
 -- the user, where the simulation of a session is now this one
 abbrev pub with_sim : List ℕ → Session → Simulation → User → User
@@ -42,7 +43,7 @@ with_sim name session sim user = with_session name (record session { sim = sim }
 -- a session may go on by at most a million steps, and to step numbers of size at most 10^12
 abbrev pub can_advance : Session → ℕ → Bool
 can_advance session n =
-    nat_le n MAX_STEPS && nat_le (unsigned_abs (session.sim.step +ℤ session.sim.dir *ℤ pos n)) MAX_STEP_NUMBER
+    nat_le n MAX_STEPS && nat_le (unsigned_abs (session.sim.step +ℤ session.sim.dir *ℤ pos n)) MAX_STEP
 
 -- the session that a command is of; LIST and BYE are of none
 abbrev pub session_named : Command → Option (List ℕ)
@@ -63,73 +64,73 @@ session_named (Unload name) = Some name
 session_named Bye = None
 
 -- what a command does: its reply and the next user, or its first refusal
-unfoldable pub performed : User → Command → Bool → Result (Reply × User) Refusal
-performed user (Load load) mark = do
-  mix ← admitted user load
-  bytes ← body_held load.body mark
+unfoldable pub command_result : User → Command → Bool → Result (Reply × User) Refusal
+command_result user (Load load) mark = do
+  mix ← admission user load
+  bytes ← body_or_refusal load.body mark
   session ← session_read user mix load bytes
-  Ok (loaded load.substance load.name (atoms_of session), with_session load.name session user)
-performed user (Advance name n) mark = do
+  Ok (load_reply load.substance load.name (atoms_of session), with_session load.name session user)
+command_result user (Advance name n) mark = do
   session ← session_of user name
-  near ← unless (can_advance session n) StepRange
+  near ← refusal_unless (can_advance session n) StepRange
   let sim = steps session.composition n session.sim in Ok (reply.Advanced name sim.step, with_sim name session sim user)
-performed user (Start name n) mark = do
+command_result user (Start name n) mark = do
   session ← session_of user name
-  near ← unless (can_advance session n) StepRange
+  near ← refusal_unless (can_advance session n) StepRange
   let sim = steps session.composition n session.sim in Ok (reply.Started name sim.step, with_sim name session sim user)
-performed user (Reverse name) mark = do
+command_result user (Reverse name) mark = do
   session ← session_of user name
-  let sim = reversed session.sim in Ok (reply.Reversed name sim.step, with_sim name session sim user)
-performed user (Branch name branch) mark = do
+  let sim = reversal session.sim in Ok (reply.Reversed name sim.step, with_sim name session sim user)
+command_result user (Branch name branch) mark = do
   session ← session_of user name
-  new ← unless (not (is_some (named branch session.saved))) BranchExists
-  room ← unless (nat_lt (branches_used user) user.quota.branches) QuotaBranches
-  held ← unless (not mark) Memory
-  let next = record session { saved = put branch session.sim session.saved } in
+  new ← refusal_unless (not (is_some (value_named branch session.saved))) BranchExists
+  room ← refusal_unless (nat_lt (branches_used user) user.quota.branches) QuotaBranches
+  held ← refusal_unless (not mark) Memory
+  let next = record session { saved = with_value branch session.sim session.saved } in
       Ok (reply.Branched name branch session.sim.step, with_session name next user)
-performed user (Restore name branch) mark = do
+command_result user (Restore name branch) mark = do
   session ← session_of user name
-  sim ← saved_in session branch
+  sim ← simulation_saved session branch
   Ok (reply.Restored name branch sim.step, with_sim name session sim user)
-performed user (Forget name branch) mark = do
+command_result user (Forget name branch) mark = do
   session ← session_of user name
-  sim ← saved_in session branch
-  Ok (reply.Forgotten name branch, with_session name (record session { saved = taken_out branch session.saved }) user)
-performed user (Tug name atom x y z) mark = do
+  sim ← simulation_saved session branch
+  Ok (reply.Forgotten name branch, with_session name (record session { saved = without_value branch session.saved }) user)
+command_result user (Tug name atom x y z) mark = do
   session ← session_of user name
-  there ← has_atom session atom
-  let sim = tugged atom (record { x = x; y = y; z = z }) session.sim in
+  there ← atom_or_refusal session atom
+  let sim = with_tug atom (record { x = x; y = y; z = z }) session.sim in
       Ok (reply.Tugged name atom sim.step, with_sim name session sim user)
-performed user (Measure name) mark = do
+command_result user (Measure name) mark = do
   session ← session_of user name
   let sim = session.sim in
       let m = momentum sim in
       let energy = potential session.composition sim.cur in
       Ok (reply.Measured name sim.step (atoms_of session) (m.x ∷ m.y ∷ m.z ∷ []) (kinetic sim) energy, user)
-performed user (Show name atom) mark = do
+command_result user (Show name atom) mark = do
   session ← session_of user name
-  there ← has_atom session atom
+  there ← atom_or_refusal session atom
   Ok (reply.Shown name session.sim.step atom (place_at session.sim.cur atom), user)
-performed user (Dump name) mark = do
+command_result user (Dump name) mark = do
   session ← session_of user name
   Ok (reply.Dumped name, user)
-performed user ListSessions mark = Ok (reply.Listed, user)
-performed user (ListBranches name) mark = do
+command_result user ListSessions mark = Ok (reply.Listed, user)
+command_result user (ListBranches name) mark = do
   session ← session_of user name
   Ok (reply.ListedBranches name, user)
-performed user (Unload name) mark = do
+command_result user (Unload name) mark = do
   session ← session_of user name
-  Ok (reply.Unloaded name, record user { sessions = taken_out name user.sessions })
-performed user Bye mark = Ok (reply.Bye, user)
+  Ok (reply.Unloaded name, record user { sessions = without_value name user.sessions })
+command_result user Bye mark = Ok (reply.Bye, user)
 
 -- a refusal is replied, and the user stays
-abbrev pub settled : User → Result (Reply × User) Refusal → Reply × User
-settled user (Ok answer) = answer
-settled user (Err refusal) = (reply.Refused refusal, user)
+abbrev pub reply_and_user : User → Result (Reply × User) Refusal → Reply × User
+reply_and_user user (Ok answer) = answer
+reply_and_user user (Err refusal) = (reply.Refused refusal, user)
 
 -- What a command answers. The mark says that memory was refused to it; it matters to LOAD, LOADMIX and BRANCH alone.
 abbrev pub answer : User → Command → Bool → Reply × User
-answer user command mark = settled user (performed user command mark)
+answer user command mark = reply_and_user user (command_result user command mark)
 
 -- A command is answered so, whether memory is refused to it or not.
 abbrev pub IsAnswer : User → Command → Reply → User → Type 0

@@ -1,8 +1,8 @@
 -- The faults of the crates below as refusals.
-use Rattle.lj_xyz.specs.declared.fault.XyzError.{XyzError}
-use Rattle.lj_xyz.specs.declared.fault.XyzError.TheVariants as xyz
-use Rattle.lj_branch.specs.declared.faults.SaveFault.{SaveFault}
-use Rattle.lj_branch.specs.declared.faults.SaveFault.TheVariants as save
+use Rattle.lj_xyz.specs.declared.xyz_fault.XyzError.{XyzError}
+use Rattle.lj_xyz.specs.declared.xyz_fault.XyzError.TheVariants as xyz
+use Rattle.lj_branch.specs.declared.branch_faults.SaveFault.{SaveFault}
+use Rattle.lj_branch.specs.declared.branch_faults.SaveFault.TheVariants as save
 use Rattle.lj_quota.specs.declared.Over.{Over}
 use Rattle.lj_quota.specs.declared.Over.TheVariants as over
 use Rattle.lj_session.specs.declared.refusal.Refusal.{Refusal}

@@ -1,13 +1,13 @@
 -- What a session in the code stands for, and what is true of it.
 use Rattle.std.specs.Prelude.{◌≡◌, ◌≤◌, ◌*◌, unsigned_abs, pos, ◌+ℤ◌, ◌*ℤ◌, length}
 use Rattle.std.specs.List.{AllByRecursion}
-use Rattle.lj_session.specs.declared.session.TheConstants.{MAX_STEP_NUMBER}
-use Rattle.lj_session.specs.States.{Held, HasCount}
-use Rattle.lj_session.specs.declared.session.Session.TheInside.{Inside}
+use Rattle.lj_step.specs.declared.simulations.TheConstants.{MAX_STEP}
+use Rattle.lj_session.specs.UserState.{HeldSession, HasCount}
+use Rattle.lj_session.specs.declared.session.HeldSession.TheInside.{Inside}
 
 -- the session that the fields of one in the code stand for
-abbrev pub held_of : Inside → Held
-held_of a =
+abbrev pub session_of_kept : Inside → HeldSession
+session_of_kept a =
     record { symbols = a.symbols.items; live = a.sim; passed = a.passed; saved = a.branches; owed = a.owed }
 
 -- Each atom has its symbol, what is saved has as many atoms as the session, and the step number that the session is
@@ -15,5 +15,5 @@ held_of a =
 pub record IsHeld (a : Inside) : Type 0 where
   pub symbols : length a.symbols.items ≡ length a.sim.sim.cur
   pub saved : AllByRecursion (HasCount (length a.sim.sim.cur)) a.branches
-  pub near : unsigned_abs (a.sim.sim.step +ℤ a.sim.sim.dir *ℤ pos a.owed) ≤ MAX_STEP_NUMBER
-  pub few : a.owed ≤ 2 * MAX_STEP_NUMBER
+  pub near : unsigned_abs (a.sim.sim.step +ℤ a.sim.sim.dir *ℤ pos a.owed) ≤ MAX_STEP
+  pub few : a.owed ≤ 2 * MAX_STEP

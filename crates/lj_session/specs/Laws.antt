@@ -1,27 +1,27 @@
 -- Laws of owners and of what is answered, each proved on the function of its name.
 use Rattle.std.specs.Prelude.{◌≡◌, ℕ, ◌<◌, Bool, false, List, Option, Some, None, IsSome, IfSome, if◌then◌else◌, nat_lt}
-use Rattle.lj_tile.specs.Tasks.{Work}
-use Rattle.lj_branch.specs.Named.{named}
+use Rattle.lj_tile.specs.Task.{Task}
+use Rattle.lj_branch.specs.Named.{value_named}
 use Rattle.lj_session.specs.declared.command.Command.{Command}
 use Rattle.lj_session.specs.declared.command.Command.TheVariants.{Advance}
 use Rattle.lj_session.specs.declared.reply.Reply.{Reply}
 use Rattle.lj_session.specs.declared.reply.Reply.TheVariants.{Dumped, ListedBranches}
 use Rattle.lj_session.specs.Users.{User}
 use Rattle.lj_session.specs.Answers.{answer, AnswersAlike}
-use Rattle.lj_session.specs.States.{Owned, user_of, rested, steps_before, turns_before}
-use Rattle.lj_session.specs.Owners.{Owning, user_in, begun, with_task_posted, with_task_in}
+use Rattle.lj_session.specs.UserState.{UserState, user_of, state_at_rest, steps_before, turns_before}
+use Rattle.lj_session.specs.Owner.{Owner, user_in, owner_begun, with_task_posted, with_task_in}
 
 -- To begin each step anew leaves the user.
 abbrev pub RestKeepsUser : Type 0
-RestKeepsUser = (owned : Owned) → user_of (rested owned) ≡ user_of owned
+RestKeepsUser = (owned : UserState) → user_of (state_at_rest owned) ≡ user_of owned
 
 -- To note a task as posted leaves the user.
 abbrev pub PostedKeepsUser : Type 0
-PostedKeepsUser = (owner : Owning) → user_in (with_task_posted owner) ≡ user_in owner
+PostedKeepsUser = (owner : Owner) → user_in (with_task_posted owner) ≡ user_in owner
 
 -- To take a tile in leaves the user.
 abbrev pub AcceptKeepsUser : Type 0
-AcceptKeepsUser = (work : Work) (owner : Owning) → user_in (with_task_in work owner) ≡ user_in owner
+AcceptKeepsUser = (work : Task) (owner : Owner) → user_in (with_task_in work owner) ≡ user_in owner
 
 -- the user that is meant once a command takes steps of its own: those of an ADVANCE are counted, and the steps of no other
 -- move anything
@@ -31,15 +31,15 @@ user_taking user command = user
 
 -- A command that is begun and waits leaves the user, but for the steps of an ADVANCE that it begins to take; and it will
 -- be answered as it would be now.
-pub record BeginsAlike (command : Command) (owner : Owning) : Type 0 where
-  pub user : user_in (begun command owner)
+pub record BeginsAlike (command : Command) (owner : Owner) : Type 0 where
+  pub user : user_in (owner_begun command owner)
       ≡ (if nat_lt 0 (steps_before owner.state command) then user_in owner else user_taking (user_in owner) command)
-  pub left : IfSome (begun command owner).waiting (λ left.
-      AnswersAlike (user_in (begun command owner)) left (user_in owner) command)
+  pub left : IfSome (owner_begun command owner).waiting (λ left.
+      AnswersAlike (user_in (owner_begun command owner)) left (user_in owner) command)
 
 -- So does every command before which turns come.
 abbrev pub BegunWaitsAlike : Type 0
-BegunWaitsAlike = (command : Command) (owner : Owning) → 0 < turns_before owner.state command
+BegunWaitsAlike = (command : Command) (owner : Owner) → 0 < turns_before owner.state command
     → BeginsAlike command owner
 
 -- the session whose atoms a reply lists, as DUMP's does, or what is saved in it, as that of LIST with a name does
@@ -51,4 +51,4 @@ session_listed _ = None
 -- The session that a reply lists is one of the user after it.
 abbrev pub ListedIsThere : Type 0
 ListedIsThere = (user : User) (command : Command) (mark : Bool) → let a = answer user command mark in
-    IfSome (session_listed a.0) (λ name. IsSome (named name a.1.sessions))
+    IfSome (session_listed a.0) (λ name. IsSome (value_named name a.1.sessions))

@@ -4,12 +4,12 @@ pub mod Substances
 pub mod Loads
 pub mod Answers
 pub mod Turns
-pub mod States
+pub mod UserState
 pub mod Kept
 pub mod Totals
 pub mod Openings
 pub mod Faults
-pub mod Owners
+pub mod Owner
 pub mod Begins
 pub mod KeptOwners
 pub mod Laws

@@ -3,10 +3,10 @@ use Rattle.std.specs.Prelude.{ℕ, ◌+◌, Bool, true, false, not, nat_le, nat_
 use Rattle.std.specs.Prelude.{Option, Result, Ok, Err}
 use Rattle.lj_ring.specs.declared.coordinates.Place.{Place}
 use Rattle.lj_ring.specs.Places.{place_of}
-use Rattle.lj_ring.specs.Mixes.{Mixture, edge_of}
+use Rattle.lj_ring.specs.Mix.{Mix, edge_of}
 use Rattle.lj_step.specs.Motion.{opening}
-use Rattle.lj_xyz.specs.declared.fault.XyzFault.{XyzFault}
-use Rattle.lj_xyz.specs.declared.row.Row.{Row}
+use Rattle.lj_xyz.specs.declared.xyz_fault.XyzFault.{XyzFault}
+use Rattle.lj_xyz.specs.declared.atom_row.Row.{Row}
 use Rattle.lj_xyz.specs.Atoms.{◌>>=◌}
 use Rattle.lj_xyz.specs.Lines.{lines_of}
 use Rattle.lj_xyz.specs.Frames as frames
@@ -19,28 +19,28 @@ use Rattle.lj_session.specs.declared.command.Mode.{Mode}
 use Rattle.lj_session.specs.declared.command.Mode.TheVariants.{Rest, Pair}
 use Rattle.lj_session.specs.declared.refusal.Refusal.{Refusal}
 use Rattle.lj_session.specs.declared.refusal.Refusal.TheVariants.{Exists, QuotaSessions, QuotaAtoms, Xyz, Memory}
-use Rattle.lj_branch.specs.Named.{named}
-use Rattle.lj_session.specs.Substances.{composed, mixture_said, nano_or_zero, symbols_of}
+use Rattle.lj_branch.specs.Named.{value_named}
+use Rattle.lj_session.specs.Substances.{composition_of, mix_of_substance, nano_or_zero, symbols_of}
 use Rattle.lj_session.specs.Users.{Session, User, atoms_of, atoms_used, sessions_used}
 
 -- nothing where a test holds, else a refusal
-abbrev pub unless : Bool → Refusal → Result (Unit {0}) Refusal
-unless true refusal = Ok tt
-unless false refusal = Err refusal
+abbrev pub refusal_unless : Bool → Refusal → Result (Unit {0}) Refusal
+refusal_unless true refusal = Ok tt
+refusal_unless false refusal = Err refusal
 
 -- how the atoms of a load interact, or the first refusal that needs no body
-abbrev pub admitted : User → Load → Result Mixture Refusal
-admitted user load = do
-  new ← unless (not (is_some (named load.name user.sessions))) Exists
-  room ← unless (nat_lt (sessions_used user) user.quota.sessions) QuotaSessions
-  mixture_said (nano_or_zero load.edge) load.substance
+abbrev pub admission : User → Load → Result Mix Refusal
+admission user load = do
+  new ← refusal_unless (not (is_some (value_named load.name user.sessions))) Exists
+  room ← refusal_unless (nat_lt (sessions_used user) user.quota.sessions) QuotaSessions
+  mix_of_substance (nano_or_zero load.edge) load.substance
 
 -- the body, where it was read and memory was found for the load
-abbrev pub body_held : LoadBody → Bool → Result (List ℕ) Refusal
-body_held (Read body) false = Ok body
-body_held (Read body) true = Err Memory
-body_held Lost mark = Err Memory
-body_held Unread mark = Err Memory
+abbrev pub body_or_refusal : LoadBody → Bool → Result (List ℕ) Refusal
+body_or_refusal (Read body) false = Ok body
+body_or_refusal (Read body) true = Err Memory
+body_or_refusal Lost mark = Err Memory
+body_or_refusal Unread mark = Err Memory
 
 -- the places of atoms in a box
 abbrev pub place_in : ℕ → Row → Place
@@ -51,16 +51,16 @@ abbrev pub places_in : ℕ → List Row → List Place
 places_in edge rows = map (place_in edge) rows
 
 -- the session that opens with two frames, under the symbols of the first, which tell the species where two are given
-abbrev pub session_from : Mixture → Option SymbolPair → List Row → List Row → Session
+abbrev pub session_from : Mix → Option SymbolPair → List Row → List Row → Session
 session_from mix symbols first second = record {
   symbols = map (λ row. row.symbol) first;
-  composition = composed mix symbols first;
+  composition = composition_of mix symbols first;
   sim = opening (places_in (edge_of mix) first) (places_in (edge_of mix) second);
   saved = [];
 }
 
 -- of one frame both are made, so that the atoms are at rest
-abbrev pub session_of_frames : Mixture → Option SymbolPair → List (List Row) → Session
+abbrev pub session_of_frames : Mix → Option SymbolPair → List (List Row) → Session
 session_of_frames mix symbols [] = session_from mix symbols [] []
 session_of_frames mix symbols (only ∷ []) = session_from mix symbols only only
 session_of_frames mix symbols (first ∷ second ∷ others) = session_from mix symbols first second
@@ -76,13 +76,13 @@ reading_mode Rest = frames.rest
 reading_mode Pair = frames.pair
 
 -- a session whose atoms fit the quota beside those that the user has
-abbrev pub within_quota : User → Session → Result Session Refusal
-within_quota user session = do
-  room ← unless (nat_le (atoms_used user + atoms_of session) user.quota.atoms) QuotaAtoms
+abbrev pub session_within_quota : User → Session → Result Session Refusal
+session_within_quota user session = do
+  room ← refusal_unless (nat_le (atoms_used user + atoms_of session) user.quota.atoms) QuotaAtoms
   Ok session
 
 -- the session that a body gives, or the first refusal of the body
-abbrev pub session_read : User → Mixture → Load → List ℕ → Result Session Refusal
+abbrev pub session_read : User → Mix → Load → List ℕ → Result Session Refusal
 session_read user mix load body = do
   frames ← frames_or_refusal (reading (symbols_of load.substance) (reading_mode load.mode) (lines_of body))
-  within_quota user (session_of_frames mix (symbols_of load.substance) frames)
+  session_within_quota user (session_of_frames mix (symbols_of load.substance) frames)

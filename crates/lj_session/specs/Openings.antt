@@ -1,12 +1,12 @@
 -- The frames that a load opens a session with, and the session as it is held then.
 use Rattle.std.specs.Prelude.{List, [], ◌∷◌, map, Option, Some, None}
-use Rattle.lj_xyz.specs.declared.row.Row.{Row}
-use Rattle.lj_ring.specs.Mixes.{Mixture, edge_of}
+use Rattle.lj_xyz.specs.declared.atom_row.Row.{Row}
+use Rattle.lj_ring.specs.Mix.{Mix, edge_of}
 use Rattle.lj_xyz.specs.Symbols.{SymbolPair}
 use Rattle.lj_step.specs.Motion.{opening}
 use Rattle.lj_session.specs.Loads.{places_in}
-use Rattle.lj_session.specs.States.{Held}
-use Rattle.lj_session.specs.Substances.{composed}
+use Rattle.lj_session.specs.UserState.{HeldSession}
+use Rattle.lj_session.specs.Substances.{composition_of}
 
 -- the frames that were read: one, or two
 abbrev pub frames_of : List Row → Option (List Row) → List (List Row)
@@ -19,11 +19,11 @@ last_of first None = first
 last_of first (Some second) = second
 
 -- the session that opens with two frames, under the symbols of the first
-abbrev pub held_from : Mixture → Option SymbolPair → List Row → List Row → Held
+abbrev pub held_from : Mix → Option SymbolPair → List Row → List Row → HeldSession
 held_from mix symbols first last = record {
   symbols = map (λ row. row.symbol) first;
   live = record {
-    composition = composed mix symbols first;
+    composition = composition_of mix symbols first;
     sim = opening (places_in (edge_of mix) first) (places_in (edge_of mix) last);
     part = None;
   };

@@ -6,10 +6,10 @@ use Rattle.lj_ring.specs.declared.mixes.ClassFault.TheVariants as class
 use Rattle.lj_ring.specs.declared.mixes.MixFault.{MixFault}
 use Rattle.lj_ring.specs.declared.scales.ScaleFault.{ScaleFault}
 use Rattle.lj_ring.specs.declared.scales.ScaleFault.TheVariants as scale
-use Rattle.lj_ring.specs.Mixes.{Mixture, mixture_of, pure}
-use Rattle.lj_ring.specs.Scales.{Units, scale_of}
+use Rattle.lj_ring.specs.Mix.{Mix, mixture_of, pure_mix}
+use Rattle.lj_ring.specs.Scale.{Scale, scale_of}
 use Rattle.lj_tile.specs.Species.{Composition}
-use Rattle.lj_xyz.specs.declared.row.Row.{Row}
+use Rattle.lj_xyz.specs.declared.atom_row.Row.{Row}
 use Rattle.lj_xyz.specs.Symbols.{SymbolPair, is_second}
 use Rattle.lj_session.specs.declared.refusal.Refusal.{Refusal}
 use Rattle.lj_session.specs.declared.refusal.Refusal.TheVariants.{Edge, Sigma, StepFactor, Weight}
@@ -43,21 +43,21 @@ abbrev pub mix_refusal : MixFault → Refusal
 mix_refusal fault = class_refusal fault.fault
 
 -- the mixture of atoms that are all alike, or the fault of their scale as a refusal
-abbrev pub pure_or_refusal : Result Units ScaleFault → Result Mixture Refusal
-pure_or_refusal (Ok units) = Ok (pure units)
+abbrev pub pure_or_refusal : Result Scale ScaleFault → Result Mix Refusal
+pure_or_refusal (Ok units) = Ok (pure_mix units)
 pure_or_refusal (Err fault) = Err (scale_refusal fault)
 
 -- a mixture, or its fault as a refusal
-abbrev pub mixture_or_refusal : Result Mixture MixFault → Result Mixture Refusal
+abbrev pub mixture_or_refusal : Result Mix MixFault → Result Mix Refusal
 mixture_or_refusal (Ok mix) = Ok mix
 mixture_or_refusal (Err fault) = Err (mix_refusal fault)
 
 -- how the atoms interact in a box of this edge, or the first of edge, and of sigma, step factor and weight of each class
 -- in turn, that is out of range
-abbrev pub mixture_said : ℤ → Substance → Result Mixture Refusal
-mixture_said edge (Pure sigma step_factor) =
+abbrev pub mix_of_substance : ℤ → Substance → Result Mix Refusal
+mix_of_substance edge (Pure sigma step_factor) =
     pure_or_refusal (scale_of edge (nano_or_zero sigma) (unwrap_or step_factor 0))
-mixture_said edge (Mixed symbols first unlike second) =
+mix_of_substance edge (Mixed symbols first unlike second) =
     mixture_or_refusal (mixture_of edge (numbers_of first) (numbers_of unlike) (numbers_of second))
 
 -- the symbols that the atoms of the first frame are to have, where not any will do
@@ -80,10 +80,10 @@ seconds_of None rows = 0
 seconds_of (Some symbols) rows = seconds_among symbols rows
 
 -- what the atoms of a frame are
-abbrev pub composed : Mixture → Option SymbolPair → List Row → Composition
-composed mix symbols rows = record { mix = mix; seconds = seconds_of symbols rows }
+abbrev pub composition_of : Mix → Option SymbolPair → List Row → Composition
+composition_of mix symbols rows = record { mix = mix; seconds = seconds_of symbols rows }
 
 -- the reply where so many atoms are loaded
-abbrev pub loaded : Substance → List ℕ → ℕ → Reply
-loaded (Pure sigma step_factor) name atoms = Loaded name atoms
-loaded (Mixed symbols first unlike second) name atoms = LoadedMix name atoms
+abbrev pub load_reply : Substance → List ℕ → ℕ → Reply
+load_reply (Pure sigma step_factor) name atoms = Loaded name atoms
+load_reply (Mixed symbols first unlike second) name atoms = LoadedMix name atoms

@@ -4,7 +4,7 @@ use Rattle.lj_session.specs.declared.command.Command.{Command}
 use Rattle.lj_session.specs.declared.command.Command.TheVariants.{Load, Advance, Start, Reverse, Branch, Restore, Forget, Tug}
 use Rattle.lj_session.specs.declared.command.Command.TheVariants.{Measure, Show, Dump, List as ListSessions}
 use Rattle.lj_session.specs.declared.command.Command.TheVariants.{ListBranches, Unload, Bye}
-use Rattle.lj_branch.specs.Named.{named}
+use Rattle.lj_branch.specs.Named.{value_named}
 use Rattle.lj_session.specs.Users.{Session, User}
 use Rattle.lj_session.specs.Answers.{can_advance}
 
@@ -20,8 +20,8 @@ measure_turns (Some session) = 1
 
 -- how many turns a command takes of its own: ADVANCE as many as steps, MEASURE one, and every other none
 unfoldable pub turns : User → Command → ℕ
-turns user (Advance name n) = advance_turns (named name user.sessions) n
-turns user (Measure name) = measure_turns (named name user.sessions)
+turns user (Advance name n) = advance_turns (value_named name user.sessions) n
+turns user (Measure name) = measure_turns (value_named name user.sessions)
 turns user _ = 0
 
 -- The session that a command waits for, until no step is owed to it. The loads, START, FORGET, the lists and BYE wait

@@ -1,7 +1,7 @@
 -- A user: a quota, and sessions under names.
 use Rattle.std.specs.Prelude.{ℕ, List, [], length}
 use Rattle.std.specs.List.{sum_by}
-use Rattle.lj_branch.specs.Named.{put}
+use Rattle.lj_branch.specs.Named.{with_value}
 use Rattle.lj_tile.specs.Species.{Composition}
 use Rattle.lj_step.specs.Motion.{Simulation}
 use Rattle.lj_quota.specs.declared.Quota.{Quota}
@@ -19,12 +19,12 @@ pub record User : Type 0 where
   pub sessions : List (List ℕ × Session)
 
 -- the user without sessions
-abbrev pub fresh : Quota → User
-fresh quota = record { quota = quota; sessions = [] }
+abbrev pub fresh_user : Quota → User
+fresh_user quota = record { quota = quota; sessions = [] }
 
 -- the user with this session under a name
 abbrev pub with_session : List ℕ → Session → User → User
-with_session name session user = record user { sessions = put name session user.sessions }
+with_session name session user = record user { sessions = with_value name session user.sessions }
 
 -- how many atoms a session has
 abbrev pub atoms_of : Session → ℕ

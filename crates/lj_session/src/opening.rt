@@ -2,7 +2,7 @@
 ghost use Rattle.std.specs.Prelude.{◌≡◌, ◌≤◌, length, map, Some, None, IfOk, IsTrue};
 ghost use Rattle.std.specs.Option.{option_copied};
 ghost use Rattle.lj_xyz.specs.Atoms.{is_count};
-ghost use Rattle.lj_xyz.specs.declared.reader.TheConstants.{MAX_ATOMS};
+ghost use Rattle.lj_xyz.specs.declared.frame_reader.TheConstants.{MAX_FRAME_ATOMS};
 ghost use Rattle.lj_xyz.specs.Lines.{lines_of};
 ghost use Rattle.lj_xyz.specs.Reading.{reading, Gives};
 ghost use Rattle.lj_session.specs.Loads.{reading_mode, places_in};
@@ -11,7 +11,7 @@ ghost use Rattle.lj_session.specs.Openings.{frames_of, last_of, held_from};
 use crate::body::Body;
 use crate::command::Mode;
 use crate::seconds::seconds_of;
-use crate::session::Session;
+use crate::session::HeldSession;
 use lj_branch::Branches;
 use lj_ring::{Edge, Mix, Place, place_of};
 use lj_step::{Frame, Frames, Sim};
@@ -54,10 +54,10 @@ impl Opening {
         }
     }
 
-    /// How many atoms there are, 1 to `MAX_ATOMS`.
+    /// How many atoms there are, 1 to `MAX_FRAME_ATOMS`.
     pub(crate) fn count(&self) -> usize
         ensures value { result ≡ length self.now.first }
-        ensures most { result ≤ MAX_ATOMS }
+        ensures most { result ≤ MAX_FRAME_ATOMS }
     {
         self.first.len()
     }
@@ -69,7 +69,7 @@ impl Opening {
         alloc: Global,
         mix: Mix,
         symbols: Option<&SymbolPair>,
-    ) -> Result<Session, AllocError>
+    ) -> Result<HeldSession, AllocError>
         ensures { let last = last_of self.first self.second in
             IfOk result (λ session. session ≡ held_from mix (option_copied symbols.entry) self.first last) }
     {
@@ -83,7 +83,7 @@ impl Opening {
         let seconds = seconds_of(alloc, symbols, self.first.as_slice())?;
         let sim = Sim::new(alloc, frames, seconds, mix)?;
         let symbols = symbols_of(alloc, self.first)?;
-        Ok(Session::new(symbols, sim, Branches::new(alloc)))
+        Ok(HeldSession::new(symbols, sim, Branches::new(alloc)))
     }
 
     /// The places of the last frame: those of the first, which are at hand, where there is no other.

@@ -4,15 +4,15 @@ ghost use Rattle.std.specs.Prelude.{IfSome, IfErr, OnOk, OnErr, OnSome, IfNone, 
 ghost use Rattle.std.specs.List.{IsDistinct};
 ghost use Rattle.std.specs.Str.{bytes_eq};
 ghost use Rattle.lj_session.specs.Answers.{AnswersAlike};
-ghost use Rattle.lj_session.specs.States.{OthersKept, OtherSessionsKept, StepsFollow, IsIdleIn, is_measured};
-ghost use Rattle.lj_session.specs.States.{is_whole_in, names, rested};
-ghost use Rattle.lj_session.specs.States.{IsAtWork, index_waited_for, turns_before, user_of};
-ghost use Rattle.lj_session.specs.Owners.{IsAnswered, IsReplied, IsAwaitedIn, IsLastTurn, IsSettled};
-ghost use Rattle.lj_session.specs.Owners.{WaitsAlike};
-ghost use Rattle.lj_session.specs.Owners.{begun_in, left_in};
-ghost use Rattle.lj_session.specs.Owners.{user_in, entered, owes, is_busy, turns_left, is_waited_for, begun};
-ghost use Rattle.lj_session.specs.Owners.{label_of, task_in};
-ghost use Rattle.lj_session.specs.Owners.{with_task_posted, with_task_in, ready_session, turned_from};
+ghost use Rattle.lj_session.specs.UserState.{OthersKept, OtherSessionsKept, StepsFollow, IsIdleIn, is_measured};
+ghost use Rattle.lj_session.specs.UserState.{is_whole_in, names, state_at_rest};
+ghost use Rattle.lj_session.specs.UserState.{IsAtWork, index_waited_for, turns_before, user_of};
+ghost use Rattle.lj_session.specs.Owner.{IsAnswered, IsReplied, IsAwaitedIn, IsLastTurn, IsSettled};
+ghost use Rattle.lj_session.specs.Owner.{WaitsAlike};
+ghost use Rattle.lj_session.specs.Owner.{state_begun, command_left};
+ghost use Rattle.lj_session.specs.Owner.{user_in, owner_of_state, is_owing, is_busy, turns_left, is_waited_for, owner_begun};
+ghost use Rattle.lj_session.specs.Owner.{label_of, task_in};
+ghost use Rattle.lj_session.specs.Owner.{with_task_posted, with_task_in, ready_session, owner_turned};
 ghost use Rattle.lj_session.specs.Begins.{IfAnswered, OnRunning, OnRefused, OnRefusal, reply_of};
 
 use crate::command::Command;
@@ -42,13 +42,13 @@ pub struct Owner {
 }
 
 impl Model for Owner {
-    ghost use Rattle.lj_session.specs.Owners.{Owning};
+    ghost use Rattle.lj_session.specs.Owner.{Owner};
 
-    ghost Value = { Owning };
+    ghost Value = { Owner };
 
-    ghost use Rattle.lj_session.specs.KeptOwners.{owning_of, IsOwner};
+    ghost use Rattle.lj_session.specs.KeptOwners.{owner_of_kept, IsOwner};
 
-    ghost view = { owning_of };
+    ghost view = { owner_of_kept };
 
     ghost invariant = { IsOwner };
 }
@@ -57,7 +57,7 @@ impl Owner {
     /// Returns the owner of a state. Nothing waits, and the step of each session to which steps are owed is begun anew. The
     /// number of the user stands in the names of the tasks.
     pub fn new(state: UserState, user: u8) -> Owner
-        ensures value { result ≡ entered state user }
+        ensures value { result ≡ owner_of_state state user }
         ensures distinct { IsDistinct bytes_eq (names result.state) }
     {
         let mut state = state;
@@ -82,7 +82,7 @@ impl Owner {
         ensures settled { IfAnswered result (IsSettled self.new.state) }
         ensures steps { IfAnswered result (λ _. StepsFollow command self.old.state self.new.state) }
         ensures takes_turns { OnRunning result (0 < turns_before self.old.state command) }
-        ensures begun { OnRunning result (self.new ≡ begun command self.old) }
+        ensures begun { OnRunning result (self.new ≡ owner_begun command self.old) }
         ensures alike { OnRunning result (IfSome self.new.waiting (λ left.
             AnswersAlike (user_in self.new) left (user_in self.old) command)) }
         ensures turns { OnRunning result (turns_left self.new ≡ turns_before self.old.state command) }
@@ -178,7 +178,7 @@ impl Owner {
     /// Whether a session owes a step of which all tiles are in.
     pub fn is_whole(&self, name: &Name) -> bool
         ensures value { result ≡ is_whole_in self.now.state name.now }
-        ensures owes { result ≡ true → owes self.now name.now ≡ true }
+        ensures owes { result ≡ true → is_owing self.now name.now ≡ true }
     {
         self.state.is_whole(name)
     }
@@ -187,7 +187,7 @@ impl Owner {
     pub fn ready_session(&self) -> Option<Name>
         ensures first { result ≡ ready_session self.now }
         ensures whole { IfSome result (λ name. is_whole_in self.now.state name ≡ true) }
-        ensures owes { IfSome result (λ name. owes self.now name ≡ true) }
+        ensures owes { IfSome result (λ name. is_owing self.now name ≡ true) }
     {
         Some(self.state.first_whole()?.copy())
     }
@@ -202,7 +202,7 @@ impl Owner {
         ensures idle { OnSome result (self.new.waiting ≡ None) }
         ensures settled { IfSome result (IsSettled self.new.state) }
         ensures rests { OnSome result (IsIdleIn self.new.state name.now) }
-        ensures turned { IfNone result (self.new ≡ turned_from name.now self.old) }
+        ensures turned { IfNone result (self.new ≡ owner_turned name.now self.old) }
         ensures alike { IfNone result (WaitsAlike self.old self.new) }
         ensures others { OtherSessionsKept name.now self.old.state self.new.state }
         ensures number { self.new.number ≡ self.old.number }
@@ -243,7 +243,7 @@ impl Owner {
     /// Hands the state back, with what is owed to its sessions. Their steps are begun anew, so that no tile is posted or in.
     pub fn into_state(self) -> UserState
         requires { self.waiting ≡ None }
-        ensures state { result ≡ rested self.state }
+        ensures state { result ≡ state_at_rest self.state }
         ensures user { user_of result ≡ user_in self }
     {
         let mut state = self.state;
@@ -260,7 +260,7 @@ impl Owner {
     fn hold(&mut self, command: Command)
         requires idle { self.old.waiting ≡ None }
         requires waits { 0 < turns_before self.old.state command }
-        ensures begun { self.new ≡ begun command self.old }
+        ensures begun { self.new ≡ owner_begun command self.old }
         ensures alike { IfSome self.new.waiting (λ left.
             AnswersAlike (user_in self.new) left (user_in self.old) command) }
         ensures turns { turns_left self.new ≡ turns_before self.old.state command }
@@ -273,7 +273,7 @@ impl Owner {
 
     /// Whether a session owes a step.
     fn owes(&self, name: &Name) -> bool
-        ensures { result ≡ owes self.now name.now }
+        ensures { result ≡ is_owing self.now name.now }
     {
         self.state.owed(name) > 0 || self.is_measured(name)
     }
@@ -337,8 +337,8 @@ fn replied(outcome: Result<Reply, Refusal>) -> Reply
 fn take_up(state: &mut UserState, command: Command) -> Command
     requires at_work { IsAtWork None state.old }
     requires waits { 0 < turns_before state.old command }
-    ensures left { result ≡ left_in command state.old }
-    ensures begun { state.new ≡ begun_in command state.old }
+    ensures left { result ≡ command_left command state.old }
+    ensures begun { state.new ≡ state_begun command state.old }
     ensures alike { AnswersAlike (user_of state.new) result (user_of state.old) command }
     ensures at_work { IsAtWork (Some result) state.new }
     ensures turns { turns_before state.new result ≡ turns_before state.old command }

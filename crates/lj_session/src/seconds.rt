@@ -1,7 +1,7 @@
 //! Which atoms of a frame are of the second species.
 ghost use Rattle.std.specs.Prelude.{◌≡◌, ◌≤◌, length, IfOk};
 ghost use Rattle.std.specs.Option.{option_copied};
-ghost use Rattle.lj_step.specs.Sets.{joined};
+ghost use Rattle.lj_step.specs.Sets.{number_of_bits};
 ghost use Rattle.lj_session.specs.Substances.{seconds_among, seconds_of};
 
 use lj_tile::BLOCK;
@@ -15,7 +15,7 @@ pub(crate) fn seconds_of(
     rows: &[Row],
 ) -> Result<Vec<u64>, AllocError>
     ensures { IfOk result (λ seconds.
-        joined seconds.items ≡ seconds_of (option_copied symbols.entry) rows.now) }
+        number_of_bits seconds.items ≡ seconds_of (option_copied symbols.entry) rows.now) }
 {
     match symbols {
         None => Ok(Vec::new(alloc)),
@@ -24,7 +24,7 @@ pub(crate) fn seconds_of(
 }
 
 fn blocks_of(alloc: Global, symbols: &SymbolPair, rows: &[Row]) -> Result<Vec<u64>, AllocError>
-    ensures { IfOk result (λ seconds. joined seconds.items ≡ seconds_among symbols.now rows.now) }
+    ensures { IfOk result (λ seconds. number_of_bits seconds.items ≡ seconds_among symbols.now rows.now) }
 {
     let mut seconds = Vec::new(alloc);
     let mut rest = rows;

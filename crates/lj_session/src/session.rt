@@ -4,17 +4,17 @@ ghost use Rattle.std.specs.Prelude.{IsErrOf};
 ghost use Rattle.std.specs.Prelude.{IfSome, OnOk, OnErr, ◌≤◌, unsigned_abs, IfOk, true, false, is_some};
 ghost use Rattle.std.specs.Prelude.{nat_le, pos, ◌&&◌, ◌+ℤ◌, ◌*ℤ◌};
 ghost use Rattle.lj_tile.specs.declared.names.Kind.TheVariants.{Force};
-ghost use Rattle.lj_branch.specs.declared.faults.SaveFault.TheVariants.{Exists};
+ghost use Rattle.lj_branch.specs.declared.branch_faults.SaveFault.TheVariants.{Exists};
 ghost use Rattle.lj_step.specs.Motion as motion;
 ghost use Rattle.lj_step.specs.OpenSteps as steps;
-ghost use Rattle.lj_branch.specs.Named.{named, put, taken_out};
+ghost use Rattle.lj_branch.specs.Named.{value_named, with_value, without_value};
 ghost use Rattle.lj_session.specs.Users.{atoms_of};
 ghost use Rattle.lj_session.specs.Answers.{can_advance};
-ghost use Rattle.lj_session.specs.States as states;
-ghost use Rattle.lj_session.specs.States.{session_meant, moved_to, keeping, IsWhole};
+ghost use Rattle.lj_session.specs.UserState as states;
+ghost use Rattle.lj_session.specs.UserState.{session_meant, with_simulation, with_saved, IsWhole};
 
 use lj_branch::{Branches, NoBranch, SaveFault};
-use lj_step::{Displacement, NotAwaited, Sim};
+use lj_step::{Displacement, MAX_STEP, NotAwaited, Sim};
 use lj_tile::{Done, Kind, Label, Name, Task};
 use lj_xyz::Symbol;
 use std::marker::Model;
@@ -22,12 +22,9 @@ use std::marker::Model;
 /// The most steps of one command.
 const MAX_STEPS: u64 = 1_000_000;
 
-/// The largest size of a step number.
-const MAX_STEP_NUMBER: u64 = 1_000_000_000_000;
-
 /// The symbols of some atoms, their simulation, what is saved of it, and how many steps are owed to it.
 #[derive(Drop)]
-pub(crate) struct Session {
+pub(crate) struct HeldSession {
     symbols: Vec<Symbol>,
     sim: Sim,
     passed: usize,
@@ -35,27 +32,27 @@ pub(crate) struct Session {
     owed: u64,
 }
 
-impl Model for Session {
-    ghost use Rattle.lj_session.specs.States.{Held};
+impl Model for HeldSession {
+    ghost use Rattle.lj_session.specs.UserState.{HeldSession};
 
-    ghost Value = { Held };
+    ghost Value = { HeldSession };
 
-    ghost use Rattle.lj_session.specs.Kept.{held_of, IsHeld};
+    ghost use Rattle.lj_session.specs.Kept.{session_of_kept, IsHeld};
 
-    ghost view = { held_of };
+    ghost view = { session_of_kept };
 
     ghost invariant = { IsHeld };
 }
 
-impl Session {
+impl HeldSession {
     /// A session of which nothing is saved, and to which no step is owed.
-    pub(crate) fn new(symbols: Vec<Symbol>, sim: Sim, branches: Branches) -> Session
+    pub(crate) fn new(symbols: Vec<Symbol>, sim: Sim, branches: Branches) -> HeldSession
         requires symbols { length symbols.items ≡ length sim.sim.cur }
         requires branches { branches ≡ [] }
         ensures { result ≡ record { symbols = symbols.items; live = sim; passed = 0; saved = []; owed = 0 } }
     {
         let _most = sim.step();
-        Session {
+        HeldSession {
             symbols,
             sim,
             passed: 0,
@@ -97,7 +94,7 @@ impl Session {
     #[tactic(auto, using(crate::proofs::Owed::target_is))]
     pub(crate) fn target(&self) -> i64
         ensures value { result ≡ (session_meant self.now).sim.step }
-        ensures most { unsigned_abs result ≤ MAX_STEP_NUMBER }
+        ensures most { unsigned_abs result ≤ MAX_STEP }
     {
         self.sim.step() + self.sim.dir() * self.owed as i64
     }
@@ -113,7 +110,7 @@ impl Session {
     /// Owes it so many steps more. Where none were owed the first of them is open then.
     pub(crate) fn owe(&mut self, steps: u64)
         requires { can_advance (session_meant self.old) steps ≡ true }
-        ensures { self.new ≡ states.owing steps self.old }
+        ensures { self.new ≡ states.with_more_owed steps self.old }
     {
         let _dir = self.sim.dir();
         let _step = self.sim.step();
@@ -128,7 +125,7 @@ impl Session {
     /// Turns the motion back. No step is open then.
     pub(crate) fn reverse(&mut self)
         requires { self.old.owed ≡ 0 }
-        ensures value { self.new ≡ moved_to self.old (motion.reversed self.old.live.sim) }
+        ensures value { self.new ≡ with_simulation self.old (motion.reversal self.old.live.sim) }
         ensures count { length self.new.live.sim.cur ≡ length self.old.live.sim.cur }
     {
         self.sim.reverse();
@@ -138,8 +135,9 @@ impl Session {
     /// Gives an atom a displacement more for each step. No step is open then.
     pub(crate) fn tug(&mut self, atom: usize, by: Displacement)
         requires { atom < length self.old.live.sim.cur }
-        ensures { let sim = motion.tugged atom (record { x = by.x; y = by.y; z = by.z }) self.old.live.sim in
-            self.new ≡ moved_to self.old sim }
+        ensures { let sim = motion.with_tug atom
+            (record { x = by.x; y = by.y; z = by.z }) self.old.live.sim in
+            self.new ≡ with_simulation self.old sim }
     {
         self.sim.tug(atom, by);
     }
@@ -149,9 +147,9 @@ impl Session {
     /// # Errors
     /// `Exists` where the name is taken, else `Memory`. Nothing has changed then.
     pub(crate) fn save(&mut self, branch: Name) -> Result<(), SaveFault>
-        ensures exists { IsErrOf result Exists ↔ IsSome (named branch self.old.saved) }
+        ensures exists { IsErrOf result Exists ↔ IsSome (value_named branch self.old.saved) }
         ensures saved { OnOk result
-            (self.new ≡ keeping self.old (put branch self.old.live.sim self.old.saved)) }
+            (self.new ≡ with_saved self.old (with_value branch self.old.live.sim self.old.saved)) }
         ensures unchanged { OnErr result (self.new ≡ self.old) }
     {
         self.branches.save(branch, &self.sim)
@@ -163,9 +161,9 @@ impl Session {
     /// `NoBranch` where nothing is saved under it. Nothing has changed then.
     pub(crate) fn restore(&mut self, branch: &Name) -> Result<(), NoBranch>
         requires { self.old.owed ≡ 0 }
-        ensures found { IsOk result ↔ IsSome (named branch.now self.old.saved) }
-        ensures restored { let saved = named branch.now self.old.saved in
-            OnOk result (IfSome saved (λ sim. self.new ≡ moved_to self.old sim)) }
+        ensures found { IsOk result ↔ IsSome (value_named branch.now self.old.saved) }
+        ensures restored { let saved = value_named branch.now self.old.saved in
+            OnOk result (IfSome saved (λ sim. self.new ≡ with_simulation self.old sim)) }
         ensures count { length self.new.live.sim.cur ≡ length self.old.live.sim.cur }
         ensures unchanged { OnErr result (self.new ≡ self.old) }
     {
@@ -179,8 +177,9 @@ impl Session {
     /// # Errors
     /// `NoBranch` where nothing is saved under it. Nothing has changed then.
     pub(crate) fn forget(&mut self, branch: &Name) -> Result<(), NoBranch>
-        ensures found { IsOk result ↔ IsSome (named branch.now self.old.saved) }
-        ensures taken { OnOk result (self.new ≡ keeping self.old (taken_out branch.now self.old.saved)) }
+        ensures found { IsOk result ↔ IsSome (value_named branch.now self.old.saved) }
+        ensures taken { OnOk result
+            (self.new ≡ with_saved self.old (without_value branch.now self.old.saved)) }
         ensures unchanged { OnErr result (self.new ≡ self.old) }
     {
         self.branches.forget(branch)
@@ -196,7 +195,7 @@ impl Session {
 
     /// Closes the step that is open. The motion stays.
     pub(crate) fn close_step(&mut self)
-        ensures { self.new ≡ states.step_closed self.old }
+        ensures { self.new ≡ states.with_no_step self.old }
     {
         self.sim.close_step();
         self.passed = 0;
@@ -204,7 +203,7 @@ impl Session {
 
     /// Begins its step anew where one is owed, so that no tile is posted or in; elsewhere none is open then.
     pub(crate) fn rest(&mut self)
-        ensures { self.new ≡ states.at_rest self.old }
+        ensures { self.new ≡ states.session_at_rest self.old }
     {
         if self.owed > 0 {
             self.open_step(Kind::Force);
@@ -219,7 +218,7 @@ impl Session {
         ensures below { IfSome result (λ i. i < steps.tiles_of self.now.live) }
     {
         for i in self.passed..self.sim.tiles() {
-            if self.sim.awaits(i) {
+            if self.sim.is_tile_awaited(i) {
                 return Some(i);
             }
         }
@@ -261,7 +260,7 @@ impl Session {
     pub(crate) fn pass_step(&mut self)
         requires whole { IsWhole Force self.old }
         requires owed { 0 < self.old.owed }
-        ensures { self.new ≡ states.step_passed self.old }
+        ensures { self.new ≡ states.with_step_passed self.old }
     {
         let _dir = self.sim.dir();
         let _step = self.sim.step();
@@ -276,14 +275,14 @@ impl Session {
 
 /// Whether a million steps or fewer lead from a step number in a direction to one in range.
 fn leads_in_range(step: i64, dir: i64, steps: u64) -> bool
-    requires here { unsigned_abs step ≤ MAX_STEP_NUMBER }
+    requires here { unsigned_abs step ≤ MAX_STEP }
     requires dir { unsigned_abs dir ≡ 1 }
     ensures { result ≡ (nat_le steps MAX_STEPS
-        && nat_le (unsigned_abs (step +ℤ dir *ℤ pos steps)) MAX_STEP_NUMBER) }
+        && nat_le (unsigned_abs (step +ℤ dir *ℤ pos steps)) MAX_STEP) }
 {
     if steps > MAX_STEPS {
         return false;
     }
     let target = step + dir * steps as i64;
-    target.unsigned_abs() <= MAX_STEP_NUMBER
+    target.unsigned_abs() <= MAX_STEP
 }

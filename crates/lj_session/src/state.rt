@@ -4,11 +4,11 @@ ghost use Rattle.std.specs.Prelude.{Some, Err, IfSome, OnErr, is_some};
 ghost use Rattle.std.specs.List.{IsDistinct};
 ghost use Rattle.std.specs.Option.{ForSome, option_copied};
 ghost use Rattle.std.specs.Str.{bytes_eq};
-ghost use Rattle.lj_ring.specs.Mixes.{edge_of};
-ghost use Rattle.lj_branch.specs.Named.{named};
-ghost use Rattle.lj_session.specs.States.{Reached, Performs, empty, user_of, used_by, names, held_in};
-ghost use Rattle.lj_session.specs.States.{held_at};
-ghost use Rattle.lj_session.specs.States.{index_waited_for, session_meant, turns_before};
+ghost use Rattle.lj_ring.specs.Mix.{edge_of};
+ghost use Rattle.lj_branch.specs.Named.{value_named};
+ghost use Rattle.lj_session.specs.UserState.{Reached, Performs, empty_state, user_of, used_by, names, held_session};
+ghost use Rattle.lj_session.specs.UserState.{held_session_at};
+ghost use Rattle.lj_session.specs.UserState.{index_waited_for, session_meant, turns_before};
 
 mod advancing;
 mod loading;
@@ -20,7 +20,7 @@ mod stepping;
 use crate::command::Command;
 use crate::refusal::Refusal;
 use crate::reply::Reply;
-use crate::session::Session;
+use crate::session::HeldSession;
 use indexmap::IndexMap;
 use lj_branch::Branches;
 use lj_quota::{Quota, Used};
@@ -37,17 +37,17 @@ use std::marker::Model;
 pub struct UserState {
     quota: Quota,
     used: Used,
-    sessions: IndexMap<Name, Session>,
+    sessions: IndexMap<Name, HeldSession>,
 }
 
 impl Model for UserState {
-    ghost use Rattle.lj_session.specs.States.{Owned};
+    ghost use Rattle.lj_session.specs.UserState.{UserState};
 
-    ghost Value = { Owned };
+    ghost Value = { UserState };
 
-    ghost use Rattle.lj_session.specs.Totals.{owned_of, IsState};
+    ghost use Rattle.lj_session.specs.Totals.{state_of_kept, IsState};
 
-    ghost view = { owned_of };
+    ghost view = { state_of_kept };
 
     ghost invariant = { IsState };
 }
@@ -55,7 +55,7 @@ impl Model for UserState {
 impl UserState {
     /// Returns a state without sessions.
     pub fn new(alloc: Global, quota: Quota) -> UserState
-        ensures { result ≡ empty quota }
+        ensures { result ≡ empty_state quota }
     {
         UserState {
             quota,
@@ -109,7 +109,7 @@ impl UserState {
     /// The simulation of the i-th session, as its present step began.
     pub fn sim_at(&self, i: usize) -> &Sim
         requires { i < length self.now.sessions }
-        ensures { option_map (λ held. held.live) (held_at self.now i) ≡ Some result.now }
+        ensures { option_map (λ held. held.live) (held_session_at self.now i) ≡ Some result.now }
     {
         self.at(i).sim()
     }
@@ -117,7 +117,8 @@ impl UserState {
     /// The edge of the i-th session's box.
     pub fn edge_at(&self, i: usize) -> Edge
         requires { i < length self.now.sessions }
-        ensures { option_map (λ held. edge_of held.live.composition.mix) (held_at self.now i) ≡ Some result }
+        ensures { option_map (λ held. edge_of held.live.composition.mix) (held_session_at self.now i)
+            ≡ Some result }
     {
         self.sim_at(i).edge()
     }
@@ -125,8 +126,9 @@ impl UserState {
     /// The symbol of an atom of the i-th session.
     pub fn symbol_at(&self, i: usize, atom: usize) -> &Symbol
         requires session { i < length self.now.sessions }
-        requires atom { ForSome (held_at self.now i) (λ held. atom < length held.live.sim.cur) }
-        ensures { IfSome (held_at self.now i) (λ held. slice_get held.symbols atom ≡ Some result.now) }
+        requires atom { ForSome (held_session_at self.now i) (λ held. atom < length held.live.sim.cur) }
+        ensures { IfSome (held_session_at self.now i)
+            (λ held. slice_get held.symbols atom ≡ Some result.now) }
     {
         self.at(i).symbol(atom)
     }
@@ -134,7 +136,7 @@ impl UserState {
     /// What is saved in the i-th session.
     pub fn branches_at(&self, i: usize) -> &Branches
         requires { i < length self.now.sessions }
-        ensures { option_map (λ held. held.saved) (held_at self.now i) ≡ Some result.now }
+        ensures { option_map (λ held. held.saved) (held_session_at self.now i) ≡ Some result.now }
     {
         self.at(i).branches()
     }
@@ -142,37 +144,38 @@ impl UserState {
     /// The step number that the i-th session is going to: the one after all steps that are owed to it.
     pub fn target_at(&self, i: usize) -> i64
         requires { i < length self.now.sessions }
-        ensures { option_map (λ held. (session_meant held).sim.step) (held_at self.now i) ≡ Some result }
+        ensures { option_map (λ held. (session_meant held).sim.step) (held_session_at self.now i)
+            ≡ Some result }
     {
         self.at(i).target()
     }
 
     /// The i-th session, in order of loading.
-    fn at(&self, i: usize) -> &Session
+    fn at(&self, i: usize) -> &HeldSession
         requires { i < length self.now.sessions }
-        ensures { held_at self.now i ≡ Some result.now }
+        ensures { held_session_at self.now i ≡ Some result.now }
     {
         self.sessions.get_index(i).unwrap().1
     }
 
     /// The session of a name, if there is one.
-    fn find(&self, name: &Name) -> Option<&Session>
-        ensures { option_copied result ≡ held_in self.now name.now }
+    fn find(&self, name: &Name) -> Option<&HeldSession>
+        ensures { option_copied result ≡ held_session self.now name.now }
     {
         self.sessions.get(name)
     }
 
     /// The session of a name whose index was looked up, if there is one.
-    fn found(&self, name: &Name, index: Option<usize>) -> Option<&Session>
+    fn found(&self, name: &Name, index: Option<usize>) -> Option<&HeldSession>
         requires { index ≡ position (bytes_eq name.now) (names self.now) }
-        ensures { option_copied result ≡ held_in self.now name.now }
+        ensures { option_copied result ≡ held_session self.now name.now }
     {
         Some(self.at(index?))
     }
 
     /// Whether a session has the name.
     fn has(&self, name: &Name) -> bool
-        ensures { result ≡ is_some (named name.now (user_of self.now).sessions) }
+        ensures { result ≡ is_some (value_named name.now (user_of self.now).sessions) }
     {
         self.find(name).is_some()
     }

@@ -1,7 +1,7 @@
 //! What the atoms of a load are, as its words say.
 ghost use Rattle.std.specs.Prelude.{◌≡◌};
 ghost use Rattle.std.specs.Option.{option_copied};
-ghost use Rattle.lj_session.specs.Substances.{loaded, mixture_said, nano_or_zero, numbers_of, symbols_of};
+ghost use Rattle.lj_session.specs.Substances.{load_reply, mix_of_substance, nano_or_zero, numbers_of, symbols_of};
 
 use crate::refusal::Refusal;
 use crate::reply::Reply;
@@ -60,7 +60,7 @@ impl Substance {
     /// # Errors
     /// The first of edge, and of sigma, step factor and weight of each class in turn, that is out of range.
     pub(crate) fn mix(&self, edge: Option<Nano>) -> Result<Mix, Refusal>
-        ensures { result ≡ mixture_said (nano_or_zero edge) self.now }
+        ensures { result ≡ mix_of_substance (nano_or_zero edge) self.now }
     {
         let edge = or_zero(edge);
         match self {
@@ -92,7 +92,7 @@ impl Substance {
 
     /// The reply where so many atoms of it are loaded.
     pub(crate) fn loaded(&self, name: Name, atoms: usize) -> Reply
-        ensures { result ≡ loaded self.now name atoms }
+        ensures { result ≡ load_reply self.now name atoms }
     {
         match self {
             Substance::Pure { .. } => Reply::Loaded { name, atoms },

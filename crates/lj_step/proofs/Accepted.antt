@@ -9,9 +9,9 @@ use Rattle.lj_tile.specs.Species.{Composition}
 use Rattle.lj_tile.specs.declared.pairs.Push.{Push}
 use Rattle.lj_tile.specs.declared.names.Kind.{Kind}
 use Rattle.lj_tile.specs.declared.names.Kind.TheVariants.{Force, Energy}
-use Rattle.lj_tile.specs.Pushes.{no_push, plus}
-use Rattle.lj_tile.specs.Blocks.{Sites}
-use Rattle.lj_tile.specs.Tasks.{Work, task_force, task_second, task_energy}
+use Rattle.lj_tile.specs.Pushes.{no_push, sum_of_pushes}
+use Rattle.lj_tile.specs.Block.{Block}
+use Rattle.lj_tile.specs.Task.{Task, task_force, task_second, task_energy}
 use Rattle.lj_step.specs.declared.partial.Partial.{Partial}
 use Rattle.lj_step.specs.OpenSteps.{blocks, sites_of, tile_number_of, first_block, second_block, is_in_order, is_tile}
 use Rattle.lj_step.specs.OpenSteps.{is_out_of_reach}
@@ -22,7 +22,7 @@ use Rattle.lj_step.proofs.PartialForces.{block_force, task_is, second_is, force_
 use Rattle.lj_step.proofs.PartialEnergies.{energy_task_is, energy_more}
 
 -- a tile more is in
-module _ (u : Composition) (frame : List Place) (p q : Partial) (kind : Kind) (work : Work) (few : length frame ≤ 4096)
+module _ (u : Composition) (frame : List Place) (p q : Partial) (kind : Kind) (work : Task) (few : length frame ≤ 4096)
     (open_before : IsOpen u frame p kind) (room : HasRoom (length frame) p)
     (mix : work.mix ≡ u.mix) (a : work.a ≡ sites_of u frame work.name.bi) (b : work.b ≡ sites_of u frame work.name.bj)
     (kind_is : work.name.kind ≡ kind)
@@ -72,18 +72,18 @@ module _ (u : Composition) (frame : List Place) (p q : Partial) (kind : Kind) (w
       omega (arith, ordered, second)
 
   first_length : length work.a.places ≡ length_in work.name.bi (length frame)
-  first_length = ap (λ (sites : Sites). length sites.places) a ∙ block_length frame work.name.bi
+  first_length = ap (λ (sites : Block). length sites.places) a ∙ block_length frame work.name.bi
 
   second_length : length work.b.places ≡ length_in work.name.bj (length frame)
-  second_length = ap (λ (sites : Sites). length sites.places) b ∙ block_length frame work.name.bj
+  second_length = ap (λ (sites : Block). length sites.places) b ∙ block_length frame work.name.bj
 
   -- what is added to an atom at a place of a block
   pushes_at : (b n : ℕ) (sum : ℕ → Push) → n ≡ length_in b (length frame) → kind ≡ Force
       → ((t : ℕ) → t < n → slice_index_or q.pushes.items (64 * b + t) no_push
-      ≡ plus (slice_index_or p.pushes.items (64 * b + t) no_push) (sum t))
+      ≡ sum_of_pushes (slice_index_or p.pushes.items (64 * b + t) no_push) (sum t))
       → (i : ℕ) → i < length frame → i / 64 ≡ b
       → (after : (t : ℕ) → t < length_in b (length frame) → 64 * b + t ≡ i
-      → plus (force_so_far u frame p.awaited.items i) (sum t)
+      → sum_of_pushes (force_so_far u frame p.awaited.items i) (sum t)
       ≡ force_so_far u frame (slice_set p.awaited.items (tile_number_of work) false) i)
       → slice_index_or q.pushes.items i no_push
       ≡ force_so_far u frame (slice_set p.awaited.items (tile_number_of work) false) i
@@ -93,8 +93,8 @@ module _ (u : Composition) (frame : List Place) (p q : Partial) (kind : Kind) (w
       let below : i - 64 * b < n = rw count place.0 in
       ap (λ n. slice_index_or q.pushes.items n no_push) (sym place.1)
       ∙ added (i - 64 * b) below
-      ∙ ap (λ n. plus (slice_index_or p.pushes.items n no_push) (sum (i - 64 * b))) place.1
-      ∙ ap (λ s. plus s (sum (i - 64 * b))) (open_before.pushes force i h)
+      ∙ ap (λ n. sum_of_pushes (slice_index_or p.pushes.items n no_push) (sum (i - 64 * b))) place.1
+      ∙ ap (λ s. sum_of_pushes s (sum (i - 64 * b))) (open_before.pushes force i h)
       ∙ after (i - 64 * b) place.0 place.1
 
   pushes_in : kind ≡ Force → HasAdded work p.pushes.items q.pushes.items → (i : ℕ)
@@ -104,7 +104,7 @@ module _ (u : Composition) (frame : List Place) (p q : Partial) (kind : Kind) (w
   pushes_in force added i h here =
       pushes_at work.name.bi (length work.a.places) (task_force work) first_length force (added.first (kind_is ∙ force)) i h here
       (λ t below e.
-      ap (λ s. plus (force_so_far u frame p.awaited.items i) s)
+      ap (λ s. sum_of_pushes (force_so_far u frame p.awaited.items i) s)
       (task_is u frame work t mix a b below ∙ ap (λ n. block_force u frame n work.name.bj) e)
       ∙ sym (force_more u frame p.awaited.items work.name.bi work.name.bj few in_order second within awaited i here))
 
@@ -117,7 +117,7 @@ module _ (u : Composition) (frame : List Place) (p q : Partial) (kind : Kind) (w
       pushes_at work.name.bj (length work.b.places) (task_second work) second_length force
       (added.second (kind_is ∙ force) before) i h here
       (λ s below e.
-      ap (λ m. plus (force_so_far u frame p.awaited.items i) m)
+      ap (λ m. sum_of_pushes (force_so_far u frame p.awaited.items i) m)
       (second_is u frame work s mix a b below ∙ ap (λ n. block_force u frame n work.name.bi) e)
       ∙ sym (force_more_second u frame p.awaited.items work.name.bi work.name.bj few in_order second within
       awaited i here))

@@ -3,7 +3,7 @@ use Rattle.std.proofs.Common.{ℕ, ◌≡◌, List, map, length, slice_index_or,
 use Rattle.std.specs.List.{range_with_len}
 use Rattle.std.proofs.lemmas.List.FromFn.{length-map-range_with_len, get_or-map-range_with_len}
 use Rattle.lj_tile.specs.declared.pairs.Push.{Push}
-use Rattle.lj_tile.specs.Pushes.{no_push, plus}
+use Rattle.lj_tile.specs.Pushes.{no_push, sum_of_pushes}
 use Rattle.lj_step.specs.OpenSteps.{tile_number}
 use Rattle.lj_step.specs.Sums.{HasBlockAdded, sum_of}
 
@@ -16,7 +16,7 @@ added_by index b n f sums old new same is raw =
     record {
       count = added.count;
       block = λ t below. added.block t (omega (arith, count))
-          ∙ ap (λ s. plus (slice_index_or old (tile_number b t) no_push) s)
+          ∙ ap (λ s. sum_of_pushes (slice_index_or old (tile_number b t) no_push) s)
           (ap (λ l. slice_index_or l t no_push) is ∙ get_or-map-range_with_len f 0 n t t no_push below (omega arith));
       others = λ i outside. added.others i (rw count outside);
     }

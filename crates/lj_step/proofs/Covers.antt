@@ -13,22 +13,22 @@ use Rattle.lj_ring.specs.declared.coordinates.Place.{Place}
 use Rattle.lj_ring.specs.Ring.{sum_below, ring_sum, int_sum_below, distance, image}
 use Rattle.lj_tile.specs.Species.{Composition, class_between}
 use Rattle.lj_ring.specs.declared.mixes.Class.{Class}
-use Rattle.lj_ring.specs.Scales.{Units, interacts, entry, bin}
-use Rattle.lj_table.specs.Entries.{energy_entry, weighted}
+use Rattle.lj_ring.specs.Scale.{Scale, is_in_cutoff, entry, bin}
+use Rattle.lj_table.specs.Entries.{energy_entry, weighted_energy}
 use Rattle.lj_table.proofs.Quotients.{weighted_none}
 use Rattle.lj_tile.specs.declared.pairs.Push.{Push}
 use Rattle.lj_tile.specs.Pushes.{push, push_along, no_push, energy}
 use Rattle.lj_tile.specs.Tiles.{Tile, chosen_energy, push_sum, tile_energy, times, are_near, IsForceCover}
 use Rattle.lj_tile.specs.Tiles.{IsEnergyCover}
-use Rattle.lj_step.specs.Motion.{Simulation, place_at, push_of, force, next_place, moved, stepped, potential}
-use Rattle.lj_step.specs.Laws.{tiles_force, stepped_by, tiles_energy}
+use Rattle.lj_step.specs.Motion.{Simulation, place_at, push_of, force, next_place, moved_place, next_simulation, potential}
+use Rattle.lj_step.specs.Laws.{tiles_force, next_simulation_by, tiles_energy}
 use Rattle.lj_step.proofs.RingSums.{sum_same, ring_sum_same, ring_sum_zero, sum_plus}
 use Rattle.lj_step.proofs.BlockSums.{int_sum_same, int_sum_none, int_sum_plus}
 use Rattle.lj_tile.proofs.Opposites.{entry_far, along_none}
 use Rattle.lj_step.proofs.Drift.{same_push}
 
 -- a pair that does not interact neither pushes nor has an energy
-pub push_far : (u : Units) (p q : Place) → interacts u (distance p q) ≡ false → push u p q ≡ no_push
+pub push_far : (u : Scale) (p q : Place) → is_in_cutoff u (distance p q) ≡ false → push u p q ≡ no_push
 unfolding push
 push_far u p q far =
     let none = entry_far u (distance p q) far in
@@ -37,9 +37,9 @@ push_far u p q far =
     (ap (λ e. push_along u e (image p.y q.y)) none ∙ along_none u (image p.y q.y))
     (ap (λ e. push_along u e (image p.z q.z)) none ∙ along_none u (image p.z q.z))
 
-pub energy_far : (class : Class) (p q : Place) → interacts class.scale (distance p q) ≡ false → energy class p q ≡ pos 0
+pub energy_far : (class : Class) (p q : Place) → is_in_cutoff class.scale (distance p q) ≡ false → energy class p q ≡ pos 0
 energy_far class p q far =
-    ap (weighted class.weight) (ap (λ (b : Bool). if b then energy_entry (entry (bin class.scale (distance p q))) else pos 0) far)
+    ap (weighted_energy class.weight) (ap (λ (b : Bool). if b then energy_entry (entry (bin class.scale (distance p q))) else pos 0) far)
     ∙ weighted_none class.weight
 
 count_more : (i j : ℕ) (tile : Tile) (tiles : List Tile)
@@ -149,7 +149,7 @@ cover_force u frame tiles covers i hi =
 
 -- a step over a cover is the step over all pairs
 pub cover_step : (u : Composition) (sim : Simulation) (tiles : List Tile) → IsForceCover u sim.cur tiles
-    → stepped_by u tiles sim ≡ stepped u sim
+    → next_simulation_by u tiles sim ≡ next_simulation u sim
 cover_step u sim tiles covers = ap (λ frame. after sim frame) same_frame
   where
     after : Simulation → List Place → Simulation
@@ -157,9 +157,9 @@ cover_step u sim tiles covers = ap (λ frame. after sim frame) same_frame
 
     same_frame : map (λ i. next_place (place_at sim.prev i) (place_at sim.cur i) (tiles_force u sim.cur tiles i))
         (range_with_len 0 (length sim.cur))
-        ≡ map (moved u sim.prev sim.cur) (range_with_len 0 (length sim.cur))
+        ≡ map (moved_place u sim.prev sim.cur) (range_with_len 0 (length sim.cur))
     same_frame =
-        fill_by_all (moved u sim.prev sim.cur) (map
+        fill_by_all (moved_place u sim.prev sim.cur) (map
         (λ i. next_place (place_at sim.prev i) (place_at sim.cur i) (tiles_force u sim.cur tiles i))
         (range_with_len 0 (length sim.cur)))
         (length sim.cur) (record { x = 0; y = 0; z = 0 })

@@ -9,9 +9,9 @@ use Rattle.lj_ring.specs.declared.mixes.Class.{Class}
 use Rattle.lj_tile.specs.Species.{Composition, class_between, species_at}
 use Rattle.lj_tile.specs.declared.pairs.Push.{Push}
 use Rattle.lj_tile.specs.Pushes.{no_push, push}
-use Rattle.lj_step.specs.Motion.{Simulation, place_at, push_of, force, next_coordinate, next_place, stepped, steps}
-use Rattle.lj_step.specs.Motion.{reversed}
-use Rattle.lj_step.specs.Laws.{IsOnRing, IsWhole, IsMixture, ring_sub, drift_along, drift, opposite}
+use Rattle.lj_step.specs.Motion.{Simulation, place_at, push_of, force, next_coordinate, next_place, next_simulation, steps}
+use Rattle.lj_step.specs.Motion.{reversal}
+use Rattle.lj_step.specs.Laws.{IsOnRing, IsWhole, IsMixture, ring_difference, drift_along, drift, opposite_push}
 use Rattle.lj_step.proofs.BlockClasses.{class_turned}
 use Rattle.lj_step.proofs.RingSums.{ring_sum_same, ring_sum_zero, sum_plus, square_zero}
 use Rattle.lj_tile.proofs.Opposites.{AddToNone, pushes_opposite}
@@ -53,15 +53,15 @@ module _ (axis : Push → ℕ) (none : axis no_push ≡ 0) where
       → (axis (push_of u frame i j) + axis (push_of u frame j i)) % 2 ^ 32 ≡ 0)
       → ring_sum (length frame) (λ i. ring_sum (length frame) (pushes u frame i)) ≡ 0
   unfolding pushes
-  forces_none u frame opposite =
+  forces_none u frame opposite_push =
       ring_sum_same (length frame) (λ i. ring_sum (length frame) (pushes u frame i))
       (λ i. sum_below (length frame) (pushes u frame i)) (λ k below. omega arith)
-      ∙ square_zero (pushes u frame) (length frame) opposite
+      ∙ square_zero (pushes u frame) (length frame) opposite_push
       (λ i below. ap (λ (p : Push). axis p % 2 ^ 32) (itself_none u frame i) ∙ ap (λ n. n % 2 ^ 32) none)
 
 -- one coordinate of an atom: what a step adds to its displacement is its force
-one_step : (p c f : ℕ) → p < 2 ^ 32 → c < 2 ^ 32 → ring_sub (next_coordinate p c f) c % 2 ^ 32
-    ≡ (ring_sub c p + f) % 2 ^ 32
+one_step : (p c f : ℕ) → p < 2 ^ 32 → c < 2 ^ 32 → ring_difference (next_coordinate p c f) c % 2 ^ 32
+    ≡ (ring_difference c p + f) % 2 ^ 32
 one_step p c f hp hc = omega arith
 
 joined : (a b : ℕ) → b % 2 ^ 32 ≡ 0 → (a + b) % 2 ^ 32 ≡ a % 2 ^ 32
@@ -70,13 +70,13 @@ joined a b none = omega arith
 -- the displacements along one axis add up to what they did before the step
 axis_kept : (n : ℕ) (p c f m : ℕ → ℕ) → ((i : ℕ) → i < n → p i < 2 ^ 32) → ((i : ℕ) → i < n → c i < 2 ^ 32)
     → ((i : ℕ) → i < n → m i ≡ next_coordinate (p i) (c i) (f i)) → ring_sum n f ≡ 0
-    → ring_sum n (λ i. ring_sub (m i) (c i)) ≡ ring_sum n (λ i. ring_sub (c i) (p i))
+    → ring_sum n (λ i. ring_difference (m i) (c i)) ≡ ring_sum n (λ i. ring_difference (c i) (p i))
 axis_kept n p c f m hp hc moves none =
-    ring_sum_same n (λ i. ring_sub (m i) (c i)) (λ i. ring_sub (c i) (p i) + f i)
-    (λ k below. ap (λ w. ring_sub w (c k) % 2 ^ 32) (moves k below)
+    ring_sum_same n (λ i. ring_difference (m i) (c i)) (λ i. ring_difference (c i) (p i) + f i)
+    (λ k below. ap (λ w. ring_difference w (c k) % 2 ^ 32) (moves k below)
     ∙ one_step (p k) (c k) (f k) (hp k below) (hc k below))
-    ∙ ap (λ s. s % 2 ^ 32) (sum_plus n (λ i. ring_sub (c i) (p i)) f)
-    ∙ joined (sum_below n (λ i. ring_sub (c i) (p i))) (sum_below n f) none
+    ∙ ap (λ s. s % 2 ^ 32) (sum_plus n (λ i. ring_difference (c i) (p i)) f)
+    ∙ joined (sum_below n (λ i. ring_difference (c i) (p i))) (sum_below n f) none
 
 push_of_axes : ℕ → ℕ → ℕ → Push
 push_of_axes x y z = record { x = x; y = y; z = z }
@@ -102,25 +102,25 @@ module _ (u : Composition) (sim : Simulation) (scale : IsMixture u.mix) (whole :
       → ((i : ℕ) → push_axis (force u sim.cur i) ≡ ring_sum (length sim.cur) (λ j. push_axis (push_of u sim.cur i j)))
       → ((i j : ℕ) → i < length sim.cur → j < length sim.cur
       → (push_axis (push_of u sim.cur i j) + push_axis (push_of u sim.cur j i)) % 2 ^ 32 ≡ 0)
-      → drift_along axis (stepped u sim) ≡ drift_along axis sim
+      → drift_along axis (next_simulation u sim) ≡ drift_along axis sim
   unfolding pushes
-  along axis push_axis none next below sum opposite =
-      ap (λ n. ring_sum n (λ i. ring_sub (axis (place_at (stepped u sim).cur i)) (axis (place_at sim.cur i))))
+  along axis push_axis none next below sum opposite_push =
+      ap (λ n. ring_sum n (λ i. ring_difference (axis (place_at (next_simulation u sim).cur i)) (axis (place_at sim.cur i))))
       (next_frame_length u sim.prev sim.cur)
       ∙ axis_kept (length sim.cur) (λ i. axis (place_at sim.prev i)) (λ i. axis (place_at sim.cur i))
-      (λ i. push_axis (force u sim.cur i)) (λ i. axis (place_at (stepped u sim).cur i))
+      (λ i. push_axis (force u sim.cur i)) (λ i. axis (place_at (next_simulation u sim).cur i))
       (λ i h. below (place_at sim.prev i) (before i h)) (λ i h. below (place_at sim.cur i) (whole.cur i h))
       (λ i h. ap axis (next_frame_at u sim.prev sim.cur i h)
       ∙ next (place_at sim.prev i) (place_at sim.cur i) (force u sim.cur i))
       (ring_sum_same (length sim.cur) (λ i. push_axis (force u sim.cur i))
       (λ i. ring_sum (length sim.cur) (λ j. push_axis (push_of u sim.cur i j)))
       (λ k h. ap (λ n. n % 2 ^ 32) (sum k))
-      ∙ forces_none push_axis none u sim.cur opposite)
+      ∙ forces_none push_axis none u sim.cur opposite_push)
 
-  step_kept : drift (stepped u sim) ≡ drift sim
+  step_kept : drift (next_simulation u sim) ≡ drift sim
   unfolding drift force
   step_kept =
-      same_push (drift (stepped u sim)) (drift sim)
+      same_push (drift (next_simulation u sim)) (drift sim)
       (along (λ p. p.x) (λ p. p.x) refl (λ p c f. refl) (λ p h. h.x) (λ i. refl) (λ i j p q. (pairs i j p q).x))
       (along (λ p. p.y) (λ p. p.y) refl (λ p c f. refl) (λ p h. h.y) (λ i. refl) (λ i j p q. (pairs i j p q).y))
       (along (λ p. p.z) (λ p. p.z) refl (λ p c f. refl) (λ p h. h.z) (λ i. refl) (λ i j p q. (pairs i j p q).z))
@@ -128,22 +128,22 @@ module _ (u : Composition) (sim : Simulation) (scale : IsMixture u.mix) (whole :
 pub drift_kept : (u : Composition) (n : ℕ) (sim : Simulation) → IsMixture u.mix → IsWhole sim → drift (steps u n sim) ≡ drift sim
 drift_kept u zero sim scale whole = refl
 drift_kept u (suc n) sim scale whole =
-    drift_kept u n (stepped u sim) scale (stepped_whole u sim whole) ∙ step_kept u sim scale whole
+    drift_kept u n (next_simulation u sim) scale (stepped_whole u sim whole) ∙ step_kept u sim scale whole
 
 -- differences the other way round add up to the opposite sum
 axis_turned : (n : ℕ) (p c : ℕ → ℕ) → ((i : ℕ) → i < n → p i < 2 ^ 32) → ((i : ℕ) → i < n → c i < 2 ^ 32)
-    → ring_sum n (λ i. ring_sub (p i) (c i)) ≡ ring_sub 0 (ring_sum n (λ i. ring_sub (c i) (p i)))
+    → ring_sum n (λ i. ring_difference (p i) (c i)) ≡ ring_difference 0 (ring_sum n (λ i. ring_difference (c i) (p i)))
 axis_turned n p c hp hc =
-    let both : (sum_below n (λ i. ring_sub (p i) (c i)) + sum_below n (λ i. ring_sub (c i) (p i))) % 2 ^ 32 ≡ 0 =
-    ap (λ s. s % 2 ^ 32) (sym (sum_plus n (λ i. ring_sub (p i) (c i)) (λ i. ring_sub (c i) (p i))))
-    ∙ ring_sum_zero n (λ i. ring_sub (p i) (c i) + ring_sub (c i) (p i))
+    let both : (sum_below n (λ i. ring_difference (p i) (c i)) + sum_below n (λ i. ring_difference (c i) (p i))) % 2 ^ 32 ≡ 0 =
+    ap (λ s. s % 2 ^ 32) (sym (sum_plus n (λ i. ring_difference (p i) (c i)) (λ i. ring_difference (c i) (p i))))
+    ∙ ring_sum_zero n (λ i. ring_difference (p i) (c i) + ring_difference (c i) (p i))
     (λ k below. turned_none (p k) (c k) (hp k below) (hc k below)) in
-    turned_sum (sum_below n (λ i. ring_sub (p i) (c i))) (sum_below n (λ i. ring_sub (c i) (p i))) both
+    turned_sum (sum_below n (λ i. ring_difference (p i) (c i))) (sum_below n (λ i. ring_difference (c i) (p i))) both
   where
-    turned_none : (p c : ℕ) → p < 2 ^ 32 → c < 2 ^ 32 → (ring_sub p c + ring_sub c p) % 2 ^ 32 ≡ 0
+    turned_none : (p c : ℕ) → p < 2 ^ 32 → c < 2 ^ 32 → (ring_difference p c + ring_difference c p) % 2 ^ 32 ≡ 0
     turned_none p c hp hc = omega arith
 
-    turned_sum : (a b : ℕ) → (a + b) % 2 ^ 32 ≡ 0 → a % 2 ^ 32 ≡ ring_sub 0 (b % 2 ^ 32)
+    turned_sum : (a b : ℕ) → (a + b) % 2 ^ 32 ≡ 0 → a % 2 ^ 32 ≡ ring_difference 0 (b % 2 ^ 32)
     turned_sum a b none = omega arith
 
 module _ (sim : Simulation) (whole : IsWhole sim) where
@@ -152,17 +152,17 @@ module _ (sim : Simulation) (whole : IsWhole sim) where
       omega arith in whole.prev i within
 
   turned_along : (axis : Place → ℕ) → ((p : Place) → IsOnRing p → axis p < 2 ^ 32)
-      → drift_along axis (reversed sim) ≡ ring_sub 0 (drift_along axis sim)
+      → drift_along axis (reversal sim) ≡ ring_difference 0 (drift_along axis sim)
   turned_along axis below =
-      ap (λ n. ring_sum n (λ i. ring_sub (axis (place_at sim.prev i)) (axis (place_at sim.cur i)))) whole.same
+      ap (λ n. ring_sum n (λ i. ring_difference (axis (place_at sim.prev i)) (axis (place_at sim.cur i)))) whole.same
       ∙ axis_turned (length sim.cur) (λ i. axis (place_at sim.prev i)) (λ i. axis (place_at sim.cur i))
       (λ i h. below (place_at sim.prev i) (prev_on_ring i h)) (λ i h. below (place_at sim.cur i) (whole.cur i h))
 
-  turned : drift (reversed sim) ≡ opposite (drift sim)
+  turned : drift (reversal sim) ≡ opposite_push (drift sim)
   unfolding drift
-  turned = same_push (drift (reversed sim)) (opposite (drift sim))
+  turned = same_push (drift (reversal sim)) (opposite_push (drift sim))
       (turned_along (λ p. p.x) (λ p h. h.x)) (turned_along (λ p. p.y) (λ p h. h.y)) (turned_along
       (λ p. p.z) (λ p h. h.z))
 
-pub drift_turned : (sim : Simulation) → IsWhole sim → drift (reversed sim) ≡ opposite (drift sim)
+pub drift_turned : (sim : Simulation) → IsWhole sim → drift (reversal sim) ≡ opposite_push (drift sim)
 drift_turned sim whole = turned sim whole

@@ -6,7 +6,7 @@ use Rattle.std.proofs.lemmas.Bool.{cases_lt, cases_Bool, true≢false}
 use Rattle.std.proofs.lemmas.List.{get_or_past}
 use Rattle.std.proofs.lemmas.List.Sums.{get_or-le-sum_by, sum_by-cons}
 use Rattle.lj_step.specs.OpenSteps.{tile_number}
-use Rattle.lj_step.specs.Sums.{pair_number, pair_awaited}
+use Rattle.lj_step.specs.Sums.{pair_number, is_pair_awaited}
 
 -- the tile of a pair whose atoms stand in two blocks in order, or in these two the other way round
 pub pair_in : (bi bj i j : ℕ) → bi ≤ bj → i / 64 ≡ bi → j / 64 ≡ bj → pair_number i j ≡ tile_number bi bj
@@ -39,17 +39,17 @@ pair_second_apart bi bj i j within before few other = omega arith
 
 -- the flag of a pair in the tile that comes in
 pub flag_in : (flags : List Bool) (k i j : ℕ) → pair_number i j ≡ k → k < length flags
-    → pair_awaited (slice_set flags k false) i j ≡ false
+    → is_pair_awaited (slice_set flags k false) i j ≡ false
 flag_in flags k i j same within =
     ap (λ n. slice_index_or (slice_set flags k false) n false) same ∙ get_or-set_same flags k false false within
 
 pub flag_before : (flags : List Bool) (k i j : ℕ) → pair_number i j ≡ k → slice_index_or flags k false ≡ true
-    → pair_awaited flags i j ≡ true
+    → is_pair_awaited flags i j ≡ true
 flag_before flags k i j same awaited = ap (λ n. slice_index_or flags n false) same ∙ awaited
 
 -- the flag of a pair in another tile
 pub flag_other : (flags : List Bool) (k i j : ℕ) → pair_number i j ≢ k
-    → pair_awaited (slice_set flags k false) i j ≡ pair_awaited flags i j
+    → is_pair_awaited (slice_set flags k false) i j ≡ is_pair_awaited flags i j
 flag_other flags k i j other = get_or-set_other flags k (pair_number i j) false false other
 
 -- the flags that are set are as many as the numbers that pass

@@ -17,7 +17,7 @@ use Rattle.lj_step.specs.declared.partial.Partial.{Partial}
 use Rattle.lj_step.specs.Motion.{place_at, push_of}
 use Rattle.lj_step.specs.Laws.{AreOnRing}
 use Rattle.lj_step.specs.OpenSteps.{blocks, is_tile, cover}
-use Rattle.lj_step.specs.Sums.{IsOpen, IsPartial, pair_awaited}
+use Rattle.lj_step.specs.Sums.{IsOpen, IsPartial, is_pair_awaited}
 use Rattle.lj_step.proofs.Covers.{push_far, energy_far}
 use Rattle.lj_step.proofs.Flags.{count_flags}
 use Rattle.lj_step.proofs.OpenedFlags.{opened_within, near_awaited}
@@ -42,12 +42,12 @@ pushes_none u frame i j (inr far) =
 module _ (u : Composition) (frame : List Place) (flags : List Bool) (ring : AreOnRing frame) (few : length frame ≤ 4096)
     (opened : flags ≡ map (is_tile u frame) (range_with_len 0 (64 * blocks (length frame)))) where
   near_set : (i j : ℕ) → i < length frame → j < length frame → i ≢ j → are_near u frame i j ≡ true
-      → pair_awaited flags i j ≡ true
+      → is_pair_awaited flags i j ≡ true
   near_set i j hi hj other near =
-      ap (λ xs. pair_awaited xs i j) opened ∙ near_awaited u frame ring few i j hi hj other near
+      ap (λ xs. is_pair_awaited xs i j) opened ∙ near_awaited u frame ring few i j hi hj other near
 
   force_awaited : (i j : ℕ) → i < length frame → j < length frame
-      → (pair_awaited flags i j ≡ true) ⊎ (push_of u frame i j ≡ no_push)
+      → (is_pair_awaited flags i j ≡ true) ⊎ (push_of u frame i j ≡ no_push)
   force_awaited i j hi hj =
       elim (cases_eq i j) [
         | inl same ↦ inr (pushes_none u frame i j (inl same))
@@ -59,7 +59,7 @@ module _ (u : Composition) (frame : List Place) (flags : List Bool) (ring : AreO
       ]
 
   energy_awaited : (i j : ℕ) → i < j → j < length frame
-      → (pair_awaited flags i j ≡ true) ⊎ (energy (class_between u i j) (place_at frame i) (place_at frame j) ≡ pos 0)
+      → (is_pair_awaited flags i j ≡ true) ⊎ (energy (class_between u i j) (place_at frame i) (place_at frame j) ≡ pos 0)
   energy_awaited i j before hj =
       let hi : i < length frame = omega arith in
       let other : i ≢ j = omega arith in

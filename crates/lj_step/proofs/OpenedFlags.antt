@@ -11,7 +11,7 @@ use Rattle.lj_tile.specs.Species.{Composition}
 use Rattle.lj_tile.specs.Tiles.{are_near}
 use Rattle.lj_step.specs.Laws.{AreOnRing}
 use Rattle.lj_step.specs.OpenSteps.{blocks, first_block, second_block, is_in_order, is_out_of_reach, is_tile}
-use Rattle.lj_step.specs.Sums.{pair_number, pair_awaited}
+use Rattle.lj_step.specs.Sums.{pair_number, is_pair_awaited}
 use Rattle.lj_step.proofs.Reach.{near_in_reach}
 
 -- the first flag of an opened step at each number
@@ -65,7 +65,7 @@ near_is_tile u frame ring few i j hi hj other near =
 -- an opened step awaits it
 pub near_awaited : (u : Composition) (frame : List Place) → AreOnRing frame → length frame ≤ 4096 → (i j : ℕ)
     → i < length frame → j < length frame → i ≢ j → are_near u frame i j ≡ true
-    → pair_awaited (map (is_tile u frame) (range_with_len 0 (64 * blocks (length frame)))) i j ≡ true
+    → is_pair_awaited (map (is_tile u frame) (range_with_len 0 (64 * blocks (length frame)))) i j ≡ true
 near_awaited u frame ring few i j hi hj other near =
     opened_flag u frame (pair_number i j) (pair_within (length frame) i j hi hj few)
     ∙ near_is_tile u frame ring few i j hi hj other near

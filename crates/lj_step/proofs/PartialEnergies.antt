@@ -11,12 +11,12 @@ use Rattle.lj_tile.specs.Species.{Composition, class_between}
 use Rattle.lj_tile.specs.Pushes.{energy}
 use Rattle.lj_tile.specs.Tiles.{chosen_energy}
 use Rattle.lj_ring.specs.declared.mixes.Class.{Class}
-use Rattle.lj_tile.specs.Blocks.{Sites}
-use Rattle.lj_tile.specs.Tasks.{Work, class_in, task_energy}
+use Rattle.lj_tile.specs.Block.{Block}
+use Rattle.lj_tile.specs.Task.{Task, class_in, task_energy}
 use Rattle.lj_step.proofs.BlockClasses.{class_is}
 use Rattle.lj_step.specs.Motion.{place_at, potential}
 use Rattle.lj_step.specs.OpenSteps.{sites_of, tile_number}
-use Rattle.lj_step.specs.Sums.{pair_number, pair_awaited, energy_so_far_of, energy_so_far}
+use Rattle.lj_step.specs.Sums.{pair_number, is_pair_awaited, energy_so_far_of, energy_so_far}
 use Rattle.lj_step.proofs.BlockSums.{length_in, int_block_sum, int_sum_same, int_sum_none, int_sum_plus, int_sum_cut}
 use Rattle.lj_step.proofs.BlockPlaces.{block_length, block_place, atom_within, in_block}
 use Rattle.lj_step.proofs.Flags.{pair_in, pair_first_apart, pair_second_apart, flag_in, flag_before, flag_other}
@@ -128,7 +128,7 @@ block_energy u frame bi bj =
     (place_at frame (64 * bj + s)) else pos 0))
 
 -- the value of the energy task of two blocks
-pub energy_task_is : (u : Composition) (frame : List Place) (work : Work) → work.mix ≡ u.mix
+pub energy_task_is : (u : Composition) (frame : List Place) (work : Task) → work.mix ≡ u.mix
     → work.a ≡ sites_of u frame work.name.bi → work.b ≡ sites_of u frame work.name.bj
     → task_energy work ≡ block_energy u frame work.name.bi work.name.bj
 unfolding task_energy block_energy
@@ -152,15 +152,15 @@ energy_task_is u frame work mix a b =
     ap (λ (class : Class). chosen_energy class (order t s) (place_at work.a.places t) (place_at work.b.places s))
     (class_is u frame work t s mix a b (in_block bi n t k) (in_block bj n s h))
     ∙ ap (λ p. chosen_energy (class_between u (64 * bi + t) (64 * bj + s)) (order t s) p (place_at work.b.places s))
-    (ap (λ (sites : Sites). place_at sites.places t) a ∙ block_place frame bi t k)
+    (ap (λ (sites : Block). place_at sites.places t) a ∙ block_place frame bi t k)
     ∙ ap (λ q. chosen_energy (class_between u (64 * bi + t) (64 * bj + s)) (order t s) (place_at frame (64 * bi + t)) q)
-    (ap (λ (sites : Sites). place_at sites.places s) b ∙ block_place frame bj s h)))
+    (ap (λ (sites : Block). place_at sites.places s) b ∙ block_place frame bj s h)))
   where
     first : length work.a.places ≡ length_in work.name.bi (length frame)
-    first = ap (λ (sites : Sites). length sites.places) a ∙ block_length frame work.name.bi
+    first = ap (λ (sites : Block). length sites.places) a ∙ block_length frame work.name.bi
 
     second : length work.b.places ≡ length_in work.name.bj (length frame)
-    second = ap (λ (sites : Sites). length sites.places) b ∙ block_length frame work.name.bj
+    second = ap (λ (sites : Block). length sites.places) b ∙ block_length frame work.name.bj
 
 module _ (u : Composition) (frame : List Place) (flags : List Bool) (bi bj : ℕ) (few : length frame ≤ 4096) (ordered : bi ≤ bj)
     (second : bj < 64) (within : tile_number bi bj < length flags)
@@ -170,8 +170,8 @@ module _ (u : Composition) (frame : List Place) (flags : List Bool) (bi bj : ℕ
       ≡ energy_so_far u frame flags +ℤ block_energy u frame bi bj
   unfolding energy_so_far block_energy so_far pair
   energy_more =
-      rows (pair u frame) bi bj (length frame) (pair_awaited flags)
-      (pair_awaited (slice_set flags (tile_number bi bj) false))
+      rows (pair u frame) bi bj (length frame) (is_pair_awaited flags)
+      (is_pair_awaited (slice_set flags (tile_number bi bj) false))
       (λ i j h k ei ej.
       let same = pair_in bi bj i j ordered ei ej in
       (flag_before flags (tile_number bi bj) i j same awaited, flag_in flags (tile_number bi bj) i j same within))
@@ -201,10 +201,10 @@ nothing_yet false e (inr none) = none
 -- a step that awaits each pair that has an energy has none
 pub energy_none : (u : Composition) (frame : List Place) (flags : List Bool)
     → ((i j : ℕ) → i < j → j < length frame
-    → (pair_awaited flags i j ≡ true) ⊎ (energy (class_between u i j) (place_at frame i) (place_at frame j) ≡ pos 0))
+    → (is_pair_awaited flags i j ≡ true) ⊎ (energy (class_between u i j) (place_at frame i) (place_at frame j) ≡ pos 0))
     → energy_so_far u frame flags ≡ pos 0
 unfolding energy_so_far
 energy_none u frame flags all =
     int_sum_none (length frame) (λ j. int_sum_below j (λ i. energy_so_far_of u frame flags i j))
     (λ j h. int_sum_none j (λ i. energy_so_far_of u frame flags i j)
-    (λ i k. nothing_yet (pair_awaited flags i j) (energy (class_between u i j) (place_at frame i) (place_at frame j)) (all i j k h)))
+    (λ i k. nothing_yet (is_pair_awaited flags i j) (energy (class_between u i j) (place_at frame i) (place_at frame j)) (all i j k h)))

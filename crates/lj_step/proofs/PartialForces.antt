@@ -8,16 +8,16 @@ use Rattle.lj_ring.specs.declared.coordinates.Place.{Place}
 use Rattle.lj_ring.specs.Ring.{sum_below, ring_sum}
 use Rattle.lj_tile.specs.Species.{Composition, class_between}
 use Rattle.lj_tile.specs.declared.pairs.Push.{Push}
-use Rattle.lj_tile.specs.Pushes.{push, no_push, plus}
+use Rattle.lj_tile.specs.Pushes.{push, no_push, sum_of_pushes}
 use Rattle.lj_tile.specs.Tiles.{chosen_push, push_sum}
 use Rattle.lj_ring.specs.declared.mixes.Class.{Class}
-use Rattle.lj_ring.specs.Scales.{Units}
-use Rattle.lj_tile.specs.Blocks.{Sites}
-use Rattle.lj_tile.specs.Tasks.{Work, class_in, task_force, task_second}
+use Rattle.lj_ring.specs.Scale.{Scale}
+use Rattle.lj_tile.specs.Block.{Block}
+use Rattle.lj_tile.specs.Task.{Task, class_in, task_force, task_second}
 use Rattle.lj_step.specs.Motion.{place_at, push_of, force}
 use Rattle.lj_step.specs.OpenSteps.{block, sites_of, tile_number}
 use Rattle.lj_step.proofs.BlockClasses.{class_is, class_turned}
-use Rattle.lj_step.specs.Sums.{pair_number, pair_awaited, push_so_far, force_so_far}
+use Rattle.lj_step.specs.Sums.{pair_number, is_pair_awaited, push_so_far, force_so_far}
 use Rattle.lj_step.proofs.RingSums.{sum_same, ring_sum_zero, sum_plus}
 use Rattle.lj_step.proofs.Drift.{same_push}
 use Rattle.lj_step.proofs.BlockSums.{length_in, block_sum}
@@ -85,7 +85,7 @@ block_force u frame i b = record {
   z = ring_sum (length_in b (length frame)) (λ s. (push_of u frame i (64 * b + s)).z);
 }
 
-not_chosen : (u : Units) (b : Bool) (p q : Place) → chosen_push u (not b) p q ≡ (if b then no_push else push u p q)
+not_chosen : (u : Scale) (b : Bool) (p q : Place) → chosen_push u (not b) p q ≡ (if b then no_push else push u p q)
 not_chosen u true p q = refl
 not_chosen u false p q = refl
 
@@ -126,29 +126,29 @@ sum_is u class frame p places chosen i b here block_is classes terms =
         ∙ terms s)
 
 -- the value of the force task of two blocks, for an atom of the first
-pub task_is : (u : Composition) (frame : List Place) (work : Work) (t : ℕ) → work.mix ≡ u.mix
+pub task_is : (u : Composition) (frame : List Place) (work : Task) (t : ℕ) → work.mix ≡ u.mix
     → work.a ≡ sites_of u frame work.name.bi → work.b ≡ sites_of u frame work.name.bj
     → t < length_in work.name.bi (length frame) → task_force work t
     ≡ block_force u frame (64 * work.name.bi + t) work.name.bj
 task_is u frame work t mix a b within =
     sum_is u (class_in work t) frame (place_at work.a.places t) work.b.places
     (λ s. not (64 * work.name.bi + t == 64 * work.name.bj + s)) (64 * work.name.bi + t) work.name.bj
-    (ap (λ (sites : Sites). place_at sites.places t) a ∙ block_place frame work.name.bi t within)
-    (ap (λ (sites : Sites). sites.places) b)
+    (ap (λ (sites : Block). place_at sites.places t) a ∙ block_place frame work.name.bi t within)
+    (ap (λ (sites : Block). sites.places) b)
     (λ s below. class_is u frame work t s mix a b (in_block work.name.bi (length frame) t within)
     (in_block work.name.bj (length frame) s below))
     (λ s. chosen_is u frame (64 * work.name.bi + t) (64 * work.name.bj + s))
 
 -- and for an atom of the second
-pub second_is : (u : Composition) (frame : List Place) (work : Work) (s : ℕ) → work.mix ≡ u.mix
+pub second_is : (u : Composition) (frame : List Place) (work : Task) (s : ℕ) → work.mix ≡ u.mix
     → work.a ≡ sites_of u frame work.name.bi → work.b ≡ sites_of u frame work.name.bj
     → s < length_in work.name.bj (length frame) → task_second work s
     ≡ block_force u frame (64 * work.name.bj + s) work.name.bi
 second_is u frame work s mix a b within =
     sum_is u (λ t. class_in work t s) frame (place_at work.b.places s) work.a.places
     (λ t. not (64 * work.name.bi + t == 64 * work.name.bj + s)) (64 * work.name.bj + s) work.name.bi
-    (ap (λ (sites : Sites). place_at sites.places s) b ∙ block_place frame work.name.bj s within)
-    (ap (λ (sites : Sites). sites.places) a)
+    (ap (λ (sites : Block). place_at sites.places s) b ∙ block_place frame work.name.bj s within)
+    (ap (λ (sites : Block). sites.places) a)
     (λ t below. class_is u frame work t s mix a b (in_block work.name.bi (length frame) t below)
     (in_block work.name.bj (length frame) s within)
     ∙ class_turned u (64 * work.name.bi + t) (64 * work.name.bj + s))
@@ -163,11 +163,11 @@ module _ (u : Composition) (frame : List Place) (flags : List Bool) (bi bj : ℕ
   more_of_block : (i b : ℕ) → ((j : ℕ) → j < length frame → j / 64 ≡ b → pair_number i j ≡ tile_number bi bj)
       → ((j : ℕ) → j < length frame → j / 64 ≢ b → pair_number i j ≢ tile_number bi bj)
       → force_so_far u frame (slice_set flags (tile_number bi bj) false) i
-      ≡ plus (force_so_far u frame flags i) (block_force u frame i b)
+      ≡ sum_of_pushes (force_so_far u frame flags i) (block_force u frame i b)
   unfolding force_so_far block_force
   more_of_block i b same other =
       same_push (force_so_far u frame (slice_set flags (tile_number bi bj) false) i)
-      (plus (force_so_far u frame flags i) (block_force u frame i b))
+      (sum_of_pushes (force_so_far u frame flags i) (block_force u frame i b))
       (along (λ p. p.x) refl) (along (λ p. p.y) refl) (along (λ p. p.z) refl)
     where
       along : (axis : Push → ℕ) → axis no_push ≡ 0
@@ -175,8 +175,8 @@ module _ (u : Composition) (frame : List Place) (flags : List Bool) (bi bj : ℕ
           ≡ (ring_sum (length frame) (λ j. axis (push_so_far u frame flags i j))
           + ring_sum (length_in b (length frame)) (λ s. axis (push_of u frame i (64 * b + s)))) % 2 ^ 32
       along axis none =
-          more_on_ring axis none (length frame) b (push_of u frame i) (pair_awaited flags i)
-          (pair_awaited (slice_set flags (tile_number bi bj) false) i)
+          more_on_ring axis none (length frame) b (push_of u frame i) (is_pair_awaited flags i)
+          (is_pair_awaited (slice_set flags (tile_number bi bj) false) i)
           (λ j h e. (
             flag_before flags (tile_number bi bj) i j (same j h e) awaited,
             flag_in flags (tile_number bi bj) i j (same j h e) within,
@@ -185,14 +185,14 @@ module _ (u : Composition) (frame : List Place) (flags : List Bool) (bi bj : ℕ
 
   -- an atom of the first block gets the sums over the second
   pub force_more : (i : ℕ) → i / 64 ≡ bi → force_so_far u frame (slice_set flags (tile_number bi bj) false) i
-      ≡ plus (force_so_far u frame flags i) (block_force u frame i bj)
+      ≡ sum_of_pushes (force_so_far u frame flags i) (block_force u frame i bj)
   force_more i first =
       more_of_block i bj (λ j h e. pair_in bi bj i j ordered first e)
       (λ j h e. pair_second_other bi bj i j ordered second first e (omega (arith, h, few)))
 
   -- an atom of the second block gets the sums over the first
   pub force_more_second : (i : ℕ) → i / 64 ≡ bj → force_so_far u frame (slice_set flags (tile_number bi bj) false) i
-      ≡ plus (force_so_far u frame flags i) (block_force u frame i bi)
+      ≡ sum_of_pushes (force_so_far u frame flags i) (block_force u frame i bi)
   force_more_second i here =
       more_of_block i bi (λ j h e. pair_in_turned bi bj i j ordered here e)
       (λ j h e. pair_turned_other bi bj i j ordered second here e (omega (arith, h, few)))
@@ -239,7 +239,7 @@ nothing_yet false p (inr none) = none
 
 -- a step that awaits each pair that pushes has no pushes
 pub force_none : (u : Composition) (frame : List Place) (flags : List Bool) (i : ℕ)
-    → ((j : ℕ) → j < length frame → (pair_awaited flags i j ≡ true) ⊎ (push_of u frame i j ≡ no_push))
+    → ((j : ℕ) → j < length frame → (is_pair_awaited flags i j ≡ true) ⊎ (push_of u frame i j ≡ no_push))
     → force_so_far u frame flags i ≡ no_push
 unfolding force_so_far
 force_none u frame flags i all =
@@ -250,5 +250,5 @@ force_none u frame flags i all =
         (λ j. axis (push_so_far u frame flags i j)) ≡ 0
     along axis none =
         ring_sum_zero (length frame) (λ j. axis (push_so_far u frame flags i j))
-        (λ j h. ap (λ p. axis p % 2 ^ 32) (nothing_yet (pair_awaited flags i j) (push_of u frame i j) (all j h))
+        (λ j h. ap (λ p. axis p % 2 ^ 32) (nothing_yet (is_pair_awaited flags i j) (push_of u frame i j) (all j h))
         ∙ ap (λ m. m % 2 ^ 32) none)

@@ -11,8 +11,8 @@ use Rattle.lj_ring.specs.declared.coordinates.Place.{Place}
 use Rattle.lj_ring.specs.declared.arcs.Arcs.{Arcs}
 use Rattle.lj_ring.specs.Ring.{IsOnRing, distance}
 use Rattle.lj_tile.specs.Species.{Composition, class_between, species_at}
-use Rattle.lj_ring.specs.Scales.{Units, bin, interacts}
-use Rattle.lj_ring.specs.Mixes.{can_interact}
+use Rattle.lj_ring.specs.Scale.{Scale, bin, is_in_cutoff}
+use Rattle.lj_ring.specs.Mix.{can_interact}
 use Rattle.lj_ring.specs.declared.mixes.Class.{Class}
 use Rattle.lj_ring.proofs.MixLemmas.{can_interact_from}
 use Rattle.lj_step.proofs.BlockClasses.{class_turned}
@@ -92,7 +92,7 @@ quotient_rises a b k less =
     ]
 
 -- a pair nearer than one that interacts does too
-nearer : (u : Units) (gap s : ℕ) → gap ≤ s → interacts u s ≡ true → interacts u gap ≡ true
+nearer : (u : Scale) (gap s : ℕ) → gap ≤ s → is_in_cutoff u s ≡ true → is_in_cutoff u gap ≡ true
 nearer u gap s less near =
     let below : bin u s < 800 = ltb-true (bin u s) 800 near in
     let bins : bin u gap ≤ bin u s = quotient_rises (128 * gap) (128 * s) (u.sigma * u.sigma) (omega arith) in
@@ -159,9 +159,9 @@ near_in_reach u frame ring few i j hi hj other near =
             | inl after ↦
                 let number : pair_number i j ≡ tile_number (j / 64) (i / 64) = omega (arith, after) in
                 let turned : are_near u frame j i ≡ true =
-                ap (interacts (class_between u j i).scale)
+                ap (is_in_cutoff (class_between u j i).scale)
                 (distance_symmetric (place_at frame i) (place_at frame j) (ring i hi) (ring j hj))
-                ∙ ap (λ (class : Class). interacts class.scale (distance (place_at frame i) (place_at frame j)))
+                ∙ ap (λ (class : Class). is_in_cutoff class.scale (distance (place_at frame i) (place_at frame j)))
                 (class_turned u j i)
                 ∙ near in
                 ap (is_out_of_reach u frame) number ∙ near_in_order u frame ring few j i hj hi after turned

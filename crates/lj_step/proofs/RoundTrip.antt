@@ -7,17 +7,17 @@ use Rattle.std.proofs.lemmas.Int.{ints}
 use Rattle.lj_tile.specs.Species.{Composition}
 use Rattle.lj_tile.specs.declared.names.Label.{Label}
 use Rattle.lj_tile.specs.declared.names.Kind.{Kind}
-use Rattle.lj_tile.specs.Tasks.{Work}
-use Rattle.lj_step.specs.Motion.{Simulation, steps, reversed}
-use Rattle.lj_step.specs.Live.{Live}
-use Rattle.lj_step.specs.OpenSteps.{cover, task_at, closed}
+use Rattle.lj_tile.specs.Task.{Task}
+use Rattle.lj_step.specs.Motion.{Simulation, steps, reversal}
+use Rattle.lj_step.specs.Sim.{Sim}
+use Rattle.lj_step.specs.OpenSteps.{cover, task_at, with_step_closed}
 use Rattle.lj_step.specs.Laws.{IsWhole}
 use Rattle.lj_step.specs.InOrder.{AwaitsFrom}
 use Rattle.lj_step.proofs.TilesTaken.{none_past}
 use Rattle.lj_step.proofs.Undone.{undone}
 
 -- each tile of the cover has a task
-pub task_some : (live : Live) (label : Label) (kind : Kind) (i : ℕ) (o : Option Work)
+pub task_some : (live : Sim) (label : Label) (kind : Kind) (i : ℕ) (o : Option Task)
     → AwaitsFrom kind live.composition live.sim.cur i live.part → o ≡ task_at live label i
     → i < length (cover live.composition live.sim.cur) → IsSome o
 task_some live label kind i None h e within = absurd (omega (arith, none_past live label kind i None h e refl))
@@ -36,18 +36,18 @@ pub turned_size : (s d : ℤ) (a n : ℕ) → unsigned_abs s ≤ a + n → unsig
 turned_size s d a n most one fits = omega (arith, ints)
 
 -- the simulations there, back and turned once more
-pub back_again : (start there turned back end : Live) (n : ℕ) → IsWhole start.sim
-    → there.composition ≡ start.composition → there.sim ≡ steps start.composition n start.sim → turned ≡ closed there (reversed there.sim)
-    → back.composition ≡ turned.composition → back.sim ≡ steps turned.composition n turned.sim → end ≡ closed back (reversed back.sim)
-    → end ≡ closed start start.sim
+pub back_again : (start there turned back end : Sim) (n : ℕ) → IsWhole start.sim
+    → there.composition ≡ start.composition → there.sim ≡ steps start.composition n start.sim → turned ≡ with_step_closed there (reversal there.sim)
+    → back.composition ≡ turned.composition → back.sim ≡ steps turned.composition n turned.sim → end ≡ with_step_closed back (reversal back.sim)
+    → end ≡ with_step_closed start start.sim
 back_again start there turned back end n whole units motion turns back_units back_motion ends =
-    let same_units : turned.composition ≡ start.composition = ap (λ (v : Live). v.composition) turns ∙ units in
-    let turned_sim : turned.sim ≡ reversed (steps start.composition n start.sim) =
-    ap (λ (v : Live). v.sim) turns ∙ ap reversed motion in
-    let same_sim : reversed back.sim ≡ start.sim =
-    ap reversed (back_motion ∙ ap (λ u. steps u n turned.sim) same_units ∙ ap (steps start.composition n) turned_sim)
+    let same_units : turned.composition ≡ start.composition = ap (λ (v : Sim). v.composition) turns ∙ units in
+    let turned_sim : turned.sim ≡ reversal (steps start.composition n start.sim) =
+    ap (λ (v : Sim). v.sim) turns ∙ ap reversal motion in
+    let same_sim : reversal back.sim ≡ start.sim =
+    ap reversal (back_motion ∙ ap (λ u. steps u n turned.sim) same_units ∙ ap (steps start.composition n) turned_sim)
     ∙ undone start.composition n start.sim whole in
-    ends ∙ ap (λ u. closed_in u (reversed back.sim)) (back_units ∙ same_units) ∙ ap (closed_in start.composition) same_sim
+    ends ∙ ap (λ u. closed_in u (reversal back.sim)) (back_units ∙ same_units) ∙ ap (closed_in start.composition) same_sim
   where
-    closed_in : Composition → Simulation → Live
+    closed_in : Composition → Simulation → Sim
     closed_in u sim = record { composition = u; sim = sim; part = None }

@@ -5,14 +5,14 @@ use Rattle.std.proofs.lemmas.List.{length-set}
 use Rattle.lj_tile.specs.declared.names.Label.{Label}
 use Rattle.lj_tile.specs.declared.names.Kind.{Kind}
 use Rattle.lj_tile.specs.declared.names.Kind.TheVariants.{Energy}
-use Rattle.lj_tile.specs.Tasks.{Work, task_energy}
+use Rattle.lj_tile.specs.Task.{Task, task_energy}
 use Rattle.lj_step.specs.declared.partial.Partial.{Partial}
 use Rattle.lj_step.specs.declared.frames.TheConstants.{MAX_ATOMS}
 use Rattle.lj_step.specs.declared.simulations.TheConstants.{MAX_STEP}
 use Rattle.lj_step.specs.declared.simulations.Sim.TheInside.{Inside}
-use Rattle.lj_step.specs.Kept.{IsSound, live_of, sign_of}
+use Rattle.lj_step.specs.Kept.{IsSound, sim_of, sign_of}
 use Rattle.lj_step.specs.Laws.{AreOnRing}
-use Rattle.lj_step.specs.Live.{Live}
+use Rattle.lj_step.specs.Sim.{Sim}
 use Rattle.lj_step.specs.OpenSteps.{blocks, tile_number_of, task_of, IsAwaitedTask}
 use Rattle.lj_step.specs.Sums.{HasAdded, HasRoom, IsPartial}
 use Rattle.lj_step.proofs.TakenIn.{awaited_at, left_some, size_fits, partial_after}
@@ -54,18 +54,18 @@ with_frames a b sound prev count cur step last partial atoms =
     }
 
 -- with one result more, of a task that is awaited
-module _ (a : Inside) (now : Live) (label : Label) (asked work : Work) (sound : IsSound a)
-    (view : live_of a ≡ now) (same : asked ≡ work)
+module _ (a : Inside) (now : Sim) (label : Label) (asked work : Task) (sound : IsSound a)
+    (view : sim_of a ≡ now) (same : asked ≡ work)
     (awaited : IsAwaitedTask now label asked) where
   wanted : (kind : Kind) × (a.partial.kind ≡ Some kind)
       × (slice_index_or a.partial.awaited.items (tile_number_of work) false ≡ true)
-      × (work ≡ task_of (live_of a) label kind (tile_number_of work))
-  wanted = awaited_at (live_of a) now label asked work a.partial.kind a.partial.awaited.items view refl same awaited
+      × (work ≡ task_of (sim_of a) label kind (tile_number_of work))
+  wanted = awaited_at (sim_of a) now label asked work a.partial.kind a.partial.awaited.items view refl same awaited
 
   pub sums_fit : (1 ≤ a.partial.left) × (unsigned_abs a.partial.energy + 2 ^ 63 ≤ 2 ^ 75)
   sums_fit = (
-    left_some (live_of a) label work a.partial sound.most sound.room sound.partial wanted,
-    size_fits (live_of a) label work a.partial sound.most sound.room sound.partial wanted,
+    left_some (sim_of a) label work a.partial sound.most sound.room sound.partial wanted,
+    size_fits (sim_of a) label work a.partial sound.most sound.room sound.partial wanted,
   )
 
   pub with_result : (q : Partial) → q.kind ≡ a.partial.kind → vec_capacity q.arcs ≡ vec_capacity a.partial.arcs
@@ -83,5 +83,5 @@ module _ (a : Inside) (now : Live) (label : Label) (asked work : Work) (sound : 
         tiles = subst (λ n. 64 * blocks (length a.cur.items) ≤ n) (sym capacity) sound.room.tiles;
         arcs = subst (λ n. blocks (length a.cur.items) ≤ n) (sym arcs) sound.room.arcs;
       })
-      (partial_after (live_of a) label work a.partial sound.most sound.room sound.partial wanted q kind tiles
+      (partial_after (sim_of a) label work a.partial sound.most sound.room sound.partial wanted q kind tiles
       flags less added energy size)

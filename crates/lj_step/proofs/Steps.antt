@@ -18,12 +18,12 @@ use Rattle.lj_tile.specs.declared.names.Kind.{Kind}
 use Rattle.lj_tile.specs.declared.names.Kind.TheVariants.{Force, Energy}
 use Rattle.lj_tile.specs.Pushes.{no_push}
 use Rattle.lj_step.specs.declared.partial.Partial.{Partial}
-use Rattle.lj_step.specs.Motion.{Simulation, place_at, next_place, force, moved, next_frame, stepped, potential}
+use Rattle.lj_step.specs.Motion.{Simulation, place_at, next_place, force, moved_place, next_frame, next_simulation, potential}
 use Rattle.lj_step.specs.Laws.{AreOnRing}
-use Rattle.lj_step.specs.Live.{Live, OpenStep}
+use Rattle.lj_step.specs.Sim.{Sim, OpenStep}
 use Rattle.lj_step.specs.OpenSteps.{blocks, is_tile, cover, task_of, task_in, task_at}
-use Rattle.lj_step.specs.OpenSteps.{awaits_number, awaits_tile_in, awaits_tile, kind_of}
-use Rattle.lj_step.specs.OpenSteps.{is_whole, closed}
+use Rattle.lj_step.specs.OpenSteps.{is_number_awaited, is_tile_awaited_in, is_tile_awaited, kind_of}
+use Rattle.lj_step.specs.OpenSteps.{is_whole, with_step_closed}
 use Rattle.lj_step.specs.Sums.{IsPartial}
 use Rattle.lj_step.specs.Kept.{open_step_of}
 use Rattle.lj_step.proofs.PartialForces.{force_whole}
@@ -53,14 +53,14 @@ pub frame_is : (u : Composition) (prev cur made : List Place) (pushes : List Pus
     (slice_index_or pushes i no_push))
     → ((i : ℕ) → i < length cur → slice_index_or pushes i no_push ≡ force u cur i) → made ≡ next_frame u prev cur
 frame_is u prev cur made pushes same places forces =
-    fill_by_all (moved u prev cur) made (length cur) (record { x = 0; y = 0; z = 0 }) same
+    fill_by_all (moved_place u prev cur) made (length cur) (record { x = 0; y = 0; z = 0 }) same
     (λ k h. places k h ∙ ap (λ f. next_place (place_at prev k) (place_at cur k) f) (forces k h))
 
-pub turned_is : (live : Live) (prev cur : List Place) (step : ℤ) → prev ≡ live.sim.cur
+pub turned_is : (live : Sim) (prev cur : List Place) (step : ℤ) → prev ≡ live.sim.cur
     → cur ≡ next_frame live.composition live.sim.prev live.sim.cur → step ≡ live.sim.step +ℤ live.sim.dir
     → (let sim : Simulation = record { prev = prev; cur = cur; step = step; dir = live.sim.dir } in
-    let turned : Live = record { composition = live.composition; sim = sim; part = None } in
-    turned ≡ closed live (stepped live.composition live.sim))
+    let turned : Sim = record { composition = live.composition; sim = sim; part = None } in
+    turned ≡ with_step_closed live (next_simulation live.composition live.sim))
 turned_is live prev cur step p c s = cc (p, c, s)
 
 -- the sum of a whole energy step is the potential
@@ -116,7 +116,7 @@ number_at tiles u frame i number is_cover within read =
     )
 
 -- the number that the code reads for the i-th tile of an open step
-pub tile_found : (u : Composition) (frame : List Place) (p : Partial) (kind : Kind) (tiles : List ℕ) (now : Live)
+pub tile_found : (u : Composition) (frame : List Place) (p : Partial) (kind : Kind) (tiles : List ℕ) (now : Sim)
     (i read number : ℕ) → p.kind ≡ Some kind → IsPartial u frame p p.kind
     → tiles ≡ p.tiles.items → u ≡ now.composition → frame ≡ now.sim.cur → i < length tiles
     → read ≡ slice_index_or tiles i read → number ≡ read
@@ -131,25 +131,25 @@ tile_found u frame p kind tiles now i read number kind_is h tiles_are units_are 
     × (slice_get (cover now.composition now.sim.cur) i ≡ Some k)) (sym number_is) found
 
 -- the i-th task of an open step
-pub task_found : (live : Live) (label : Label) (p : OpenStep) (i number : ℕ) → live.part ≡ Some p
+pub task_found : (live : Sim) (label : Label) (p : OpenStep) (i number : ℕ) → live.part ≡ Some p
     → slice_get (cover live.composition live.sim.cur) i ≡ Some number
     → Some (task_of live label p.kind number) ≡ task_at live label i
 task_found live label p i number part found =
     sym (ap (task_in live label i) part ∙ ap (option_map (task_of live label p.kind)) found)
 
-pub awaits_found : (live : Live) (p : OpenStep) (i number : ℕ) → live.part ≡ Some p
+pub awaits_found : (live : Sim) (p : OpenStep) (i number : ℕ) → live.part ≡ Some p
     → slice_get (cover live.composition live.sim.cur) i ≡ Some number
-    → slice_index_or p.awaited number false ≡ awaits_tile live i
+    → slice_index_or p.awaited number false ≡ is_tile_awaited live i
 awaits_found live p i number part found =
-    sym (ap (awaits_tile_in live.composition live.sim.cur i) part ∙ ap (λ o. option_map_or (awaits_number p) o false) found)
+    sym (ap (is_tile_awaited_in live.composition live.sim.cur i) part ∙ ap (λ o. option_map_or (is_number_awaited p) o false) found)
 
-pub awaits_past : (live : Live) (p : OpenStep) (i : ℕ) → live.part ≡ Some p
-    → slice_get (cover live.composition live.sim.cur) i ≡ None → false ≡ awaits_tile live i
+pub awaits_past : (live : Sim) (p : OpenStep) (i : ℕ) → live.part ≡ Some p
+    → slice_get (cover live.composition live.sim.cur) i ≡ None → false ≡ is_tile_awaited live i
 awaits_past live p i part past =
-    sym (ap (awaits_tile_in live.composition live.sim.cur i) part ∙ ap (λ o. option_map_or (awaits_number p) o false) past)
+    sym (ap (is_tile_awaited_in live.composition live.sim.cur i) part ∙ ap (λ o. option_map_or (is_number_awaited p) o false) past)
 
-pub step_part : (live : Live) (now : Live) (o : Option Kind) (flags : List Bool) (kind : Kind) → live ≡ now
+pub step_part : (live : Sim) (now : Sim) (o : Option Kind) (flags : List Bool) (kind : Kind) → live ≡ now
     → live.part ≡ open_step_of o flags → o ≡ Some kind
     → now.part ≡ Some (record { kind = kind; awaited = flags })
 step_part live now o flags kind view part e =
-    sym (ap (λ (v : Live). v.part) view) ∙ part ∙ ap (λ (k : Option Kind). open_step_of k flags) e
+    sym (ap (λ (v : Sim). v.part) view) ∙ part ∙ ap (λ (k : Option Kind). open_step_of k flags) e

@@ -4,9 +4,9 @@ use Rattle.std.proofs.Common.{length, slice_index_or, slice_set, Option, Some, N
 use Rattle.lj_tile.specs.declared.names.Label.{Label}
 use Rattle.lj_tile.specs.declared.names.Kind.{Kind}
 use Rattle.lj_tile.specs.declared.names.Kind.TheVariants.{Energy}
-use Rattle.lj_tile.specs.Tasks.{Work, task_energy}
+use Rattle.lj_tile.specs.Task.{Task, task_energy}
 use Rattle.lj_step.specs.declared.partial.Partial.{Partial}
-use Rattle.lj_step.specs.Live.{Live}
+use Rattle.lj_step.specs.Sim.{Sim}
 use Rattle.lj_step.specs.OpenSteps.{sites_of, tile_number_of, task_of, IsAwaitedTaskIn, IsAwaitedTask}
 use Rattle.lj_step.specs.Sums.{HasRoom, HasAdded, IsOpen, IsPartial}
 use Rattle.lj_step.specs.Kept.{open_step_of}
@@ -14,14 +14,14 @@ use Rattle.lj_step.proofs.Flags.{set_within}
 use Rattle.lj_step.proofs.Accepted.{accepted_is, one_left, size_before}
 
 -- the step that awaits a task, its flag, and the task
-pub awaited_in : (live : Live) (label : Label) (work : Work) (o : Option Kind) (flags : List Bool)
+pub awaited_in : (live : Sim) (label : Label) (work : Task) (o : Option Kind) (flags : List Bool)
     → IsAwaitedTaskIn live label work (open_step_of o flags)
     → (kind : Kind) × (o ≡ Some kind) × (slice_index_or flags (tile_number_of work) false ≡ true)
     × (work ≡ task_of live label kind (tile_number_of work))
 awaited_in live label work None flags h = absurd h
 awaited_in live label work (Some kind) flags h = (kind, refl, h.0, h.1)
 
-pub awaited_at : (live now : Live) (label : Label) (asked work : Work) (o : Option Kind) (flags : List Bool)
+pub awaited_at : (live now : Sim) (label : Label) (asked work : Task) (o : Option Kind) (flags : List Bool)
     → live ≡ now → live.part ≡ open_step_of o flags → asked ≡ work → IsAwaitedTask now label asked
     → (kind : Kind) × (o ≡ Some kind) × (slice_index_or flags (tile_number_of work) false ≡ true)
     × (work ≡ task_of live label kind (tile_number_of work))
@@ -31,7 +31,7 @@ awaited_at live now label asked work o flags view part same h =
     awaited_in live label work o flags (subst (λ q. IsAwaitedTaskIn live label work q) part at_work)
 
 -- the step that takes in an awaited task
-module _ (live : Live) (label : Label) (work : Work) (p : Partial) (few : length live.sim.cur ≤ 4096)
+module _ (live : Sim) (label : Label) (work : Task) (p : Partial) (few : length live.sim.cur ≤ 4096)
     (room : HasRoom (length live.sim.cur) p) (before : IsPartial live.composition live.sim.cur p p.kind)
     (wanted : (kind : Kind) × (p.kind ≡ Some kind) × (slice_index_or p.awaited.items (tile_number_of work) false ≡ true)
     × (work ≡ task_of live label kind (tile_number_of work))) where
@@ -39,32 +39,32 @@ module _ (live : Live) (label : Label) (work : Work) (p : Partial) (few : length
   within = set_within p.awaited.items (tile_number_of work) wanted.2
 
   first_is : work.name.bi ≡ tile_number_of work / 64
-  first_is = ap (λ (w : Work). w.name.bi) wanted.3
+  first_is = ap (λ (w : Task). w.name.bi) wanted.3
 
   second_is : work.name.bj ≡ tile_number_of work % 64
-  second_is = ap (λ (w : Work). w.name.bj) wanted.3
+  second_is = ap (λ (w : Task). w.name.bj) wanted.3
 
   second_below : work.name.bj < 64
   second_below = omega (arith, second_is)
 
   first_block_is : work.a ≡ sites_of live.composition live.sim.cur work.name.bi
-  first_block_is = ap (λ (w : Work). w.a) wanted.3 ∙ sym (ap (sites_of live.composition live.sim.cur) first_is)
+  first_block_is = ap (λ (w : Task). w.a) wanted.3 ∙ sym (ap (sites_of live.composition live.sim.cur) first_is)
 
   second_block_is : work.b ≡ sites_of live.composition live.sim.cur work.name.bj
-  second_block_is = ap (λ (w : Work). w.b) wanted.3 ∙ sym (ap (sites_of live.composition live.sim.cur) second_is)
+  second_block_is = ap (λ (w : Task). w.b) wanted.3 ∙ sym (ap (sites_of live.composition live.sim.cur) second_is)
 
   opened : IsOpen live.composition live.sim.cur p wanted.0
   opened = subst (λ (o : Option Kind). IsPartial live.composition live.sim.cur p o) wanted.1 before
 
   pub left_some : 1 ≤ p.left
   left_some =
-      one_left live.composition live.sim.cur p p wanted.0 work few opened room (ap (λ (w : Work). w.mix) wanted.3)
-      first_block_is second_block_is (ap (λ (w : Work). w.name.kind) wanted.3) second_below within wanted.2
+      one_left live.composition live.sim.cur p p wanted.0 work few opened room (ap (λ (w : Task). w.mix) wanted.3)
+      first_block_is second_block_is (ap (λ (w : Task). w.name.kind) wanted.3) second_below within wanted.2
 
   pub size_fits : unsigned_abs p.energy + 2 ^ 63 ≤ 2 ^ 75
   size_fits =
-      size_before live.composition live.sim.cur p p wanted.0 work few opened room (ap (λ (w : Work). w.mix) wanted.3)
-      first_block_is second_block_is (ap (λ (w : Work). w.name.kind) wanted.3) second_below within wanted.2
+      size_before live.composition live.sim.cur p p wanted.0 work few opened room (ap (λ (w : Task). w.mix) wanted.3)
+      first_block_is second_block_is (ap (λ (w : Task). w.name.kind) wanted.3) second_below within wanted.2
 
   pub partial_after : (q : Partial) → q.kind ≡ p.kind → q.tiles.items ≡ p.tiles.items
       → q.awaited.items ≡ slice_set p.awaited.items (tile_number_of work) false → q.left + 1 ≡ p.left
@@ -73,6 +73,6 @@ module _ (live : Live) (label : Label) (work : Work) (p : Partial) (few : length
       → unsigned_abs q.energy ≤ unsigned_abs p.energy + 2 ^ 63 → IsPartial live.composition live.sim.cur q q.kind
   partial_after q kind tiles flags less added energy size =
       subst (λ (o : Option Kind). IsPartial live.composition live.sim.cur q o) (sym (kind ∙ wanted.1))
-      (accepted_is live.composition live.sim.cur p q wanted.0 work few opened room (ap (λ (w : Work). w.mix) wanted.3)
-      first_block_is second_block_is (ap (λ (w : Work). w.name.kind) wanted.3) second_below within wanted.2
+      (accepted_is live.composition live.sim.cur p q wanted.0 work few opened room (ap (λ (w : Task). w.mix) wanted.3)
+      first_block_is second_block_is (ap (λ (w : Task). w.name.kind) wanted.3) second_below within wanted.2
       tiles flags less added energy size)

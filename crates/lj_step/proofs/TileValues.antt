@@ -8,7 +8,7 @@ use Rattle.std.proofs.lemmas.Option.{slice_get_within, get_or_from_slice_get}
 use Rattle.lj_ring.specs.declared.coordinates.Place.{Place}
 use Rattle.lj_ring.specs.Ring.{ring_sum, int_sum_below}
 use Rattle.lj_tile.specs.Species.{Composition, class_between}
-use Rattle.lj_ring.specs.Scales.{Units}
+use Rattle.lj_ring.specs.Scale.{Scale}
 use Rattle.lj_tile.specs.declared.pairs.Push.{Push}
 use Rattle.lj_tile.specs.declared.names.Label.{Label}
 use Rattle.lj_tile.specs.declared.names.Kind.{Kind}
@@ -16,10 +16,10 @@ use Rattle.lj_tile.specs.declared.names.Kind.TheVariants.{Force, Energy}
 use Rattle.lj_tile.specs.Pushes.{no_push, energy}
 use Rattle.lj_tile.specs.Tiles.{chosen_push, chosen_energy, push_sum, tile_force, tile_energy, are_between, force_tile}
 use Rattle.lj_tile.specs.Tiles.{energy_tile}
-use Rattle.lj_tile.specs.Tasks.{Work}
+use Rattle.lj_tile.specs.Task.{Task}
 use Rattle.lj_step.specs.Motion.{place_at, push_of}
 use Rattle.lj_step.specs.Laws.{AreOnRing}
-use Rattle.lj_step.specs.Live.{Live, OpenStep}
+use Rattle.lj_step.specs.Sim.{Sim, OpenStep}
 use Rattle.lj_step.specs.OpenSteps.{first_block, second_block, block, cover, cover_tiles, tile_of, task_of, tiles_in}
 use Rattle.lj_step.specs.TileTasks.{HasForces, HasEnergy, HasValue, HasValueIn, HasTileValue, IsCover, IsCoveredIn}
 use Rattle.lj_step.specs.TileTasks.{tile_at}
@@ -44,7 +44,7 @@ between_none bi bj i j first second = grind (arith, nat_tests)
 
 -- the sum along one axis of the pairs of a tile that have atom i first
 module _ (axis : Push → ℕ) (none : axis no_push ≡ 0) where
-  pick : (u : Units) (inside other : Bool) (p q : Place) (here : Push) → chosen_push u other p q ≡ here
+  pick : (u : Scale) (inside other : Bool) (p q : Place) (here : Push) → chosen_push u other p q ≡ here
       → axis (chosen_push u (inside && other) p q) ≡ (if inside then axis here else 0)
   pick u true other p q here same = ap axis same
   pick u false other p q here same = none
@@ -95,7 +95,7 @@ unfolding length_in
 outside frame b i h (inl below) = omega arith
 outside frame b i h (inr past) = let count = block_length frame b in omega (arith, h, past, count)
 
-force_value : (live : Live) (label : Label) (k : ℕ)
+force_value : (live : Sim) (label : Label) (k : ℕ)
     → HasForces live.composition live.sim.cur (tile_of Force k) (task_of live label Force k)
 force_value live label k = record {
   kind = refl;
@@ -148,7 +148,7 @@ tile_energy_is u frame bi bj =
     then energy (class_between u i j) (place_at frame i) (place_at frame j) else pos 0))
     ∙ block_pairs (λ i j. energy (class_between u i j) (place_at frame i) (place_at frame j)) bi bj (length frame)
 
-energy_value : (live : Live) (label : Label) (k : ℕ)
+energy_value : (live : Sim) (label : Label) (k : ℕ)
     → HasEnergy live.composition live.sim.cur (tile_of Energy k) (task_of live label Energy k)
 energy_value live label k = record {
   kind = refl;
@@ -158,13 +158,13 @@ energy_value live label k = record {
 }
 
 -- the task of a tile has that tile's value
-pub tile_value : (kind : Kind) (live : Live) (label : Label) (k : ℕ)
+pub tile_value : (kind : Kind) (live : Sim) (label : Label) (k : ℕ)
     → HasValue kind live.composition live.sim.cur (tile_of kind k) (task_of live label kind k)
 tile_value Force live label k = force_value live label k
 tile_value Energy live label k = energy_value live label k
 
 -- the same of the i-th task of an open step
-pub open_value : (live : Live) (label : Label) (p : OpenStep) (i k : ℕ) (work : Work) → live.part ≡ Some p
+pub open_value : (live : Sim) (label : Label) (p : OpenStep) (i k : ℕ) (work : Task) → live.part ≡ Some p
     → slice_get (cover live.composition live.sim.cur) i ≡ Some k
     → work ≡ task_of live label p.kind k → HasTileValue live i work
 open_value live label p i k work part found same =
@@ -178,7 +178,7 @@ open_value live label p i k work part found same =
     subst (HasValueIn live i work) (sym part) value
 
 -- the tiles of an open step are a cover
-pub step_covered : (live : Live) → AreOnRing live.sim.cur → length live.sim.cur ≤ 4096 → (part : Option OpenStep)
+pub step_covered : (live : Sim) → AreOnRing live.sim.cur → length live.sim.cur ≤ 4096 → (part : Option OpenStep)
     → live.part ≡ part → IsCoveredIn live part
 step_covered live ring few None e = tt
 step_covered live ring few (Some p) e = record {

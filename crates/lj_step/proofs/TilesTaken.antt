@@ -12,9 +12,9 @@ use Rattle.lj_ring.specs.declared.coordinates.Place.{Place}
 use Rattle.lj_tile.specs.Species.{Composition}
 use Rattle.lj_tile.specs.declared.names.Label.{Label}
 use Rattle.lj_tile.specs.declared.names.Kind.{Kind}
-use Rattle.lj_tile.specs.Tasks.{Work}
-use Rattle.lj_step.specs.Live.{Live, OpenStep}
-use Rattle.lj_step.specs.OpenSteps.{blocks, is_tile, cover, opened, tile_number_of, task_of, task_in, task_at}
+use Rattle.lj_tile.specs.Task.{Task}
+use Rattle.lj_step.specs.Sim.{Sim, OpenStep}
+use Rattle.lj_step.specs.OpenSteps.{blocks, is_tile, cover, opened_step, tile_number_of, task_of, task_in, task_at}
 use Rattle.lj_step.specs.OpenSteps.{IsAwaitedTaskIn, IsAwaitedTask, with_tile, kind_of, is_whole}
 use Rattle.lj_step.proofs.Flags.{count_flags}
 use Rattle.lj_step.proofs.OpenedFlags.{opened_flag}
@@ -34,7 +34,7 @@ cover_rises u frame =
     (range_rises 0 (64 * blocks (length frame)))
 
 -- an opened step
-pub opened_awaits : (kind : Kind) (u : Composition) (frame : List Place) (part : Option OpenStep) → part ≡ Some (opened kind u frame)
+pub opened_awaits : (kind : Kind) (u : Composition) (frame : List Place) (part : Option OpenStep) → part ≡ Some (opened_step kind u frame)
     → AwaitsFrom kind u frame 0 part
 opened_awaits kind u frame part e = record {
   flags = map (is_tile u frame) (range_with_len 0 (64 * blocks (length frame)));
@@ -59,16 +59,16 @@ all_taken kind u frame i part h past =
     let none : count_by (λ awaited. awaited) h.flags ≡ 0 = omega (arith, h.left, past) in
     ap is_whole h.is_open ∙ ap (λ n. nat_le n 0) none
 
-pub number_is : (live : Live) (label : Label) (kind : Kind) (k : ℕ) → tile_number_of (task_of live label kind k) ≡ k
+pub number_is : (live : Sim) (label : Label) (kind : Kind) (k : ℕ) → tile_number_of (task_of live label kind k) ≡ k
 number_is live label kind k = omega arith
 
 -- the i-th task of the step is that of the i-th number of the cover
-task_read : (live : Live) (label : Label) (kind : Kind) (i : ℕ) (o : Option Work)
+task_read : (live : Sim) (label : Label) (kind : Kind) (i : ℕ) (o : Option Task)
     → AwaitsFrom kind live.composition live.sim.cur i live.part → o ≡ task_at live label i
     → o ≡ option_map (task_of live label kind) (slice_get (cover live.composition live.sim.cur) i)
 task_read live label kind i o h e = e ∙ ap (task_in live label i) h.is_open
 
-pub none_past : (live : Live) (label : Label) (kind : Kind) (i : ℕ) (o : Option Work)
+pub none_past : (live : Sim) (label : Label) (kind : Kind) (i : ℕ) (o : Option Task)
     → AwaitsFrom kind live.composition live.sim.cur i live.part → o ≡ task_at live label i → o ≡ None
     → length (cover live.composition live.sim.cur) ≤ i
 none_past live label kind i o h e none =
@@ -79,7 +79,7 @@ none_past live label kind i o h e none =
       | inr r ↦ r.0
     ]
 
-pub task_at_place : (live : Live) (label : Label) (kind : Kind) (i : ℕ) (o : Option Work) (work : Work)
+pub task_at_place : (live : Sim) (label : Label) (kind : Kind) (i : ℕ) (o : Option Task) (work : Task)
     → AwaitsFrom kind live.composition live.sim.cur i live.part → o ≡ task_at live label i → o ≡ Some work
     → (number : ℕ) × (i < length (cover live.composition live.sim.cur))
     × (slice_index_or (cover live.composition live.sim.cur) i 0 ≡ number) × (work ≡ task_of live label kind number)
@@ -98,7 +98,7 @@ task_at_place live label kind i o work h e some =
     ]
 
 -- the i-th task is awaited, and once it is in those from the next one on
-module _ (live : Live) (label : Label) (kind : Kind) (i : ℕ) (o : Option Work) (work : Work)
+module _ (live : Sim) (label : Label) (kind : Kind) (i : ℕ) (o : Option Task) (work : Task)
     (h : AwaitsFrom kind live.composition live.sim.cur i live.part)
     (e : o ≡ task_at live label i) (some : o ≡ Some work) where
   place : (number : ℕ) × (i < length (cover live.composition live.sim.cur))

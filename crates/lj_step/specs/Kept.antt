@@ -11,7 +11,7 @@ use Rattle.lj_step.specs.declared.simulations.Direction.{Direction}
 use Rattle.lj_step.specs.declared.simulations.Direction.TheVariants.{Forward, Backward}
 use Rattle.lj_step.specs.declared.simulations.Sim.TheInside.{Inside}
 use Rattle.lj_step.specs.Laws.{AreOnRing}
-use Rattle.lj_step.specs.Live.{Live, OpenStep}
+use Rattle.lj_step.specs.Sim.{Sim, OpenStep}
 use Rattle.lj_step.specs.OpenSteps.{block}
 use Rattle.lj_step.specs.Sums.{HasRoom, IsPartial}
 
@@ -33,8 +33,8 @@ abbrev pub open_step_of : Option Kind → List Bool → Option OpenStep
 open_step_of None awaited = None
 open_step_of (Some kind) awaited = Some (record { kind = kind; awaited = awaited })
 
-abbrev pub live_of : Inside → Live
-live_of a = record {
+abbrev pub sim_of : Inside → Sim
+sim_of a = record {
   composition = a.atoms;
   sim = record { prev = a.prev.items; cur = a.cur.items; step = a.step; dir = sign_of a.dir };
   part = open_step_of a.partial.kind a.partial.awaited.items;

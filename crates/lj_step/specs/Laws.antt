@@ -3,11 +3,11 @@ use Rattle.std.specs.Prelude.{ℕ, ◌%◌, ◌^◌, ◌<◌, ◌≡◌, ℤ, po
 use Rattle.std.specs.List.{range_with_len}
 use Rattle.lj_ring.specs.declared.coordinates.Place.{Place}
 use Rattle.lj_ring.specs.Ring.{ring_sum}
-pub use Rattle.lj_ring.specs.Ring.{IsOnRing, ring_sub}
+pub use Rattle.lj_ring.specs.Ring.{IsOnRing, ring_difference}
 use Rattle.lj_tile.specs.Species.{Composition}
-pub use Rattle.lj_ring.specs.Mixes.{IsMixture}
+pub use Rattle.lj_ring.specs.Mix.{IsMixture}
 use Rattle.lj_tile.specs.declared.pairs.Push.{Push}
-pub use Rattle.lj_tile.specs.Pushes.{opposite}
+pub use Rattle.lj_tile.specs.Pushes.{opposite_push}
 use Rattle.lj_tile.specs.Tiles.{Tile, tile_force, tile_energy}
 use Rattle.lj_step.specs.Motion.{Simulation, place_at, next_place}
 
@@ -24,7 +24,7 @@ pub record IsWhole (sim : Simulation) : Type 0 where
 -- the drift along one axis: the sum on the ring of cur - prev over all atoms
 abbrev pub drift_along : (Place → ℕ) → Simulation → ℕ
 drift_along axis sim =
-    ring_sum (length sim.cur) (λ i. ring_sub (axis (place_at sim.cur i)) (axis (place_at sim.prev i)))
+    ring_sum (length sim.cur) (λ i. ring_difference (axis (place_at sim.cur i)) (axis (place_at sim.prev i)))
 
 -- the drift along each axis
 unfoldable pub drift : Simulation → Push
@@ -39,8 +39,8 @@ tiles_force u frame tiles i = record {
 }
 
 -- one step by the sums of tiles
-abbrev pub stepped_by : Composition → List Tile → Simulation → Simulation
-stepped_by u tiles sim = record {
+abbrev pub next_simulation_by : Composition → List Tile → Simulation → Simulation
+next_simulation_by u tiles sim = record {
   prev = sim.cur;
   cur =
       map (λ i. next_place (place_at sim.prev i) (place_at sim.cur i) (tiles_force u sim.cur tiles i))

@@ -1,5 +1,5 @@
 pub mod Motion
-pub mod Live
+pub mod Sim
 pub mod Sets
 pub mod OpenSteps
 pub mod TileTasks

@@ -3,7 +3,7 @@ use Rattle.std.specs.Prelude.{ℕ, zero, suc, ◌+◌, ◌-◌, ◌*◌, ◌%◌
 use Rattle.std.specs.Prelude.{slice_set, if◌then◌else◌}
 use Rattle.std.specs.List.{range_with_len}
 use Rattle.lj_ring.specs.declared.coordinates.Place.{Place}
-use Rattle.lj_ring.specs.Ring.{image, distance, in_ring, sum_below, ring_sum, int_sum_below}
+use Rattle.lj_ring.specs.Ring.{image, distance, ring_residue, sum_below, ring_sum, int_sum_below}
 use Rattle.lj_tile.specs.Species.{Composition, class_between}
 use Rattle.lj_tile.specs.declared.pairs.Push.{Push}
 use Rattle.lj_tile.specs.Pushes.{push, no_push, energy}
@@ -46,26 +46,26 @@ next_place prev cur push = record {
 }
 
 -- the next place of atom i under the pushes of all other atoms
-abbrev pub moved : Composition → List Place → List Place → ℕ → Place
-moved u prev cur i = next_place (place_at prev i) (place_at cur i) (force u cur i)
+abbrev pub moved_place : Composition → List Place → List Place → ℕ → Place
+moved_place u prev cur i = next_place (place_at prev i) (place_at cur i) (force u cur i)
 
 -- the frame after cur
 abbrev pub next_frame : Composition → List Place → List Place → List Place
-next_frame u prev cur = map (moved u prev cur) (range_with_len 0 (length cur))
+next_frame u prev cur = map (moved_place u prev cur) (range_with_len 0 (length cur))
 
 -- one step
-abbrev pub stepped : Composition → Simulation → Simulation
-stepped u sim =
+abbrev pub next_simulation : Composition → Simulation → Simulation
+next_simulation u sim =
     record { prev = sim.cur; cur = next_frame u sim.prev sim.cur; step = sim.step +ℤ sim.dir; dir = sim.dir }
 
 -- n steps
 abbrev pub steps : Composition → ℕ → Simulation → Simulation
 steps u zero sim = sim
-steps u (suc n) sim = steps u n (stepped u sim)
+steps u (suc n) sim = steps u n (next_simulation u sim)
 
 -- the motion turned back: the frames change places
-abbrev pub reversed : Simulation → Simulation
-reversed sim = record { prev = sim.cur; cur = sim.prev; step = sim.step -ℤ sim.dir; dir = neg_ℤ sim.dir }
+abbrev pub reversal : Simulation → Simulation
+reversal sim = record { prev = sim.cur; cur = sim.prev; step = sim.step -ℤ sim.dir; dir = neg_ℤ sim.dir }
 
 -- a displacement, in ring units along each axis
 pub record Displacement : Type 0 where
@@ -74,11 +74,11 @@ pub record Displacement : Type 0 where
   pub z : ℤ
 
 -- atom i gets a displacement more of velocity: its place one step before is moved back by it
-abbrev pub tugged : ℕ → Displacement → Simulation → Simulation
-tugged i d sim =
+abbrev pub with_tug : ℕ → Displacement → Simulation → Simulation
+with_tug i d sim =
     let p = place_at sim.prev i in
     let back : Place =
-    record { x = in_ring (pos p.x -ℤ d.x); y = in_ring (pos p.y -ℤ d.y); z = in_ring (pos p.z -ℤ d.z) } in
+    record { x = ring_residue (pos p.x -ℤ d.x); y = ring_residue (pos p.y -ℤ d.y); z = ring_residue (pos p.z -ℤ d.z) } in
     record sim { prev = slice_set sim.prev i back }
 
 -- the momentum: the sums over all atoms of the images of cur - prev

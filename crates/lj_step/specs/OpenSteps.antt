@@ -5,16 +5,16 @@ use Rattle.std.specs.List.{range_with_len, filter}
 use Rattle.std.specs.Option.{option_map, option_map_or}
 use Rattle.lj_ring.specs.declared.coordinates.Place.{Place}
 use Rattle.lj_tile.specs.Species.{Composition}
-use Rattle.lj_ring.specs.Mixes.{can_interact}
+use Rattle.lj_ring.specs.Mix.{can_interact}
 use Rattle.lj_ring.specs.Arcs.{arcs_of, squared_gap}
 use Rattle.lj_tile.specs.declared.names.Label.{Label}
 use Rattle.lj_tile.specs.declared.names.Kind.{Kind}
 use Rattle.lj_tile.specs.declared.names.Kind.TheVariants.{Force, Energy}
 use Rattle.lj_tile.specs.Tiles.{Tile, force_tile, energy_tile}
-use Rattle.lj_tile.specs.Blocks.{Sites}
-use Rattle.lj_tile.specs.Tasks.{Work}
+use Rattle.lj_tile.specs.Block.{Block}
+use Rattle.lj_tile.specs.Task.{Task}
 use Rattle.lj_step.specs.Motion.{Simulation}
-use Rattle.lj_step.specs.Live.{Live, OpenStep}
+use Rattle.lj_step.specs.Sim.{Sim, OpenStep}
 use Rattle.lj_step.specs.Sets.{seconds_in}
 
 -- how many blocks of 64 a count of atoms has, the last one perhaps not full
@@ -36,7 +36,7 @@ abbrev pub block : List Place → ℕ → List Place
 block frame b = slice_range frame (64 * b) (min (64 * b + 64) (length frame))
 
 -- a block of a frame: its places, and which of them are of atoms of the second species
-abbrev pub sites_of : Composition → List Place → ℕ → Sites
+abbrev pub sites_of : Composition → List Place → ℕ → Block
 sites_of u frame b = record { places = block frame b; seconds = seconds_in u.seconds b }
 
 -- a number is that of two blocks in order, the last of them one of so many atoms
@@ -64,7 +64,7 @@ abbrev pub tiles_in : Composition → List Place → Option OpenStep → ℕ
 tiles_in u frame None = 0
 tiles_in u frame (Some p) = length (cover u frame)
 
-abbrev pub tiles_of : Live → ℕ
+abbrev pub tiles_of : Sim → ℕ
 tiles_of live = tiles_in live.composition live.sim.cur live.part
 
 -- the pairs of atoms that a tile covers
@@ -77,7 +77,7 @@ abbrev pub cover_tiles : Kind → Composition → List Place → List Tile
 cover_tiles kind u frame = map (tile_of kind) (cover u frame)
 
 -- the task of a tile of the present step
-abbrev pub task_of : Live → Label → Kind → ℕ → Work
+abbrev pub task_of : Sim → Label → Kind → ℕ → Task
 task_of live label kind k = record {
   name = record { label = label; step = live.sim.step; kind = kind; bi = first_block k; bj = second_block k };
   mix = live.composition.mix;
@@ -86,42 +86,42 @@ task_of live label kind k = record {
 }
 
 -- the tile whose task this is by its blocks
-abbrev pub tile_number_of : Work → ℕ
+abbrev pub tile_number_of : Task → ℕ
 tile_number_of work = tile_number work.name.bi work.name.bj
 
 -- the i-th task of the open step, if there is one
-abbrev pub task_in : Live → Label → ℕ → Option OpenStep → Option Work
+abbrev pub task_in : Sim → Label → ℕ → Option OpenStep → Option Task
 task_in live label i None = None
 task_in live label i (Some p) =
     option_map (task_of live label p.kind) (slice_get (cover live.composition live.sim.cur) i)
 
-abbrev pub task_at : Live → Label → ℕ → Option Work
+abbrev pub task_at : Sim → Label → ℕ → Option Task
 task_at live label i = task_in live label i live.part
 
 -- an open step that awaits all its tiles
-abbrev pub opened : Kind → Composition → List Place → OpenStep
-opened kind u frame =
+abbrev pub opened_step : Kind → Composition → List Place → OpenStep
+opened_step kind u frame =
     record { kind = kind; awaited = map (is_tile u frame) (range_with_len 0 (64 * blocks (length frame))) }
 
 -- the open step awaits the tile of this number
-abbrev pub awaits_number : OpenStep → ℕ → Bool
-awaits_number p k = slice_index_or p.awaited k false
+abbrev pub is_number_awaited : OpenStep → ℕ → Bool
+is_number_awaited p k = slice_index_or p.awaited k false
 
 -- the open step awaits the i-th tile of its cover
-abbrev pub awaits_tile_in : Composition → List Place → ℕ → Option OpenStep → Bool
-awaits_tile_in u frame i None = false
-awaits_tile_in u frame i (Some p) = option_map_or (awaits_number p) (slice_get (cover u frame) i) false
+abbrev pub is_tile_awaited_in : Composition → List Place → ℕ → Option OpenStep → Bool
+is_tile_awaited_in u frame i None = false
+is_tile_awaited_in u frame i (Some p) = option_map_or (is_number_awaited p) (slice_get (cover u frame) i) false
 
-abbrev pub awaits_tile : Live → ℕ → Bool
-awaits_tile live i = awaits_tile_in live.composition live.sim.cur i live.part
+abbrev pub is_tile_awaited : Sim → ℕ → Bool
+is_tile_awaited live i = is_tile_awaited_in live.composition live.sim.cur i live.part
 
 -- the task is that of a tile that the open step awaits: none is where no step is open
-abbrev pub IsAwaitedTaskIn : Live → Label → Work → Option OpenStep → Type 0
+abbrev pub IsAwaitedTaskIn : Sim → Label → Task → Option OpenStep → Type 0
 IsAwaitedTaskIn live label work None = ⊥
 IsAwaitedTaskIn live label work (Some p) =
-    (awaits_number p (tile_number_of work) ≡ true) × (work ≡ task_of live label p.kind (tile_number_of work))
+    (is_number_awaited p (tile_number_of work) ≡ true) × (work ≡ task_of live label p.kind (tile_number_of work))
 
-abbrev pub IsAwaitedTask : Live → Label → Work → Type 0
+abbrev pub IsAwaitedTask : Sim → Label → Task → Type 0
 IsAwaitedTask live label work = IsAwaitedTaskIn live label work live.part
 
 -- the open step with one tile more that is in
@@ -130,8 +130,8 @@ with_tile k None = None
 with_tile k (Some p) = Some (record { kind = p.kind; awaited = slice_set p.awaited k false })
 
 -- how many tiles are awaited
-abbrev pub left : OpenStep → ℕ
-left p = count_by (λ awaited. awaited) p.awaited
+abbrev pub tiles_left : OpenStep → ℕ
+tiles_left p = count_by (λ awaited. awaited) p.awaited
 
 -- the kind of the open step, if there is one
 abbrev pub kind_of : Option OpenStep → Option Kind
@@ -141,8 +141,8 @@ kind_of (Some p) = Some p.kind
 -- a step is open, and all its tiles are in
 abbrev pub is_whole : Option OpenStep → Bool
 is_whole None = false
-is_whole (Some p) = nat_le (left p) 0
+is_whole (Some p) = nat_le (tiles_left p) 0
 
 -- a simulation with no step open
-abbrev pub closed : Live → Simulation → Live
-closed live sim = record { composition = live.composition; sim = sim; part = None }
+abbrev pub with_step_closed : Sim → Simulation → Sim
+with_step_closed live sim = record { composition = live.composition; sim = sim; part = None }

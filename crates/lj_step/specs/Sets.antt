@@ -6,6 +6,6 @@ abbrev pub seconds_in : ℕ → ℕ → ℕ
 seconds_in seconds b = seconds / 2 ^ (64 * b) % 2 ^ 64
 
 -- the set whose places in each block are those of a list
-abbrev pub joined : List ℕ → ℕ
-joined [] = 0
-joined (seconds ∷ others) = joined others * 2 ^ 64 + seconds % 2 ^ 64
+abbrev pub number_of_bits : List ℕ → ℕ
+number_of_bits [] = 0
+number_of_bits (seconds ∷ others) = number_of_bits others * 2 ^ 64 + seconds % 2 ^ 64

@@ -7,8 +7,8 @@ use Rattle.lj_tile.specs.Species.{Composition, class_between}
 use Rattle.lj_tile.specs.declared.pairs.Push.{Push}
 use Rattle.lj_tile.specs.declared.names.Kind.{Kind}
 use Rattle.lj_tile.specs.declared.names.Kind.TheVariants.{Force, Energy}
-use Rattle.lj_tile.specs.Pushes.{no_push, plus, energy}
-use Rattle.lj_tile.specs.Tasks.{Work, task_force, task_second}
+use Rattle.lj_tile.specs.Pushes.{no_push, sum_of_pushes, energy}
+use Rattle.lj_tile.specs.Task.{Task, task_force, task_second}
 use Rattle.lj_step.specs.Motion.{place_at, push_of}
 use Rattle.lj_step.specs.declared.partial.Partial.{Partial}
 use Rattle.lj_step.specs.OpenSteps.{blocks, tile_number, is_tile, cover}
@@ -18,12 +18,12 @@ abbrev pub pair_number : ℕ → ℕ → ℕ
 pair_number i j = tile_number (min (i / 64) (j / 64)) (max (i / 64) (j / 64))
 
 -- its flag
-abbrev pub pair_awaited : List Bool → ℕ → ℕ → Bool
-pair_awaited awaited i j = slice_index_or awaited (pair_number i j) false
+abbrev pub is_pair_awaited : List Bool → ℕ → ℕ → Bool
+is_pair_awaited awaited i j = slice_index_or awaited (pair_number i j) false
 
 -- what atom j adds to the push on atom i so far: nothing where the tile of the pair is still awaited
 abbrev pub push_so_far : Composition → List Place → List Bool → ℕ → ℕ → Push
-push_so_far u frame awaited i j = if pair_awaited awaited i j then no_push else push_of u frame i j
+push_so_far u frame awaited i j = if is_pair_awaited awaited i j then no_push else push_of u frame i j
 
 -- the sum on the ring of the pushes on atom i, of the tiles that are in
 unfoldable pub force_so_far : Composition → List Place → List Bool → ℕ → Push
@@ -36,7 +36,7 @@ force_so_far u frame awaited i = record {
 -- what the pair i < j adds to the potential so far
 abbrev pub energy_so_far_of : Composition → List Place → List Bool → ℕ → ℕ → ℤ
 energy_so_far_of u frame awaited i j =
-    if pair_awaited awaited i j then pos 0 else energy (class_between u i j) (place_at frame i) (place_at frame j)
+    if is_pair_awaited awaited i j then pos 0 else energy (class_between u i j) (place_at frame i) (place_at frame j)
 
 -- the sum of the energies of the tiles that are in
 unfoldable pub energy_so_far : Composition → List Place → List Bool → ℤ
@@ -76,25 +76,27 @@ sum_of sums t = slice_index_or sums t no_push
 pub record HasPartAdded (start from until : ℕ) (sums : ℕ → Push) (old new : List Push) : Type 0 where
   pub count : length new ≡ length old
   pub part : (t : ℕ) → from ≤ t → t < until → slice_index_or new (start + t) no_push
-      ≡ plus (slice_index_or old (start + t) no_push) (sums t)
-  pub others : (i : ℕ) → (i < start + from) ⊎ (start + until ≤ i) → slice_index_or new i no_push ≡ slice_index_or old i no_push
+      ≡ sum_of_pushes (slice_index_or old (start + t) no_push) (sums t)
+  pub others : (i : ℕ) → (i < start + from) ⊎ (start + until ≤ i)
+      → slice_index_or new i no_push ≡ slice_index_or old i no_push
 
 -- sums are added to those of the atoms of a block, one for each of its places, and the others are as they were
 pub record HasBlockAdded (b places : ℕ) (sums : ℕ → Push) (old new : List Push) : Type 0 where
   pub count : length new ≡ length old
   pub block : (t : ℕ) → t < places → slice_index_or new (tile_number b t) no_push
-      ≡ plus (slice_index_or old (tile_number b t) no_push) (sums t)
+      ≡ sum_of_pushes (slice_index_or old (tile_number b t) no_push) (sums t)
   pub others : (i : ℕ) → IsOutside b places i → slice_index_or new i no_push ≡ slice_index_or old i no_push
 
 -- the sums of a force task are added to those of its two blocks' atoms, once where they are one block, and the others
 -- are as they were
-pub record HasAdded (work : Work) (old new : List Push) : Type 0 where
+pub record HasAdded (work : Task) (old new : List Push) : Type 0 where
   pub count : length new ≡ length old
   pub first : work.name.kind ≡ Force → (t : ℕ) → t < length work.a.places
       → slice_index_or new (tile_number work.name.bi t) no_push
-      ≡ plus (slice_index_or old (tile_number work.name.bi t) no_push) (task_force work t)
+      ≡ sum_of_pushes (slice_index_or old (tile_number work.name.bi t) no_push) (task_force work t)
   pub second : work.name.kind ≡ Force → work.name.bi < work.name.bj → (s : ℕ) → s < length work.b.places
       → slice_index_or new (tile_number work.name.bj s) no_push
-      ≡ plus (slice_index_or old (tile_number work.name.bj s) no_push) (task_second work s)
-  pub others : (i : ℕ) → IsOutside work.name.bi (length work.a.places) i → IsOutside work.name.bj (length work.b.places) i
+      ≡ sum_of_pushes (slice_index_or old (tile_number work.name.bj s) no_push) (task_second work s)
+  pub others : (i : ℕ) → IsOutside work.name.bi (length work.a.places) i
+      → IsOutside work.name.bj (length work.b.places) i
       → slice_index_or new i no_push ≡ slice_index_or old i no_push

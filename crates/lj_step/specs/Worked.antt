@@ -4,9 +4,9 @@ use Rattle.std.specs.Prelude.{◌≡◌, ◌∷◌, [], ℕ, pos, negsuc, List, 
 use Rattle.lj_ring.specs.declared.coordinates.Place.{Place}
 use Rattle.lj_tile.specs.Species.{Composition}
 use Rattle.lj_table.specs.Entries.{push_entry, energy_entry}
-use Rattle.lj_ring.specs.Mixes.{pure}
+use Rattle.lj_ring.specs.Mix.{pure_mix}
 use Rattle.lj_tile.specs.Pushes.{push}
-use Rattle.lj_step.specs.Motion.{Simulation, opening, stepped, steps, reversed, tugged, force, momentum, kinetic}
+use Rattle.lj_step.specs.Motion.{Simulation, opening, next_simulation, steps, reversal, with_tug, force, momentum, kinetic}
 use Rattle.lj_step.specs.Motion.{potential}
 
 -- a place on the x axis
@@ -15,7 +15,7 @@ on_x x = record { x = x; y = 0; z = 0 }
 
 -- atoms that are all alike: an edge of 256, sigma 1, and a step factor of 2^17 in units of 2^-32
 abbrev pub dimer_atoms : Composition
-dimer_atoms = record { mix = pure (record { edge = 256000000000; sigma = 16777216; strength = 131072 }); seconds = 0 }
+dimer_atoms = record { mix = pure_mix (record { edge = 256000000000; sigma = 16777216; strength = 131072 }); seconds = 0 }
 
 -- at rest, 1.5 sigma apart
 abbrev pub dimer_frame : List Place
@@ -49,16 +49,16 @@ unfolding after push force push_entry
 momentum_after_two = refl
 
 -- reversed after two steps, the simulation stands at step 1 again, and two steps more go past the opening
-pub back_at_one : (reversed (after 2)).cur ≡ on_x 589 ∷ on_x 25165235 ∷ []
+pub back_at_one : (reversal (after 2)).cur ≡ on_x 589 ∷ on_x 25165235 ∷ []
 unfolding after push force push_entry
 back_at_one = refl
 
-pub back_past_opening : (steps dimer_atoms 2 (reversed (after 2))).cur ≡ dimer_frame
+pub back_past_opening : (steps dimer_atoms 2 (reversal (after 2))).cur ≡ dimer_frame
 unfolding after push force push_entry
 back_past_opening = refl
 
 -- a tug of 5 along x at step 1 shows in the next step
-pub tugged_then_stepped : (stepped dimer_atoms (tugged 0 (record { x = pos 5; y = pos 0; z = pos 0 }) (after 1))).cur
+pub tugged_then_stepped : (next_simulation dimer_atoms (with_tug 0 (record { x = pos 5; y = pos 0; z = pos 0 }) (after 1))).cur
     ≡ on_x 1779 ∷ on_x 25164050 ∷ []
 unfolding after push force push_entry
 tugged_then_stepped = refl

@@ -1,6 +1,6 @@
 //! What the atoms of a simulation are: their mixture, and which of them are of the second species.
 ghost use Rattle.std.specs.Prelude.{◌≡◌};
-ghost use Rattle.lj_step.specs.Sets.{joined, seconds_in};
+ghost use Rattle.lj_step.specs.Sets.{number_of_bits, seconds_in};
 
 use lj_ring::Mix;
 use std::marker::Model;
@@ -14,16 +14,16 @@ pub(crate) struct Atoms {
 
 impl Model for Atoms {
     ghost use Rattle.lj_tile.specs.Species.{Composition};
-    ghost use Rattle.lj_step.specs.Sets.{joined};
+    ghost use Rattle.lj_step.specs.Sets.{number_of_bits};
 
     ghost Value = { Composition };
 
-    ghost view = { λ a. record { mix = a.mix; seconds = joined a.seconds.items } };
+    ghost view = { λ a. record { mix = a.mix; seconds = number_of_bits a.seconds.items } };
 }
 
 impl Atoms {
     pub fn new(mix: Mix, seconds: Vec<u64>) -> Atoms
-        ensures { result ≡ record { mix = mix; seconds = joined seconds.items } }
+        ensures { result ≡ record { mix = mix; seconds = number_of_bits seconds.items } }
     {
         Atoms { mix, seconds }
     }

@@ -33,7 +33,8 @@ pub(crate) fn block(frame: &[Place], index: usize) -> &[Place]
 pub(crate) fn is_tile(number: usize, arcs: &[Arcs], atoms: &Atoms, frame: &[Place]) -> bool
     requires within { number < 64 * steps.blocks (length frame.now) }
     requires most { length frame.now ≤ MAX_ATOMS }
-    requires arcs { arcs.now ≡ map (block_arcs frame.now) (range_with_len 0 (steps.blocks (length frame.now))) }
+    requires arcs { arcs.now
+        ≡ map (block_arcs frame.now) (range_with_len 0 (steps.blocks (length frame.now))) }
     ensures { result ≡ steps.is_tile atoms.now frame.now number }
 {
     let (first, second) = (number / BLOCK, number % BLOCK);
@@ -53,7 +54,8 @@ fn is_out_of_reach(
     requires first { first < steps.blocks (length frame.now) }
     requires second { second < steps.blocks (length frame.now) }
     requires most { length frame.now ≤ MAX_ATOMS }
-    requires arcs { arcs.now ≡ map (block_arcs frame.now) (range_with_len 0 (steps.blocks (length frame.now))) }
+    requires arcs { arcs.now
+        ≡ map (block_arcs frame.now) (range_with_len 0 (steps.blocks (length frame.now))) }
     ensures { result ≡ steps.is_out_of_reach atoms.now frame.now (steps.tile_number first second) }
 {
     if first == second {

@@ -4,33 +4,33 @@ ghost use Rattle.lj_ring.specs.declared.coordinates.Place.{Place};
 ghost use Rattle.lj_tile.specs.Species.{Composition};
 ghost use Rattle.lj_tile.specs.declared.names.Kind.TheVariants.{Force, Energy};
 ghost use Rattle.lj_tile.specs.Tiles.{Tile, IsForceCover, IsEnergyCover};
-ghost use Rattle.lj_step.specs.Motion.{Simulation, steps, stepped, reversed, potential};
+ghost use Rattle.lj_step.specs.Motion.{Simulation, steps, next_simulation, reversal, potential};
 ghost use Rattle.lj_tile.specs.declared.names.Label.{Label};
 ghost use Rattle.lj_step.specs.declared.frames.TheConstants.{MAX_ATOMS};
-ghost use Rattle.lj_step.specs.Live.{Live};
+ghost use Rattle.lj_step.specs.Sim.{Sim};
 ghost use Rattle.lj_step.specs.OpenSteps.{cover_tiles, task_of, tile_of};
 ghost use Rattle.lj_step.specs.TileTasks.{HasEnergy, HasForces};
-ghost use Rattle.lj_step.specs.Laws.{AreOnRing, IsWhole, IsMixture, drift, opposite, stepped_by, tiles_energy};
+ghost use Rattle.lj_step.specs.Laws.{AreOnRing, IsWhole, IsMixture, drift, opposite_push, next_simulation_by, tiles_energy};
 
 /// Any number of steps can be undone: reversed, walked back as many steps and reversed again, a simulation is as it
 /// was, bit for bit.
 pub fn steps_are_undone()
     ensures { (u : Composition) (n : ℕ) (sim : Simulation) → IsWhole sim
-        → reversed (steps u n (reversed (steps u n sim))) ≡ sim }
+        → reversal (steps u n (reversal (steps u n sim))) ≡ sim }
 {}
 
 /// The drift, the ring sum of `cur - prev`, is conserved: a step leaves it, and a reverse changes its sign.
 pub fn drift_is_conserved()
     ensures steps { (u : Composition) (n : ℕ) (sim : Simulation) → IsMixture u.mix → IsWhole sim
         → drift (steps u n sim) ≡ drift sim }
-    ensures reverse { (sim : Simulation) → IsWhole sim → drift (reversed sim) ≡ opposite (drift sim) }
+    ensures reverse { (sim : Simulation) → IsWhole sim → drift (reversal sim) ≡ opposite_push (drift sim) }
 {}
 
 /// A step by the sums of any cover of its frame, the tiles in any order, is the step over all pairs; and the energies
 /// of any cover add up to the potential.
 pub fn covers_are_all_pairs()
     ensures step { (u : Composition) (sim : Simulation) (tiles : List Tile) → IsForceCover u sim.cur tiles
-        → stepped_by u tiles sim ≡ stepped u sim }
+        → next_simulation_by u tiles sim ≡ next_simulation u sim }
     ensures energy { (u : Composition) (frame : List Place) (tiles : List Tile) → IsEnergyCover u frame tiles
         → tiles_energy u frame tiles ≡ potential u frame }
 {}
@@ -46,8 +46,8 @@ pub fn tasks_are_a_cover()
 /// The task of a tile has the value of that tile: what its result keeps is what the tile adds to each atom, or its
 /// energy.
 pub fn tasks_are_the_tiles()
-    ensures force { (live : Live) (label : Label) (k : ℕ)
+    ensures force { (live : Sim) (label : Label) (k : ℕ)
         → HasForces live.composition live.sim.cur (tile_of Force k) (task_of live label Force k) }
-    ensures energy { (live : Live) (label : Label) (k : ℕ)
+    ensures energy { (live : Sim) (label : Label) (k : ℕ)
         → HasEnergy live.composition live.sim.cur (tile_of Energy k) (task_of live label Energy k) }
 {}

@@ -18,9 +18,12 @@ pub(crate) struct Momentum {
 pub(crate) fn momentum_of(prev: &[Place], cur: &[Place]) -> Momentum
     requires same { length prev.now ≡ length cur.now }
     requires most { length cur.now ≤ MAX_ATOMS }
-    ensures x { result.x ≡ int_sum_below (length cur.now) (λ i. image (place_at cur.now i).x (place_at prev.now i).x) }
-    ensures y { result.y ≡ int_sum_below (length cur.now) (λ i. image (place_at cur.now i).y (place_at prev.now i).y) }
-    ensures z { result.z ≡ int_sum_below (length cur.now) (λ i. image (place_at cur.now i).z (place_at prev.now i).z) }
+    ensures x { result.x
+        ≡ int_sum_below (length cur.now) (λ i. image (place_at cur.now i).x (place_at prev.now i).x) }
+    ensures y { result.y
+        ≡ int_sum_below (length cur.now) (λ i. image (place_at cur.now i).y (place_at prev.now i).y) }
+    ensures z { result.z
+        ≡ int_sum_below (length cur.now) (λ i. image (place_at cur.now i).z (place_at prev.now i).z) }
 {
     let mut sum = Momentum { x: 0, y: 0, z: 0 };
     for i in 0..cur.len() {

@@ -5,7 +5,7 @@ ghost use Rattle.std.specs.List.{range_with_len};
 ghost use Rattle.std.proofs.Common.{replicate};
 ghost use Rattle.lj_tile.specs.declared.names.Kind.TheVariants.{Force, Energy};
 ghost use Rattle.lj_tile.specs.Pushes.{no_push};
-ghost use Rattle.lj_tile.specs.Tasks.{task_energy};
+ghost use Rattle.lj_tile.specs.Task.{task_energy};
 ghost use Rattle.lj_step.specs.declared.frames.TheConstants.{MAX_ATOMS};
 ghost use Rattle.lj_step.specs.OpenSteps as steps;
 ghost use Rattle.lj_step.specs.Sums.{HasRoom, HasAdded, HasBlockAdded, HasPartAdded, sum_of};
@@ -64,7 +64,8 @@ impl Partial {
         ensures kind { self.new.kind ≡ Some kind }
         ensures tiles { self.new.tiles.items ≡ steps.cover atoms.now frame.now }
         ensures awaited { self.new.awaited.items
-            ≡ map (steps.is_tile atoms.now frame.now) (range_with_len 0 (64 * steps.blocks (length frame.now))) }
+            ≡ map (steps.is_tile atoms.now frame.now)
+            (range_with_len 0 (64 * steps.blocks (length frame.now))) }
         ensures left { self.new.left ≡ length (steps.cover atoms.now frame.now) }
         ensures pushes { self.new.pushes.items ≡ replicate (length frame.now) no_push }
         ensures energy { self.new.energy ≡ pos 0 }
@@ -82,8 +83,10 @@ impl Partial {
     pub fn add(&mut self, done: &Done)
         requires awaited { steps.tile_number_of done.now < length self.old.awaited.items }
         requires left { 1 ≤ self.old.left }
-        requires first { steps.tile_number done.now.name.bi (length done.now.a.places) ≤ length self.old.pushes.items }
-        requires second { steps.tile_number done.now.name.bj (length done.now.b.places) ≤ length self.old.pushes.items }
+        requires first { steps.tile_number done.now.name.bi
+            (length done.now.a.places) ≤ length self.old.pushes.items }
+        requires second { steps.tile_number done.now.name.bj
+            (length done.now.b.places) ≤ length self.old.pushes.items }
         requires size { unsigned_abs self.old.energy + 2 ^ 63 ≤ 2 ^ 75 }
         ensures kind { self.new.kind ≡ self.old.kind }
         ensures arcs { vec_capacity self.new.arcs ≡ vec_capacity self.old.arcs }
@@ -93,7 +96,8 @@ impl Partial {
             ≡ slice_set self.old.awaited.items (steps.tile_number_of done.now) false }
         ensures left { self.new.left + 1 ≡ self.old.left }
         ensures pushes { HasAdded done.now self.old.pushes.items self.new.pushes.items }
-        ensures energy { done.now.name.kind ≡ Energy → self.new.energy ≡ self.old.energy +ℤ task_energy done.now }
+        ensures energy { done.now.name.kind ≡ Energy
+            → self.new.energy ≡ self.old.energy +ℤ task_energy done.now }
         ensures size { unsigned_abs self.new.energy ≤ unsigned_abs self.old.energy + 2 ^ 63 }
     {
         let name = done.task().name();
@@ -111,7 +115,8 @@ impl Partial {
 fn list_arcs(arcs: &mut Vec<Arcs>, frame: &[Place])
     requires room { steps.blocks (length frame.now) ≤ vec_capacity arcs.old }
     requires most { length frame.now ≤ MAX_ATOMS }
-    ensures arcs { arcs.new.items ≡ map (block_arcs frame.now) (range_with_len 0 (steps.blocks (length frame.now))) }
+    ensures arcs { arcs.new.items
+        ≡ map (block_arcs frame.now) (range_with_len 0 (steps.blocks (length frame.now))) }
     ensures room { vec_capacity arcs.new ≡ vec_capacity arcs.old }
 {
     arcs.clear();
@@ -124,7 +129,8 @@ fn list_arcs(arcs: &mut Vec<Arcs>, frame: &[Place])
 fn await_tiles(awaited: &mut Vec<bool>, arcs: &[Arcs], atoms: &Atoms, frame: &[Place])
     requires room { length awaited.old.items ≡ 64 * steps.blocks (length frame.now) }
     requires most { length frame.now ≤ MAX_ATOMS }
-    requires arcs { arcs.now ≡ map (block_arcs frame.now) (range_with_len 0 (steps.blocks (length frame.now))) }
+    requires arcs { arcs.now
+        ≡ map (block_arcs frame.now) (range_with_len 0 (steps.blocks (length frame.now))) }
     ensures { awaited.new.items
         ≡ map (steps.is_tile atoms.now frame.now) (range_with_len 0 (64 * steps.blocks (length frame.now))) }
 {

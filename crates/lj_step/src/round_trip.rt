@@ -3,7 +3,7 @@ ghost use Rattle.std.specs.Prelude.{◌≡◌, ◌≤◌, ◌<◌, ◌+◌, ◌*
 ghost use Rattle.lj_step.specs.declared.simulations.TheConstants.{MAX_STEP};
 ghost use Rattle.lj_step.specs.Motion as motion;
 ghost use Rattle.lj_step.specs.Laws.{drift};
-ghost use Rattle.lj_step.specs.OpenSteps.{closed};
+ghost use Rattle.lj_step.specs.OpenSteps.{with_step_closed};
 
 use crate::Sim;
 use lj_table::Table;
@@ -13,7 +13,7 @@ use lj_tile::{Kind, Label, compute};
 /// that was open is closed.
 pub fn there_and_back(sim: &mut Sim, steps: u32, label: &Label, table: &Table)
     requires { unsigned_abs sim.old.sim.step + 2 * steps < MAX_STEP }
-    ensures { sim.new ≡ closed sim.old sim.old.sim }
+    ensures { sim.new ≡ with_step_closed sim.old sim.old.sim }
 {
     let _whole = sim.count();
     go(sim, steps, label, table);
@@ -40,7 +40,7 @@ pub fn go(sim: &mut Sim, steps: u32, label: &Label, table: &Table)
 /// Goes a step on, its tasks computed one after the other.
 fn step(sim: &mut Sim, label: &Label, table: &Table)
     requires { unsigned_abs (sim.old.sim.step +ℤ sim.old.sim.dir) ≤ MAX_STEP }
-    ensures { sim.new ≡ closed sim.old (motion.stepped sim.old.composition sim.old.sim) }
+    ensures { sim.new ≡ with_step_closed sim.old (motion.next_simulation sim.old.composition sim.old.sim) }
 {
     sim.open_step(Kind::Force);
     for i in 0..sim.tiles() {

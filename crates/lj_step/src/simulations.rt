@@ -3,14 +3,14 @@ ghost use Rattle.std.specs.Prelude.{◌≡◌, ◌≤◌, ◌<◌, ◌+◌, ◌^
 ghost use Rattle.std.specs.Prelude.{IfSome, IsOk, IsTrue, OnOk, OnErr, Some, None, true, false, ℕ, ◌*◌, slice_index_or, []};
 ghost use Rattle.std.specs.Prelude.{◌∷◌};
 ghost use Rattle.lj_tile.specs.declared.names.Kind.TheVariants.{Force, Energy};
-ghost use Rattle.lj_ring.specs.Ring.{in_ring};
-ghost use Rattle.lj_ring.specs.Mixes.{edge_of};
+ghost use Rattle.lj_ring.specs.Ring.{ring_residue};
+ghost use Rattle.lj_ring.specs.Mix.{edge_of};
 ghost use Rattle.lj_tile.specs.Pushes.{no_push};
 ghost use Rattle.lj_step.specs.declared.frames.TheConstants.{MAX_ATOMS};
 ghost use Rattle.lj_step.specs.declared.simulations.TheConstants.{MAX_STEP};
 ghost use Rattle.lj_step.specs.Motion as motion;
 ghost use Rattle.lj_step.specs.OpenSteps as steps;
-ghost use Rattle.lj_step.specs.Sets.{joined};
+ghost use Rattle.lj_step.specs.Sets.{number_of_bits};
 ghost use Rattle.lj_step.specs.Laws.{IsMixture, IsWhole};
 ghost use Rattle.lj_step.specs.TileTasks.{HasTileValue, IsCovered};
 
@@ -92,13 +92,13 @@ pub struct Sim {
 }
 
 impl Model for Sim {
-    ghost use Rattle.lj_step.specs.Live.{Live};
+    ghost use Rattle.lj_step.specs.Sim.{Sim};
 
-    ghost Value = { Live };
+    ghost Value = { Sim };
 
-    ghost use Rattle.lj_step.specs.Kept.{live_of, IsSound};
+    ghost use Rattle.lj_step.specs.Kept.{sim_of, IsSound};
 
-    ghost view = { live_of };
+    ghost view = { sim_of };
 
     ghost invariant = { IsSound };
 }
@@ -119,7 +119,7 @@ impl Sim {
         requires some { 1 ≤ length frames.cur }
         requires most { length frames.cur ≤ MAX_ATOMS }
         ensures { IfOk result (λ s. s ≡ record {
-          composition = record { mix = mix; seconds = joined seconds.items };
+          composition = record { mix = mix; seconds = number_of_bits seconds.items };
           sim = motion.opening frames.prev frames.cur;
           part = None;
         }) }
@@ -137,7 +137,7 @@ impl Sim {
 
     /// Turns the motion back: the frames change places. An open step is closed.
     pub fn reverse(&mut self)
-        ensures value { self.new ≡ steps.closed self.old (motion.reversed self.old.sim) }
+        ensures value { self.new ≡ steps.with_step_closed self.old (motion.reversal self.old.sim) }
         ensures count { length self.new.sim.cur ≡ length self.old.sim.cur }
     {
         mem::swap(&mut self.prev, &mut self.cur);
@@ -150,8 +150,8 @@ impl Sim {
     /// closed.
     pub fn tug(&mut self, i: usize, d: Displacement)
         requires { i < length self.old.sim.cur }
-        ensures { self.new ≡ steps.closed self.old
-            (motion.tugged i (record { x = d.x; y = d.y; z = d.z }) self.old.sim) }
+        ensures { self.new ≡ steps.with_step_closed self.old
+            (motion.with_tug i (record { x = d.x; y = d.y; z = d.z }) self.old.sim) }
     {
         self.prev[i] = moved_back(self.prev[i], d);
         self.partial.kind = None;
@@ -188,7 +188,7 @@ impl Sim {
     /// Takes both frames, the step number and the direction from a snapshot, which stays. An open step is closed.
     pub fn restore(&mut self, snapshot: &Snapshot)
         requires { length snapshot.now.cur ≡ length self.old.sim.cur }
-        ensures { self.new ≡ steps.closed self.old snapshot.now }
+        ensures { self.new ≡ steps.with_step_closed self.old snapshot.now }
     {
         overwrite(&mut self.prev, snapshot.prev.as_slice());
         overwrite(&mut self.cur, snapshot.cur.as_slice());
@@ -209,14 +209,15 @@ impl Sim {
     /// lie within reach of each other, and for each block of two atoms and more. A step without tiles is whole at once.
     /// A step that was open is dropped.
     pub fn open_step(&mut self, kind: Kind)
-        ensures { self.new ≡ record self.old { part = Some (steps.opened kind self.old.composition self.old.sim.cur) } }
+        ensures { self.new
+            ≡ record self.old { part = Some (steps.opened_step kind self.old.composition self.old.sim.cur) } }
     {
         self.partial.open(kind, &self.atoms, self.cur.as_slice());
     }
 
     /// Closes the step that is open, and drops what it has summed. The motion stays.
     pub fn close_step(&mut self)
-        ensures { self.new ≡ steps.closed self.old self.old.sim }
+        ensures { self.new ≡ steps.with_step_closed self.old self.old.sim }
     {
         self.partial.kind = None;
     }
@@ -264,8 +265,8 @@ impl Sim {
     }
 
     /// Whether the open step still awaits the i-th tile of its cover.
-    pub fn awaits(&self, i: usize) -> bool
-        ensures { result ≡ steps.awaits_tile self.now i }
+    pub fn is_tile_awaited(&self, i: usize) -> bool
+        ensures { result ≡ steps.is_tile_awaited self.now i }
     {
         let Some(_) = self.partial.kind else {
             return false;
@@ -282,7 +283,10 @@ impl Sim {
         ensures accepted { IsOk result ↔ steps.IsAwaitedTask self.old label.now done }
         ensures kind { steps.kind_of self.new.part ≡ steps.kind_of self.old.part }
         ensures taken { OnOk result
-            (self.new ≡ record self.old { part = steps.with_tile (steps.tile_number_of done) self.old.part }) }
+            (self.new ≡ record self.old {
+              part = steps.with_tile
+                  (steps.tile_number_of done) self.old.part;
+            }) }
         ensures stray { IfErr result (λ s. s.done ≡ done) }
         ensures unchanged { OnErr result (self.new ≡ self.old) }
     {
@@ -297,7 +301,10 @@ impl Sim {
         ensures accepted { IsOk result ↔ steps.IsAwaitedTask self.old label.now done.now }
         ensures kind { steps.kind_of self.new.part ≡ steps.kind_of self.old.part }
         ensures taken { OnOk result
-            (self.new ≡ record self.old { part = steps.with_tile (steps.tile_number_of done.now) self.old.part }) }
+            (self.new ≡ record self.old {
+              part = steps.with_tile
+                  (steps.tile_number_of done.now) self.old.part;
+            }) }
         ensures unchanged { OnErr result (self.new ≡ self.old) }
     {
         if !self.is_awaited(label, done.task()) {
@@ -319,7 +326,8 @@ impl Sim {
         requires kind { steps.kind_of self.old.part ≡ Some Force }
         requires whole { steps.is_whole self.old.part ≡ true }
         requires step { unsigned_abs (self.old.sim.step +ℤ self.old.sim.dir) ≤ MAX_STEP }
-        ensures { self.new ≡ steps.closed self.old (motion.stepped self.old.composition self.old.sim) }
+        ensures { self.new
+            ≡ steps.with_step_closed self.old (motion.next_simulation self.old.composition self.old.sim) }
     {
         advance(
             &mut self.prev,
@@ -474,9 +482,9 @@ fn advance(prev: &mut Vec<Place>, cur: &[Place], pushes: &[Push])
 
 /// A place moved back by a displacement, on the ring.
 fn moved_back(place: Place, by: Displacement) -> Place
-    ensures x { result.x ≡ in_ring (pos place.x -ℤ by.x) }
-    ensures y { result.y ≡ in_ring (pos place.y -ℤ by.y) }
-    ensures z { result.z ≡ in_ring (pos place.z -ℤ by.z) }
+    ensures x { result.x ≡ ring_residue (pos place.x -ℤ by.x) }
+    ensures y { result.y ≡ ring_residue (pos place.y -ℤ by.y) }
+    ensures z { result.z ≡ ring_residue (pos place.z -ℤ by.z) }
 {
     Place {
         x: place.x.wrapping_sub(by.x.cast_unsigned()),

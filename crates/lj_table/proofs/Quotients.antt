@@ -3,7 +3,7 @@ use Rattle.std.proofs.Common.{ℕ, zero, suc, ◌-◌, ◌*◌, ◌/◌, ◌^◌
 use Rattle.std.proofs.Common.{unsigned_abs, to_z, of_z, w64, FitsSigned, refl, ap, ◌∙◌, arith}
 use Rattle.std.proofs.Math.Nat.{zero-div}
 use Rattle.std.proofs.Math.IntN.{pos-*ℤ-pos, *ℤ-negsuc, zero-*ℤ}
-use Rattle.lj_table.specs.Entries.{weighted}
+use Rattle.lj_table.specs.Entries.{weighted_energy}
 use Rattle.std.proofs.lemmas.Int.{ints, unsigned_abs-mul, fits_signed_from_abs}
 use Rattle.std.proofs.lemmas.Nat.{mul-le}
 
@@ -67,5 +67,5 @@ pub part_fits : (entry : ℤ) (weight : ℕ) → unsigned_abs entry < 2 ^ 37 →
 part_fits entry weight small few = fits_signed_from_abs w64 _ (omega (arith, part_size entry weight small few))
 
 -- no energy stays none by any weight
-pub weighted_none : (weight : ℕ) → weighted weight (pos 0) ≡ pos 0
+pub weighted_none : (weight : ℕ) → weighted_energy weight (pos 0) ≡ pos 0
 weighted_none weight = ap (λ z. int_div z (pos 256)) (zero-*ℤ (pos weight))

@@ -2,7 +2,7 @@
 use Rattle.std.specs.Prelude.{ℕ, ◌+◌, ◌*◌, ◌^◌, ◌<◌, ◌≡◌, ℤ, pos, ◌-ℤ◌, ◌*ℤ◌, int_div, unsigned_abs, List}
 use Rattle.std.specs.Prelude.{slice_index_or, if◌then◌else◌}
 use Rattle.lj_ring.specs.declared.scales.TheConstants.{BINS}
-use Rattle.lj_ring.specs.Scales.{Units, bin, interacts, entry}
+use Rattle.lj_ring.specs.Scale.{Scale, bin, is_in_cutoff, entry}
 
 -- the centre of bin k, in 256ths of sigma²: n = 2k + 1, so that (σ/r)² there is 2^8 / n
 abbrev pub centre : ℕ → ℕ
@@ -17,20 +17,20 @@ unfoldable pub energy_entry : ℕ → ℤ
 energy_entry k = int_div (pos (2 ^ 50) *ℤ (pos (2 ^ 24) -ℤ pos (centre k ^ 3))) (pos (centre k ^ 6))
 
 -- what a table gives for a pair at a squared distance: the entry of its bin, and 0 out of reach
-abbrev pub looked_up : (ℕ → ℤ) → Units → ℕ → ℤ
-looked_up entry_of u s = if interacts u s then entry_of (entry (bin u s)) else pos 0
+abbrev pub table_value : (ℕ → ℤ) → Scale → ℕ → ℤ
+table_value entry_of u s = if is_in_cutoff u s then entry_of (entry (bin u s)) else pos 0
 
 -- the push of a pair at a squared distance
-abbrev pub push_at : Units → ℕ → ℤ
-push_at u s = looked_up push_entry u s
+abbrev pub push_at : Scale → ℕ → ℤ
+push_at u s = table_value push_entry u s
 
 -- the energy of a pair at a squared distance, before it is weighted
-abbrev pub energy_at : Units → ℕ → ℤ
-energy_at u s = looked_up energy_entry u s
+abbrev pub energy_at : Scale → ℕ → ℤ
+energy_at u s = table_value energy_entry u s
 
 -- an energy by a weight in 256ths, rounded toward zero
-abbrev pub weighted : ℕ → ℤ → ℤ
-weighted weight energy = int_div (energy *ℤ pos weight) (pos 256)
+abbrev pub weighted_energy : ℕ → ℤ → ℤ
+weighted_energy weight energy = int_div (energy *ℤ pos weight) (pos 256)
 
 -- the cells of a table are the entries of the bins, each below bin 64 that of bin 64
 abbrev pub HasEntries : (ℕ → ℤ) → List ℤ → Type 0

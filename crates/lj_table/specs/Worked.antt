@@ -1,6 +1,6 @@
 -- Worked entries of the tables, as theorems by computation.
 use Rattle.std.specs.Prelude.{◌≡◌, pos, negsuc, refl}
-use Rattle.lj_table.specs.Entries.{push_entry, energy_entry, weighted}
+use Rattle.lj_table.specs.Entries.{push_entry, energy_entry, weighted_energy}
 
 pub push_at_64 : push_entry 64 ≡ pos 91369185901
 unfolding push_entry
@@ -35,10 +35,10 @@ unfolding energy_entry
 energy_at_799 = refl
 
 -- the energy of a pair at bin 288 by the least weight and by twice the whole one
-pub energy_at_288_by_weight_1 : weighted 1 (energy_entry 288) ≡ negsuc 20894
+pub energy_at_288_by_weight_1 : weighted_energy 1 (energy_entry 288) ≡ negsuc 20894
 unfolding energy_entry
 energy_at_288_by_weight_1 = refl
 
-pub energy_at_288_by_weight_512 : weighted 512 (energy_entry 288) ≡ negsuc 10698263
+pub energy_at_288_by_weight_512 : weighted_energy 512 (energy_entry 288) ≡ negsuc 10698263
 unfolding energy_entry
 energy_at_288_by_weight_512 = refl

@@ -1,7 +1,7 @@
 //! The Lennard-Jones tables: push and energy of a pair by its bin of squared distance.
 #![tactic(auto)]
 
-mod entries;
+mod table_entries;
 mod tables;
 
 pub use tables::Table;

@@ -1,9 +1,9 @@
 //! The tables of the entries of all bins within reach.
 ghost use Rattle.std.specs.Prelude.{◌≡◌, ℕ, ℤ, ◌≤◌, ◌<◌, ◌^◌, unsigned_abs};
-ghost use Rattle.lj_table.specs.Entries.{HasEntries, AreSmall, push_entry, energy_entry, push_at, energy_at, looked_up};
-ghost use Rattle.lj_table.specs.Entries.{weighted};
+ghost use Rattle.lj_table.specs.Entries.{HasEntries, AreSmall, push_entry, energy_entry, push_at, energy_at, table_value};
+ghost use Rattle.lj_table.specs.Entries.{weighted_energy};
 
-use crate::entries;
+use crate::table_entries;
 use lj_ring::{BINS, MIN_BIN, Scale, Weight};
 
 /// The pushes and energies of the bins within reach. The cells below bin [`MIN_BIN`] repeat that of this bin.
@@ -23,8 +23,8 @@ impl Table {
         let mut pushes = [0; BINS];
         let mut energies = [0; BINS];
         for k in 0..BINS as u16 {
-            pushes[usize::from(k)] = entries::push_entry(k.max(MIN_BIN));
-            energies[usize::from(k)] = entries::energy_entry(k.max(MIN_BIN));
+            pushes[usize::from(k)] = table_entries::push_entry(k.max(MIN_BIN));
+            energies[usize::from(k)] = table_entries::energy_entry(k.max(MIN_BIN));
         }
         Table { pushes, energies }
     }
@@ -42,7 +42,7 @@ impl Table {
     /// zero; 0 out of reach.
     #[inline]
     pub fn energy(&self, s: u64, scale: &Scale, weight: Weight) -> i64
-        ensures value { result ≡ weighted weight (energy_at scale.now s) }
+        ensures value { result ≡ weighted_energy weight (energy_at scale.now s) }
         ensures size { unsigned_abs result < 2 ^ 45 }
     {
         weighted(looked_up(&self.energies, s, scale), weight)
@@ -53,7 +53,7 @@ impl Table {
 #[inline]
 fn weighted(entry: i64, weight: Weight) -> i64
     requires { unsigned_abs entry < 2 ^ 37 }
-    ensures value { result ≡ weighted weight entry }
+    ensures value { result ≡ weighted_energy weight entry }
     ensures size { unsigned_abs result < 2 ^ 45 }
 {
     entry * i64::from(weight.parts()) / 256
@@ -63,7 +63,8 @@ fn weighted(entry: i64, weight: Weight) -> i64
 #[inline]
 fn looked_up(cells: &[i64; BINS], s: u64, scale: &Scale) -> i64
     requires { AreSmall cells.now }
-    ensures value { (entry_of : ℕ → ℤ) → HasEntries entry_of cells.now → result ≡ looked_up entry_of scale.now s }
+    ensures value { (entry_of : ℕ → ℤ) → HasEntries entry_of cells.now
+        → result ≡ table_value entry_of scale.now s }
     ensures size { unsigned_abs result < 2 ^ 37 }
 {
     match scale.bin_within_reach(s) {

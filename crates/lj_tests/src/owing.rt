@@ -42,7 +42,7 @@ impl ClosingPool {
 }
 
 impl Pool for ClosingPool {
-    ghost use Rattle.lj_pool.specs.Inline.{seen_of};
+    ghost use Rattle.lj_pool.specs.InlinePool.{seen_of};
 
     ghost seen = { λ pool. record (seen_of pool.inner) { closed = pool.closed } };
 
@@ -83,8 +83,8 @@ impl Pool for ClosingPool {
         self.inner.owed()
     }
 
-    fn full(&self) -> bool {
-        self.inner.full()
+    fn is_full(&self) -> bool {
+        self.inner.is_full()
     }
 
     fn closed(&self) -> bool {

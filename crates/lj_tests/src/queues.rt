@@ -47,7 +47,7 @@ fn put_back<T: Drop>(rt: &impl Abort, items: &mut Vec<T>, item: T) {
 
 /// Posts a task, where the end has room for it.
 fn post_one<P: Pool, R: Abort>(rt: &R, end: &mut P, task: Task) {
-    if end.full() {
+    if end.is_full() {
         return;
     }
     let posted = end.post(task, false).is_ok();

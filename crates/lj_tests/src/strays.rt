@@ -64,7 +64,7 @@ impl OddPool {
 }
 
 impl Pool for OddPool {
-    ghost use Rattle.lj_pool.specs.Inline.{held_task};
+    ghost use Rattle.lj_pool.specs.InlinePool.{held_task};
 
     ghost seen = { λ pool. record {
       owed = held_task pool.held;
@@ -129,7 +129,7 @@ impl Pool for OddPool {
         usize::from(self.held.is_some())
     }
 
-    fn full(&self) -> bool {
+    fn is_full(&self) -> bool {
         self.held.is_some()
     }
 

@@ -7,14 +7,14 @@ use Rattle.std.proofs.lemmas.Bool.{cases_lt, cases_eq, cases_Bool}
 use Rattle.std.proofs.lemmas.Bool.Decides.{nat_tests}
 use Rattle.std.specs.Int.{cast_signed, w32}
 use Rattle.lj_ring.specs.declared.coordinates.Place.{Place}
-use Rattle.lj_ring.specs.Ring.{image, in_ring, ring_sub, square, distance}
-use Rattle.lj_ring.specs.Scales.{Units, bin, interacts, entry}
+use Rattle.lj_ring.specs.Ring.{image, ring_residue, ring_difference, square, distance}
+use Rattle.lj_ring.specs.Scale.{Scale, bin, is_in_cutoff, entry}
 use Rattle.lj_table.specs.Entries.{push_entry, push_at}
 use Rattle.lj_tile.specs.declared.pairs.Push.{Push}
-use Rattle.lj_tile.specs.Pushes.{push, no_push, opposite, push_along}
+use Rattle.lj_tile.specs.Pushes.{push, no_push, opposite_push, push_along}
 use Rattle.lj_tile.proofs.PushLemmas.{nothing_is}
 use Rattle.lj_ring.specs.Ring.{IsOnRing}
-use Rattle.lj_ring.specs.Scales.{IsScale}
+use Rattle.lj_ring.specs.Scale.{IsScale}
 
 -- the image of a difference on the ring
 signed : ℕ → ℤ
@@ -117,22 +117,22 @@ quotient_odd (pos zero) = refl
 quotient_odd (pos (suc n)) = refl
 quotient_odd (negsuc n) = sym (neg_ℤ-neg_ℤ (pos (suc n / 2 ^ 56)))
 
-sum_zero : (z : ℤ) → (in_ring (neg_ℤ z) + in_ring z) % 2 ^ 32 ≡ 0
+sum_zero : (z : ℤ) → (ring_residue (neg_ℤ z) + ring_residue z) % 2 ^ 32 ≡ 0
 sum_zero (pos zero) = refl
 sum_zero (pos (suc n)) = omega arith
 sum_zero (negsuc n) = omega arith
 
-along_odd : (u : Units) (e y z : ℤ) → y ≡ neg_ℤ z → (push_along u e y + push_along u e z) % 2 ^ 32 ≡ 0
-along_odd u e y z opposite =
-    ap (λ i. (push_along u e i + push_along u e z) % 2 ^ 32) opposite
-    ∙ ap (λ w. (in_ring (int_div w (pos (2 ^ 56))) + push_along u e z) % 2 ^ 32) (mul_neg (e *ℤ pos u.strength) z)
-    ∙ ap (λ w. (in_ring w + push_along u e z) % 2 ^ 32) (quotient_odd (e *ℤ pos u.strength *ℤ z))
+along_odd : (u : Scale) (e y z : ℤ) → y ≡ neg_ℤ z → (push_along u e y + push_along u e z) % 2 ^ 32 ≡ 0
+along_odd u e y z opposite_push =
+    ap (λ i. (push_along u e i + push_along u e z) % 2 ^ 32) opposite_push
+    ∙ ap (λ w. (ring_residue (int_div w (pos (2 ^ 56))) + push_along u e z) % 2 ^ 32) (mul_neg (e *ℤ pos u.strength) z)
+    ∙ ap (λ w. (ring_residue w + push_along u e z) % 2 ^ 32) (quotient_odd (e *ℤ pos u.strength *ℤ z))
     ∙ sum_zero (int_div (e *ℤ pos u.strength *ℤ z) (pos (2 ^ 56)))
 
-pub along_none : (u : Units) (y : ℤ) → push_along u (pos 0) y ≡ 0
+pub along_none : (u : Scale) (y : ℤ) → push_along u (pos 0) y ≡ 0
 along_none u y =
-    ap (λ w. in_ring (int_div (w *ℤ y) (pos (2 ^ 56)))) (zero-*ℤ (pos u.strength))
-    ∙ ap (λ w. in_ring (int_div w (pos (2 ^ 56)))) (zero-*ℤ y)
+    ap (λ w. ring_residue (int_div (w *ℤ y) (pos (2 ^ 56)))) (zero-*ℤ (pos u.strength))
+    ∙ ap (λ w. ring_residue (int_div w (pos (2 ^ 56)))) (zero-*ℤ y)
 
 -- a push whose three parts lie on the ring
 record IsSmall (a : Push) : Type 0 where
@@ -146,10 +146,10 @@ pub record AddToNone (a b : Push) : Type 0 where
   pub y : (a.y + b.y) % 2 ^ 32 ≡ 0
   pub z : (a.z + b.z) % 2 ^ 32 ≡ 0
 
-pub entry_far : (u : Units) (s : ℕ) → interacts u s ≡ false → push_at u s ≡ pos 0
+pub entry_far : (u : Scale) (s : ℕ) → is_in_cutoff u s ≡ false → push_at u s ≡ pos 0
 entry_far u s far = ap (λ (b : Bool). if b then push_entry (entry (bin u s)) else pos 0) far
 
-none_along : (u : Units) (d e y z : ℤ) → d ≡ pos 0 → e ≡ pos 0 → (push_along u d y + push_along u e z) % 2 ^ 32 ≡ 0
+none_along : (u : Scale) (d e y z : ℤ) → d ≡ pos 0 → e ≡ pos 0 → (push_along u d y + push_along u e z) % 2 ^ 32 ≡ 0
 none_along u d e y z first second =
     ap (λ w. (push_along u w y + push_along u e z) % 2 ^ 32) first
     ∙ ap (λ w. (push_along u (pos 0) y + push_along u w z) % 2 ^ 32) second
@@ -157,11 +157,11 @@ none_along u d e y z first second =
     ∙ ap (λ n. (0 + n) % 2 ^ 32) (along_none u z)
 
 -- of two equal entries and opposite images
-near_along : (u : Units) (d e y z : ℤ) → d ≡ e → y ≡ neg_ℤ z → (push_along u d y + push_along u e z) % 2 ^ 32 ≡ 0
-near_along u d e y z same opposite =
-    ap (λ w. (push_along u w y + push_along u e z) % 2 ^ 32) same ∙ along_odd u e y z opposite
+near_along : (u : Scale) (d e y z : ℤ) → d ≡ e → y ≡ neg_ℤ z → (push_along u d y + push_along u e z) % 2 ^ 32 ≡ 0
+near_along u d e y z same opposite_push =
+    ap (λ w. (push_along u w y + push_along u e z) % 2 ^ 32) same ∙ along_odd u e y z opposite_push
 
-far_pair : (u : Units) (p q : Place) → interacts u (distance p q) ≡ false → distance q p ≡ distance p q
+far_pair : (u : Scale) (p q : Place) → is_in_cutoff u (distance p q) ≡ false → distance q p ≡ distance p q
     → AddToNone (push u q p) (push u p q)
 unfolding push
 far_pair u p q far same =
@@ -173,7 +173,7 @@ far_pair u p q far same =
       z = none_along u (push_at u (distance q p)) (push_at u (distance p q)) (image q.z p.z) (image p.z q.z) there here;
     }
 
-near_pair : (u : Units) (p q : Place) → IsOnRing p → IsOnRing q → distance p q < 2 ^ 62 → distance q p ≡ distance p q
+near_pair : (u : Scale) (p q : Place) → IsOnRing p → IsOnRing q → distance p q < 2 ^ 62 → distance q p ≡ distance p q
     → AddToNone (push u q p) (push u p q)
 unfolding push
 near_pair u p q hp hq small same =
@@ -191,20 +191,20 @@ near_pair u p q hp hq small same =
     }
 
 -- the two pushes of a pair add up to none
-pub pushes_opposite : (u : Units) (p q : Place) → IsScale u → IsOnRing p → IsOnRing q
+pub pushes_opposite : (u : Scale) (p q : Place) → IsScale u → IsOnRing p → IsOnRing q
     → AddToNone (push u q p) (push u p q)
 pushes_opposite u p q scale hp hq =
     let same = distance_symmetric p q hp hq in
-    elim (cases_Bool (interacts u (distance p q))) [
+    elim (cases_Bool (is_in_cutoff u (distance p q))) [
       | inl near ↦ near_pair u p q hp hq (scale.near (distance p q) near) same
       | inr far ↦ far_pair u p q far same
     ]
 
-ring_small : (z : ℤ) → in_ring z < 2 ^ 32
+ring_small : (z : ℤ) → ring_residue z < 2 ^ 32
 ring_small (pos n) = omega arith
 ring_small (negsuc n) = omega arith
 
-push_small : (u : Units) (p q : Place) → IsSmall (push u p q)
+push_small : (u : Scale) (p q : Place) → IsSmall (push u p q)
 unfolding push
 push_small u p q = record {
   x = ring_small _;
@@ -212,7 +212,7 @@ push_small u p q = record {
   z = ring_small _;
 }
 
-odd_along : (a b : ℕ) → a < 2 ^ 32 → b < 2 ^ 32 → (b + a) % 2 ^ 32 ≡ 0 → b ≡ ring_sub 0 a
+odd_along : (a b : ℕ) → a < 2 ^ 32 → b < 2 ^ 32 → (b + a) % 2 ^ 32 ≡ 0 → b ≡ ring_difference 0 a
 odd_along a b p q none = omega arith
 
 push_of_axes : ℕ → ℕ → ℕ → Push
@@ -225,20 +225,20 @@ same_push a b x y z =
     ap (λ k. push_of_axes k a.y a.z) x ∙ ap (λ k. push_of_axes b.x k a.z) y ∙ ap (λ k. push_of_axes b.x b.y k) z
 
 -- of two pushes that add up to none each is the opposite of the other
-opposite_is : (a b : Push) → IsSmall a → IsSmall b → AddToNone b a → b ≡ opposite a
+opposite_is : (a b : Push) → IsSmall a → IsSmall b → AddToNone b a → b ≡ opposite_push a
 opposite_is a b p q none =
-    let x : b.x ≡ ring_sub 0 a.x = odd_along a.x b.x p.x q.x none.x in
-    let y : b.y ≡ ring_sub 0 a.y = odd_along a.y b.y p.y q.y none.y in
-    let z : b.z ≡ ring_sub 0 a.z = odd_along a.z b.z p.z q.z none.z in
-    same_push b (opposite a) x y z
+    let x : b.x ≡ ring_difference 0 a.x = odd_along a.x b.x p.x q.x none.x in
+    let y : b.y ≡ ring_difference 0 a.y = odd_along a.y b.y p.y q.y none.y in
+    let z : b.z ≡ ring_difference 0 a.z = odd_along a.z b.z p.z q.z none.z in
+    same_push b (opposite_push a) x y z
 
 -- the push the other way is the opposite
-pub push_back_is : (u : Units) (p q : Place) → IsScale u → IsOnRing p → IsOnRing q → push u q p ≡ opposite (push u p q)
+pub push_back_is : (u : Scale) (p q : Place) → IsScale u → IsOnRing p → IsOnRing q → push u q p ≡ opposite_push (push u p q)
 push_back_is u p q scale hp hq =
     opposite_is (push u p q) (push u q p) (push_small u p q) (push_small u q p) (pushes_opposite u p q scale hp hq)
 
 -- a pair whose entry is 0 does not push the other way
-pub nothing_back : (u : Units) (p q : Place) → IsOnRing p → IsOnRing q → push_at u (distance p q) ≡ pos 0
+pub nothing_back : (u : Scale) (p q : Place) → IsOnRing p → IsOnRing q → push_at u (distance p q) ≡ pos 0
     → push u q p ≡ no_push
 nothing_back u p q hp hq none =
     sym (nothing_is u q p (ap (push_at u) (distance_symmetric p q hp hq) ∙ none))

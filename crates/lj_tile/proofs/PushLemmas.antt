@@ -5,15 +5,15 @@ use Rattle.std.proofs.lemmas.Int.{ints, fits_signed_from_abs, to_z-of_z}
 use Rattle.std.proofs.Math.IntN.{zero-*ℤ, *ℤ-zero}
 use Rattle.std.specs.Int.{w128}
 use Rattle.lj_ring.specs.declared.coordinates.Place.{Place}
-use Rattle.lj_ring.specs.Ring.{in_ring, image, distance, IsLeastImage}
-use Rattle.lj_ring.specs.Scales.{Units}
+use Rattle.lj_ring.specs.Ring.{ring_residue, image, distance, IsLeastImage}
+use Rattle.lj_ring.specs.Scale.{Scale}
 use Rattle.lj_table.specs.Entries.{push_at}
 use Rattle.lj_table.proofs.Quotients.{quotient_size, small_product}
 use Rattle.lj_tile.specs.declared.pairs.Push.{Push}
 use Rattle.lj_tile.specs.Pushes.{push, no_push}
 
 -- the low 32 bits of a signed number are its coordinate
-pub low_bits : (z : ℤ) → FitsSigned w64 z → of_z w64 z % 2 ^ 32 ≡ in_ring z
+pub low_bits : (z : ℤ) → FitsSigned w64 z → of_z w64 z % 2 ^ 32 ≡ ring_residue z
 low_bits (pos n) fits = refl
 low_bits (negsuc n) fits = let small : n < 2 ^ 63 = omega (arith, fits.sfits) in omega arith
 
@@ -95,7 +95,7 @@ narrow_fits factor image small fits =
 -- what the code computes along an axis
 pub along : (factor image : ℤ) → unsigned_abs factor < 2 ^ 61 → FitsSigned w32 image
     → of_z w64 (to_z w64 (of_z w64 (to_z w128 (of_z w128 (quotient_of factor image))))) % 2 ^ 32
-    ≡ in_ring (int_div (factor *ℤ image) (pos (2 ^ 56)))
+    ≡ ring_residue (int_div (factor *ℤ image) (pos (2 ^ 56)))
 along factor image small fits =
     let narrow = push_fits factor image small fits in
     rw (
@@ -106,16 +106,16 @@ along factor image small fits =
     (low_bits _ narrow)
 
 -- a push by its three parts
-pub push_is : (u : Units) (p q : Place) (factor ix iy iz : ℤ) (x y z : ℕ)
+pub push_is : (u : Scale) (p q : Place) (factor ix iy iz : ℤ) (x y z : ℕ)
     → factor ≡ push_at u (distance p q) *ℤ pos u.strength → ix ≡ image p.x q.x → iy ≡ image p.y q.y → iz ≡ image p.z q.z
-    → x ≡ in_ring (int_div (factor *ℤ ix) (pos (2 ^ 56))) → y ≡ in_ring (int_div (factor *ℤ iy) (pos (2 ^ 56)))
-    → z ≡ in_ring (int_div (factor *ℤ iz) (pos (2 ^ 56)))
+    → x ≡ ring_residue (int_div (factor *ℤ ix) (pos (2 ^ 56))) → y ≡ ring_residue (int_div (factor *ℤ iy) (pos (2 ^ 56)))
+    → z ≡ ring_residue (int_div (factor *ℤ iz) (pos (2 ^ 56)))
     → (let made : Push = record { x = x; y = y; z = z } in made ≡ push u p q)
 unfolding push
 push_is u p q factor ix iy iz x y z f i j k e g h = rw (e, g, h, f, i, j, k) refl
 
 -- a pair whose entry is 0 does not push
-pub nothing_is : (u : Units) (p q : Place) → push_at u (distance p q) ≡ pos 0 → no_push ≡ push u p q
+pub nothing_is : (u : Scale) (p q : Place) → push_at u (distance p q) ≡ pos 0 → no_push ≡ push u p q
 unfolding push
 nothing_is u p q none =
     rw (none, zero-*ℤ (pos u.strength), zero-*ℤ (image p.x q.x), zero-*ℤ (image p.y q.y), zero-*ℤ (image p.z q.z)) refl
@@ -134,7 +134,7 @@ least_self : (a b : ℕ) (z : ℤ) → IsLeastImage a b z → a ≡ b → z ≡ 
 least_self a b z least same = least_from a b z least.turns.0 least same least.turns.1
 
 -- an atom does not push itself
-pub push_self : (u : Units) (p q : Place) (ix iy iz : ℤ) → ix ≡ image p.x q.x → iy ≡ image p.y q.y → iz ≡ image p.z q.z
+pub push_self : (u : Scale) (p q : Place) (ix iy iz : ℤ) → ix ≡ image p.x q.x → iy ≡ image p.y q.y → iz ≡ image p.z q.z
     → IsLeastImage p.x q.x ix → IsLeastImage p.y q.y iy → IsLeastImage p.z q.z iz → p ≡ q → push u p q ≡ no_push
 unfolding push
 push_self u p q ix iy iz x_is y_is z_is x y z same =

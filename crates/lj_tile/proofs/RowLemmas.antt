@@ -6,19 +6,19 @@ use Rattle.std.proofs.lemmas.List.{get_or-replicate}
 use Rattle.std.proofs.lemmas.Bool.{cases_eq, cases_lt, cases_Bool}
 use Rattle.std.proofs.lemmas.Bool.Decides.{nat_tests}
 use Rattle.lj_ring.specs.Ring.{sum_below, ring_sum, distance, IsOnRing}
-use Rattle.lj_ring.specs.Scales.{Units, interacts}
-use Rattle.lj_ring.specs.Mixes.{class_of}
+use Rattle.lj_ring.specs.Scale.{Scale, is_in_cutoff}
+use Rattle.lj_ring.specs.Mix.{class_of}
 use Rattle.lj_ring.proofs.MixLemmas.{class_symmetric}
 use Rattle.lj_ring.specs.declared.coordinates.Place.{Place}
 use Rattle.lj_table.specs.Entries.{push_at}
 use Rattle.lj_tile.specs.declared.pairs.Push.{Push}
-use Rattle.lj_tile.specs.Pushes.{push, no_push, plus}
+use Rattle.lj_tile.specs.Pushes.{push, no_push, sum_of_pushes}
 use Rattle.lj_tile.specs.Tiles.{place_at, chosen_push, push_sum}
-use Rattle.lj_tile.specs.Blocks.{Sites}
+use Rattle.lj_tile.specs.Block.{Block}
 use Rattle.lj_tile.specs.Species.{species_at}
 use Rattle.std.specs.Int.{bit_at}
-use Rattle.lj_tile.specs.Tasks.{Work, IsTask, are_apart, are_in_order, class_in, task_force, task_second}
-use Rattle.lj_tile.specs.Rows.{push_of, push_back, on_first, on_second, push_in, pushes_in}
+use Rattle.lj_tile.specs.Task.{Task, IsTask, are_apart, are_in_order, class_in, task_force, task_second}
+use Rattle.lj_tile.specs.Rows.{push_of, push_back, sum_on_first, sum_on_second, push_in, pushes_in}
 use Rattle.lj_tile.specs.Rows.{IsSilent, AreRows, ArePushed}
 use Rattle.lj_tile.proofs.PushLemmas.{nothing_is}
 use Rattle.lj_tile.proofs.Opposites.{same_push, entry_far, nothing_back}
@@ -27,8 +27,8 @@ sum_more : (f : ℕ → ℕ) (n p : ℕ) → p ≡ f n → (ring_sum n f + p) % 
 sum_more f n p e = rw (add-one, e) (omega arith)
 
 -- one place more
-pub pushes_more : (u : Units) (set : ℕ) (here : Place) (places : List Place) (n : ℕ) (p : Push)
-    → p ≡ push_in u set here places n → plus (pushes_in u set here places n) p ≡ pushes_in u set here places (n + 1)
+pub pushes_more : (u : Scale) (set : ℕ) (here : Place) (places : List Place) (n : ℕ) (p : Push)
+    → p ≡ push_in u set here places n → sum_of_pushes (pushes_in u set here places n) p ≡ pushes_in u set here places (n + 1)
 pushes_more u set here places n p counts =
     let x = sum_more (λ s. (push_in u set here places s).x) n p.x (ap (λ (q : Push). q.x) counts) in
     let y = sum_more (λ s. (push_in u set here places s).y) n p.y (ap (λ (q : Push). q.y) counts) in
@@ -36,7 +36,7 @@ pushes_more u set here places n p counts =
     cc (x, y, z)
 
 -- one row more
-pub second_more : (w : Work) (s n : ℕ) (p : Push) → p ≡ push_back w n s → plus (on_second w s n) p ≡ on_second w s (n + 1)
+pub second_more : (w : Task) (s n : ℕ) (p : Push) → p ≡ push_back w n s → sum_of_pushes (sum_on_second w s n) p ≡ sum_on_second w s (n + 1)
 second_more w s n p counts =
     let x = sum_more (λ t. (push_back w t s).x) n p.x (ap (λ (q : Push). q.x) counts) in
     let y = sum_more (λ t. (push_back w t s).y) n p.y (ap (λ (q : Push). q.y) counts) in
@@ -59,16 +59,16 @@ sum_far f m (suc n) le none =
     ]
 
 -- what a place in a set adds, and one that is in none
-pub inside : (u : Units) (set : ℕ) (here : Place) (places : List Place) (s : ℕ) (p : Push) → bit_at set s ≡ 1
+pub inside : (u : Scale) (set : ℕ) (here : Place) (places : List Place) (s : ℕ) (p : Push) → bit_at set s ≡ 1
     → p ≡ push u here (place_at places s) → p ≡ push_in u set here places s
 inside u set here places s p in_set value = rw in_set value
 
-outside : (u : Units) (set : ℕ) (here : Place) (places : List Place) (s : ℕ) → bit_at set s ≡ 0
+outside : (u : Scale) (set : ℕ) (here : Place) (places : List Place) (s : ℕ) → bit_at set s ≡ 0
     → push_in u set here places s ≡ no_push
 outside u set here places s not = rw not refl
 
 -- places outside of the set leave the sum as it is
-pub pushes_past : (u : Units) (set : ℕ) (here : Place) (places : List Place) (m n : ℕ) → m ≤ n
+pub pushes_past : (u : Scale) (set : ℕ) (here : Place) (places : List Place) (m n : ℕ) → m ≤ n
     → ((s : ℕ) → m ≤ s → s < n → bit_at set s ≡ 0) → pushes_in u set here places m ≡ pushes_in u set here places n
 pushes_past u set here places m n le none =
     let each : (s : ℕ) → m ≤ s → s < n → push_in u set here places s ≡ no_push =
@@ -79,7 +79,7 @@ pushes_past u set here places m n le none =
     rw (x, y, z) refl
 
 -- at first no place has its push
-pub pushed_none : (u : Units) (set : ℕ) (here : Place) (places : List Place) (sums : List Push)
+pub pushed_none : (u : Scale) (set : ℕ) (here : Place) (places : List Place) (sums : List Push)
     → ArePushed u set here places 0 sums sums
 pushed_none u set here places sums = record {
   passed = λ s within below. absurd (omega (arith, below));
@@ -87,7 +87,7 @@ pushed_none u set here places sums = record {
 }
 
 -- places outside of the set keep their sums
-pub pushed_past : (u : Units) (set : ℕ) (here : Place) (places : List Place) (from to : ℕ) (old new : List Push)
+pub pushed_past : (u : Scale) (set : ℕ) (here : Place) (places : List Place) (from to : ℕ) (old new : List Push)
     → ArePushed u set here places from old new → from ≤ to
     → ((s : ℕ) → from ≤ s → s < to → bit_at set s ≡ 0) → ArePushed u set here places to old new
 pushed_past u set here places from to old new pushed le none = record {
@@ -102,9 +102,9 @@ pub length_set : (sums : List Push) (n : ℕ) (sum : Push) → length (slice_set
 length_set sums n sum = search (rules, arith)
 
 -- a place in the set has its push more
-pub pushed_next : (u : Units) (set : ℕ) (here : Place) (places : List Place) (n : ℕ) (old mid : List Push) (sum : Push)
+pub pushed_next : (u : Scale) (set : ℕ) (here : Place) (places : List Place) (n : ℕ) (old mid : List Push) (sum : Push)
     → ArePushed u set here places n old mid → n < length mid → n < length places → bit_at set n ≡ 1
-    → sum ≡ plus (slice_index_or mid n no_push) (push u (place_at places n) here)
+    → sum ≡ sum_of_pushes (slice_index_or mid n no_push) (push u (place_at places n) here)
     → ArePushed u set here places (n + 1) old (slice_set mid n sum)
 pushed_next u set here places n old mid sum pushed room within in_set value = record {
   passed = λ s also below. elim (cases_lt s n) [
@@ -112,13 +112,13 @@ pushed_next u set here places n old mid sum pushed room within in_set value = re
     | inr more ↦
         let same : s ≡ n = omega arith in
         rw (same, in_set, get_or-set_same)
-        (value ∙ ap (λ p. plus p (push u (place_at places n) here)) (pushed.ahead n within (omega arith)))
+        (value ∙ ap (λ p. sum_of_pushes p (push u (place_at places n) here)) (pushed.ahead n within (omega arith)))
   ];
   ahead = λ s also above. let other : s ≢ n = omega arith in rw get_or-set_other (pushed.ahead s also (omega arith));
 }
 
 -- a row that does not push leaves a sum as it is
-pub second_silent : (w : Work) (s t : ℕ) → push_back w t s ≡ no_push → on_second w s t ≡ on_second w s (t + 1)
+pub second_silent : (w : Task) (s t : ℕ) → push_back w t s ≡ no_push → sum_on_second w s t ≡ sum_on_second w s (t + 1)
 second_silent w s t none =
     let x = sum_far (λ k. (push_back w k s).x) t (t + 1) (omega arith) (λ k h l. last (λ p. p.x) refl k h l) in
     let y = sum_far (λ k. (push_back w k s).y) t (t + 1) (omega arith) (λ k h l. last (λ p. p.y) refl k h l) in
@@ -131,8 +131,8 @@ second_silent w s t none =
         ap (λ n. axis (push_back w n s)) e ∙ ap axis none ∙ zeros
 
 -- a row of silent places adds nothing
-pub row_silent : (w : Work) (t : ℕ) → ((s : ℕ) → s < length w.b.places → IsSilent w t s)
-    → no_push ≡ on_first w t (length w.b.places)
+pub row_silent : (w : Task) (t : ℕ) → ((s : ℕ) → s < length w.b.places → IsSilent w t s)
+    → no_push ≡ sum_on_first w t (length w.b.places)
 row_silent w t silent =
     let n : ℕ = length w.b.places in
     let x = sum_far (λ s. (push_of w t s).x) 0 n (omega arith) (λ s h k. ap (λ (p : Push). p.x) (silent s k).there) in
@@ -140,24 +140,24 @@ row_silent w t silent =
     let z = sum_far (λ s. (push_of w t s).z) 0 n (omega arith) (λ s h k. ap (λ (p : Push). p.z) (silent s k).there) in
     rw (sym x, sym y, sym z) refl
 
-pub rows_silent : (w : Work) (t : ℕ) (sums : List Push) → AreRows w t sums
+pub rows_silent : (w : Task) (t : ℕ) (sums : List Push) → AreRows w t sums
     → ((s : ℕ) → s < length w.b.places → IsSilent w t s) → AreRows w (t + 1) sums
 rows_silent w t sums rows silent s within = rows s within ∙ second_silent w s t (silent s within).back
 
 -- before the first row each sum is none
-pub rows_start : (w : Work) → length w.b.places ≤ 64 → AreRows w 0 (replicate 64 no_push)
+pub rows_start : (w : Task) → length w.b.places ≤ 64 → AreRows w 0 (replicate 64 no_push)
 rows_start w few s within = get_or-replicate 64 s no_push no_push (omega (arith, within, few))
 
 -- a pair that is not in order is looked at from its other side, or not at all
-pub not_in_order : (w : Work) (t s : ℕ) → are_in_order w t s ≡ false → IsSilent w t s
+pub not_in_order : (w : Task) (t s : ℕ) → are_in_order w t s ≡ false → IsSilent w t s
 not_in_order w t s e = record { there = rw e refl; back = rw e refl }
 
 -- a pair out of reach is silent
-pub far_silent : (w : Work) (t s : ℕ) → IsOnRing (place_at w.a.places t) → IsOnRing (place_at w.b.places s)
-    → interacts (class_in w t s).scale (distance (place_at w.a.places t) (place_at w.b.places s)) ≡ false
+pub far_silent : (w : Task) (t s : ℕ) → IsOnRing (place_at w.a.places t) → IsOnRing (place_at w.b.places s)
+    → is_in_cutoff (class_in w t s).scale (distance (place_at w.a.places t) (place_at w.b.places s)) ≡ false
     → IsSilent w t s
 far_silent w t s here there far =
-    let u : Units = (class_in w t s).scale in
+    let u : Scale = (class_in w t s).scale in
     let p : Place = place_at w.a.places t in
     let q : Place = place_at w.b.places s in
     let none : push_at u (distance p q) ≡ pos 0 = entry_far u (distance p q) far in
@@ -184,18 +184,18 @@ sum_both (suc n) f g h same =
     omega (arith, before, last)
 
 -- of two blocks each pair is in order, and of different atoms
-in_order : (w : Work) (t s : ℕ) → t < 64 → w.name.bi < w.name.bj → are_in_order w t s ≡ true
+in_order : (w : Task) (t s : ℕ) → t < 64 → w.name.bi < w.name.bj → are_in_order w t s ≡ true
 in_order w t s t_in less = grind (arith, nat_tests)
 
-apart : (w : Work) (t s : ℕ) → t < 64 → w.name.bi < w.name.bj → are_apart w t s ≡ true
+apart : (w : Task) (t s : ℕ) → t < 64 → w.name.bi < w.name.bj → are_apart w t s ≡ true
 apart w t s t_in less = grind (arith, nat_tests)
 
 -- so the sums of their pairs in order are those of the task
-pub first_is : (w : Work) (t : ℕ) → IsTask w → w.name.bi < w.name.bj → t < length w.a.places
-    → on_first w t (length w.b.places) ≡ task_force w t
+pub first_is : (w : Task) (t : ℕ) → IsTask w → w.name.bi < w.name.bj → t < length w.a.places
+    → sum_on_first w t (length w.b.places) ≡ task_force w t
 unfolding push_sum
 first_is w t sound less t_in =
-    same_push (on_first w t (length w.b.places)) (task_force w t) (along (λ p. p.x)) (along (λ p. p.y)) (along (λ p. p.z))
+    same_push (sum_on_first w t (length w.b.places)) (task_force w t) (along (λ p. p.x)) (along (λ p. p.y)) (along (λ p. p.z))
   where
     along : (axis : Push → ℕ) → ring_sum (length w.b.places) (λ s. axis (push_of w t s))
         ≡ ring_sum (length w.b.places) (λ s. axis (chosen_push (class_in w t s).scale (are_apart w t s) (place_at w.a.places t) (place_at w.b.places s)))
@@ -205,10 +205,10 @@ first_is w t sound less t_in =
         ap (λ chosen. axis (chosen_push (class_in w t s).scale chosen (place_at w.a.places t) (place_at w.b.places s)))
         (in_order w t s few less ∙ sym (apart w t s few less))))
 
-pub second_is : (w : Work) (s : ℕ) → IsTask w → w.name.bi < w.name.bj → on_second w s (length w.a.places) ≡ task_second w s
+pub second_is : (w : Task) (s : ℕ) → IsTask w → w.name.bi < w.name.bj → sum_on_second w s (length w.a.places) ≡ task_second w s
 unfolding push_sum
 second_is w s sound less =
-    same_push (on_second w s (length w.a.places)) (task_second w s) (along (λ p. p.x)) (along (λ p. p.y)) (along (λ p. p.z))
+    same_push (sum_on_second w s (length w.a.places)) (task_second w s) (along (λ p. p.x)) (along (λ p. p.y)) (along (λ p. p.z))
   where
     along : (axis : Push → ℕ) → ring_sum (length w.a.places) (λ t. axis (push_back w t s))
         ≡ ring_sum (length w.a.places) (λ t. axis (chosen_push (class_in w t s).scale (are_apart w t s) (place_at w.b.places s) (place_at w.a.places t)))
@@ -219,18 +219,18 @@ second_is w s sound less =
         (in_order w t s few less ∙ sym (apart w t s few less))))
 
 -- of one block twice it is that of the places exchanged
-class_turned : (w : Work) (t s : ℕ) → w.a ≡ w.b → class_in w s t ≡ class_in w t s
+class_turned : (w : Task) (t s : ℕ) → w.a ≡ w.b → class_in w s t ≡ class_in w t s
 class_turned w t s blocks =
     let here : species_at w.b.seconds t ≡ species_at w.a.seconds t =
-    ap (λ (block : Sites). species_at block.seconds t) (sym blocks) in
+    ap (λ (block : Block). species_at block.seconds t) (sym blocks) in
     let there : species_at w.a.seconds s ≡ species_at w.b.seconds s =
-    ap (λ (block : Sites). species_at block.seconds s) blocks in
+    ap (λ (block : Block). species_at block.seconds s) blocks in
     ap (λ sp. class_of w.mix sp (species_at w.b.seconds t)) there
     ∙ ap (class_of w.mix (species_at w.b.seconds s)) here
     ∙ class_symmetric w.mix (species_at w.b.seconds s) (species_at w.a.seconds t)
 
 -- a part of a push where one of two tests chooses it, or neither
-module _ (axis : Push → ℕ) (none : axis no_push ≡ 0) (u : Units) (p q : Place) where
+module _ (axis : Push → ℕ) (none : axis no_push ≡ 0) (u : Scale) (p q : Place) where
   chosen_part : Bool → ℕ
   chosen_part chosen = axis (chosen_push u chosen p q)
 
@@ -250,7 +250,7 @@ module _ (axis : Push → ℕ) (none : axis no_push ≡ 0) (u : Units) (p q : Pl
   no_part one other both e f g = rw (e, f, g, none) (omega arith)
 
   -- of one block a pair is in order the one way or the other, or of one atom
-  either_part : (w : Work) (t s : ℕ) → w.name.bi ≡ w.name.bj
+  either_part : (w : Task) (t s : ℕ) → w.name.bi ≡ w.name.bj
       → chosen_part (are_in_order w t s) + chosen_part (are_in_order w s t) ≡ chosen_part (are_apart w t s)
   either_part w t s same =
       elim (cases_lt t s) [
@@ -273,23 +273,23 @@ module _ (axis : Push → ℕ) (none : axis no_push ≡ 0) (u : Units) (p q : Pl
         ]
       ]
 
-either_way : (axis : Push → ℕ) → axis no_push ≡ 0 → (w : Work) (t s : ℕ) → w.name.bi ≡ w.name.bj → w.a ≡ w.b
+either_way : (axis : Push → ℕ) → axis no_push ≡ 0 → (w : Task) (t s : ℕ) → w.name.bi ≡ w.name.bj → w.a ≡ w.b
     → axis (push_of w t s) + axis (push_back w s t)
     ≡ axis (chosen_push (class_in w t s).scale (are_apart w t s) (place_at w.a.places t) (place_at w.b.places s))
 unfolding chosen_part
 either_way axis none w t s same blocks =
-    let here : place_at w.b.places t ≡ place_at w.a.places t = ap (λ (block : Sites). place_at block.places t) (sym blocks) in
-    let there : place_at w.a.places s ≡ place_at w.b.places s = ap (λ (block : Sites). place_at block.places s) blocks in
+    let here : place_at w.b.places t ≡ place_at w.a.places t = ap (λ (block : Block). place_at block.places t) (sym blocks) in
+    let there : place_at w.a.places s ≡ place_at w.b.places s = ap (λ (block : Block). place_at block.places s) blocks in
     let turned : class_in w s t ≡ class_in w t s = class_turned w t s blocks in
     rw (here, there, turned)
     (either_part axis none (class_in w t s).scale (place_at w.a.places t) (place_at w.b.places s) w t s same)
 
 -- the two sums of an atom of one block make up that of the task
-pub joined_is : (w : Work) (t : ℕ) → IsTask w → w.name.bi ≡ w.name.bj
-    → plus (on_first w t (length w.b.places)) (on_second w t (length w.a.places)) ≡ task_force w t
+pub joined_is : (w : Task) (t : ℕ) → IsTask w → w.name.bi ≡ w.name.bj
+    → sum_of_pushes (sum_on_first w t (length w.b.places)) (sum_on_second w t (length w.a.places)) ≡ task_force w t
 unfolding push_sum
 joined_is w t sound same =
-    same_push (plus (on_first w t (length w.b.places)) (on_second w t (length w.a.places))) (task_force w t)
+    same_push (sum_of_pushes (sum_on_first w t (length w.b.places)) (sum_on_second w t (length w.a.places))) (task_force w t)
     (along (λ p. p.x) refl) (along (λ p. p.y) refl) (along (λ p. p.z) refl)
   where
     along : (axis : Push → ℕ) → axis no_push ≡ 0
@@ -298,7 +298,7 @@ joined_is w t sound same =
         axis (chosen_push (class_in w t s).scale (are_apart w t s) (place_at w.a.places t) (place_at w.b.places s)))
     along axis none =
         let blocks : w.a ≡ w.b = sound.diagonal same in
-        let sizes : length w.a.places ≡ length w.b.places = ap (λ (block : Sites). length block.places) blocks in
+        let sizes : length w.a.places ≡ length w.b.places = ap (λ (block : Block). length block.places) blocks in
         let both = sum_both (length w.b.places) (λ s. axis (push_of w t s)) (λ s. axis (push_back w s t)) _
         (λ s h. either_way axis none w t s same blocks) in
         let counted = ap (λ n. sum_below n (λ s. axis (push_back w s t))) sizes in

@@ -10,15 +10,15 @@ use Rattle.lj_ring.specs.declared.coordinates.Place.{Place}
 use Rattle.lj_ring.specs.declared.mixes.Class.{Class}
 use Rattle.lj_ring.specs.declared.mixes.Species.{Species}
 use Rattle.lj_ring.specs.declared.mixes.Species.TheVariants.{First, Second}
-use Rattle.lj_ring.specs.Mixes.{class_of}
+use Rattle.lj_ring.specs.Mix.{class_of}
 use Rattle.lj_ring.specs.Ring.{ring_sum, int_sum_below}
-use Rattle.lj_ring.specs.Scales.{Units}
+use Rattle.lj_ring.specs.Scale.{Scale}
 use Rattle.lj_tile.specs.declared.pairs.Push.{Push}
-use Rattle.lj_tile.specs.Pushes.{push, no_push, plus, energy}
+use Rattle.lj_tile.specs.Pushes.{push, no_push, sum_of_pushes, energy}
 use Rattle.lj_tile.specs.Species.{is_in, species_at}
 use Rattle.lj_tile.specs.Tiles.{place_at, chosen_push, chosen_energy}
-use Rattle.lj_tile.specs.Tasks.{Work, are_in_order, class_in}
-use Rattle.lj_tile.specs.Rows.{push_of, push_back, on_first, pushes_in, push_in, IsSilent, AreRows, ArePushed}
+use Rattle.lj_tile.specs.Task.{Task, are_in_order, class_in}
+use Rattle.lj_tile.specs.Rows.{push_of, push_back, sum_on_first, pushes_in, push_in, IsSilent, AreRows, ArePushed}
 use Rattle.lj_tile.specs.Rows.{energy_of, energy_row, energies_in, energy_in}
 use Rattle.lj_tile.proofs.Opposites.{same_push}
 use Rattle.lj_tile.proofs.RowLemmas.{sum_both, second_more, second_silent}
@@ -105,33 +105,33 @@ part_within near ordered_set other s n ordered chosen set =
     ]
 
 -- the scale of place t of the first block and of an atom of a species
-abbrev pub scale_with : Work → ℕ → Species → Units
+abbrev pub scale_with : Task → ℕ → Species → Scale
 scale_with w t species = (class_of w.mix (species_at w.a.seconds t) species).scale
 
 -- which of the two sets a place of the second block is in
-abbrev pub RowSplit : Work → ℕ → ℕ → ℕ → ℕ → Type 0
+abbrev pub RowSplit : Task → ℕ → ℕ → ℕ → ℕ → Type 0
 RowSplit w t firsts seconds s = IsSplit firsts seconds w.b.seconds s (are_in_order w t s) (IsSilent w t s)
 
-by_class : (w : Work) (t s : ℕ) (species : Species) → species_at w.b.seconds s ≡ species
+by_class : (w : Task) (t s : ℕ) (species : Species) → species_at w.b.seconds s ≡ species
     → (class_in w t s).scale ≡ scale_with w t species
 by_class w t s species e = ap (scale_with w t) e
 
-first_part : (axis : Push → ℕ) → axis no_push ≡ 0 → (u v : Units) (p q : Place) (x y ordered : Bool) (all : Units)
+first_part : (axis : Push → ℕ) → axis no_push ≡ 0 → (u v : Scale) (p q : Place) (x y ordered : Bool) (all : Scale)
     → x ≡ true → y ≡ false → ordered ≡ true → all ≡ u
     → axis (chosen_push u x p q) + axis (chosen_push v y p q) ≡ axis (chosen_push all ordered p q)
 first_part axis none u v p q x y ordered all e f g h = rw (e, f, g, h, none) (omega arith)
 
-second_part : (axis : Push → ℕ) → axis no_push ≡ 0 → (u v : Units) (p q : Place) (x y ordered : Bool) (all : Units)
+second_part : (axis : Push → ℕ) → axis no_push ≡ 0 → (u v : Scale) (p q : Place) (x y ordered : Bool) (all : Scale)
     → x ≡ false → y ≡ true → ordered ≡ true → all ≡ v
     → axis (chosen_push u x p q) + axis (chosen_push v y p q) ≡ axis (chosen_push all ordered p q)
 second_part axis none u v p q x y ordered all e f g h = rw (e, f, g, h, none) (omega arith)
 
-no_part : (axis : Push → ℕ) → axis no_push ≡ 0 → (u v : Units) (p q : Place) (x y : Bool) (whole : Push)
+no_part : (axis : Push → ℕ) → axis no_push ≡ 0 → (u v : Scale) (p q : Place) (x y : Bool) (whole : Push)
     → x ≡ false → y ≡ false → whole ≡ no_push
     → axis (chosen_push u x p q) + axis (chosen_push v y p q) ≡ axis whole
 no_part axis none u v p q x y whole e f g = rw (e, f, g, none) (omega arith)
 
-split_push : (axis : Push → ℕ) → axis no_push ≡ 0 → (w : Work) (t firsts seconds s : ℕ) → RowSplit w t firsts seconds s
+split_push : (axis : Push → ℕ) → axis no_push ≡ 0 → (w : Task) (t firsts seconds s : ℕ) → RowSplit w t firsts seconds s
     → axis (push_in (scale_with w t First) firsts (place_at w.a.places t) w.b.places s)
     + axis (push_in (scale_with w t Second) seconds (place_at w.a.places t) w.b.places s) ≡ axis (push_of w t s)
 split_push axis none w t firsts seconds s split =
@@ -144,14 +144,14 @@ split_push axis none w t firsts seconds s split =
     ]
 
 -- the pushes on place t of the first block of the places of both sets are those of the row
-pub row_sum : (w : Work) (t firsts seconds : ℕ) → ((s : ℕ) → s < length w.b.places → RowSplit w t firsts seconds s)
-    → plus (pushes_in (scale_with w t First) firsts (place_at w.a.places t) w.b.places (length w.b.places))
+pub row_sum : (w : Task) (t firsts seconds : ℕ) → ((s : ℕ) → s < length w.b.places → RowSplit w t firsts seconds s)
+    → sum_of_pushes (pushes_in (scale_with w t First) firsts (place_at w.a.places t) w.b.places (length w.b.places))
     (pushes_in (scale_with w t Second) seconds (place_at w.a.places t) w.b.places (length w.b.places))
-    ≡ on_first w t (length w.b.places)
+    ≡ sum_on_first w t (length w.b.places)
 row_sum w t firsts seconds split =
-    same_push (plus (pushes_in (scale_with w t First) firsts (place_at w.a.places t) w.b.places (length w.b.places))
+    same_push (sum_of_pushes (pushes_in (scale_with w t First) firsts (place_at w.a.places t) w.b.places (length w.b.places))
     (pushes_in (scale_with w t Second) seconds (place_at w.a.places t) w.b.places (length w.b.places)))
-    (on_first w t (length w.b.places)) (along (λ p. p.x) refl) (along (λ p. p.y) refl) (along (λ p. p.z) refl)
+    (sum_on_first w t (length w.b.places)) (along (λ p. p.x) refl) (along (λ p. p.y) refl) (along (λ p. p.z) refl)
   where
     along : (axis : Push → ℕ) → axis no_push ≡ 0
         → (ring_sum (length w.b.places) (λ s. axis (push_in (scale_with w t First) firsts (place_at w.a.places t) w.b.places s))
@@ -163,7 +163,7 @@ row_sum w t firsts seconds split =
         omega (arith, both)
 
 -- the sums of the second block have the pushes of one row more
-pub row_added : (w : Work) (t firsts seconds : ℕ) (old mid new : List Push)
+pub row_added : (w : Task) (t firsts seconds : ℕ) (old mid new : List Push)
     → ((s : ℕ) → s < length w.b.places → RowSplit w t firsts seconds s) → AreRows w t old
     → ArePushed (scale_with w t First) firsts (place_at w.a.places t) w.b.places (length w.b.places) old mid
     → ArePushed (scale_with w t Second) seconds (place_at w.a.places t) w.b.places (length w.b.places) mid new
@@ -177,27 +177,27 @@ row_added w t firsts seconds old mid new split rows one other s within =
     elim (split s within) [
       | in_none e f silent ↦ (rw f at last) ∙ (rw e at first) ∙ before ∙ second_silent w s t silent.back
       | in_firsts e f ordered species ↦
-          (rw f at last) ∙ (rw e at first) ∙ ap (λ sum. plus sum (push (scale_with w t First) q p)) before
+          (rw f at last) ∙ (rw e at first) ∙ ap (λ sum. sum_of_pushes sum (push (scale_with w t First) q p)) before
           ∙ second_more w s t (push (scale_with w t First) q p) (by_order w t s First ordered species)
       | in_seconds e f ordered species ↦
-          (rw f at last) ∙ ap (λ sum. plus sum (push (scale_with w t Second) q p)) ((rw e at first) ∙ before)
+          (rw f at last) ∙ ap (λ sum. sum_of_pushes sum (push (scale_with w t Second) q p)) ((rw e at first) ∙ before)
           ∙ second_more w s t (push (scale_with w t Second) q p) (by_order w t s Second ordered species)
     ]
   where
-    by_order : (w : Work) (t s : ℕ) (species : Species) → are_in_order w t s ≡ true → species_at w.b.seconds s ≡ species
+    by_order : (w : Task) (t s : ℕ) (species : Species) → are_in_order w t s ≡ true → species_at w.b.seconds s ≡ species
         → push (scale_with w t species) (place_at w.b.places s) (place_at w.a.places t) ≡ push_back w t s
     by_order w t s species ordered e =
         rw ordered (ap (λ u. push u (place_at w.b.places s) (place_at w.a.places t)) (sym (by_class w t s species e)))
 
 -- the class of an atom of a species and of place s of the second block
-abbrev pub class_with : Work → ℕ → Species → Class
+abbrev pub class_with : Task → ℕ → Species → Class
 class_with w s species = class_of w.mix species (species_at w.b.seconds s)
 
 -- which of the two sets a place of the first block is in
-abbrev pub ColumnSplit : Work → ℕ → ℕ → ℕ → ℕ → Type 0
+abbrev pub ColumnSplit : Task → ℕ → ℕ → ℕ → ℕ → Type 0
 ColumnSplit w s firsts seconds t = IsSplit firsts seconds w.a.seconds t (are_in_order w t s) (energy_of w s t ≡ pos 0)
 
-by_species : (w : Work) (s t : ℕ) (species : Species) → species_at w.a.seconds t ≡ species
+by_species : (w : Task) (s t : ℕ) (species : Species) → species_at w.a.seconds t ≡ species
     → class_in w t s ≡ class_with w s species
 by_species w s t species e = ap (class_with w s) e
 
@@ -215,7 +215,7 @@ no_energy : (k l : Class) (p q : Place) (x y : Bool) (whole : ℤ) → x ≡ fal
     → chosen_energy k x p q +ℤ chosen_energy l y p q ≡ whole
 no_energy k l p q x y whole e f g = rw (e, f, g) refl
 
-split_energy : (w : Work) (s firsts seconds t : ℕ) → ColumnSplit w s firsts seconds t
+split_energy : (w : Task) (s firsts seconds t : ℕ) → ColumnSplit w s firsts seconds t
     → energy_in (class_with w s First) firsts (place_at w.b.places s) w.a.places t
     +ℤ energy_in (class_with w s Second) seconds (place_at w.b.places s) w.a.places t ≡ energy_of w s t
 split_energy w s firsts seconds t split =
@@ -242,7 +242,7 @@ int_sum_both (suc n) f g h same =
     exchanged a b c d x y p q = omega (arith, ints, p, q)
 
 -- the energies of place s of the second block with the places of both sets are those of the row
-pub column_sum : (w : Work) (s firsts seconds : ℕ)
+pub column_sum : (w : Task) (s firsts seconds : ℕ)
     → ((t : ℕ) → t < length w.a.places → ColumnSplit w s firsts seconds t)
     → energies_in (class_with w s First) firsts (place_at w.b.places s) w.a.places (length w.a.places)
     +ℤ energies_in (class_with w s Second) seconds (place_at w.b.places s) w.a.places (length w.a.places)
@@ -251,15 +251,15 @@ column_sum w s firsts seconds split =
     int_sum_both (length w.a.places) _ _ (energy_of w s) (λ t h. split_energy w s firsts seconds t (split t h))
 
 -- so are they where the row's parts are known by equations
-pub row_total : (w : Work) (t : ℕ) (u v : Units) (firsts seconds : ℕ) (here : Place) (places : List Place) (p q r : Push)
+pub row_total : (w : Task) (t : ℕ) (u v : Scale) (firsts seconds : ℕ) (here : Place) (places : List Place) (p q r : Push)
     → u ≡ scale_with w t First → v ≡ scale_with w t Second → here ≡ place_at w.a.places t → places ≡ w.b.places
     → p ≡ pushes_in u firsts here places (length places) → q ≡ pushes_in v seconds here places (length places)
-    → r ≡ plus p q → ((s : ℕ) → s < length w.b.places → RowSplit w t firsts seconds s)
-    → r ≡ on_first w t (length w.b.places)
+    → r ≡ sum_of_pushes p q → ((s : ℕ) → s < length w.b.places → RowSplit w t firsts seconds s)
+    → r ≡ sum_on_first w t (length w.b.places)
 row_total w t u v firsts seconds here places p q r u_is v_is here_is places_is p_is q_is r_is split =
     r_is ∙ rw (p_is, q_is, u_is, v_is, here_is, places_is) (row_sum w t firsts seconds split)
 
-pub rows_total : (w : Work) (t : ℕ) (u v : Units) (firsts seconds : ℕ) (here : Place) (places : List Place)
+pub rows_total : (w : Task) (t : ℕ) (u v : Scale) (firsts seconds : ℕ) (here : Place) (places : List Place)
     (old mid new : List Push)
     → u ≡ scale_with w t First → v ≡ scale_with w t Second → here ≡ place_at w.a.places t → places ≡ w.b.places
     → ArePushed u firsts here places (length places) old mid → ArePushed v seconds here places (length places) mid new
@@ -268,7 +268,7 @@ rows_total w t u v firsts seconds here places old mid new u_is v_is here_is plac
     row_added w t firsts seconds old mid new split rows (rw (u_is, here_is, places_is) at one)
     (rw (v_is, here_is, places_is) at other)
 
-pub column_total : (w : Work) (s : ℕ) (k l : Class) (firsts seconds : ℕ) (there : Place) (places : List Place) (p q : ℤ)
+pub column_total : (w : Task) (s : ℕ) (k l : Class) (firsts seconds : ℕ) (there : Place) (places : List Place) (p q : ℤ)
     → k ≡ class_with w s First → l ≡ class_with w s Second → there ≡ place_at w.b.places s → places ≡ w.a.places
     → p ≡ energies_in k firsts there places (length places) → q ≡ energies_in l seconds there places (length places)
     → ((t : ℕ) → t < length w.a.places → ColumnSplit w s firsts seconds t) → p +ℤ q ≡ energy_row w s
@@ -329,7 +329,7 @@ later_are all low s n m ordered small few all_is low_is order =
         ]
 
 -- within one block atoms are in order as their places are
-pub within_one : (w : Work) (t s : ℕ) → w.name.bj ≡ w.name.bi → are_in_order w t s ≡ nat_le (t + 1) s
+pub within_one : (w : Task) (t s : ℕ) → w.name.bj ≡ w.name.bi → are_in_order w t s ≡ nat_le (t + 1) s
 within_one w t s same =
     elim (cases_lt t s) [
       | inl less ↦

@@ -14,14 +14,14 @@ use Rattle.std.proofs.lemmas.Nat.{mul-le}
 use Rattle.std.proofs.lemmas.Int.{ints, fits_signed_from_abs, to_z-of_z}
 use Rattle.lj_ring.specs.Ring.{int_sum_below, distance}
 use Rattle.lj_ring.specs.Ring.{IsOnRing}
-use Rattle.lj_ring.specs.Scales.{Units, interacts, bin, entry}
+use Rattle.lj_ring.specs.Scale.{Scale, is_in_cutoff, bin, entry}
 use Rattle.lj_ring.specs.declared.coordinates.Place.{Place}
 use Rattle.lj_table.specs.Entries.{energy_entry, energy_at}
 use Rattle.lj_tile.proofs.Opposites.{distance_symmetric}
 use Rattle.lj_tile.specs.Pushes.{energy}
 use Rattle.lj_ring.specs.declared.mixes.Class.{Class}
 use Rattle.lj_tile.specs.Tiles.{place_at, chosen_energy}
-use Rattle.lj_tile.specs.Tasks.{Work, task_energy}
+use Rattle.lj_tile.specs.Task.{Task, task_energy}
 use Rattle.lj_tile.specs.Rows.{energy_row, energy_in}
 
 -- a sum whose later terms are 0 is the sum of the earlier ones
@@ -46,7 +46,7 @@ sum_front (suc n) (suc m) f g le same none =
           (λ t h k. absurd (omega arith))))
     ]
 
-pub energy_all : (w : Work) → int_sum_below (length w.b.places) (energy_row w) ≡ task_energy w
+pub energy_all : (w : Task) → int_sum_below (length w.b.places) (energy_row w) ≡ task_energy w
 unfolding task_energy
 energy_all w = refl
 
@@ -146,11 +146,11 @@ sum_past f from to le none = sum_front to from f f le (λ t h. refl) (λ t h k. 
 
 -- a pair out of reach has no energy
 pub far_energy : (class : Class) (here there : Place) → IsOnRing here → IsOnRing there
-    → interacts class.scale (distance there here) ≡ false → energy class here there ≡ pos 0
+    → is_in_cutoff class.scale (distance there here) ≡ false → energy class here there ≡ pos 0
 far_energy class here there on also none =
-    let u : Units = class.scale in
-    let same : interacts u (distance here there) ≡ false =
-    ap (interacts u) (sym (distance_symmetric here there on also)) ∙ none in
+    let u : Scale = class.scale in
+    let same : is_in_cutoff u (distance here there) ≡ false =
+    ap (is_in_cutoff u) (sym (distance_symmetric here there on also)) ∙ none in
     let entry_none : energy_at u (distance here there) ≡ pos 0 =
     ap (λ (b : Bool). if b then energy_entry (entry (bin u (distance here there))) else pos 0) same in
     rw entry_none (weighted_none class.weight)

@@ -1,9 +1,9 @@
 pub mod Species
 pub mod Pushes
 pub mod Names
-pub mod Blocks
+pub mod Block
 pub mod Tiles
-pub mod Tasks
+pub mod Task
 pub mod Blank
 pub mod Rows
 pub mod Results

@@ -1,10 +1,10 @@
 -- The push and the energy of a pair of atoms.
 use Rattle.std.specs.Prelude.{ℕ, ◌+◌, ◌%◌, ◌^◌, ℤ, pos, ◌*ℤ◌, int_div}
 use Rattle.lj_ring.specs.declared.coordinates.Place.{Place}
-use Rattle.lj_ring.specs.Ring.{image, distance, in_ring, ring_sub}
-use Rattle.lj_ring.specs.Scales.{Units}
+use Rattle.lj_ring.specs.Ring.{image, distance, ring_residue, ring_difference}
+use Rattle.lj_ring.specs.Scale.{Scale}
 use Rattle.lj_ring.specs.declared.mixes.Class.{Class}
-use Rattle.lj_table.specs.Entries.{push_at, energy_at, weighted}
+use Rattle.lj_table.specs.Entries.{push_at, energy_at, weighted_energy}
 use Rattle.lj_tile.specs.declared.pairs.Push.{Push}
 
 -- no push
@@ -12,11 +12,11 @@ abbrev pub no_push : Push
 no_push = record { x = 0; y = 0; z = 0 }
 
 -- a push along one axis on the ring: table entry times step factor times image, in units of 2^-56, toward zero
-abbrev pub push_along : Units → ℤ → ℤ → ℕ
-push_along u entry image = in_ring (int_div (entry *ℤ pos u.strength *ℤ image) (pos (2 ^ 56)))
+abbrev pub push_along : Scale → ℤ → ℤ → ℕ
+push_along u entry image = ring_residue (int_div (entry *ℤ pos u.strength *ℤ image) (pos (2 ^ 56)))
 
 -- the push on an atom at p of an atom at q: along the images of p - q, and 0 where the pair does not interact
-unfoldable pub push : Units → Place → Place → Push
+unfoldable pub push : Scale → Place → Place → Push
 push u p q =
     let entry = push_at u (distance p q) in
     record {
@@ -27,12 +27,12 @@ push u p q =
 
 -- the energy of the pair by the weight of its class, in units of 2^-24 ε and toward zero: 0 where it does not interact
 abbrev pub energy : Class → Place → Place → ℤ
-energy k p q = weighted k.weight (energy_at k.scale (distance p q))
+energy k p q = weighted_energy k.weight (energy_at k.scale (distance p q))
 
 -- the same push the other way
-abbrev pub opposite : Push → Push
-opposite p = record { x = ring_sub 0 p.x; y = ring_sub 0 p.y; z = ring_sub 0 p.z }
+abbrev pub opposite_push : Push → Push
+opposite_push p = record { x = ring_difference 0 p.x; y = ring_difference 0 p.y; z = ring_difference 0 p.z }
 
 -- the sum of two pushes on the ring
-abbrev pub plus : Push → Push → Push
-plus a b = record { x = (a.x + b.x) % 2 ^ 32; y = (a.y + b.y) % 2 ^ 32; z = (a.z + b.z) % 2 ^ 32 }
+abbrev pub sum_of_pushes : Push → Push → Push
+sum_of_pushes a b = record { x = (a.x + b.x) % 2 ^ 32; y = (a.y + b.y) % 2 ^ 32; z = (a.z + b.z) % 2 ^ 32 }

@@ -3,52 +3,52 @@ use Rattle.std.specs.Prelude.{ℕ, ◌≡◌, ◌<◌, ◌≤◌, Bool, ℤ, Lis
 use Rattle.lj_ring.specs.Ring.{ring_sum, int_sum_below}
 use Rattle.lj_ring.specs.declared.mixes.Class.{Class}
 use Rattle.lj_ring.specs.declared.coordinates.Place.{Place}
-use Rattle.lj_ring.specs.Scales.{Units}
+use Rattle.lj_ring.specs.Scale.{Scale}
 use Rattle.lj_tile.specs.declared.pairs.Push.{Push}
-use Rattle.lj_tile.specs.Pushes.{no_push, plus, push}
+use Rattle.lj_tile.specs.Pushes.{no_push, sum_of_pushes, push}
 use Rattle.lj_tile.specs.Species.{is_in}
 use Rattle.lj_tile.specs.Tiles.{place_at, chosen_push, chosen_energy}
-use Rattle.lj_tile.specs.Tasks.{Work, are_in_order, class_in}
+use Rattle.lj_tile.specs.Task.{Task, are_in_order, class_in}
 
 -- the push on place t of the first block of place s of the second, where the two are such a pair
-abbrev pub push_of : Work → ℕ → ℕ → Push
+abbrev pub push_of : Task → ℕ → ℕ → Push
 push_of w t s = chosen_push (class_in w t s).scale (are_in_order w t s) (place_at w.a.places t) (place_at w.b.places s)
 
 -- the push the other way
-abbrev pub push_back : Work → ℕ → ℕ → Push
+abbrev pub push_back : Task → ℕ → ℕ → Push
 push_back w t s = chosen_push (class_in w t s).scale (are_in_order w t s) (place_at w.b.places s) (place_at w.a.places t)
 
 -- the ring sum of the pushes on place t of the first block of the first n places of the second
-abbrev pub on_first : Work → ℕ → ℕ → Push
-on_first w t n = record {
+abbrev pub sum_on_first : Task → ℕ → ℕ → Push
+sum_on_first w t n = record {
   x = ring_sum n (λ s. (push_of w t s).x);
   y = ring_sum n (λ s. (push_of w t s).y);
   z = ring_sum n (λ s. (push_of w t s).z);
 }
 
 -- the ring sum of the pushes on place s of the second block of the first n places of the first
-abbrev pub on_second : Work → ℕ → ℕ → Push
-on_second w s n = record {
+abbrev pub sum_on_second : Task → ℕ → ℕ → Push
+sum_on_second w s n = record {
   x = ring_sum n (λ t. (push_back w t s).x);
   y = ring_sum n (λ t. (push_back w t s).y);
   z = ring_sum n (λ t. (push_back w t s).z);
 }
 
 -- places t and s do not push each other
-pub record IsSilent (w : Work) (t s : ℕ) : Type 0 where
+pub record IsSilent (w : Task) (t s : ℕ) : Type 0 where
   pub there : push_of w t s ≡ no_push
   pub back : push_back w t s ≡ no_push
 
 -- the sums of the second block's places have the pushes of the first t places of the first
-abbrev pub AreRows : Work → ℕ → List Push → Type 0
-AreRows w t sums = (s : ℕ) → s < length w.b.places → slice_index_or sums s no_push ≡ on_second w s t
+abbrev pub AreRows : Task → ℕ → List Push → Type 0
+AreRows w t sums = (s : ℕ) → s < length w.b.places → slice_index_or sums s no_push ≡ sum_on_second w s t
 
 -- the push of place s of a block on an atom `here`, where the place is in a set
-abbrev pub push_in : Units → ℕ → Place → List Place → ℕ → Push
+abbrev pub push_in : Scale → ℕ → Place → List Place → ℕ → Push
 push_in u set here places s = chosen_push u (is_in set s) here (place_at places s)
 
 -- the ring sum of those of the first n places
-abbrev pub pushes_in : Units → ℕ → Place → List Place → ℕ → Push
+abbrev pub pushes_in : Scale → ℕ → Place → List Place → ℕ → Push
 pushes_in u set here places n = record {
   x = ring_sum n (λ s. (push_in u set here places s).x);
   y = ring_sum n (λ s. (push_in u set here places s).y);
@@ -56,22 +56,23 @@ pushes_in u set here places n = record {
 }
 
 -- a sum of pushes, to which the push comes of an atom `here` on one at `there`, if it does
-abbrev pub pushed_if : Bool → Units → Place → Place → Push → Push
-pushed_if pushes u here there sum = if pushes then plus sum (push u there here) else sum
+abbrev pub push_if : Bool → Scale → Place → Place → Push → Push
+push_if pushes u here there sum = if pushes then sum_of_pushes sum (push u there here) else sum
 
 -- the sums of places of a block below n have the push of an atom `here` more, where the place is in a set
-pub record ArePushed (u : Units) (set : ℕ) (here : Place) (places : List Place) (n : ℕ) (old new : List Push) : Type 0 where
+pub record ArePushed (u : Scale) (set : ℕ) (here : Place) (places : List Place) (n : ℕ) (old new : List Push) : Type 0 where
   pub passed : (s : ℕ) → s < length places → s < n
       → slice_index_or new s no_push
-      ≡ pushed_if (is_in set s) u here (place_at places s) (slice_index_or old s no_push)
-  pub ahead : (s : ℕ) → s < length places → n ≤ s → slice_index_or new s no_push ≡ slice_index_or old s no_push
+      ≡ push_if (is_in set s) u here (place_at places s) (slice_index_or old s no_push)
+  pub ahead : (s : ℕ) → s < length places → n ≤ s
+      → slice_index_or new s no_push ≡ slice_index_or old s no_push
 
 -- the energy that place t of the first block and place s of the second add
-abbrev pub energy_of : Work → ℕ → ℕ → ℤ
+abbrev pub energy_of : Task → ℕ → ℕ → ℤ
 energy_of w s t = chosen_energy (class_in w t s) (are_in_order w t s) (place_at w.a.places t) (place_at w.b.places s)
 
 -- the energy of place s of the second block with the earlier atoms of the first
-abbrev pub energy_row : Work → ℕ → ℤ
+abbrev pub energy_row : Task → ℕ → ℤ
 energy_row w s = int_sum_below (length w.a.places) (energy_of w s)
 
 -- the energy of an atom at `there` with place t of a block, where the place is in a set

@@ -4,7 +4,7 @@ use Rattle.std.specs.Int.{bit_at}
 use Rattle.lj_ring.specs.declared.mixes.Class.{Class}
 use Rattle.lj_ring.specs.declared.mixes.Species.{Species}
 use Rattle.lj_ring.specs.declared.mixes.Species.TheVariants.{First, Second}
-use Rattle.lj_ring.specs.Mixes.{Mixture, class_of}
+use Rattle.lj_ring.specs.Mix.{Mix, class_of}
 
 -- a number is in a set of numbers, which is itself a number: its bit of that place is 1
 abbrev pub is_in : ℕ → ℕ → Bool
@@ -20,7 +20,7 @@ species_at seconds i = species_if (is_in seconds i)
 
 -- what the atoms of a simulation are: a mixture, and the set of those of the second species
 pub record Composition : Type 0 where
-  pub mix : Mixture
+  pub mix : Mix
   pub seconds : ℕ
 
 -- the class of two atoms, by their numbers

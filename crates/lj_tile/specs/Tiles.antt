@@ -5,14 +5,14 @@ use Rattle.lj_ring.specs.declared.coordinates.Place.{Place}
 use Rattle.lj_ring.specs.Ring.{distance, ring_sum, int_sum_below}
 pub use Rattle.lj_ring.specs.Ring.{place_at}
 use Rattle.lj_ring.specs.declared.mixes.Class.{Class}
-use Rattle.lj_ring.specs.Scales.{Units, interacts}
+use Rattle.lj_ring.specs.Scale.{Scale, is_in_cutoff}
 use Rattle.lj_tile.specs.declared.blocks.TheConstants.{BLOCK}
 use Rattle.lj_tile.specs.declared.pairs.Push.{Push}
 use Rattle.lj_tile.specs.Pushes.{push, no_push, energy}
 use Rattle.lj_tile.specs.Species.{Composition, class_between}
 
 -- the push on an atom at p of the atom at q where the two are a chosen pair, and none where they are not
-abbrev pub chosen_push : Units → Bool → Place → Place → Push
+abbrev pub chosen_push : Scale → Bool → Place → Place → Push
 chosen_push u chosen p q = if chosen then push u p q else no_push
 
 -- the energy of a chosen pair, and 0 of one that is not
@@ -55,12 +55,14 @@ times i j tiles = count_by (λ tile. tile i j) tiles
 
 -- atoms i and j of a frame interact
 abbrev pub are_near : Composition → List Place → ℕ → ℕ → Bool
-are_near c frame i j = interacts (class_between c i j).scale (distance (place_at frame i) (place_at frame j))
+are_near c frame i j = is_in_cutoff (class_between c i j).scale (distance (place_at frame i) (place_at frame j))
 
 -- a cover for forces: each ordered pair of different atoms lies in one tile if it interacts, and else in one at most
 pub record IsForceCover (c : Composition) (frame : List Place) (tiles : List Tile) : Type 0 where
-  pub near : (i j : ℕ) → i < length frame → j < length frame → i ≢ j → are_near c frame i j ≡ true → times i j tiles ≡ 1
-  pub far : (i j : ℕ) → i < length frame → j < length frame → i ≢ j → are_near c frame i j ≡ false → times i j tiles ≤ 1
+  pub near : (i j : ℕ) → i < length frame → j < length frame → i ≢ j → are_near c frame i j ≡ true
+      → times i j tiles ≡ 1
+  pub far : (i j : ℕ) → i < length frame → j < length frame → i ≢ j → are_near c frame i j ≡ false
+      → times i j tiles ≤ 1
   pub itself : (i : ℕ) → i < length frame → times i i tiles ≡ 0
 
 -- a cover for energies: the same of the pairs i < j

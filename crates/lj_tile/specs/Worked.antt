@@ -1,24 +1,24 @@
 -- Two atoms 1.5 sigma apart in a box of 256 sigma, as one block and as two: values of tasks as theorems by computation.
 use Rattle.std.specs.Prelude.{◌≡◌, ◌∷◌, [], ℕ, true, pos, negsuc, List, refl}
 use Rattle.lj_ring.specs.declared.coordinates.Place.{Place}
-use Rattle.lj_ring.specs.Mixes.{pure}
-use Rattle.lj_ring.specs.Scales.{Units}
+use Rattle.lj_ring.specs.Mix.{pure_mix}
+use Rattle.lj_ring.specs.Scale.{Scale}
 use Rattle.lj_table.specs.Entries.{push_entry, energy_entry}
 use Rattle.lj_tile.specs.declared.names.Kind.{Kind}
 use Rattle.lj_tile.specs.declared.names.Kind.TheVariants.{Force, Energy}
 use Rattle.lj_tile.specs.Pushes.{push}
 use Rattle.lj_tile.specs.Species.{Composition}
 use Rattle.lj_tile.specs.Tiles.{push_sum, tile_force, tile_energy, force_tile, energy_tile}
-use Rattle.lj_tile.specs.Tasks.{Work, task_force, task_second, task_energy}
-use Rattle.lj_tile.specs.Rows.{on_first, on_second}
+use Rattle.lj_tile.specs.Task.{Task, task_force, task_second, task_energy}
+use Rattle.lj_tile.specs.Rows.{sum_on_first, sum_on_second}
 
 -- an edge of 256, sigma 1, and a step factor of 2^17 in units of 2^-32
-abbrev pub dimer_units : Units
+abbrev pub dimer_units : Scale
 dimer_units = record { edge = 256000000000; sigma = 16777216; strength = 131072 }
 
 -- atoms that are all alike
 abbrev pub dimer : Composition
-dimer = record { mix = pure dimer_units; seconds = 0 }
+dimer = record { mix = pure_mix dimer_units; seconds = 0 }
 
 -- a place on the x axis
 abbrev pub on_x : ℕ → Place
@@ -37,10 +37,10 @@ abbrev pub both : List Place
 both = on_x 0 ∷ on_x 25165824 ∷ []
 
 -- a task of session `a` of user 0 at step 0
-abbrev pub task_of : Kind → ℕ → ℕ → List Place → List Place → Work
+abbrev pub task_of : Kind → ℕ → ℕ → List Place → List Place → Task
 task_of kind bi bj first second = record {
   name = record { label = record { user = 0; session = 97 ∷ [] }; step = pos 0; kind = kind; bi = bi; bj = bj };
-  mix = pure dimer_units;
+  mix = pure_mix dimer_units;
   a = record { places = first; seconds = 0 };
   b = record { places = second; seconds = 0 };
 }
@@ -69,15 +69,15 @@ unfolding push_sum push push_entry
 one_block_second = refl
 
 -- so they are sums over the pairs i < j: of one block those of an atom with the later ones, and with the earlier ones
-pub row_left : on_first (task_of Force 0 0 both both) 0 2 ≡ record { x = 589; y = 0; z = 0 }
+pub row_left : sum_on_first (task_of Force 0 0 both both) 0 2 ≡ record { x = 589; y = 0; z = 0 }
 unfolding push push_entry
 row_left = refl
 
-pub row_right : on_second (task_of Force 0 0 both both) 1 2 ≡ record { x = 4294966707; y = 0; z = 0 }
+pub row_right : sum_on_second (task_of Force 0 0 both both) 1 2 ≡ record { x = 4294966707; y = 0; z = 0 }
 unfolding push push_entry
 row_right = refl
 
-pub row_right_later : on_first (task_of Force 0 0 both both) 1 2 ≡ record { x = 0; y = 0; z = 0 }
+pub row_right_later : sum_on_first (task_of Force 0 0 both both) 1 2 ≡ record { x = 0; y = 0; z = 0 }
 unfolding push push_entry
 row_right_later = refl
 

@@ -1,6 +1,6 @@
 //! Blocks of places of atoms.
 ghost use Rattle.std.specs.Prelude.{◌≡◌, ◌≤◌, ◌↔◌, ◌+◌, ◌*◌, ◌&&◌, drop, length, IsTrue};
-ghost use Rattle.lj_tile.specs.Blocks.{same_place, same_places};
+ghost use Rattle.lj_tile.specs.Block.{is_same_place, are_same_places};
 
 use arrayvec::ArrayVec;
 use lj_ring::Place;
@@ -18,9 +18,9 @@ pub struct Block {
 }
 
 impl Model for Block {
-    ghost use Rattle.lj_tile.specs.Blocks.{Sites};
+    ghost use Rattle.lj_tile.specs.Block.{Block};
 
-    ghost Value = { Sites };
+    ghost Value = { Block };
 
     ghost view = { λ b. record { places = b.places.items; seconds = b.seconds } };
 
@@ -113,7 +113,7 @@ fn are_same(a: &[Place], b: &[Place]) -> bool
 #[inline]
 fn is_same_list(a: &[Place], b: &[Place]) -> bool
     requires { length a.now ≡ length b.now }
-    ensures { result ≡ same_places a.now b.now }
+    ensures { result ≡ are_same_places a.now b.now }
 {
     let fours = a.len() / 4;
     is_same_in_fours(a, b, fours) & is_same_from(a, b, 4 * fours)
@@ -124,7 +124,8 @@ fn is_same_list(a: &[Place], b: &[Place]) -> bool
 fn is_same_in_fours(a: &[Place], b: &[Place], fours: usize) -> bool
     requires count { length a.now ≡ length b.now }
     requires enough { 4 * fours ≤ length a.now }
-    ensures { (result && same_places (drop (4 * fours) a.now) (drop (4 * fours) b.now)) ≡ same_places a.now b.now }
+    ensures { (result && are_same_places (drop (4 * fours) a.now) (drop (4 * fours) b.now))
+        ≡ are_same_places a.now b.now }
 {
     let mut same = true;
     for group in 0..fours {
@@ -138,8 +139,8 @@ fn is_same_in_fours(a: &[Place], b: &[Place], fours: usize) -> bool
 fn is_same_four(a: &[Place], b: &[Place], from: usize) -> bool
     requires count { length a.now ≡ length b.now }
     requires enough { from + 4 ≤ length a.now }
-    ensures { (result && same_places (drop (from + 4) a.now) (drop (from + 4) b.now))
-        ≡ same_places (drop from a.now) (drop from b.now) }
+    ensures { (result && are_same_places (drop (from + 4) a.now) (drop (from + 4) b.now))
+        ≡ are_same_places (drop from a.now) (drop from b.now) }
 {
     is_same(&a[from], &b[from])
         & is_same(&a[from + 1], &b[from + 1])
@@ -152,7 +153,7 @@ fn is_same_four(a: &[Place], b: &[Place], from: usize) -> bool
 fn is_same_from(a: &[Place], b: &[Place], from: usize) -> bool
     requires count { length a.now ≡ length b.now }
     requires within { from ≤ length a.now }
-    ensures { result ≡ same_places (drop from a.now) (drop from b.now) }
+    ensures { result ≡ are_same_places (drop from a.now) (drop from b.now) }
 {
     let mut same = true;
     for i in from..a.len() {
@@ -163,7 +164,7 @@ fn is_same_from(a: &[Place], b: &[Place], from: usize) -> bool
 
 #[inline]
 fn is_same(a: &Place, b: &Place) -> bool
-    ensures { result ≡ same_place a.now b.now }
+    ensures { result ≡ is_same_place a.now b.now }
 {
     (a.x == b.x) & (a.y == b.y) & (a.z == b.z)
 }

@@ -6,7 +6,7 @@ ghost use Rattle.std.specs.Cmp.Lexicographic.{pointwise, nat_list_eq_equiv, byte
 ghost use Rattle.std.specs.Hash as fed;
 ghost use Rattle.std.specs.Hash.{same_Alike};
 ghost use Rattle.lj_tile.specs.Names.{blank_name, is_name_byte, is_name, IsName, name_of};
-ghost use Rattle.lj_tile.specs.Blank.{blank};
+ghost use Rattle.lj_tile.specs.Blank.{blank_task};
 
 use arrayvec::ArrayString;
 use std::hash::{Hash, Hasher};
@@ -172,7 +172,7 @@ pub struct TaskName {
 impl TaskName {
     /// The name of an energy task of block 0 with itself.
     pub(crate) fn blank() -> TaskName
-        ensures { result ≡ blank.name }
+        ensures { result ≡ blank_task.name }
     {
         TaskName {
             label: Label {

@@ -4,7 +4,7 @@ ghost use Rattle.std.specs.Prelude.{unsigned_abs, false};
 ghost use Rattle.std.specs.Int.{bit_at};
 ghost use Rattle.lj_ring.specs.declared.coordinates.Place.{Place};
 ghost use Rattle.lj_ring.specs.Ring.{distance, image, place_at};
-ghost use Rattle.lj_ring.specs.Mixes.{can_interact};
+ghost use Rattle.lj_ring.specs.Mix.{can_interact};
 ghost use Rattle.lj_tile.specs.Near.{HasColumns, HasLanes, IsLane, grains, square_unit};
 
 use crate::blocks::BLOCK;
@@ -64,7 +64,8 @@ impl Columns {
     pub(crate) fn near(&self, here: &Place) -> u64
         requires { self.now.grain ≤ 16 }
         ensures { (interact : ℕ → Bool) (places : List Place) → HasColumns interact self.now places → (k : ℕ)
-            → k < length places → bit_at result k ≡ 0 → interact (distance here.now (place_at places k)) ≡ false }
+            → k < length places → bit_at result k ≡ 0
+            → interact (distance here.now (place_at places k)) ≡ false }
     {
         let near = self.fine.near(here, self.grain, self.reach);
         if near == 0 || self.grain == COARSEST {
@@ -212,7 +213,8 @@ fn splat(number: u16) -> u16x64
 
 #[inline(always)]
 fn differences(a: u16x64, b: u16x64) -> u16x64
-    ensures { (k : ℕ) → k < BLOCK → slice_index result k ≡ (slice_index a k + (2 ^ 16 - slice_index b k)) % 2 ^ 16 }
+    ensures { (k : ℕ) → k < BLOCK
+        → slice_index result k ≡ (slice_index a k + (2 ^ 16 - slice_index b k)) % 2 ^ 16 }
 {
     a - b
 }
@@ -274,7 +276,8 @@ fn sums(x: u16x64, y: u16x64, z: u16x64) -> u16x64
     requires x_small { (k : ℕ) → k < BLOCK → slice_index x k ≤ 2 ^ 14 }
     requires y_small { (k : ℕ) → k < BLOCK → slice_index y k ≤ 2 ^ 14 }
     requires z_small { (k : ℕ) → k < BLOCK → slice_index z k ≤ 2 ^ 14 }
-    ensures { (k : ℕ) → k < BLOCK → slice_index result k ≡ slice_index x k + slice_index y k + slice_index z k }
+    ensures { (k : ℕ) → k < BLOCK
+        → slice_index result k ≡ slice_index x k + slice_index y k + slice_index z k }
 {
     x + y + z
 }

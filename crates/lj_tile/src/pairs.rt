@@ -1,6 +1,6 @@
 //! The push of a pair of atoms.
 ghost use Rattle.std.specs.Prelude.{◌≡◌, ◌≤◌, ◌<◌, ◌^◌, pos, ◌*ℤ◌, int_div, unsigned_abs};
-ghost use Rattle.lj_ring.specs.Ring.{in_ring};
+ghost use Rattle.lj_ring.specs.Ring.{ring_residue};
 ghost use Rattle.lj_tile.specs.Pushes as pushes;
 
 use lj_ring::{Place, Scale, dist2, image};
@@ -21,7 +21,7 @@ impl Push {
     /// The sum of two pushes.
     #[inline]
     pub fn plus(self, other: Push) -> Push
-        ensures { result ≡ pushes.plus self other }
+        ensures { result ≡ pushes.sum_of_pushes self other }
     {
         Push {
             x: self.x.wrapping_add(other.x),
@@ -33,7 +33,7 @@ impl Push {
     /// This push and the opposite of the other.
     #[inline]
     pub fn minus(self, other: Push) -> Push
-        ensures { result ≡ pushes.plus self (pushes.opposite other) }
+        ensures { result ≡ pushes.sum_of_pushes self (pushes.opposite_push other) }
     {
         Push {
             x: self.x.wrapping_sub(other.x),
@@ -49,7 +49,7 @@ impl Push {
 pub fn pair_push(table: &Table, scale: &Scale, here: &Place, there: &Place) -> Push
     ensures value { result ≡ pushes.push scale.now here.now there.now }
     ensures itself { here.now ≡ there.now → result ≡ pushes.no_push }
-    ensures back { pushes.push scale.now there.now here.now ≡ pushes.opposite result }
+    ensures back { pushes.push scale.now there.now here.now ≡ pushes.opposite_push result }
 {
     let entry = table.push(dist2(here, there), scale);
     if entry == 0 {
@@ -78,7 +78,7 @@ fn strengthened(entry: i64, strength: u32) -> i64
 #[inline]
 fn push_along(factor: i64, image: i32) -> u32
     requires { unsigned_abs factor < 2 ^ 61 }
-    ensures { result ≡ in_ring (int_div (factor *ℤ image) (pos (2 ^ 56))) }
+    ensures { result ≡ ring_residue (int_div (factor *ℤ image) (pos (2 ^ 56))) }
 {
     let push = (i128::from(factor) * i128::from(image) / (1 << 56)) as i64;
     (push.cast_unsigned() % (1 << 32)) as u32

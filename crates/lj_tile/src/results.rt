@@ -2,8 +2,8 @@
 ghost use Rattle.std.specs.Prelude.{◌≡◌, ◌<◌, length, map, ◌∷◌, []};
 ghost use Rattle.std.specs.List.{range_with_len};
 ghost use Rattle.lj_tile.specs.declared.names.Kind.TheVariants.{Force, Energy};
-ghost use Rattle.lj_tile.specs.Blank.{blank};
-ghost use Rattle.lj_tile.specs.Tasks.{task_force, task_second, task_energy};
+ghost use Rattle.lj_tile.specs.Blank.{blank_task};
+ghost use Rattle.lj_tile.specs.Task.{task_force, task_second, task_energy};
 
 use crate::names::Kind;
 use crate::pairs::Push;
@@ -22,9 +22,9 @@ pub struct Done {
 }
 
 impl Model for Done {
-    ghost use Rattle.lj_tile.specs.Tasks.{Work};
+    ghost use Rattle.lj_tile.specs.Task.{Task};
 
-    ghost Value = { Work };
+    ghost Value = { Task };
 
     ghost view = { λ d. d.task };
 
@@ -93,7 +93,7 @@ impl Done {
 
     /// The result of a task of one atom: room for others.
     pub fn blank() -> Done
-        ensures { result ≡ blank }
+        ensures { result ≡ blank_task }
     {
         Done {
             task: Task::blank(),

@@ -3,14 +3,14 @@ ghost use Rattle.std.specs.Prelude.{◌≡◌, ◌≤◌, ◌<◌, ◌+◌, ◌*
 ghost use Rattle.std.specs.Prelude.{unsigned_abs, nat_lt, take};
 ghost use Rattle.std.specs.Int.{bit_at};
 ghost use Rattle.lj_ring.specs.Ring.{IsOnRing};
-ghost use Rattle.lj_ring.specs.Mixes.{can_interact};
-ghost use Rattle.lj_tile.specs.Pushes.{no_push, plus};
+ghost use Rattle.lj_ring.specs.Mix.{can_interact};
+ghost use Rattle.lj_tile.specs.Pushes.{no_push, sum_of_pushes};
 ghost use Rattle.lj_tile.specs.Species as species;
 ghost use Rattle.lj_tile.specs.Species.{is_in};
 ghost use Rattle.lj_tile.specs.Tiles.{place_at};
 ghost use Rattle.lj_tile.specs.Near.{HasColumns};
-ghost use Rattle.lj_tile.specs.Tasks.{task_force, task_second, task_energy, are_in_order};
-ghost use Rattle.lj_tile.specs.Rows.{on_first, on_second, pushes_in, energies_in, energy_row, AreRows, ArePushed, IsSilent};
+ghost use Rattle.lj_tile.specs.Task.{task_force, task_second, task_energy, are_in_order};
+ghost use Rattle.lj_tile.specs.Rows.{sum_on_first, sum_on_second, pushes_in, energies_in, energy_row, AreRows, ArePushed, IsSilent};
 
 use crate::blocks::BLOCK;
 use crate::near::Columns;
@@ -74,7 +74,8 @@ impl ForceSums {
 
 /// Sums the pushes on the places of both blocks, in the room of older sums. Where the two are one, its sums are the first.
 pub(crate) fn sum_forces(task: &Task, table: &Table, sums: &mut ForceSums)
-    ensures first { (t : ℕ) → t < length task.now.a.places → slice_index_or sums.new.first t no_push ≡ task_force task.now t }
+    ensures first { (t : ℕ) → t < length task.now.a.places
+        → slice_index_or sums.new.first t no_push ≡ task_force task.now t }
     ensures second { task.now.name.bi < task.now.name.bj → (s : ℕ) → s < length task.now.b.places →
         slice_index_or sums.new.second s no_push ≡ task_second task.now s }
 {
@@ -88,7 +89,7 @@ pub(crate) fn sum_forces(task: &Task, table: &Table, sums: &mut ForceSums)
 /// earlier ones, as of the second.
 fn join(sums: &mut ForceSums)
     ensures first { (t : ℕ) → t < BLOCK → slice_index_or sums.new.first t no_push
-        ≡ plus (slice_index_or sums.old.first t no_push) (slice_index_or sums.old.second t no_push) }
+        ≡ sum_of_pushes (slice_index_or sums.old.first t no_push) (slice_index_or sums.old.second t no_push) }
     ensures second { sums.new.second ≡ sums.old.second }
 {
     for t in 0..BLOCK {
@@ -99,9 +100,9 @@ fn join(sums: &mut ForceSums)
 /// Sums over the pairs of atoms i < j, i in the first block and j in the second: each pair is looked at once.
 fn sum_pairs(task: &Task, table: &Table, sums: &mut ForceSums)
     ensures first { (t : ℕ) → t < length task.now.a.places →
-        slice_index_or sums.new.first t no_push ≡ on_first task.now t (length task.now.b.places) }
+        slice_index_or sums.new.first t no_push ≡ sum_on_first task.now t (length task.now.b.places) }
     ensures second { (s : ℕ) → s < length task.now.b.places →
-        slice_index_or sums.new.second s no_push ≡ on_second task.now s (length task.now.a.places) }
+        slice_index_or sums.new.second s no_push ≡ sum_on_second task.now s (length task.now.a.places) }
 {
     let places = task.second().places();
     read_each(places);
@@ -134,7 +135,7 @@ fn row(t: usize, task: &Task, columns: &Columns, table: &Table, second: &mut [Pu
     requires columns { HasColumns (can_interact task.now.mix) columns.now task.now.b.places }
     requires on_ring { (s : ℕ) → s < length task.now.b.places → IsOnRing (place_at task.now.b.places s) }
     requires before { AreRows task.now t second.old }
-    ensures sum { result ≡ on_first task.now t (length task.now.b.places) }
+    ensures sum { result ≡ sum_on_first task.now t (length task.now.b.places) }
     ensures after { AreRows task.now (t + 1) second.new }
 {
     let here = task.first().places()[t];
@@ -153,7 +154,7 @@ fn near_row(near: u64, t: usize, task: &Task, table: &Table, second: &mut [Push;
     requires first { t < length task.now.a.places }
     requires near { (s : ℕ) → s < length task.now.b.places → bit_at near s ≡ 0 → IsSilent task.now t s }
     requires before { AreRows task.now t second.old }
-    ensures sum { result ≡ on_first task.now t (length task.now.b.places) }
+    ensures sum { result ≡ sum_on_first task.now t (length task.now.b.places) }
     ensures after { AreRows task.now (t + 1) second.new }
 {
     let near = near & later(t, task);

@@ -1,8 +1,8 @@
 //! Tasks.
 ghost use Rattle.std.specs.Prelude.{◌≡◌, ◌≤◌, ◌<◌, ◌↔◌, length, IsTrue};
 ghost use Rattle.lj_tile.specs.declared.names.Kind.TheVariants.{Energy};
-ghost use Rattle.lj_tile.specs.Tasks.{IsTask};
-ghost use Rattle.lj_tile.specs.Blank.{blank};
+ghost use Rattle.lj_tile.specs.Task.{IsTask};
+ghost use Rattle.lj_tile.specs.Blank.{blank_task};
 
 use crate::blocks::{BLOCK, Block};
 use crate::names::TaskName;
@@ -20,9 +20,9 @@ pub struct Task {
 }
 
 impl Model for Task {
-    ghost use Rattle.lj_tile.specs.Tasks.{Work, IsTask};
+    ghost use Rattle.lj_tile.specs.Task.{Task, IsTask};
 
-    ghost Value = { Work };
+    ghost Value = { Task };
 
     ghost view = { λ t. record { name = t.name; mix = t.mix; a = t.first; b = t.second } };
 
@@ -52,7 +52,7 @@ impl Task {
 
     /// The energy task of one atom in the greatest box: room for others.
     pub fn blank() -> Task
-        ensures { result ≡ blank }
+        ensures { result ≡ blank_task }
     {
         let place = [Place { x: 0, y: 0, z: 0 }];
         let block = Block::new(&place, 0);

@@ -9,7 +9,7 @@ use Rattle.lj_fixed.specs.Numbers.{number_of}
 use Rattle.lj_wire.specs.declared.verb.Verb.{Verb}
 use Rattle.lj_wire.specs.Verbs.{has_body, verb_of}
 use Rattle.lj_wire.specs.Commands.{◌>>=◌, Words, count_of, last_count, is_over, words_in, body_len, verb_body_len}
-use Rattle.lj_wire.specs.Commands.{announced}
+use Rattle.lj_wire.specs.Commands.{body_len_announced}
 
 -- no count is above its limit
 limited : (short : Bool) (count : ℕ) → unwrap_or (cond (short && nat_le count 1048576) (Some count) None) 0 ≤ 1048576
@@ -50,7 +50,7 @@ body_len-most (word ∷ words) = by_verb (verb_of word)
     by_verb None = omega arith
     by_verb (Some verb) = by_test (has_body verb)
 
-pub announced-most : (line : List ℕ) → announced line ≤ 1048576
+pub announced-most : (line : List ℕ) → body_len_announced line ≤ 1048576
 announced-most line = by_test (is_over line)
   where
     by_test : (over : Bool) → cond over 0 (body_len (words_in line)) ≤ 1048576

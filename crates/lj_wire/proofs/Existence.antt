@@ -9,8 +9,8 @@ use Rattle.lj_xyz.specs.Lines.{is_line_feed}
 use Rattle.lj_wire.specs.declared.item.Fault.TheVariants.{Long, Enough}
 use Rattle.lj_wire.specs.declared.item.Item.{Item}
 use Rattle.lj_wire.specs.declared.item.Item.TheVariants.{Last}
-use Rattle.lj_wire.specs.Items.{ends}
-use Rattle.lj_wire.specs.Commands.{announced, item_of}
+use Rattle.lj_wire.specs.Items.{is_ending}
+use Rattle.lj_wire.specs.Commands.{body_len_announced, item_of}
 use Rattle.lj_wire.specs.declared.limits.TheConstants.{MAX_ITEMS}
 use Rattle.lj_wire.specs.Streams.{LacksLineFeed, IsLineItem, IsLongItem, IsItem, Splits}
 
@@ -53,9 +53,9 @@ first_line (byte ∷ bytes) = by_test (is_line_feed byte) refl (first_line bytes
 -- an item, and a splitting of what stands after it
 onward : (n : ℕ) (bytes front behind : List ℕ) (item : Item) → bytes ≡ front ++ behind → IsItem n front item
     → Split (n + 1) behind → Split n bytes
-onward n bytes front behind item e i next = by_end (ends item) refl
+onward n bytes front behind item e i next = by_end (is_ending item) refl
   where
-    by_end : (end : Bool) → ends item ≡ end → Split n bytes
+    by_end : (end : Bool) → is_ending item ≡ end → Split n bytes
     by_end true f = (
       item ∷ [],
       behind,
@@ -83,7 +83,7 @@ onward n bytes front behind item e i next = by_end (ends item) refl
 
 -- an item that ends the connection
 ended_by : (n : ℕ) (bytes front behind : List ℕ) (item : Item) → bytes ≡ front ++ behind → IsItem n front item
-    → ends item ≡ true → Split n bytes
+    → is_ending item ≡ true → Split n bytes
 ended_by n bytes front behind item e i f =
     (item ∷ [], behind, (front, behind, e, i, (λ h. (refl, refl)), (λ h. let no_way : true ≡ false = sym f ∙ h in cc)))
 
@@ -102,9 +102,9 @@ Shorter n bytes = (behind : List ℕ) → length behind < length bytes → Split
 
 line_split : (n : ℕ) (bytes : List ℕ) → n < MAX_ITEMS → (f : FirstLine bytes) → length f.line < 65536
     → Shorter n bytes → Split n bytes
-line_split n bytes below f l shorter = by_length (cases_lt (length f.behind) (announced f.line))
+line_split n bytes below f l shorter = by_length (cases_lt (length f.behind) (body_len_announced f.line))
   where
-    by_length : (length f.behind < announced f.line) ⊎ (announced f.line ≤ length f.behind) → Split n bytes
+    by_length : (length f.behind < body_len_announced f.line) ⊎ (body_len_announced f.line ≤ length f.behind) → Split n bytes
     by_length (inl short) = (
       [],
       bytes,
@@ -123,21 +123,21 @@ line_split n bytes below f l shorter = by_length (cases_lt (length f.behind) (an
       ),
     )
     by_length (inr enough) =
-        let body = take (announced f.line) f.behind in
-        let behind = drop (announced f.line) f.behind in
-        let cut = ap (λ x. f.line ++ 10 ∷ x) (sym (take-append-drop (announced f.line) f.behind))
+        let body = take (body_len_announced f.line) f.behind in
+        let behind = drop (body_len_announced f.line) f.behind in
+        let cut = ap (λ x. f.line ++ 10 ∷ x) (sym (take-append-drop (body_len_announced f.line) f.behind))
         ∙ sym (append_assoc f.line (10 ∷ body) behind) in
         let item : IsLineItem (f.line ++ 10 ∷ body) (item_of f.line body) = record {
           line = f.line;
           body = body;
           whole = refl;
           is_line = (f.lacks, l);
-          announces = length-take-le (announced f.line) f.behind enough;
+          announces = length-take-le (body_len_announced f.line) f.behind enough;
           means = refl;
         } in
         let parts = length-append body behind in
         let all = length-append f.line (10 ∷ f.behind) in
-        let same = ap length (take-append-drop (announced f.line) f.behind) in
+        let same = ap length (take-append-drop (body_len_announced f.line) f.behind) in
         onward n bytes (f.line ++ 10 ∷ body) behind (item_of f.line body) (f.whole ∙ cut) (inl (below, inl item))
         (shorter behind (omega (arith, ap length f.whole, all, parts, same)))
 

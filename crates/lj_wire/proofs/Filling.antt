@@ -18,12 +18,12 @@ use Rattle.lj_wire.specs.Displacements.{displacement_of}
 use Rattle.lj_wire.specs.Verbs.{verb_of}
 use Rattle.lj_wire.specs.Commands.{◌>>=◌, Words, one_name, two_names, name_and_number, bare_command, session_command}
 use Rattle.lj_wire.specs.Commands.{branch_command, number_command, tug_command, list_command, load_of, load_mix_of}
-use Rattle.lj_wire.specs.Commands.{load_command, or_syntax, last_count, counted_item, verb_item, item_of_words, is_over}
+use Rattle.lj_wire.specs.Commands.{load_command, item_or_syntax, last_count, counted_item, verb_item, item_of_words, is_over}
 use Rattle.lj_wire.specs.Commands.{over_item, words_in, item_with}
 
 -- what is no load stays as it is
 abbrev Stays : Option Command → Type 0
-Stays command = (body : LoadBody) → with_body (or_syntax command) body ≡ or_syntax command
+Stays command = (body : LoadBody) → with_body (item_or_syntax command) body ≡ item_or_syntax command
 
 mapped : {A : Type 0} (command : A → Command) (o : Option A) → ((a : A) → Stays (Some (command a)))
     → Stays (option_map command o)
@@ -69,8 +69,8 @@ number_stays : (command : List ℕ → ℕ → Command) → ((p : List ℕ × �
 number_stays command stays words = mapped (λ p. command p.0 p.1) (name_and_number words) stays
 
 load_filled : (load : Option Load) (body : LoadBody)
-    → with_body (or_syntax (option_map (λ load. command.Load (record load { body = Unread })) load)) body
-    ≡ or_syntax (option_map (λ load. command.Load (record load { body = body })) load)
+    → with_body (item_or_syntax (option_map (λ load. command.Load (record load { body = Unread })) load)) body
+    ≡ item_or_syntax (option_map (λ load. command.Load (record load { body = body })) load)
 load_filled None body = refl
 load_filled (Some load) body = refl
 

@@ -3,12 +3,12 @@ use Rattle.std.proofs.Common.{◌<◌, ◌≡◌, ℕ, ◌+◌, List, [], ◌∷
 use Rattle.std.proofs.Common.{ap, ◌∙◌, arith}
 use Rattle.std.proofs.lemmas.List.{length-append}
 use Rattle.lj_wire.specs.declared.hello.Hello.{Hello}
-use Rattle.lj_wire.specs.Ahead.{Ahead}
+use Rattle.lj_wire.specs.Input.{Input}
 use Rattle.lj_wire.specs.Greetings.{hello_of, TakesHello}
 use Rattle.lj_wire.proofs.Wholes.{LineTaken}
 
 -- the first line was taken, with its line feed
-pub greeted : (old found new : Ahead) (line : List ℕ) (at : ℕ) (hello : Hello) → LineTaken old new line
+pub greeted : (old found new : Input) (line : List ℕ) (at : ℕ) (hello : Hello) → LineTaken old new line
     → length line ≡ at → (at < length old.held → found ≡ old)
     → new ≡ record found { held = drop (at + 1) found.held } → hello ≡ hello_of line
     → TakesHello old new hello

@@ -3,22 +3,22 @@ use Rattle.std.proofs.Common.{◌≡◌, ℕ, Bool, true, false, cond, List, [],
 use Rattle.std.proofs.Common.{sym, ap, ◌∙◌, subst}
 use Rattle.std.proofs.lemmas.List.{append-nil}
 use Rattle.std.specs.Io.KnownBytes.{Consumes, IsAtEnd}
-use Rattle.lj_session.specs.Answers.{performed}
+use Rattle.lj_session.specs.Answers.{command_result}
 use Rattle.lj_session.specs.Users.{User}
 use Rattle.lj_wire.specs.declared.item.Item.{Item}
 use Rattle.lj_wire.specs.declared.reader.phase.Phase.TheVariants.{Open, Over}
-use Rattle.lj_wire.specs.Items.{ends}
-use Rattle.lj_wire.specs.Standings.{Standing, IsLost, IsHandedOut, HandsAll, AreHandedOut, Ceases}
+use Rattle.lj_wire.specs.Items.{is_ending}
+use Rattle.lj_wire.specs.LineReader.{LineReader, IsLost, IsHandedOut, HandsAll, AreHandedOut, Ceases}
 use Rattle.lj_wire.specs.Streams.{IsPart, Splits}
-use Rattle.lj_wire.specs.Told.{answered}
+use Rattle.lj_wire.specs.Told.{item_reply}
 use Rattle.lj_wire.proofs.Splitting.{same_item, no_part}
 
 -- a load whose body is lost
 pub lost_answered : (user : User) (found item : Item) (mark : Bool) → IsLost found item
-    → answered user item mark ≡ answered user found true
-unfolding performed
+    → item_reply user item mark ≡ item_reply user found true
+unfolding command_result
 lost_answered user found item mark l =
-    ap (λ i. answered user i mark) l.item_is ∙ ap (λ i. answered user i true) (sym l.found_is)
+    ap (λ i. item_reply user i mark) l.item_is ∙ ap (λ i. item_reply user i true) (sym l.found_is)
 
 -- known bytes that begin with a front, and what is left of them
 pub known : (bytes front : List ℕ) (old new : Option (List ℕ)) → old ≡ Some bytes → Consumes old new front
@@ -31,12 +31,12 @@ known bytes front old new is c = by_new new (subst (λ (o : Option (List ℕ)). 
     by_new (Some behind) c = (behind, refl, c)
 
 -- the item that is handed out for another ends the connection where that does
-pub ends_alike : (found item : Item) → IsHandedOut found item → ends item ≡ ends found
-ends_alike found item (inl same) = ap ends same
-ends_alike found item (inr l) = ap ends l.item_is ∙ sym (ap ends l.found_is)
+pub ends_alike : (found item : Item) → IsHandedOut found item → is_ending item ≡ is_ending found
+ends_alike found item (inl same) = ap is_ending same
+ends_alike found item (inr l) = ap is_ending l.item_is ∙ sym (ap is_ending l.found_is)
 
 -- nothing is handed out where the reader is over
-pub none_after : (old new : Standing) (handed : List Item) → old.phase ≡ Over → HandsAll old handed new → handed ≡ []
+pub none_after : (old new : LineReader) (handed : List Item) → old.phase ≡ Over → HandsAll old handed new → handed ≡ []
 none_after old new [] over h = refl
 none_after old new (item ∷ handed) over h = let differ : Open ≡ Over = sym h.1.was_open ∙ over in cc
 
@@ -44,7 +44,7 @@ abbrev pub First : List Item → List Item → Type 0
 First items handed =
     (founds : List Item) × (others : List Item) × (items ≡ founds ++ others) × AreHandedOut founds handed
 
-pub come_first : (old new : Standing) (bytes rest : List ℕ) (handed items : List Item)
+pub come_first : (old new : LineReader) (bytes rest : List ℕ) (handed items : List Item)
     → old.left ≡ Some bytes → HandsAll old handed new
     → Splits old.items bytes items rest → First items handed
 come_first old new bytes rest [] items is h s = ([], items, refl, tt)
@@ -54,14 +54,14 @@ come_first old new bytes rest (item ∷ handed) [] is h s =
 come_first old new bytes rest (item ∷ handed) (next ∷ items) is h s =
     let k = known bytes h.1.front old.left h.0.left is h.1.taken in
     let same = same_item old.items h.1.front s.0 k.0 s.1 h.1.found next (sym k.2 ∙ s.2) h.1.is_item s.3 in
-    let alike = ends_alike h.1.found item h.1.is_found ∙ ap ends same.1 in
+    let alike = ends_alike h.1.found item h.1.is_found ∙ ap is_ending same.1 in
     let handed_is : IsHandedOut next item = subst (λ found. IsHandedOut found item) same.1 h.1.is_found in
-    by_end (ends next) refl (h.1.phase_is ∙ ap (λ end. cond end Over Open) alike) handed_is
+    by_end (is_ending next) refl (h.1.phase_is ∙ ap (λ end. cond end Over Open) alike) handed_is
     (λ goes. come_first h.0 new s.1 rest handed items (k.1 ∙ ap Some same.0) h.2
     (subst (λ n. Splits n s.1 items rest) (sym h.1.items_is) (s.5 goes)))
   where
-    by_end : (end : Bool) → ends next ≡ end → h.0.phase ≡ cond (ends next) Over Open → IsHandedOut next item
-        → (ends next ≡ false → First items handed) → First (next ∷ items) (item ∷ handed)
+    by_end : (end : Bool) → is_ending next ≡ end → h.0.phase ≡ cond (is_ending next) Over Open → IsHandedOut next item
+        → (is_ending next ≡ false → First items handed) → First (next ∷ items) (item ∷ handed)
     by_end true e phase is_handed onward =
         let none = none_after h.0 new handed (phase ∙ ap (λ end. cond end Over Open) e) h.2 in
         (next ∷ [], items, refl, (is_handed, subst (AreHandedOut []) (sym none) tt))
@@ -70,7 +70,7 @@ come_first old new bytes rest (item ∷ handed) (next ∷ items) is h s =
         (next ∷ more.0, more.1, ap (λ l. next ∷ l) more.2, (is_handed, more.3))
 
 -- less than an item is left at the end of the input, so that all items were handed out
-pub are_all : (old last new : Standing) (bytes rest : List ℕ) (handed items : List Item)
+pub are_all : (old last new : LineReader) (bytes rest : List ℕ) (handed items : List Item)
     → old.left ≡ Some bytes → HandsAll old handed last
     → Ceases last new → Splits old.items bytes items rest → AreHandedOut items handed
 are_all old last new bytes rest [] [] is h c s = tt
@@ -91,14 +91,14 @@ are_all old last new bytes rest (item ∷ handed) [] is h c s =
 are_all old last new bytes rest (item ∷ handed) (next ∷ items) is h c s =
     let k = known bytes h.1.front old.left h.0.left is h.1.taken in
     let same = same_item old.items h.1.front s.0 k.0 s.1 h.1.found next (sym k.2 ∙ s.2) h.1.is_item s.3 in
-    let alike = ends_alike h.1.found item h.1.is_found ∙ ap ends same.1 in
+    let alike = ends_alike h.1.found item h.1.is_found ∙ ap is_ending same.1 in
     let handed_is : IsHandedOut next item = subst (λ found. IsHandedOut found item) same.1 h.1.is_found in
-    by_end (ends next) refl (h.1.phase_is ∙ ap (λ end. cond end Over Open) alike) handed_is
+    by_end (is_ending next) refl (h.1.phase_is ∙ ap (λ end. cond end Over Open) alike) handed_is
     (λ goes. are_all h.0 last new s.1 rest handed items (k.1 ∙ ap Some same.0) h.2 c
     (subst (λ n. Splits n s.1 items rest) (sym h.1.items_is) (s.5 goes)))
   where
-    by_end : (end : Bool) → ends next ≡ end → h.0.phase ≡ cond (ends next) Over Open → IsHandedOut next item
-        → (ends next ≡ false → AreHandedOut items handed) → AreHandedOut (next ∷ items) (item ∷ handed)
+    by_end : (end : Bool) → is_ending next ≡ end → h.0.phase ≡ cond (is_ending next) Over Open → IsHandedOut next item
+        → (is_ending next ≡ false → AreHandedOut items handed) → AreHandedOut (next ∷ items) (item ∷ handed)
     by_end true e phase is_handed onward =
         let over = phase ∙ ap (λ end. cond end Over Open) e in
         let none = none_after h.0 last handed over h.2 in

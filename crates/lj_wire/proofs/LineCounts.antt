@@ -11,13 +11,13 @@ use Rattle.std.proofs.lemmas.List.{drop_more, take_more}
 use Rattle.std.proofs.lemmas.List.Folds.{concat-append}
 use Rattle.std.proofs.lemmas.Option.{slice_get_within, get_or_from_slice_get, none-some, slice_get-get_or}
 use Rattle.std.proofs.lemmas.Bool.{cases_lt}
-use Rattle.lj_ring.specs.Mixes.{edge_of}
+use Rattle.lj_ring.specs.Mix.{edge_of}
 use Rattle.lj_ring.specs.declared.coordinates.Place.{Place}
-use Rattle.lj_step.specs.Live.{Live}
+use Rattle.lj_step.specs.Sim.{Sim}
 use Rattle.lj_step.specs.Motion.{Simulation}
 use Rattle.lj_session.specs.declared.reply.Reply.{Reply}
 use Rattle.lj_session.specs.declared.reply.Reply.TheVariants.{Dumped, Listed, ListedBranches}
-use Rattle.lj_session.specs.States.{Held, session_meant}
+use Rattle.lj_session.specs.UserState.{HeldSession, session_meant}
 use Rattle.lj_session.specs.Users.{User}
 use Rattle.lj_session.proofs.Owed.{count-meant}
 use Rattle.lj_wire.specs.Texts.{atom_lines, dump_lines, branch_lines, branch_line, reply_lines}
@@ -29,7 +29,7 @@ atom_lines-few edge (symbol ∷ symbols) [] = omega arith
 atom_lines-few edge (symbol ∷ symbols) (place ∷ places) = let rest = atom_lines-few edge symbols places in omega arith
 
 -- the lines of the frame of a session that is meant
-pub dump-few : (entry : Option Held) (live : Live) (name : List ℕ) (count : ℕ)
+pub dump-few : (entry : Option HeldSession) (live : Sim) (name : List ℕ) (count : ℕ)
     → option_map (λ held. held.live) entry ≡ Some live → count ≡ length live.sim.cur
     → IfSome entry (λ held. length (dump_lines name (Some (session_meant held))) ≤ count + 2 + 1)
 dump-few None live name count is counted = tt
@@ -42,7 +42,7 @@ dump-few (Some held) live name count is counted =
     omega (arith, few, atoms)
 
 -- the lines of what is saved in a session that is meant
-pub branches-few : (entry : Option Held) (saved : List (List ℕ × Simulation)) (name : List ℕ) (count : ℕ)
+pub branches-few : (entry : Option HeldSession) (saved : List (List ℕ × Simulation)) (name : List ℕ) (count : ℕ)
     → option_map (λ held. held.saved) entry ≡ Some saved → count ≡ length saved
     → IfSome entry (λ held. length (branch_lines name (Some (session_meant held))) ≤ count + 1)
 branches-few None saved name count is counted = tt

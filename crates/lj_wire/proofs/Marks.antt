@@ -3,11 +3,11 @@ use Rattle.std.proofs.Common.{◌≡◌, ℕ, ◌+◌, Bool, true, false, not, L
 use Rattle.std.proofs.Common.{ap}
 use Rattle.std.specs.Fmt.{digits}
 use Rattle.std.specs.Prelude.{is_some, nat_lt, nat_le}
-use Rattle.lj_ring.specs.Mixes.{Mixture}
-use Rattle.lj_xyz.specs.declared.fault.XyzFault.{XyzFault}
-use Rattle.lj_xyz.specs.declared.fault.XyzKind.{XyzKind}
-use Rattle.lj_xyz.specs.declared.fault.XyzKind.TheVariants as kind
-use Rattle.lj_xyz.specs.declared.row.Row.{Row}
+use Rattle.lj_ring.specs.Mix.{Mix}
+use Rattle.lj_xyz.specs.declared.xyz_fault.XyzFault.{XyzFault}
+use Rattle.lj_xyz.specs.declared.xyz_fault.XyzKind.{XyzKind}
+use Rattle.lj_xyz.specs.declared.xyz_fault.XyzKind.TheVariants as kind
+use Rattle.lj_xyz.specs.declared.atom_row.Row.{Row}
 use Rattle.lj_xyz.specs.Atoms.{◌>>=◌}
 use Rattle.lj_xyz.specs.Lines.{lines_of}
 use Rattle.lj_xyz.specs.Reading.{reading}
@@ -25,23 +25,23 @@ use Rattle.lj_session.specs.declared.reply.Reply.{Reply}
 use Rattle.lj_session.specs.declared.reply.Reply.TheVariants as reply
 use Rattle.lj_session.specs.declared.substance.Substance.{Substance}
 use Rattle.lj_session.specs.declared.substance.Substance.TheVariants.{Pure, Mixed}
-use Rattle.lj_session.specs.Substances.{loaded, symbols_of}
+use Rattle.lj_session.specs.Substances.{load_reply, symbols_of}
 use Rattle.lj_session.specs.Users.{Session, User, with_session, atoms_of, atoms_used, branches_used}
-use Rattle.lj_branch.specs.Named.{named, put}
-use Rattle.lj_session.specs.Loads.{unless, admitted, body_held, session_of_frames, frames_or_refusal, reading_mode}
-use Rattle.lj_session.specs.Loads.{within_quota, session_read}
-use Rattle.lj_session.specs.Answers.{session_of, performed, settled}
+use Rattle.lj_branch.specs.Named.{value_named, with_value}
+use Rattle.lj_session.specs.Loads.{refusal_unless, admission, body_or_refusal, session_of_frames, frames_or_refusal, reading_mode}
+use Rattle.lj_session.specs.Loads.{session_within_quota, session_read}
+use Rattle.lj_session.specs.Answers.{session_of, command_result, reply_and_user}
 use Rattle.lj_wire.specs.declared.item.Item.{Item}
 use Rattle.lj_wire.specs.declared.item.Item.TheVariants as items
 use Rattle.lj_wire.specs.Texts.{text, is_memory}
-use Rattle.lj_wire.specs.Told.{told}
+use Rattle.lj_wire.specs.Told.{item_text}
 
 -- what a command comes to, and what is then told
 abbrev Outcome : Type 0
 Outcome = Result (Reply × User) Refusal
 
 abbrev outcome_told : User → Outcome → List ℕ × User
-outcome_told user outcome = let a = settled user outcome in (text a.1 a.0, a.1)
+outcome_told user outcome = let a = reply_and_user user outcome in (text a.1 a.0, a.1)
 
 -- the mark changes nothing, or it makes the difference between the memory refusal and another reply
 abbrev Tells : User → (Bool → Outcome) → Type 0
@@ -76,28 +76,28 @@ kind_told user kind.Species line = refl
 
 -- what a load does with its session
 abbrev loads : User → List ℕ → Substance → Session → Outcome
-loads user name substance session = Ok (loaded substance name (atoms_of session), with_session name session user)
+loads user name substance session = Ok (load_reply substance name (atoms_of session), with_session name session user)
 
 within_told : (user : User) (name : List ℕ) (substance : Substance) (session : Session) (fits : Bool)
-    → is_memory (outcome_told user ((unless fits QuotaAtoms >>= λ room. Ok session) >>= loads user name substance)).0
+    → is_memory (outcome_told user ((refusal_unless fits QuotaAtoms >>= λ room. Ok session) >>= loads user name substance)).0
     ≡ false
 unfolding text digits
 within_told user name (Pure sigma step_factor) session true = refl
 within_told user name (Mixed symbols first unlike second) session true = refl
 within_told user name substance session false = refl
 
-read_told : (user : User) (name : List ℕ) (substance : Substance) (mix : Mixture)
+read_told : (user : User) (name : List ℕ) (substance : Substance) (mix : Mix)
     (read : Result (List (List Row)) XyzFault)
     → is_memory (outcome_told user ((frames_or_refusal read
-    >>= λ frames. within_quota user (session_of_frames mix (symbols_of substance) frames))
+    >>= λ frames. session_within_quota user (session_of_frames mix (symbols_of substance) frames))
     >>= loads user name substance)).0 ≡ false
 read_told user name substance mix (Ok frames) =
     let session = session_of_frames mix (symbols_of substance) frames in
     within_told user name substance session (nat_le (atoms_used user + atoms_of session) user.quota.atoms)
 read_told user name substance mix (Err fault) = kind_told user fault.kind fault.line
 
-load_tells : (user : User) (load : Load) (body : LoadBody) (mixture : Result Mixture Refusal)
-    → Tells user (λ mark. mixture >>= λ mix. body_held body mark
+load_tells : (user : User) (load : Load) (body : LoadBody) (mixture : Result Mix Refusal)
+    → Tells user (λ mark. mixture >>= λ mix. body_or_refusal body mark
     >>= λ bytes. session_read user mix load bytes >>= loads user load.name load.substance)
 load_tells user load body (Err refusal) = inl (λ mark. refl)
 load_tells user load Unread (Ok mix) = inl (λ mark. refl)
@@ -113,11 +113,11 @@ abbrev branched : User → List ℕ → List ℕ → Session → Outcome
 branched user name branch session =
     Ok (
       reply.Branched name branch session.sim.step,
-      with_session name (record session { saved = put branch session.sim session.saved }) user,
+      with_session name (record session { saved = with_value branch session.sim session.saved }) user,
     )
 
 room_tells : (user : User) (name branch : List ℕ) (session : Session) (new room : Bool)
-    → Tells user (λ mark. unless new BranchExists >>= λ n. unless room QuotaBranches >>= λ r. unless (not mark) Memory
+    → Tells user (λ mark. refusal_unless new BranchExists >>= λ n. refusal_unless room QuotaBranches >>= λ r. refusal_unless (not mark) Memory
     >>= λ h. branched user name branch session)
 unfolding text digits
 room_tells user name branch session true true = inr (refl, refl)
@@ -125,17 +125,17 @@ room_tells user name branch session true false = inl (λ mark. refl)
 room_tells user name branch session false room = inl (λ mark. refl)
 
 branch_tells : (user : User) (name branch : List ℕ) (found : Result Session Refusal)
-    → Tells user (λ mark. found >>= λ session. unless (not (is_some (named branch session.saved))) BranchExists >>= λ n.
-    unless (nat_lt (branches_used user) user.quota.branches) QuotaBranches >>= λ r.
-    unless (not mark) Memory >>= λ h. branched user name branch session)
+    → Tells user (λ mark. found >>= λ session. refusal_unless (not (is_some (value_named branch session.saved))) BranchExists >>= λ n.
+    refusal_unless (nat_lt (branches_used user) user.quota.branches) QuotaBranches >>= λ r.
+    refusal_unless (not mark) Memory >>= λ h. branched user name branch session)
 branch_tells user name branch (Err refusal) = inl (λ mark. refl)
 branch_tells user name branch (Ok session) =
-    room_tells user name branch session (not (is_some (named branch session.saved)))
+    room_tells user name branch session (not (is_some (value_named branch session.saved)))
     (nat_lt (branches_used user) user.quota.branches)
 
-command_tells : (user : User) (command : Command) → Tells user (λ mark. performed user command mark)
-unfolding performed
-command_tells user (LoadCommand load) = load_tells user load load.body (admitted user load)
+command_tells : (user : User) (command : Command) → Tells user (λ mark. command_result user command mark)
+unfolding command_result
+command_tells user (LoadCommand load) = load_tells user load load.body (admission user load)
 command_tells user (Advance name n) = inl (λ mark. refl)
 command_tells user (Start name n) = inl (λ mark. refl)
 command_tells user (Reverse name) = inl (λ mark. refl)
@@ -151,9 +151,9 @@ command_tells user (ListBranches name) = inl (λ mark. refl)
 command_tells user (Unload name) = inl (λ mark. refl)
 command_tells user Bye = inl (λ mark. refl)
 
-pub marked : (user : User) (item : Item) (mark : Bool) → told user item mark
-    ≡ told user item (is_memory (told user item mark).0)
+pub marked : (user : User) (item : Item) (mark : Bool) → item_text user item mark
+    ≡ item_text user item (is_memory (item_text user item mark).0)
 marked user (items.Command command) mark =
-    marked_by user (λ m. performed user command m) (command_tells user command) mark
+    marked_by user (λ m. command_result user command m) (command_tells user command) mark
 marked user (items.Bad fault) mark = refl
 marked user (items.Last fault) mark = refl

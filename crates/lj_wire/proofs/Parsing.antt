@@ -6,12 +6,12 @@ use Rattle.lj_wire.specs.declared.item.Item.{Item}
 use Rattle.lj_wire.specs.declared.item.Item.TheVariants.{Bad}
 use Rattle.lj_wire.specs.Verbs.{verb_of}
 use Rattle.lj_wire.specs.Commands.{Words, verb_item, verb_body_len, item_of_words}
-use Rattle.lj_wire.specs.Commands.{body_len, is_over, over_item, words_in, announced, item_with}
+use Rattle.lj_wire.specs.Commands.{body_len, is_over, over_item, words_in, body_len_announced, item_with}
 
 -- the item of a line, and how many bytes of body follow it
 pub record Says (line : List ℕ) (body : LoadBody) (item : Item) (len : ℕ) : Type 0 where
   pub item_is : item ≡ item_with line body
-  pub len_is : len ≡ announced line
+  pub len_is : len ≡ body_len_announced line
 
 pub says_over : (line : List ℕ) (body : LoadBody) → is_over line ≡ true → Says line body (over_item line) 0
 says_over line body long = record { item_is = rw long refl; len_is = rw long refl }

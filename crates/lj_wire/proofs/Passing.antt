@@ -3,13 +3,13 @@ use Rattle.std.proofs.Common.{◌≡◌, ℕ, ◌+◌, ◌-◌, ◌<◌, ◌≤�
 use Rattle.std.proofs.Common.{sym, ap, ◌∙◌, subst, arith, append_assoc}
 use Rattle.std.proofs.lemmas.List.{take-append-drop, drop_at, drop_all, length-append, length-take-le}
 use Rattle.lj_wire.specs.declared.limits.TheConstants.{MAX_LINE_BYTES, LONG_LINE_BYTES}
-use Rattle.lj_wire.specs.Ahead.{Ahead, Takes, Grows}
+use Rattle.lj_wire.specs.Input.{Input, Takes, Grows}
 use Rattle.lj_wire.specs.Steps.{TakesLongLine}
 use Rattle.lj_wire.specs.Streams.{LacksLineFeed}
 use Rattle.lj_wire.proofs.Splitting.{no_feed_beyond}
 use Rattle.lj_wire.proofs.Taking.{Takes-none, Takes-trans, Takes-kept, Takes-held, lacks_both}
 
-pub record Passing (old new : Ahead) (seen : ℕ) : Type 0 where
+pub record Passing (old new : Input) (seen : ℕ) : Type 0 where
   pub bytes : List ℕ
   pub taken : Takes old new bytes
   pub one_line : LacksLineFeed bytes
@@ -21,7 +21,7 @@ pub record Passing (old new : Ahead) (seen : ℕ) : Type 0 where
   pub errors : new.errors ≡ old.errors
 
 -- a front of what is held is taken after what was taken before
-pub taken_more : (old mid grown new : Ahead) (bytes front behind : List ℕ) (count : ℕ)
+pub taken_more : (old mid grown new : Input) (bytes front behind : List ℕ) (count : ℕ)
     → Takes old mid bytes → Grows mid grown count
     → grown.held ≡ front ++ behind → new.held ≡ behind → new.unread ≡ grown.unread → Takes old new (bytes ++ front)
 taken_more old mid grown new bytes front behind count t g e is same =
@@ -29,7 +29,7 @@ taken_more old mid grown new bytes front behind count t g e is same =
     (Takes-held grown new front behind e is same)
 
 -- the line feed comes
-pub passing_feed : (old mid grown new : Ahead) (seen count wanted : ℕ) (line behind : List ℕ)
+pub passing_feed : (old mid grown new : Input) (seen count wanted : ℕ) (line behind : List ℕ)
     → Passing old mid seen → Grows mid grown count
     → wanted ≤ LONG_LINE_BYTES - seen → wanted ≤ length grown.held
     → take wanted grown.held ≡ line ++ 10 ∷ behind → LacksLineFeed line
@@ -59,13 +59,13 @@ passing_feed old mid grown new seen count wanted line behind p g low within e on
     }
 
 -- the first bytes of what is held are taken, after those that were taken before
-record TakesFront (old grown new : Ahead) (bytes : List ℕ) (count : ℕ) : Type 0 where
+record TakesFront (old grown new : Input) (bytes : List ℕ) (count : ℕ) : Type 0 where
   taken : Takes old new (bytes ++ take count grown.held)
   counted : length (bytes ++ take count grown.held) ≡ length bytes + count
   emptied : length grown.held ≤ count → new.held ≡ []
   errors : new.errors ≡ grown.errors
 
-takes_front : (old grown new : Ahead) (bytes : List ℕ) (count : ℕ) → Takes old grown bytes → count ≤ length grown.held
+takes_front : (old grown new : Input) (bytes : List ℕ) (count : ℕ) → Takes old grown bytes → count ≤ length grown.held
     → new ≡ record grown { held = drop count grown.held } → TakesFront old grown new bytes count
 takes_front old grown new bytes count t within taken =
     let front = take count grown.held in
@@ -80,7 +80,7 @@ takes_front old grown new bytes count t within taken =
     }
 
 -- no line feed is among them
-pub passing_more : (old mid grown new : Ahead) (seen count wanted : ℕ) → Passing old mid seen → Grows mid grown count
+pub passing_more : (old mid grown new : Input) (seen count wanted : ℕ) → Passing old mid seen → Grows mid grown count
     → grown.errors ≡ mid.errors → seen < LONG_LINE_BYTES → wanted ≡ min (LONG_LINE_BYTES - seen) (length grown.held)
     → LacksLineFeed (take wanted grown.held) → new ≡ record grown { held = drop wanted grown.held }
     → Passing old new (seen + wanted)
@@ -100,7 +100,7 @@ passing_more old mid grown new seen count wanted p g errors more is one taken =
     }
 
 -- so many bytes were to be taken, and so many of them are left
-pub record Counting (old new : Ahead) (count left : ℕ) : Type 0 where
+pub record Counting (old new : Input) (count left : ℕ) : Type 0 where
   pub bytes : List ℕ
   pub taken : Takes old new bytes
   pub counted : length bytes + left ≡ count
@@ -108,7 +108,7 @@ pub record Counting (old new : Ahead) (count left : ℕ) : Type 0 where
   pub errors : new.errors ≡ old.errors
   pub reads_for : count ≤ length old.held → (left ≡ 0) × (new.unread ≡ old.unread)
 
-pub counting_start : (old new : Ahead) (count some : ℕ) → some ≡ min (length old.held) count
+pub counting_start : (old new : Input) (count some : ℕ) → some ≡ min (length old.held) count
     → new ≡ record old { held = drop some old.held } → Counting old new count (count - some)
 counting_start old new count some is taken =
     let front = takes_front old old new [] some (Takes-none old) (omega arith) taken in
@@ -121,7 +121,7 @@ counting_start old new count some is taken =
       reads_for = λ enough. (omega (arith, is, enough), ap (λ a. a.unread) taken);
     }
 
-pub counting_more : (old mid grown new : Ahead) (count left read some : ℕ) → Counting old mid count left
+pub counting_more : (old mid grown new : Input) (count left read some : ℕ) → Counting old mid count left
     → Grows mid grown read → grown.errors ≡ mid.errors → some ≡ min (length grown.held) left
     → new ≡ record grown { held = drop some grown.held } → 0 < left → Counting old new count (left - some)
 counting_more old mid grown new count left read some p g errors is taken more_left =
@@ -137,11 +137,11 @@ counting_more old mid grown new count left read some p g errors is taken more_le
     }
 
 -- a line is looked for: nothing was read yet, or what was held has no line feed
-abbrev pub Searched : Ahead → Ahead → Type 0
+abbrev pub Searched : Input → Input → Type 0
 Searched old new = (new ≡ old) ⊎ LacksLineFeed old.held × (more : List ℕ) × (new.held ≡ old.held ++ more)
 
 -- more is read, since what is held has no line feed
-pub searched_more : (old mid new : Ahead) (count : ℕ) → Searched old mid → LacksLineFeed mid.held
+pub searched_more : (old mid new : Input) (count : ℕ) → Searched old mid → LacksLineFeed mid.held
     → Grows mid new count → Searched old new
 searched_more old mid new count (inl same) lacks g =
     inr (
@@ -154,12 +154,12 @@ searched_more old mid new count (inr s) lacks g =
     inr (s.0, s.1 ++ g.more, g.held ∙ ap (λ (h : List ℕ). h ++ g.more) s.2 ∙ append_assoc old.held s.1 g.more)
 
 -- a line that was held stands where it stood
-pub searched_line : (old new : Ahead) (line behind : List ℕ) → Searched old new → new.held ≡ line ++ 10 ∷ behind
+pub searched_line : (old new : Input) (line behind : List ℕ) → Searched old new → new.held ≡ line ++ 10 ∷ behind
     → length line < length old.held → new ≡ old
 searched_line old new line behind (inl same) e less = same
 searched_line old new line behind (inr s) e less =
     absurd (no_feed_beyond line behind old.held s.1 (sym e ∙ s.2) s.0 less)
 
-pub searched_long : (old new : Ahead) → Searched old new → length old.held ≤ length new.held
+pub searched_long : (old new : Input) → Searched old new → length old.held ≤ length new.held
 searched_long old new (inl same) = omega (arith, ap (λ a. length a.held) same)
 searched_long old new (inr s) = omega (arith, ap length s.2, length-append old.held s.1)

@@ -6,14 +6,14 @@ use Rattle.std.proofs.lemmas.List.{append-nil, length-append}
 use Rattle.std.proofs.lemmas.List.Folds.{concat-append}
 use Rattle.lj_session.specs.Users.{User}
 use Rattle.lj_wire.specs.declared.item.Item.{Item}
-use Rattle.lj_wire.specs.Items.{ends}
+use Rattle.lj_wire.specs.Items.{is_ending}
 use Rattle.lj_wire.specs.Texts.{is_memory}
-use Rattle.lj_wire.specs.Told.{told, texts, last_user, first_mark, other_marks}
+use Rattle.lj_wire.specs.Told.{item_text, texts, last_user, first_mark, other_marks}
 use Rattle.lj_wire.specs.Streams.{IsItem, IsPart, Splits, AreMarks, Dialogue}
 use Rattle.lj_wire.specs.Progress.{Takes, Progress}
 
 pub Takes-more : (n : ℕ) (bytes : List ℕ) (items : List Item) (left front behind : List ℕ) (item : Item)
-    → Takes n bytes items left → left ≡ front ++ behind → IsItem (n + length items) front item → ends item ≡ false
+    → Takes n bytes items left → left ≡ front ++ behind → IsItem (n + length items) front item → is_ending item ≡ false
     → Takes n bytes (items ++ item ∷ []) behind
 Takes-more n bytes [] left front behind item t e i goes =
     (front, behind, t ∙ e, subst (λ m. IsItem m front item) (let s : n + 0 ≡ n = omega arith in s) i, goes, refl)
@@ -38,7 +38,7 @@ Splits-part n bytes (first ∷ items) left t p =
     (t.0, t.1, t.2, t.3, (λ h. let differ : true ≡ false = sym h ∙ t.4 in cc), (λ h. next))
 
 pub Splits-end : (n : ℕ) (bytes : List ℕ) (items : List Item) (left front behind : List ℕ) (item : Item)
-    → Takes n bytes items left → left ≡ front ++ behind → IsItem (n + length items) front item → ends item ≡ true
+    → Takes n bytes items left → left ≡ front ++ behind → IsItem (n + length items) front item → is_ending item ≡ true
     → Splits n bytes (items ++ item ∷ []) behind
 Splits-end n bytes [] left front behind item t e i end = (
   front,
@@ -65,7 +65,7 @@ pub texts-length : (user : User) (items : List Item) (marks : List Bool)
     → length (texts user items marks) ≡ length items
 texts-length user [] marks = refl
 texts-length user (item ∷ items) marks =
-    ap suc (texts-length (told user item (first_mark marks)).1 items (other_marks marks))
+    ap suc (texts-length (item_text user item (first_mark marks)).1 items (other_marks marks))
 
 AreMarks-more : (marks : List Bool) (answers : List (List ℕ)) (mark : Bool) (text : List ℕ) → AreMarks marks answers
     → (mark ≡ true → is_memory text ≡ true)
@@ -78,37 +78,37 @@ AreMarks-more (next ∷ marks) (first ∷ answers) mark text h only = (h.0, AreM
 texts-more : (user : User) (items : List Item) (marks : List Bool) (item : Item) (mark : Bool)
     → length marks ≡ length items
     → texts user (items ++ item ∷ []) (marks ++ mark ∷ []) ≡ texts user items marks
-    ++ (told (last_user user items marks) item mark).0 ∷ []
+    ++ (item_text (last_user user items marks) item mark).0 ∷ []
 texts-more user [] [] item mark h = refl
 texts-more user [] (next ∷ marks) item mark h = absurd (omega (arith, h))
 texts-more user (first ∷ items) [] item mark h = absurd (omega (arith, h))
 texts-more user (first ∷ items) (next ∷ marks) item mark h =
-    ap (λ others. (told user first next).0 ∷ others)
-    (texts-more (told user first next).1 items marks item mark (omega (arith, h)))
+    ap (λ others. (item_text user first next).0 ∷ others)
+    (texts-more (item_text user first next).1 items marks item mark (omega (arith, h)))
 
 last_user-more : (user : User) (items : List Item) (marks : List Bool) (item : Item) (mark : Bool)
     → length marks ≡ length items
-    → last_user user (items ++ item ∷ []) (marks ++ mark ∷ []) ≡ (told (last_user user items marks) item mark).1
+    → last_user user (items ++ item ∷ []) (marks ++ mark ∷ []) ≡ (item_text (last_user user items marks) item mark).1
 last_user-more user [] [] item mark h = refl
 last_user-more user [] (next ∷ marks) item mark h = absurd (omega (arith, h))
 last_user-more user (first ∷ items) [] item mark h = absurd (omega (arith, h))
 last_user-more user (first ∷ items) (next ∷ marks) item mark h =
-    last_user-more (told user first next).1 items marks item mark (omega (arith, h))
+    last_user-more (item_text user first next).1 items marks item mark (omega (arith, h))
 
 -- what one item more adds to the marks, the texts and the user
 pub record Added (user : User) (items : List Item) (marks : List Bool) (item : Item) (mark : Bool) : Type 0 where
   pub are_marks : AreMarks (marks ++ mark ∷ []) (texts user (items ++ item ∷ []) (marks ++ mark ∷ []))
-  pub written_is : concat (texts user items marks) ++ (told (last_user user items marks) item mark).0
+  pub written_is : concat (texts user items marks) ++ (item_text (last_user user items marks) item mark).0
       ≡ concat (texts user (items ++ item ∷ []) (marks ++ mark ∷ []))
-  pub next_is : (told (last_user user items marks) item mark).1
+  pub next_is : (item_text (last_user user items marks) item mark).1
       ≡ last_user user (items ++ item ∷ []) (marks ++ mark ∷ [])
 
 pub added : (user : User) (items : List Item) (marks : List Bool) (item : Item) (mark : Bool)
     → AreMarks marks (texts user items marks)
-    → (mark ≡ true → is_memory (told (last_user user items marks) item mark).0 ≡ true)
+    → (mark ≡ true → is_memory (item_text (last_user user items marks) item mark).0 ≡ true)
     → Added user items marks item mark
 added user items marks item mark are only =
-    let text = (told (last_user user items marks) item mark).0 in
+    let text = (item_text (last_user user items marks) item mark).0 in
     let same = marks-length marks (texts user items marks) are ∙ texts-length user items marks in
     let more = texts-more user items marks item mark same in
     record {
@@ -135,13 +135,13 @@ Progress-start user bytes = record {
 -- one item more, which does not end the connection
 pub Progress-more : (user : User) (bytes : List ℕ) (count : ℕ) (written left : List ℕ) (next : User)
     (front behind : List ℕ) (item : Item) (mark : Bool)
-    → Progress user bytes count written left next → left ≡ front ++ behind → IsItem count front item → ends item ≡ false
-    → (mark ≡ true → is_memory (told next item mark).0 ≡ true)
-    → Progress user bytes (count + 1) (written ++ (told next item mark).0) behind (told next item mark).1
+    → Progress user bytes count written left next → left ≡ front ++ behind → IsItem count front item → is_ending item ≡ false
+    → (mark ≡ true → is_memory (item_text next item mark).0 ≡ true)
+    → Progress user bytes (count + 1) (written ++ (item_text next item mark).0) behind (item_text next item mark).1
 Progress-more user bytes count written left next front behind item mark p e i goes only =
     let last = last_user user p.items p.marks in
     let a = added user p.items p.marks item mark p.are_marks
-    (subst (λ u. mark ≡ true → is_memory (told u item mark).0 ≡ true) p.next_is only) in
+    (subst (λ u. mark ≡ true → is_memory (item_text u item mark).0 ≡ true) p.next_is only) in
     record {
       items = p.items ++ item ∷ [];
       marks = p.marks ++ mark ∷ [];
@@ -150,9 +150,9 @@ Progress-more user bytes count written left next front behind item mark p e i go
           goes;
       counted = length-append p.items (item ∷ []) ∙ omega (arith, p.counted);
       are_marks = a.are_marks;
-      written_is = ap (λ w. w ++ (told next item mark).0) p.written_is
-          ∙ ap (λ u. concat (texts user p.items p.marks) ++ (told u item mark).0) p.next_is ∙ a.written_is;
-      next_is = ap (λ u. (told u item mark).1) p.next_is ∙ a.next_is;
+      written_is = ap (λ w. w ++ (item_text next item mark).0) p.written_is
+          ∙ ap (λ u. concat (texts user p.items p.marks) ++ (item_text u item mark).0) p.next_is ∙ a.written_is;
+      next_is = ap (λ u. (item_text u item mark).1) p.next_is ∙ a.next_is;
     }
 
 -- less than an item is left, and the dialogue is at its end
@@ -173,12 +173,12 @@ Dialogue-part user bytes count written left next p part = record {
 -- an item that ends the connection, and with it the dialogue
 pub Dialogue-end : (user : User) (bytes : List ℕ) (count : ℕ) (written left : List ℕ) (next : User)
     (front behind : List ℕ) (item : Item) (mark : Bool)
-    → Progress user bytes count written left next → left ≡ front ++ behind → IsItem count front item → ends item ≡ true
-    → (mark ≡ true → is_memory (told next item mark).0 ≡ true)
-    → Dialogue user bytes (written ++ (told next item mark).0) (told next item mark).1
+    → Progress user bytes count written left next → left ≡ front ++ behind → IsItem count front item → is_ending item ≡ true
+    → (mark ≡ true → is_memory (item_text next item mark).0 ≡ true)
+    → Dialogue user bytes (written ++ (item_text next item mark).0) (item_text next item mark).1
 Dialogue-end user bytes count written left next front behind item mark p e i end only =
     let a = added user p.items p.marks item mark p.are_marks
-    (subst (λ u. mark ≡ true → is_memory (told u item mark).0 ≡ true) p.next_is only) in
+    (subst (λ u. mark ≡ true → is_memory (item_text u item mark).0 ≡ true) p.next_is only) in
     record {
       items = p.items ++ item ∷ [];
       rest = behind;
@@ -186,7 +186,7 @@ Dialogue-end user bytes count written left next front behind item mark p e i end
       splits = Splits-end 0 bytes p.items left front behind item p.takes e
           (subst (λ m. IsItem m front item) (let s : count ≡ 0 + length p.items = omega (arith, p.counted) in s) i) end;
       are_marks = a.are_marks;
-      written_is = ap (λ w. w ++ (told next item mark).0) p.written_is
-          ∙ ap (λ u. concat (texts user p.items p.marks) ++ (told u item mark).0) p.next_is ∙ a.written_is;
-      next_is = ap (λ u. (told u item mark).1) p.next_is ∙ a.next_is;
+      written_is = ap (λ w. w ++ (item_text next item mark).0) p.written_is
+          ∙ ap (λ u. concat (texts user p.items p.marks) ++ (item_text u item mark).0) p.next_is ∙ a.written_is;
+      next_is = ap (λ u. (item_text u item mark).1) p.next_is ∙ a.next_is;
     }

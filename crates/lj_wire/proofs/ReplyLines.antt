@@ -14,13 +14,13 @@ use Rattle.std.proofs.lemmas.Option.{slice_get-get_or}
 use Rattle.std.proofs.lemmas.List.Quantifiers.{position-Some}
 use Rattle.std.specs.Option.{option_map, option_and_then, ForSome}
 use Rattle.std.proofs.lemmas.Option.{slice_get-map, slice_get_past}
-use Rattle.lj_ring.specs.Mixes.{edge_of}
+use Rattle.lj_ring.specs.Mix.{edge_of}
 use Rattle.lj_ring.specs.declared.coordinates.Place.{Place}
 use Rattle.lj_step.specs.Motion.{Simulation}
-use Rattle.lj_step.specs.Live.{Live}
-use Rattle.lj_branch.specs.Named.{named}
-use Rattle.lj_session.specs.States.{Held, Owned, held_in, held_at, names, user_of, as_session, session_meant, as_entry}
-use Rattle.lj_session.specs.States.{owed_in}
+use Rattle.lj_step.specs.Sim.{Sim}
+use Rattle.lj_branch.specs.Named.{value_named}
+use Rattle.lj_session.specs.UserState.{HeldSession, UserState, held_session, held_session_at, names, user_of, as_session, session_meant, as_entry}
+use Rattle.lj_session.specs.UserState.{owed_in}
 use Rattle.lj_session.specs.Users.{Session}
 use Rattle.lj_session.proofs.Owed.{count-meant, meant-settled}
 use Rattle.lj_session.proofs.Holding.{owed-of}
@@ -28,7 +28,7 @@ use Rattle.lj_wire.specs.Lines.{blank_and}
 use Rattle.lj_wire.specs.Texts.{line_of, session_line, branch_line, atom_line, atom_lines}
 
 -- the line of a session, by what its readers answer
-session_entry_line : (entry : Option (List ℕ × Held)) (name : List ℕ) (step : ℤ) (live : Live)
+session_entry_line : (entry : Option (List ℕ × HeldSession)) (name : List ℕ) (step : ℤ) (live : Sim)
     (saved : List (List ℕ × Simulation))
     → option_map (λ e. e.0) entry ≡ Some name
     → option_map (λ held. (session_meant held).sim.step) (option_map (λ e. e.1) entry) ≡ Some step
@@ -36,25 +36,25 @@ session_entry_line : (entry : Option (List ℕ × Held)) (name : List ℕ) (step
     → option_map (λ held. held.saved) (option_map (λ e. e.1) entry) ≡ Some saved
     → Some (line_of (name ∷ signed_decimal step ∷ decimal (length live.sim.cur) ∷ decimal (length saved) ∷ []))
     ≡ option_map session_line (option_map as_entry entry)
-session_entry_line None name step live saved named is_step is_live is_saved = cc
-session_entry_line (Some entry) name step live saved named is_step is_live is_saved =
+session_entry_line None name step live saved value_named is_step is_live is_saved = cc
+session_entry_line (Some entry) name step live saved value_named is_step is_live is_saved =
     let n : entry.0 ≡ name = cc in
     let t : (session_meant entry.1).sim.step ≡ step = cc in
     let l : entry.1.live ≡ live = cc in
     let s : entry.1.saved ≡ saved = cc in
     rw (← n, ← t, ← l, ← s, count-meant entry.1) refl
 
-pub session_line_at : (owned : Owned) (i : ℕ) (name : List ℕ) (step : ℤ) (live : Live) (saved : List (List ℕ × Simulation))
+pub session_line_at : (owned : UserState) (i : ℕ) (name : List ℕ) (step : ℤ) (live : Sim) (saved : List (List ℕ × Simulation))
     → slice_get (names owned) i ≡ Some name
-    → option_map (λ held. (session_meant held).sim.step) (held_at owned i) ≡ Some step
-    → option_map (λ held. held.live) (held_at owned i) ≡ Some live
-    → option_map (λ held. held.saved) (held_at owned i) ≡ Some saved
+    → option_map (λ held. (session_meant held).sim.step) (held_session_at owned i) ≡ Some step
+    → option_map (λ held. held.live) (held_session_at owned i) ≡ Some live
+    → option_map (λ held. held.saved) (held_session_at owned i) ≡ Some saved
     → Some (line_of (name ∷ signed_decimal step ∷ decimal (length live.sim.cur) ∷ decimal (length saved) ∷ []))
     ≡ option_map session_line (slice_get (user_of owned).sessions i)
-session_line_at owned i name step live saved named is_step is_live is_saved =
+session_line_at owned i name step live saved value_named is_step is_live is_saved =
     rw (slice_get-map as_entry owned.sessions i)
     (session_entry_line (slice_get owned.sessions i) name step live saved
-    (sym (slice_get-map (λ e. e.0) owned.sessions i) ∙ named) is_step is_live is_saved)
+    (sym (slice_get-map (λ e. e.0) owned.sessions i) ∙ value_named) is_step is_live is_saved)
 
 -- atom t's line in a frame
 pub atom_lines-get : (edge : ℕ) (symbols : List (List ℕ)) (places : List Place) (t : ℕ) (symbol : List ℕ)
@@ -82,7 +82,7 @@ join-after word [] = search rules
 join-after word (next ∷ words) = ap (λ t. word ++ (32 ∷ t)) (join-after next words)
 
 -- atom t's line in the frame of a session, by what its readers answer
-pub held_atom_line : (entry : Option Held) (edge t : ℕ) (live : Live) (symbol line : List ℕ)
+pub held_atom_line : (entry : Option HeldSession) (edge t : ℕ) (live : Sim) (symbol line : List ℕ)
     → option_map (λ held. edge_of held.live.composition.mix) entry ≡ Some edge
     → option_map (λ held. held.live) entry ≡ Some live
     → IfSome entry (λ held. slice_get held.symbols t ≡ Some symbol)
@@ -131,16 +131,16 @@ lookup-position {K} {X} test (e ∷ entries) =
     [ true ↦ refl | false ↦ rw one-add (lookup-position test entries) ]
 
 -- the session of a name is the one at the place of the name
-held_under : (owned : Owned) (name : List ℕ) → named name owned.sessions
-    ≡ option_and_then (held_at owned) (position (bytes_eq name) (names owned))
+held_under : (owned : UserState) (name : List ℕ) → value_named name owned.sessions
+    ≡ option_and_then (held_session_at owned) (position (bytes_eq name) (names owned))
 held_under owned name =
     let n = position_or_len (bytes_eq name) (names owned) in
     let found = lookup-position (bytes_eq name) owned.sessions in
     at (nat_lt n (length (names owned))) refl found
   where
     at : (b : Bool) → nat_lt (position_or_len (bytes_eq name) (names owned)) (length (names owned)) ≡ b
-        → named name owned.sessions ≡ held_at owned (position_or_len (bytes_eq name) (names owned))
-        → named name owned.sessions ≡ option_and_then (held_at owned)
+        → value_named name owned.sessions ≡ held_session_at owned (position_or_len (bytes_eq name) (names owned))
+        → value_named name owned.sessions ≡ option_and_then (held_session_at owned)
         (cond b (Some (position_or_len (bytes_eq name) (names owned))) None)
     at true within found = found
     at false past found =
@@ -149,14 +149,14 @@ held_under owned name =
         found ∙ ap (option_map (λ e. e.1)) (slice_get_past owned.sessions _ beyond)
 
 -- the session of a name in the user that is meant, by the place of the name
-pub named-index : (owned : Owned) (name : List ℕ) (index : Option ℕ) → index ≡ position (bytes_eq name) (names owned)
-    → named name (user_of owned).sessions ≡ option_map session_meant (option_and_then (held_at owned) index)
+pub named-index : (owned : UserState) (name : List ℕ) (index : Option ℕ) → index ≡ position (bytes_eq name) (names owned)
+    → value_named name (user_of owned).sessions ≡ option_map session_meant (option_and_then (held_session_at owned) index)
 named-index owned name index is_index =
     lookup-map_values session_meant (bytes_eq name) owned.sessions
     ∙ ap (option_map session_meant) (rw is_index (held_under owned name))
 
 -- the place of a name is one of a session
-pub index_within : (owned : Owned) (name : List ℕ) (i : ℕ) → Some i ≡ position (bytes_eq name) (names owned)
+pub index_within : (owned : UserState) (name : List ℕ) (i : ℕ) → Some i ≡ position (bytes_eq name) (names owned)
     → i < length owned.sessions
 index_within owned name i found =
     omega (
@@ -166,49 +166,49 @@ index_within owned name i found =
     )
 
 -- what is true of the session at the place of a name is true of the session of that name
-pub under_name : (owned : Owned) (name : List ℕ) (i : ℕ) (P : Option Session → Type 0)
+pub under_name : (owned : UserState) (name : List ℕ) (i : ℕ) (P : Option Session → Type 0)
     → Some i ≡ position (bytes_eq name) (names owned)
-    → IfSome (held_at owned i) (λ held. P (Some (session_meant held))) → P (named name (user_of owned).sessions)
+    → IfSome (held_session_at owned i) (λ held. P (Some (session_meant held))) → P (value_named name (user_of owned).sessions)
 under_name owned name i P found holds =
     let within : i < length owned.sessions = index_within owned name i found in
     let is_named = named-index owned name (Some i) found in
-    there (held_at owned i) refl is_named holds within
+    there (held_session_at owned i) refl is_named holds within
   where
-    there : (entry : Option Held) → held_at owned i ≡ entry
-        → named name (user_of owned).sessions ≡ option_map session_meant entry
+    there : (entry : Option HeldSession) → held_session_at owned i ≡ entry
+        → value_named name (user_of owned).sessions ≡ option_map session_meant entry
         → IfSome entry (λ held. P (Some (session_meant held))) → i < length owned.sessions
-        → P (named name (user_of owned).sessions)
+        → P (value_named name (user_of owned).sessions)
     there None gone is_named holds within =
         let past : slice_get (names owned) i ≡ None =
         slice_get-map (λ e. e.0) owned.sessions i ∙ lost (slice_get owned.sessions i) gone in
         let here = slice_get-get_or (names owned) i [] (omega (arith, length-map owned.sessions (λ e. e.0))) in
         cc
       where
-        lost : (entry : Option (List ℕ × Held)) → option_map (λ e. e.1) entry ≡ None
+        lost : (entry : Option (List ℕ × HeldSession)) → option_map (λ e. e.1) entry ≡ None
             → option_map (λ e. e.0) entry ≡ None
         lost None h = refl
         lost (Some e) h = cc
     there (Some held) is_held is_named holds within = subst P (sym is_named) holds
 
 -- where nothing is owed to the session of a name, nothing is owed to the one at the place of the name
-pub settled_at : (owned : Owned) (name : List ℕ) (i : ℕ) → Some i ≡ position (bytes_eq name) (names owned)
-    → owed_in owned name ≡ 0 → ForSome (held_at owned i) (λ held. held.owed ≡ 0)
+pub settled_at : (owned : UserState) (name : List ℕ) (i : ℕ) → Some i ≡ position (bytes_eq name) (names owned)
+    → owed_in owned name ≡ 0 → ForSome (held_session_at owned i) (λ held. held.owed ≡ 0)
 settled_at owned name i found none held there =
-    let at_place : held_in owned name ≡ held_at owned i =
-    subst (λ (index : Option ℕ). held_in owned name ≡ option_and_then (held_at owned) index) (sym found)
+    let at_place : held_session owned name ≡ held_session_at owned i =
+    subst (λ (index : Option ℕ). held_session owned name ≡ option_and_then (held_session_at owned) index) (sym found)
     (held_under owned name) in
     owed-of owned name held (at_place ∙ there) none
 
 -- what is true of a session as its present step began is true of the one that is meant, where nothing is owed to it
-pub settled : (entry : Option Held) (P : Option Session → Type 0) → ForSome entry (λ held. held.owed ≡ 0)
+pub settled : (entry : Option HeldSession) (P : Option Session → Type 0) → ForSome entry (λ held. held.owed ≡ 0)
     → IfSome entry (λ held. P (Some (as_session held))) → IfSome entry (λ held. P (Some (session_meant held)))
 settled None P none holds = tt
 settled (Some held) P none holds =
     subst (λ (session : Session). P (Some session)) (sym (meant-settled held (none held refl))) holds
 
 -- where a name has no place, no session has it
-pub no_name : (owned : Owned) (name : List ℕ) → None ≡ position (bytes_eq name) (names owned)
-    → named name (user_of owned).sessions ≡ None
+pub no_name : (owned : UserState) (name : List ℕ) → None ≡ position (bytes_eq name) (names owned)
+    → value_named name (user_of owned).sessions ≡ None
 no_name owned name lost = named-index owned name None lost
 
 -- a line after the first
@@ -225,7 +225,7 @@ after_third_line a b c lines (suc (suc zero)) some = absurd (omega arith)
 after_third_line a b c lines (suc (suc (suc k))) some = ap (slice_get lines) (omega arith)
 
 -- a line in the list of all sessions
-pub listed_line : (owned : Owned) (k : ℕ) (head line : List ℕ) → 1 ≤ k
+pub listed_line : (owned : UserState) (k : ℕ) (head line : List ℕ) → 1 ≤ k
     → Some line ≡ option_map session_line (slice_get (user_of owned).sessions (k - 1))
     → Some line ≡ slice_get (head ∷ map session_line (user_of owned).sessions) k
 listed_line owned k head line some is_line =
@@ -233,8 +233,8 @@ listed_line owned k head line some is_line =
     ∙ sym (after_first_line head (map session_line (user_of owned).sessions) k some)
 
 -- a line in the list of what is saved in a session
-pub saved_line : (entry : Option Held) (saved : List (List ℕ × Simulation)) (k : ℕ)
-    (head : Held → List ℕ) (line : List ℕ) → 1 ≤ k
+pub saved_line : (entry : Option HeldSession) (saved : List (List ℕ × Simulation)) (k : ℕ)
+    (head : HeldSession → List ℕ) (line : List ℕ) → 1 ≤ k
     → option_map (λ held. held.saved) entry ≡ Some saved
     → Some line ≡ option_map branch_line (slice_get saved (k - 1))
     → IfSome entry (λ held. Some line ≡ slice_get (head held ∷ map branch_line held.saved) k)
@@ -246,7 +246,7 @@ saved_line (Some held) saved k head line some is_saved is_line =
     ∙ sym (after_first_line (head held) (map branch_line saved) k some))
 
 -- a line of an atom in a frame
-pub dumped_atom : (entry : Option Held) (k : ℕ) (a b c : Held → List ℕ) (line : Option (List ℕ)) → 3 ≤ k
+pub dumped_atom : (entry : Option HeldSession) (k : ℕ) (a b c : HeldSession → List ℕ) (line : Option (List ℕ)) → 3 ≤ k
     → IfSome entry (λ held. line ≡ slice_get (atom_lines (edge_of held.live.composition.mix) held.symbols held.live.sim.cur) (k - 3))
     → IfSome entry (λ held. line ≡ slice_get (a held ∷ b held ∷ c held
     ∷ atom_lines (edge_of held.live.composition.mix) held.symbols held.live.sim.cur) k)
@@ -256,7 +256,7 @@ dumped_atom (Some held) k a b c line some is_line =
     (atom_lines (edge_of held.live.composition.mix) held.symbols held.live.sim.cur) k some)
 
 -- past the last atom of a session there is none
-pub past_last_atom : (entry : Option Held) (live : Live) (t : ℕ) → option_map (λ held. held.live) entry ≡ Some live
+pub past_last_atom : (entry : Option HeldSession) (live : Sim) (t : ℕ) → option_map (λ held. held.live) entry ≡ Some live
     → length live.sim.cur ≤ t
     → IfSome entry (λ held. None ≡ slice_get (atom_lines (edge_of held.live.composition.mix) held.symbols held.live.sim.cur) t)
 past_last_atom None live t is_live past = tt

@@ -5,8 +5,8 @@ use Rattle.std.specs.List.{list_any}
 use Rattle.std.proofs.lemmas.List.{append_assoc, length-append}
 use Rattle.lj_xyz.specs.Lines.{is_line_feed}
 use Rattle.lj_wire.specs.declared.item.Item.{Item}
-use Rattle.lj_wire.specs.Items.{ends}
-use Rattle.lj_wire.specs.Commands.{announced, item_of}
+use Rattle.lj_wire.specs.Items.{is_ending}
+use Rattle.lj_wire.specs.Commands.{body_len_announced, item_of}
 use Rattle.lj_wire.specs.Streams.{LacksLineFeed, IsLine, IsLineItem, IsLongItem, IsItem, IsOpenBody, IsPart, Splits}
 
 tail_of : (byte : ℕ) (bytes : List ℕ) → LacksLineFeed (byte ∷ bytes) → LacksLineFeed bytes
@@ -80,7 +80,7 @@ line_line : (front other behind after : List ℕ) (item next : Item) → front +
 line_line front other behind after item next e i j =
     let s = same_line i.line j.line (i.body ++ behind) (j.body ++ after) i.is_line.0 j.is_line.0
     (sym (at_line behind i) ∙ e ∙ at_line after j) in
-    let b = same_front i.body j.body behind after (i.announces ∙ ap announced s.0 ∙ sym j.announces) s.1 in
+    let b = same_front i.body j.body behind after (i.announces ∙ ap body_len_announced s.0 ∙ sym j.announces) s.1 in
     (b.1, i.means ∙ ap (λ x. item_of x i.body) s.0 ∙ ap (item_of j.line) b.0 ∙ sym j.means)
 
 line_long : (front other behind after : List ℕ) (item next : Item) → front ++ behind ≡ other ++ after
@@ -122,7 +122,7 @@ line_body : (front behind part : List ℕ) (item : Item) → front ++ behind ≡
 line_body front behind part item e i o =
     let s = same_line i.line o.line (i.body ++ behind) o.body i.is_line.0 o.is_line.0
     (sym (at_line behind i) ∙ e ∙ o.whole) in
-    omega (arith, length-append i.body behind, ap length s.1, i.announces, ap announced s.0, o.announces)
+    omega (arith, length-append i.body behind, ap length s.1, i.announces, ap body_len_announced s.0, o.announces)
 
 long_part : (front behind part : List ℕ) (item : Item) → front ++ behind ≡ part
     → IsLongItem front item → IsLine part → ⊥
@@ -154,17 +154,17 @@ splits_once n bytes (item ∷ items) [] rest remainder a b =
     absurd (no_part n a.0 a.1 remainder item (sym a.2 ∙ b.0) a.3 b.1)
 splits_once n bytes (item ∷ items) (other ∷ others) rest remainder a b =
     let s = same_item n a.0 b.0 a.1 b.1 item other (sym a.2 ∙ b.2) a.3 b.3 in
-    behind_item (ends item) refl s (λ x y. splits_once (n + 1) a.1 items others rest remainder x y)
+    behind_item (is_ending item) refl s (λ x y. splits_once (n + 1) a.1 items others rest remainder x y)
   where
-    behind_item : (end : Bool) → ends item ≡ end → (a.1 ≡ b.1) × (item ≡ other)
+    behind_item : (end : Bool) → is_ending item ≡ end → (a.1 ≡ b.1) × (item ≡ other)
         → (Splits (n + 1) a.1 items rest → Splits (n + 1) a.1 others remainder → (items ≡ others) × (rest ≡ remainder))
         → (item ∷ items ≡ other ∷ others) × (rest ≡ remainder)
     behind_item true e s onward =
         let x = a.4 e in
-        let y = b.4 (sym (ap ends s.1) ∙ e) in
+        let y = b.4 (sym (ap is_ending s.1) ∙ e) in
         (ap (λ i. i ∷ items) s.1 ∙ ap (λ is. other ∷ is) (x.0 ∙ sym y.0), sym x.1 ∙ s.0 ∙ y.1)
     behind_item false e s onward =
         let x = a.5 e in
-        let y = b.5 (sym (ap ends s.1) ∙ e) in
+        let y = b.5 (sym (ap is_ending s.1) ∙ e) in
         let next = onward x (subst (λ bytes. Splits (n + 1) bytes others remainder) (sym s.0) y) in
         (ap (λ i. i ∷ items) s.1 ∙ ap (λ is. other ∷ is) next.0, next.1)

@@ -6,20 +6,20 @@ use Rattle.std.proofs.KnownBytes.{Consumes-nil, Consumes-trans}
 use Rattle.std.specs.Io.KnownBytes.{prepend_known, Consumes, Keeps, IsAtEnd}
 use Rattle.std.specs.List.{list_any}
 use Rattle.lj_xyz.specs.Lines.{is_line_feed}
-use Rattle.lj_wire.specs.Ahead.{Ahead, untaken, Takes}
+use Rattle.lj_wire.specs.Input.{Input, bytes_untaken, Takes}
 use Rattle.lj_wire.specs.Streams.{LacksLineFeed}
 
 -- nothing is kept back and nothing taken
-pub Takes-none : (a : Ahead) → Takes a a []
-Takes-none a = Consumes-nil (untaken a)
+pub Takes-none : (a : Input) → Takes a a []
+Takes-none a = Consumes-nil (bytes_untaken a)
 
-pub Takes-trans : (a b c : Ahead) (first second : List ℕ) → Takes a b first → Takes b c second
+pub Takes-trans : (a b c : Input) (first second : List ℕ) → Takes a b first → Takes b c second
     → Takes a c (first ++ second)
-Takes-trans a b c first second p q = Consumes-trans (untaken a) (untaken b) (untaken c) first second p q
+Takes-trans a b c first second p q = Consumes-trans (bytes_untaken a) (bytes_untaken b) (bytes_untaken c) first second p q
 
 -- what is only read is not yet taken
-pub Takes-kept : (a b c : Ahead) (bytes : List ℕ) → Takes a b bytes → Keeps (untaken b) (untaken c) → Takes a c bytes
-Takes-kept a b c bytes p q = consumed (untaken a) (untaken b) (untaken c) p q
+pub Takes-kept : (a b c : Input) (bytes : List ℕ) → Takes a b bytes → Keeps (bytes_untaken b) (bytes_untaken c) → Takes a c bytes
+Takes-kept a b c bytes p q = consumed (bytes_untaken a) (bytes_untaken b) (bytes_untaken c) p q
   where
     consumed : (x y z : Option (List ℕ)) → Consumes x y bytes → Keeps y z → Consumes x z bytes
     consumed None y z p q = tt
@@ -27,8 +27,8 @@ Takes-kept a b c bytes p q = consumed (untaken a) (untaken b) (untaken c) p q
     consumed (Some x) (Some y) None p q = absurd q
     consumed (Some x) (Some y) (Some z) p q = p ∙ ap (λ (l : List ℕ). bytes ++ l) (sym q)
 
-pub Kept-takes : (a b c : Ahead) (bytes : List ℕ) → Keeps (untaken a) (untaken b) → Takes b c bytes → Takes a c bytes
-Kept-takes a b c bytes p q = consumed (untaken a) (untaken b) (untaken c) p q
+pub Kept-takes : (a b c : Input) (bytes : List ℕ) → Keeps (bytes_untaken a) (bytes_untaken b) → Takes b c bytes → Takes a c bytes
+Kept-takes a b c bytes p q = consumed (bytes_untaken a) (bytes_untaken b) (bytes_untaken c) p q
   where
     consumed : (x y z : Option (List ℕ)) → Keeps x y → Consumes y z bytes → Consumes x z bytes
     consumed None y z p q = tt
@@ -42,20 +42,20 @@ pub Takes-front : (front behind : List ℕ) (unread : Option (List ℕ))
 Takes-front front behind None = tt
 Takes-front front behind (Some bytes) = append_assoc front behind bytes
 
-pub Takes-held : (a b : Ahead) (front behind : List ℕ) → a.held ≡ front ++ behind → b.held ≡ behind
+pub Takes-held : (a b : Input) (front behind : List ℕ) → a.held ≡ front ++ behind → b.held ≡ behind
     → b.unread ≡ a.unread → Takes a b front
 Takes-held a b front behind e is same =
-    subst (λ x. Consumes x (untaken b) front) (ap (λ h. prepend_known h a.unread) (sym e))
+    subst (λ x. Consumes x (bytes_untaken b) front) (ap (λ h. prepend_known h a.unread) (sym e))
     (subst (λ x. Consumes (prepend_known (front ++ behind) a.unread) x front)
     (ap (λ h. prepend_known h a.unread) (sym is) ∙ ap (λ u. prepend_known b.held u) (sym same))
     (Takes-front front behind a.unread))
 
 -- all that is held is taken
-pub Takes-all : (a b : Ahead) → b.held ≡ [] → b.unread ≡ a.unread → Takes a b a.held
+pub Takes-all : (a b : Input) → b.held ≡ [] → b.unread ≡ a.unread → Takes a b a.held
 Takes-all a b e same = Takes-held a b a.held [] (sym (append-nil a.held)) e same
 
 -- the end is reached where nothing is held and the source has none left
-pub at_end : (a : Ahead) → a.held ≡ [] → IsAtEnd a.unread → IsAtEnd (untaken a)
+pub at_end : (a : Input) → a.held ≡ [] → IsAtEnd a.unread → IsAtEnd (bytes_untaken a)
 at_end a e end = ended a.unread end
   where
     ended : (unread : Option (List ℕ)) → IsAtEnd unread → IsAtEnd (prepend_known a.held unread)

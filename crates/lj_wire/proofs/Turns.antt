@@ -7,27 +7,27 @@ use Rattle.lj_session.specs.declared.command.Command.TheVariants.{ListBranches, 
 use Rattle.lj_session.specs.Users.{User}
 use Rattle.lj_session.specs.Answers.{AnswersAlike}
 use Rattle.lj_session.specs.Turns.{turns, waits_for}
-use Rattle.lj_session.specs.States.{Owned, steps_before, turns_before}
-use Rattle.lj_session.specs.Owners.{rest_of, left_in}
+use Rattle.lj_session.specs.UserState.{UserState, steps_before, turns_before}
+use Rattle.lj_session.specs.Owner.{rest_of, command_left}
 use Rattle.lj_wire.specs.declared.item.Item.{Item}
 use Rattle.lj_wire.specs.declared.item.Item.TheVariants as items
-use Rattle.lj_wire.specs.Items.{ends}
+use Rattle.lj_wire.specs.Items.{is_ending}
 use Rattle.lj_wire.specs.Texts.{text}
-use Rattle.lj_wire.specs.Told.{told}
+use Rattle.lj_wire.specs.Told.{item_text}
 use Rattle.lj_wire.specs.Runs.{item_before}
 
 pub told_alike : (new : User) (left : Command) (old : User) (command : Command) (mark : Bool)
     → AnswersAlike new left old command
-    → told new (items.Command left) mark ≡ told old (items.Command command) mark
+    → item_text new (items.Command left) mark ≡ item_text old (items.Command command) mark
 told_alike new left old command mark alike = ap (λ a. (text a.1 a.0, a.1)) (alike mark)
 
 -- before BYE no turn comes
-bye_at_once : (owned : Owned) → turns_before owned Bye ≡ 0
+bye_at_once : (owned : UserState) → turns_before owned Bye ≡ 0
 unfolding turns waits_for
 bye_at_once owned = refl
 
-command_goes_on : (owned : Owned) (command : Command) → 0 < turns_before owned command
-    → (ends (items.Command command) ≡ false) × (ends (items.Command (rest_of command)) ≡ false)
+command_goes_on : (owned : UserState) (command : Command) → 0 < turns_before owned command
+    → (is_ending (items.Command command) ≡ false) × (is_ending (items.Command (rest_of command)) ≡ false)
 unfolding rest_of
 command_goes_on owned Bye h = absurd (omega (arith, h, bye_at_once owned))
 command_goes_on owned (Advance name n) h = (refl, refl)
@@ -45,15 +45,15 @@ command_goes_on owned ListSessions h = (refl, refl)
 command_goes_on owned (ListBranches name) h = (refl, refl)
 command_goes_on owned (Unload name) h = (refl, refl)
 
-pub waits_on : (owned : Owned) (item : Item) → 0 < item_before owned item → ends item ≡ false
+pub waits_on : (owned : UserState) (item : Item) → 0 < item_before owned item → is_ending item ≡ false
 waits_on owned (items.Command command) h = (command_goes_on owned command h).0
 waits_on owned (items.Bad fault) h = refl
 waits_on owned (items.Last fault) h = absurd (omega (arith, h))
 
-pub left_goes_on : (owned : Owned) (command : Command) → 0 < turns_before owned command
-    → ends (items.Command (left_in command owned)) ≡ false
+pub left_goes_on : (owned : UserState) (command : Command) → 0 < turns_before owned command
+    → is_ending (items.Command (command_left command owned)) ≡ false
 left_goes_on owned command h = by_test (nat_lt 0 (steps_before owned command))
   where
-    by_test : (owes : Bool) → ends (items.Command (cond owes command (rest_of command))) ≡ false
+    by_test : (owes : Bool) → is_ending (items.Command (cond owes command (rest_of command))) ≡ false
     by_test true = (command_goes_on owned command h).0
     by_test false = (command_goes_on owned command h).1

@@ -15,19 +15,19 @@ use Rattle.lj_wire.specs.declared.reader.buffer.TheConstants.{MAX_HELD_BYTES}
 use Rattle.lj_wire.specs.declared.item.Fault.TheVariants.{Line, Long, Enough}
 use Rattle.lj_wire.specs.declared.item.Item.{Item}
 use Rattle.lj_wire.specs.declared.item.Item.TheVariants.{Command, Bad, Last}
-use Rattle.lj_wire.specs.Ahead.{Ahead, untaken, Takes, HoldsLine, TakesPart, ReadsFor}
-use Rattle.lj_wire.specs.Commands.{announced, is_over, over_item, body_len, words_in, item_of_words, item_with, item_of}
+use Rattle.lj_wire.specs.Input.{Input, bytes_untaken, Takes, HoldsLine, TakesPart, ReadsFor}
+use Rattle.lj_wire.specs.Commands.{body_len_announced, is_over, over_item, body_len, words_in, item_of_words, item_with, item_of}
 use Rattle.lj_wire.specs.Items.{with_body}
 use Rattle.lj_wire.specs.declared.reader.phase.Phase.TheVariants.{Open, Over}
-use Rattle.lj_wire.specs.Standings.{Standing, IsLost, IsHandedOut, HandsOut}
+use Rattle.lj_wire.specs.LineReader.{LineReader, IsLost, IsHandedOut, HandsOut}
 use Rattle.lj_wire.specs.Steps.{TakesLongLine, TakesLong, TakesFewer, ReadsBody, TakesRest, Finishes, TakesNoItem}
-use Rattle.lj_wire.specs.Steps.{ReadsItem, takes_body}
+use Rattle.lj_wire.specs.Steps.{ReadsItem, may_take_body}
 use Rattle.lj_wire.specs.Streams.{IsLine}
 use Rattle.lj_wire.proofs.Filling.{line_filled}
 use Rattle.lj_wire.proofs.Taking.{Takes-trans, Takes-held, Kept-takes}
 
 -- a load whose body is lost
-lost : (item : Item) (body : List ℕ) (handed : Item) → takes_body item ≡ true → handed ≡ with_body item Lost
+lost : (item : Item) (body : List ℕ) (handed : Item) → may_take_body item ≡ true → handed ≡ with_body item Lost
     → IsLost (with_body item (Read body)) handed
 lost (Command (Load load)) body handed can is = record { load = load; body = body; found_is = refl; item_is = is }
 lost (Command (Advance name steps)) body handed can is = cc
@@ -48,7 +48,7 @@ lost (Bad fault) body handed can is = cc
 lost (Last fault) body handed can is = cc
 
 -- the body of a load was read, or passed over for want of memory
-pub rest_taken : (old new : Ahead) (item : Item) (count : ℕ) (body : LoadBody) (handed : Item) → takes_body item ≡ true
+pub rest_taken : (old new : Input) (item : Item) (count : ℕ) (body : LoadBody) (handed : Item) → may_take_body item ≡ true
     → ReadsBody old (Some body) count new → handed ≡ with_body item body → TakesRest old new item count handed
 rest_taken old new item count (Read body) handed can read is =
     record { body = body; taken = read.0; counted = read.1; is_handed = inl is }
@@ -62,12 +62,12 @@ rest_taken old new item count Lost handed can passed is =
 rest_taken old new item count Unread handed can none is = absurd none
 
 -- the line of an item was taken, with its line feed
-pub record LineTaken (old new : Ahead) (line : List ℕ) : Type 0 where
+pub record LineTaken (old new : Input) (line : List ℕ) : Type 0 where
   pub taken : Takes old new (line ++ 10 ∷ [])
   pub is_line : IsLine line
 
-pub line_taken : (old mid new : Ahead) (count : ℕ) (line : List ℕ)
-    → Keeps (untaken old) (untaken mid) → HoldsLine mid count
+pub line_taken : (old mid new : Input) (count : ℕ) (line : List ℕ)
+    → Keeps (bytes_untaken old) (bytes_untaken mid) → HoldsLine mid count
     → line ≡ take count mid.held → length mid.held ≤ MAX_HELD_BYTES
     → new ≡ record mid { held = drop (count + 1) mid.held }
     → LineTaken old new line
@@ -88,15 +88,15 @@ line_taken old mid new count line kept h is bounded after =
     }
 
 -- and more after it
-line_and : (old mid new : Ahead) (line more : List ℕ) → LineTaken old mid line → Takes mid new more
+line_and : (old mid new : Input) (line more : List ℕ) → LineTaken old mid line → Takes mid new more
     → Takes old new (line ++ 10 ∷ more)
 line_and old mid new line more t taken =
     subst (Takes old new) (append_assoc line (10 ∷ []) more)
     (Takes-trans old mid new (line ++ 10 ∷ []) more t.taken taken)
 
 -- less than the body was taken
-pub open_body : (old mid new : Ahead) (line : List ℕ) (count : ℕ) → LineTaken old mid line
-    → count ≡ announced line → TakesFewer mid new count
+pub open_body : (old mid new : Input) (line : List ℕ) (count : ℕ) → LineTaken old mid line
+    → count ≡ body_len_announced line → TakesFewer mid new count
     → TakesNoItem old new
 open_body old mid new line count t n f = record {
   part = line ++ 10 ∷ f.part;
@@ -112,10 +112,10 @@ open_body old mid new line count t n f = record {
 }
 
 -- nothing is read for a line and so many bytes after it where they are held
-abbrev pub Onward : Ahead → Ahead → Ahead → List ℕ → ℕ → Type 0
+abbrev pub Onward : Input → Input → Input → List ℕ → ℕ → Type 0
 Onward old mid new line count = length line + 1 + count ≤ length old.held → new.unread ≡ old.unread
 
-pub goes_onward : (old found mid new : Ahead) (line : List ℕ) (at count : ℕ) → length line ≡ at
+pub goes_onward : (old found mid new : Input) (line : List ℕ) (at count : ℕ) → length line ≡ at
     → (at < length old.held → found ≡ old)
     → mid ≡ record found { held = drop (at + 1) found.held } → ReadsFor mid new count → Onward old mid new line count
 goes_onward old found mid new line at count is searched taken reads held =
@@ -125,10 +125,10 @@ goes_onward old found mid new line at count is searched taken reads held =
     reads enough ∙ ap (λ a. a.unread) taken ∙ ap (λ a. a.unread) same
 
 -- the rest of the item was taken after its line
-pub finished : (old mid new : Ahead) (line : List ℕ) (item : Item) (count : ℕ) (handed : Option Item)
+pub finished : (old mid new : Input) (line : List ℕ) (item : Item) (count : ℕ) (handed : Option Item)
     → LineTaken old mid line
     → Onward old mid new line count
-    → item ≡ item_with line Unread → count ≡ announced line → Finishes mid item count handed new
+    → item ≡ item_with line Unread → count ≡ body_len_announced line → Finishes mid item count handed new
     → ReadsItem old handed new
 finished old mid new line item count (Some handed) t on is n f = record {
   front = line ++ 10 ∷ f.body;
@@ -151,7 +151,7 @@ finished old mid new line item count (Some handed) t on is n f = record {
 finished old mid new line item count None t on is n f = (open_body old mid new line count t n f.0, f.1)
 
 -- a line of more than 256 bytes is an item without a body
-pub long_line : (old mid new : Ahead) → Keeps (untaken old) (untaken mid) → length old.held ≤ length mid.held
+pub long_line : (old mid new : Input) → Keeps (bytes_untaken old) (bytes_untaken mid) → length old.held ≤ length mid.held
     → TakesLongLine mid new → ReadsItem old (Some (Bad Line)) new
 long_line old mid new kept more t =
     let over : is_over t.line ≡ true = lt-ltb MAX_LINE_BYTES (length t.line) t.long in
@@ -174,7 +174,7 @@ long_line old mid new kept more t =
     }
 
 -- what is too long for a line ends the connection
-pub too_long : (old mid new : Ahead) → Keeps (untaken old) (untaken mid) → length old.held ≤ length mid.held
+pub too_long : (old mid new : Input) → Keeps (bytes_untaken old) (bytes_untaken mid) → length old.held ≤ length mid.held
     → length mid.held ≤ MAX_HELD_BYTES → TakesLong mid new → ReadsItem old (Some (Last Long)) new
 too_long old mid new kept more bounded t = record {
   front = t.bytes;
@@ -186,7 +186,7 @@ too_long old mid new kept more bounded t = record {
 }
 
 -- less than a line was taken
-pub open_line : (old mid new : Ahead) → Keeps (untaken old) (untaken mid) → TakesPart mid new → TakesNoItem old new
+pub open_line : (old mid new : Input) → Keeps (bytes_untaken old) (bytes_untaken mid) → TakesPart mid new → TakesNoItem old new
 open_line old mid new kept t = record {
   part = t.part;
   taken = Kept-takes old mid new t.part kept t.taken;
@@ -194,7 +194,7 @@ open_line old mid new kept t = record {
 }
 
 -- after a million items the last fault is handed out, for which nothing is taken
-pub enough : (old new : Standing) → old.phase ≡ Open → old.items ≡ MAX_ITEMS → old.left ≡ new.left
+pub enough : (old new : LineReader) → old.phase ≡ Open → old.items ≡ MAX_ITEMS → old.left ≡ new.left
     → new.unread ≡ old.unread → new.items ≡ old.items + 1
     → new.errors ≡ old.errors → new.phase ≡ Over → HandsOut old new (Last Enough)
 enough old new is_open items left unread counted errors over = record {

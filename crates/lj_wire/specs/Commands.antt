@@ -22,7 +22,7 @@ use Rattle.lj_session.specs.declared.substance.ClassNumbers.{ClassNumbers}
 use Rattle.lj_session.specs.declared.substance.Substance.{Substance}
 use Rattle.lj_session.specs.declared.substance.Substance.TheVariants.{Pure, Mixed}
 use Rattle.lj_tile.specs.Names.{name_of}
-use Rattle.lj_wire.specs.declared.command.TheConstants.{MAX_COUNT_DIGITS}
+use Rattle.lj_wire.specs.declared.command_line.TheConstants.{MAX_COUNT_DIGITS}
 use Rattle.lj_wire.specs.declared.item.Fault.TheVariants as fault
 use Rattle.lj_wire.specs.declared.item.Item.{Item}
 use Rattle.lj_wire.specs.declared.item.Item.TheVariants as item
@@ -197,13 +197,13 @@ abbrev pub last_count : Words → Option ℕ
 last_count words = last_or None words >>= count_of
 
 -- the command of words that say one
-abbrev pub or_syntax : Option Command → Item
-or_syntax (Some command) = item.Command command
-or_syntax None = item.Bad fault.Syntax
+abbrev pub item_or_syntax : Option Command → Item
+item_or_syntax (Some command) = item.Command command
+item_or_syntax None = item.Bad fault.Syntax
 
 -- the item of the line of a load with this count, whose words say this command if they say one
 abbrev pub counted_item : Option ℕ → Option Command → Item
-counted_item (Some count) command = or_syntax command
+counted_item (Some count) command = item_or_syntax command
 counted_item None command = item.Last fault.Body
 
 -- the item of a line with this first word, if it begins a command, and with this body where it is that of a load
@@ -211,7 +211,7 @@ abbrev pub verb_item : Option Verb → Words → LoadBody → Item
 verb_item None words body = item.Bad fault.Command
 verb_item (Some verb) words body =
     if has_body verb then counted_item (last_count words) (verb_command verb body words)
-    else or_syntax (verb_command verb body words)
+    else item_or_syntax (verb_command verb body words)
 
 -- how many bytes of body follow a line with this first word
 abbrev pub verb_body_len : Option Verb → Words → ℕ
@@ -241,8 +241,8 @@ abbrev pub words_in : List ℕ → Words
 words_in line = words_of (strip_carriage_return line)
 
 -- how many bytes of body follow a line
-abbrev pub announced : List ℕ → ℕ
-announced line = if is_over line then 0 else body_len (words_in line)
+abbrev pub body_len_announced : List ℕ → ℕ
+body_len_announced line = if is_over line then 0 else body_len (words_in line)
 
 -- the item of a line, with this body where it is that of a load
 abbrev pub item_with : List ℕ → LoadBody → Item

@@ -10,10 +10,10 @@ use Rattle.lj_wire.specs.declared.hello.Hello.{Hello}
 use Rattle.lj_wire.specs.declared.hello.Hello.TheVariants.{Asked, Other}
 use Rattle.lj_wire.specs.declared.limits.TheConstants.{LONG_LINE_BYTES}
 use Rattle.lj_wire.specs.declared.reader.phase.Phase.TheVariants.{Open, Over, Failed}
-use Rattle.lj_wire.specs.Ahead.{Ahead, untaken, Takes, TakesPart, ReadsFor}
+use Rattle.lj_wire.specs.Input.{Input, bytes_untaken, Takes, TakesPart, ReadsFor}
 use Rattle.lj_wire.specs.Commands.{◌>>=◌, Words, is_over, words_in}
 use Rattle.lj_wire.specs.Ends.{Rises}
-use Rattle.lj_wire.specs.Standings.{Standing}
+use Rattle.lj_wire.specs.LineReader.{LineReader}
 use Rattle.lj_wire.specs.Streams.{LacksLineFeed, IsLine}
 
 -- a word of 32 bytes
@@ -21,17 +21,17 @@ abbrev pub token_word : List ℕ → Option (List ℕ)
 token_word word = if length word == TOKEN_WORD_BYTES then Some word else None
 
 -- the words after HELLO: a name and a token
-abbrev pub asked : Words → Option Hello
-asked (name ∷ token ∷ []) = do
+abbrev pub hello_asked : Words → Option Hello
+hello_asked (name ∷ token ∷ []) = do
   name ← name_of name
   token ← token_word token
   Some (Asked name token)
-asked words = None
+hello_asked words = None
 
 -- the words of a line that greets: HELLO, a name and a token
 abbrev pub greeting : Words → Option Hello
 greeting [] = None
-greeting (word ∷ words) = if bytes_eq word (codes "HELLO") then asked words else None
+greeting (word ∷ words) = if bytes_eq word (codes "HELLO") then hello_asked words else None
 
 -- what a first line says
 abbrev pub hello_of : List ℕ → Hello
@@ -55,19 +55,19 @@ abbrev pub IsFirstLine : List ℕ → Hello → Type 0
 IsFirstLine bytes hello = IsHelloLine bytes hello ⊎ IsHelloTooLong bytes hello
 
 -- the first line was taken
-pub record TakesHello (old new : Ahead) (hello : Hello) : Type 0 where
+pub record TakesHello (old new : Input) (hello : Hello) : Type 0 where
   pub front : List ℕ
   pub taken : Takes old new front
   pub is_first : IsFirstLine front hello
   pub reads_for : ReadsFor old new (length front)
 
 -- the first line was taken, or the input has ended in less than a line
-abbrev pub ReadsHello : Ahead → Option Hello → Ahead → Type 0
+abbrev pub ReadsHello : Input → Option Hello → Input → Type 0
 ReadsHello old (Some hello) new = TakesHello old new hello
-ReadsHello old None new = TakesPart old new × IsAtEnd (untaken new)
+ReadsHello old None new = TakesPart old new × IsAtEnd (bytes_untaken new)
 
 -- The first line was taken, which is no item, and the reader goes on. Nothing is read for a line that is held already.
-pub record Greets (old new : Standing) (hello : Hello) : Type 0 where
+pub record Greets (old new : LineReader) (hello : Hello) : Type 0 where
   pub was_open : old.phase ≡ Open
   pub front : List ℕ
   pub taken : Consumes old.left new.left front
@@ -78,7 +78,7 @@ pub record Greets (old new : Standing) (hello : Hello) : Type 0 where
   pub phase_is : new.phase ≡ Open
 
 -- the input has ended in less than a line, which was taken
-pub record CeasesEarly (old new : Standing) : Type 0 where
+pub record CeasesEarly (old new : LineReader) : Type 0 where
   pub was_open : old.phase ≡ Open
   pub part : List ℕ
   pub taken : Consumes old.left new.left part
@@ -89,7 +89,7 @@ pub record CeasesEarly (old new : Standing) : Type 0 where
   pub phase_is : new.phase ≡ Over
 
 -- a read has failed in less than a line, which was taken: of the bytes read none is left
-pub record FailsEarly (old new : Standing) : Type 0 where
+pub record FailsEarly (old new : LineReader) : Type 0 where
   pub was_open : old.phase ≡ Open
   pub part : List ℕ
   pub taken : Consumes old.left new.left part
@@ -100,9 +100,9 @@ pub record FailsEarly (old new : Standing) : Type 0 where
   pub phase_is : new.phase ≡ Failed
 
 -- no line comes: the reader was over already and nothing has changed, or the input has ended
-abbrev pub GreetsNone : Standing → Standing → Type 0
+abbrev pub GreetsNone : LineReader → LineReader → Type 0
 GreetsNone old new = (old.phase ≡ Over) × (new ≡ old) ⊎ CeasesEarly old new
 
 -- a fault: the reader had failed already and nothing has changed, or a read has failed
-abbrev pub HasFailedEarly : Standing → Standing → Type 0
+abbrev pub HasFailedEarly : LineReader → LineReader → Type 0
 HasFailedEarly old new = (old.phase ≡ Failed) × (new ≡ old) ⊎ FailsEarly old new

@@ -19,11 +19,11 @@ refusal_of fault.Command = refusal.Command
 refusal_of fault.Enough = refusal.Enough
 
 -- the connection ends with BYE and with a last fault
-abbrev pub ends : Item → Bool
-ends (Command Bye) = true
-ends (Command _) = false
-ends (Bad fault) = false
-ends (Last fault) = true
+abbrev pub is_ending : Item → Bool
+is_ending (Command Bye) = true
+is_ending (Command _) = false
+is_ending (Bad fault) = false
+is_ending (Last fault) = true
 
 -- the item with this body, where it is a load
 abbrev pub with_body : Item → LoadBody → Item

@@ -4,17 +4,17 @@ use Rattle.lj_session.specs.declared.body.LoadBody.TheVariants.{Lost}
 use Rattle.lj_session.specs.declared.command.Command.{Command as Order}
 use Rattle.lj_session.specs.Users.{User}
 use Rattle.lj_session.specs.Answers.{AnswersAlike}
-use Rattle.lj_session.specs.States.{Owned, turns_before}
-use Rattle.lj_session.specs.Owners.{left_in}
+use Rattle.lj_session.specs.UserState.{UserState, turns_before}
+use Rattle.lj_session.specs.Owner.{command_left}
 use Rattle.lj_wire.specs.declared.item.Item.{Item}
 use Rattle.lj_wire.specs.declared.item.Item.TheVariants.{Command}
 use Rattle.lj_wire.specs.declared.limits.TheConstants.{MAX_BODY_BYTES}
-use Rattle.lj_wire.specs.Items.{ends}
-use Rattle.lj_wire.specs.Commands.{announced, item_with, item_of}
+use Rattle.lj_wire.specs.Items.{is_ending}
+use Rattle.lj_wire.specs.Commands.{body_len_announced, item_with, item_of}
 use Rattle.std.specs.List.{concat}
 use Rattle.lj_session.specs.declared.reply.Reply.{Reply}
 use Rattle.lj_wire.specs.Texts.{is_memory, text, reply_lines}
-use Rattle.lj_wire.specs.Told.{answered, told}
+use Rattle.lj_wire.specs.Told.{item_reply, item_text}
 use Rattle.lj_wire.specs.Runs.{item_before}
 use Rattle.lj_wire.specs.Streams.{Splits}
 
@@ -30,28 +30,28 @@ SomeSplitting = (bytes : List ℕ) → (items : List Item) × (rest : List ℕ) 
 -- What is told says whether memory was refused: the mark may be read off the text.
 abbrev pub MarkIsTold : Type 0
 MarkIsTold = (user : User) (item : Item) (mark : Bool)
-    → told user item mark ≡ told user item (is_memory (told user item mark).0)
+    → item_text user item mark ≡ item_text user item (is_memory (item_text user item mark).0)
 
 -- Where two commands are answered alike, each from a user of its own, the same is told.
 abbrev pub AlikeIsTold : Type 0
 AlikeIsTold = (new : User) (left : Order) (old : User) (command : Order) (mark : Bool)
-    → AnswersAlike new left old command → told new (Command left) mark ≡ told old (Command command) mark
+    → AnswersAlike new left old command → item_text new (Command left) mark ≡ item_text old (Command command) mark
 
 -- An item before which turns come does not end the connection, and what is left of a command before which they come does
 -- not either.
 pub record WaitingGoesOn : Type 0 where
-  pub whole : (owned : Owned) (item : Item) → 0 < item_before owned item → ends item ≡ false
-  pub left : (owned : Owned) (command : Order) → 0 < turns_before owned command
-      → ends (Command (left_in command owned)) ≡ false
+  pub whole : (owned : UserState) (item : Item) → 0 < item_before owned item → is_ending item ≡ false
+  pub left : (owned : UserState) (command : Order) → 0 < turns_before owned command
+      → is_ending (Command (command_left command owned)) ≡ false
 
 -- A line whose body found no memory is answered what it is answered where memory is refused to it.
 abbrev pub BodyMissingIsMarked : Type 0
-BodyMissingIsMarked = (user : User) (line body : List ℕ) (mark : Bool) → 0 < announced line
-    → answered user (item_with line Lost) mark ≡ answered user (item_of line body) true
+BodyMissingIsMarked = (user : User) (line body : List ℕ) (mark : Bool) → 0 < body_len_announced line
+    → item_reply user (item_with line Lost) mark ≡ item_reply user (item_of line body) true
 
 -- No line is followed by more than 1,048,576 bytes of body.
 abbrev pub BodyIsBounded : Type 0
-BodyIsBounded = (line : List ℕ) → announced line ≤ MAX_BODY_BYTES
+BodyIsBounded = (line : List ℕ) → body_len_announced line ≤ MAX_BODY_BYTES
 
 -- The text of a reply is its lines, one after another.
 abbrev pub LinesAreTheText : Type 0

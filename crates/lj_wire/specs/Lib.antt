@@ -9,8 +9,8 @@ pub mod Told
 pub mod Runs
 pub mod Streams
 pub mod Laws
-pub mod Standings
-pub mod Ahead
+pub mod LineReader
+pub mod Input
 pub mod Steps
 pub mod Greetings
 pub mod Progress

@@ -1,6 +1,6 @@
 -- The sizes of lines, bodies and tokens, and how many items a connection may bring.
 use Rattle.std.specs.Prelude.{◌≡◌, ◌^◌, refl}
-use Rattle.lj_wire.specs.declared.command.TheConstants.{MAX_COUNT_DIGITS}
+use Rattle.lj_wire.specs.declared.command_line.TheConstants.{MAX_COUNT_DIGITS}
 use Rattle.lj_wire.specs.declared.hello.TheConstants.{TOKEN_WORD_BYTES}
 use Rattle.lj_wire.specs.declared.limits.TheConstants.{MAX_LINE_BYTES, LONG_LINE_BYTES, MAX_BODY_BYTES, MAX_ITEMS}
 

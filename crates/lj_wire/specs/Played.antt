@@ -16,21 +16,21 @@ use Rattle.lj_xyz.specs.Atoms as atoms
 use Rattle.lj_xyz.specs.Reading.{head_in, behind_comment, next_row, rows_in, frame_in, reading}
 use Rattle.lj_tile.specs.Names.{name_of}
 use Rattle.lj_quota.specs.declared.Quota.{Quota}
-use Rattle.lj_session.specs.Users.{User, fresh}
-use Rattle.lj_session.specs.Answers.{performed}
+use Rattle.lj_session.specs.Users.{User, fresh_user}
+use Rattle.lj_session.specs.Answers.{command_result}
 use Rattle.lj_wire.specs.declared.item.Item.{Item}
-use Rattle.lj_wire.specs.Items.{ends}
+use Rattle.lj_wire.specs.Items.{is_ending}
 use Rattle.lj_wire.specs.declared.limits.TheConstants.{LONG_LINE_BYTES, MAX_ITEMS}
 use Rattle.lj_wire.specs.Displacements.{displacement_of}
-use Rattle.lj_wire.specs.Commands.{announced, item_of, count_of, item_of_words, body_len}
+use Rattle.lj_wire.specs.Commands.{body_len_announced, item_of, count_of, item_of_words, body_len}
 use Rattle.lj_wire.specs.Texts.{text}
-use Rattle.lj_wire.specs.Told.{told, texts, last_user}
+use Rattle.lj_wire.specs.Told.{item_text, texts, last_user}
 use Rattle.lj_wire.specs.Streams.{IsLine, IsLineItem, IsPart, Splits, AreMarks, Dialogue}
 
 -- all that a worked stream computes by
 unfoldable pub computed : Unit {0}
 unfolding digits decimal_of nano_of number_of millionths push_entry energy_entry push force lines_of words_of
-    atoms.row_of_four atoms.row_of head_in behind_comment next_row rows_in frame_in reading name_of performed
+    atoms.row_of_four atoms.row_of head_in behind_comment next_row rows_in frame_in reading name_of command_result
     displacement_of count_of item_of_words body_len text
 computed = tt
 
@@ -72,13 +72,13 @@ is_line line = not (list_any is_line_feed line) && nat_lt (length line) LONG_LIN
 
 -- a line with the body that it announces, by a test
 abbrev pub is_piece : Piece → Bool
-is_piece piece = is_line piece.0 && length piece.1 == announced piece.0
+is_piece piece = is_line piece.0 && length piece.1 == body_len_announced piece.0
 
 -- less than an item, by a test
 abbrev pub is_part : Rest → Bool
 is_part nothing = true
 is_part (open_line line) = is_line line
-is_part (short line body) = is_line line && nat_lt (length body) (announced line)
+is_part (short line body) = is_line line && nat_lt (length body) (body_len_announced line)
 is_part (unread bytes) = false
 
 -- nothing follows
@@ -91,7 +91,7 @@ abbrev pub are_pieces : ℕ → List Piece → Rest → Bool
 are_pieces n [] rest = nat_lt n MAX_ITEMS && is_part rest
 are_pieces n (piece ∷ pieces) rest =
     nat_lt n MAX_ITEMS && is_piece piece
-    && (if ends (piece_item piece) then is_last pieces else are_pieces (n + 1) pieces rest)
+    && (if is_ending (piece_item piece) then is_last pieces else are_pieces (n + 1) pieces rest)
 
 IsLine-from_test : (line : List ℕ) → is_line line ≡ true → IsLine line
 IsLine-from_test line h =
@@ -104,13 +104,13 @@ IsLine-from_test line h =
 
 IsLineItem-from_test : (piece : Piece) → is_piece piece ≡ true → IsLineItem (piece.0 ++ 10 ∷ piece.1) (piece_item piece)
 IsLineItem-from_test piece h =
-    let p = and_parts (is_line piece.0) (length piece.1 == announced piece.0) h in
+    let p = and_parts (is_line piece.0) (length piece.1 == body_len_announced piece.0) h in
     record {
       line = piece.0;
       body = piece.1;
       whole = refl;
       is_line = IsLine-from_test piece.0 p.0;
-      announces = eqb-true (length piece.1) (announced piece.0) p.1;
+      announces = eqb-true (length piece.1) (body_len_announced piece.0) p.1;
       means = refl;
     }
 
@@ -118,14 +118,14 @@ IsPart-from_test : (n : ℕ) (rest : Rest) → n < MAX_ITEMS → is_part rest �
 IsPart-from_test n nothing below h = (below, inl (refl, ltb-true 0 LONG_LINE_BYTES refl))
 IsPart-from_test n (open_line line) below h = (below, inl (IsLine-from_test line h))
 IsPart-from_test n (short line body) below h =
-    let p = and_parts (is_line line) (nat_lt (length body) (announced line)) h in (
+    let p = and_parts (is_line line) (nat_lt (length body) (body_len_announced line)) h in (
       below,
       inr (record {
         line = line;
         body = body;
         whole = refl;
         is_line = IsLine-from_test line p.0;
-        announces = ltb-true (length body) (announced line) p.1;
+        announces = ltb-true (length body) (body_len_announced line) p.1;
       }),
     )
 IsPart-from_test n (unread bytes) below h = cc
@@ -149,7 +149,7 @@ Splits-from_test n [] rest h =
     let p = and_parts (nat_lt n MAX_ITEMS) (is_part rest) h in
     (refl, IsPart-from_test n rest (ltb-true n MAX_ITEMS p.0) p.1)
 Splits-from_test n (piece ∷ pieces) rest h =
-    let ending = ends (piece_item piece) in
+    let ending = is_ending (piece_item piece) in
     let next = are_pieces (n + 1) pieces rest in
     let p = and_parts (nat_lt n MAX_ITEMS && is_piece piece) (if ending then is_last pieces else next) h in
     let q = and_parts (nat_lt n MAX_ITEMS) (is_piece piece) p.0 in (
@@ -168,11 +168,11 @@ unset items = map (λ item. false) items
 texts-unset : (user : User) (items : List Item) → texts user items (unset items) ≡ texts user items []
 texts-unset user [] = refl
 texts-unset user (item ∷ items) =
-    let next = told user item false in ap (λ others. next.0 ∷ others) (texts-unset next.1 items)
+    let next = item_text user item false in ap (λ others. next.0 ∷ others) (texts-unset next.1 items)
 
 AreMarks-unset : (user : User) (items : List Item) → AreMarks (unset items) (texts user items (unset items))
 AreMarks-unset user [] = tt
-AreMarks-unset user (item ∷ items) = ((λ e. cc), AreMarks-unset (told user item false).1 items)
+AreMarks-unset user (item ∷ items) = ((λ e. cc), AreMarks-unset (item_text user item false).1 items)
 
 -- a quota of so many sessions, atoms and saved simulations
 abbrev pub quota : ℕ → ℕ → ℕ → Quota
@@ -180,7 +180,7 @@ quota sessions atoms branches = record { sessions = sessions; atoms = atoms; bra
 
 -- what a new user with this quota is written for bytes, where memory is there
 abbrev pub IsWritten : Quota → List ℕ → List ℕ → Type 0
-IsWritten quota bytes written = (next : User) × Dialogue (fresh quota) bytes written next
+IsWritten quota bytes written = (next : User) × Dialogue (fresh_user quota) bytes written next
 
 -- The first items of a stream, so many of them, as lines with the bodies that they announce.
 abbrev pub cut : ℕ → List ℕ → List Piece
@@ -188,23 +188,23 @@ cut zero bytes = []
 cut (suc n) bytes =
     let line = before_first is_line_feed bytes in
     let behind = after_first is_line_feed bytes in
-    (line, take (announced line) behind) ∷ cut n (drop (announced line) behind)
+    (line, take (body_len_announced line) behind) ∷ cut n (drop (body_len_announced line) behind)
 
 -- so many items are cut off the stream, and a rest is left; what is written for them follows by computation
 pub played : (allowed : Quota) (count : ℕ) (rest : Rest) (bytes written : List ℕ)
     → bytes ≡ stream_of (cut count bytes) (rest_bytes rest) → are_pieces 0 (cut count bytes) rest ≡ true
-    → written ≡ concat (texts (fresh allowed) (items_of (cut count bytes)) []) → IsWritten allowed bytes written
+    → written ≡ concat (texts (fresh_user allowed) (items_of (cut count bytes)) []) → IsWritten allowed bytes written
 played allowed count rest bytes written whole test is_texts =
     let pieces = cut count bytes in
     let items = items_of pieces in (
-      last_user (fresh allowed) items (unset items),
+      last_user (fresh_user allowed) items (unset items),
       record {
         items = items;
         rest = rest_bytes rest;
         marks = unset items;
         splits = subst (λ x. Splits 0 x items (rest_bytes rest)) (sym whole) (Splits-from_test 0 pieces rest test);
-        are_marks = AreMarks-unset (fresh allowed) items;
-        written_is = is_texts ∙ ap concat (sym (texts-unset (fresh allowed) items));
+        are_marks = AreMarks-unset (fresh_user allowed) items;
+        written_is = is_texts ∙ ap concat (sym (texts-unset (fresh_user allowed) items));
         next_is = refl;
       },
     )

@@ -3,7 +3,7 @@ use Rattle.std.specs.Prelude.{◌≡◌, ℕ, ◌+◌, Bool, false, List, [], �
 use Rattle.std.specs.List.{concat}
 use Rattle.lj_session.specs.Users.{User}
 use Rattle.lj_wire.specs.declared.item.Item.{Item}
-use Rattle.lj_wire.specs.Items.{ends}
+use Rattle.lj_wire.specs.Items.{is_ending}
 use Rattle.lj_wire.specs.Told.{texts, last_user}
 use Rattle.lj_wire.specs.Streams.{IsItem, AreMarks}
 
@@ -12,7 +12,7 @@ abbrev pub Takes : ℕ → List ℕ → List Item → List ℕ → Type 0
 Takes n bytes [] left = bytes ≡ left
 Takes n bytes (item ∷ items) left =
     (front : List ℕ) × (behind : List ℕ) × (bytes ≡ front ++ behind) × IsItem n front item
-    × (ends item ≡ false) × Takes (n + 1) behind items left
+    × (is_ending item ≡ false) × Takes (n + 1) behind items left
 
 -- So many items of the bytes are answered, from a user on, by what is written; the other bytes are left, and the next
 -- user.

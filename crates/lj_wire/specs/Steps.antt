@@ -7,29 +7,29 @@ use Rattle.lj_session.specs.declared.command.Command.TheVariants.{Load}
 use Rattle.lj_wire.specs.declared.item.Item.{Item}
 use Rattle.lj_wire.specs.declared.item.Item.TheVariants.{Command, Bad, Last}
 use Rattle.lj_wire.specs.declared.limits.TheConstants.{MAX_LINE_BYTES, LONG_LINE_BYTES}
-use Rattle.lj_wire.specs.declared.reader.input.Front.{Front}
-use Rattle.lj_wire.specs.declared.reader.input.Front.TheVariants as front
-use Rattle.lj_wire.specs.declared.reader.input.Passed.{Passed}
-use Rattle.lj_wire.specs.declared.reader.input.Passed.TheVariants as passed
-use Rattle.lj_wire.specs.Ahead.{Ahead, untaken, Takes, HoldsLine, HoldsNoFeed, TakesPart, ReadsFor}
+use Rattle.lj_wire.specs.declared.reader.source_input.Front.{Front}
+use Rattle.lj_wire.specs.declared.reader.source_input.Front.TheVariants as front
+use Rattle.lj_wire.specs.declared.reader.source_input.Passed.{Passed}
+use Rattle.lj_wire.specs.declared.reader.source_input.Passed.TheVariants as passed
+use Rattle.lj_wire.specs.Input.{Input, bytes_untaken, Takes, HoldsLine, HoldsNoFeed, TakesPart, ReadsFor}
 use Rattle.lj_wire.specs.Items.{with_body}
 use Rattle.lj_wire.specs.Streams.{LacksLineFeed, IsLine, IsLineItem, IsLongItem, IsOpenBody}
-use Rattle.lj_wire.specs.Standings.{IsHandedOut}
+use Rattle.lj_wire.specs.LineReader.{IsHandedOut}
 
 -- what stands first is found; at the end of the input the unfinished line is taken
-abbrev pub Finds : Ahead → Front → Ahead → Type 0
-Finds old (front.Line count) new = Keeps (untaken old) (untaken new) × HoldsLine new count
-Finds old front.Long new = Keeps (untaken old) (untaken new) × HoldsNoFeed new
-Finds old front.End new = TakesPart old new × IsAtEnd (untaken new)
+abbrev pub Finds : Input → Front → Input → Type 0
+Finds old (front.Line count) new = Keeps (bytes_untaken old) (bytes_untaken new) × HoldsLine new count
+Finds old front.Long new = Keeps (bytes_untaken old) (bytes_untaken new) × HoldsNoFeed new
+Finds old front.End new = TakesPart old new × IsAtEnd (bytes_untaken new)
 
 -- nothing was read for a line that is held already; and what was held stays
-abbrev pub SearchesFor : Ahead → Front → Ahead → Type 0
+abbrev pub SearchesFor : Input → Front → Input → Type 0
 SearchesFor old (front.Line count) new = count < length old.held → new ≡ old
 SearchesFor old front.Long new = length old.held ≤ length new.held
 SearchesFor old front.End new = Unit {0}
 
 -- a line of more than 256 bytes was taken, with its line feed, of which all that was held is a part
-pub record TakesLongLine (old new : Ahead) : Type 0 where
+pub record TakesLongLine (old new : Input) : Type 0 where
   pub line : List ℕ
   pub taken : Takes old new (line ++ 10 ∷ [])
   pub is_line : IsLine line
@@ -37,61 +37,61 @@ pub record TakesLongLine (old new : Ahead) : Type 0 where
   pub beyond : length old.held ≤ length line
 
 -- as many bytes without a line feed as no line has were taken
-pub record TakesLong (old new : Ahead) : Type 0 where
+pub record TakesLong (old new : Input) : Type 0 where
   pub bytes : List ℕ
   pub taken : Takes old new bytes
   pub one_line : LacksLineFeed bytes
   pub long : length bytes ≡ LONG_LINE_BYTES
 
 -- a line of more than 256 bytes was passed over, or what is too long for a line, or the unfinished line at the end
-abbrev pub Passes : Ahead → Passed → Ahead → Type 0
+abbrev pub Passes : Input → Passed → Input → Type 0
 Passes old passed.Line new = TakesLongLine old new
 Passes old passed.Long new = TakesLong old new
-Passes old passed.End new = TakesPart old new × IsAtEnd (untaken new)
+Passes old passed.End new = TakesPart old new × IsAtEnd (bytes_untaken new)
 
 -- fewer bytes than so many were taken
-pub record TakesFewer (old new : Ahead) (count : ℕ) : Type 0 where
+pub record TakesFewer (old new : Input) (count : ℕ) : Type 0 where
   pub part : List ℕ
   pub taken : Takes old new part
   pub fewer : length part < count
 
 -- so many bytes were taken
-pub record TakesCount (old new : Ahead) (count : ℕ) : Type 0 where
+pub record TakesCount (old new : Input) (count : ℕ) : Type 0 where
   pub bytes : List ℕ
   pub taken : Takes old new bytes
   pub counted : length bytes ≡ count
 
 -- a room was filled, or the input has ended before
-abbrev pub Fills : Ahead → Bool → List ℕ → Ahead → Type 0
+abbrev pub Fills : Input → Bool → List ℕ → Input → Type 0
 Fills old true room new = Takes old new room
-Fills old false room new = TakesFewer old new (length room) × IsAtEnd (untaken new)
+Fills old false room new = TakesFewer old new (length room) × IsAtEnd (bytes_untaken new)
 
 -- so many bytes were passed over, or the input has ended before
-abbrev pub PassesCount : Ahead → Bool → ℕ → Ahead → Type 0
+abbrev pub PassesCount : Input → Bool → ℕ → Input → Type 0
 PassesCount old true count new = TakesCount old new count
-PassesCount old false count new = TakesFewer old new count × IsAtEnd (untaken new)
+PassesCount old false count new = TakesFewer old new count × IsAtEnd (bytes_untaken new)
 
 -- a body of so many bytes was read, or no memory was found for it and it was passed over, or the input has ended before
-abbrev pub ReadsBody : Ahead → Option LoadBody → ℕ → Ahead → Type 0
+abbrev pub ReadsBody : Input → Option LoadBody → ℕ → Input → Type 0
 ReadsBody old (Some (Read body)) count new = Takes old new body × (length body ≡ count)
 ReadsBody old (Some Lost) count new = TakesCount old new count
 ReadsBody old (Some Unread) count new = ⊥
-ReadsBody old None count new = TakesFewer old new count × IsAtEnd (untaken new)
+ReadsBody old None count new = TakesFewer old new count × IsAtEnd (bytes_untaken new)
 
 -- the body after a line was taken, and is in the item if that is a load
-pub record TakesRest (old new : Ahead) (item : Item) (count : ℕ) (handed : Item) : Type 0 where
+pub record TakesRest (old new : Input) (item : Item) (count : ℕ) (handed : Item) : Type 0 where
   pub body : List ℕ
   pub taken : Takes old new body
   pub counted : length body ≡ count
   pub is_handed : IsHandedOut (with_body item (Read body)) handed
 
 -- the item of a line was finished, or the input has ended before
-abbrev pub Finishes : Ahead → Item → ℕ → Option Item → Ahead → Type 0
+abbrev pub Finishes : Input → Item → ℕ → Option Item → Input → Type 0
 Finishes old item count (Some handed) new = TakesRest old new item count handed
-Finishes old item count None new = TakesFewer old new count × IsAtEnd (untaken new)
+Finishes old item count None new = TakesFewer old new count × IsAtEnd (bytes_untaken new)
 
 -- an item was taken: a line with its body, or a line too long
-pub record TakesItem (old new : Ahead) (handed : Item) : Type 0 where
+pub record TakesItem (old new : Input) (handed : Item) : Type 0 where
   pub front : List ℕ
   pub found : Item
   pub taken : Takes old new front
@@ -100,19 +100,19 @@ pub record TakesItem (old new : Ahead) (handed : Item) : Type 0 where
   pub reads_for : ReadsFor old new (length front)
 
 -- less than an item was taken
-pub record TakesNoItem (old new : Ahead) : Type 0 where
+pub record TakesNoItem (old new : Input) : Type 0 where
   pub part : List ℕ
   pub taken : Takes old new part
   pub is_part : IsLine part ⊎ IsOpenBody part
 
 -- an item was taken, or the input has ended in less than one
-abbrev pub ReadsItem : Ahead → Option Item → Ahead → Type 0
+abbrev pub ReadsItem : Input → Option Item → Input → Type 0
 ReadsItem old (Some handed) new = TakesItem old new handed
-ReadsItem old None new = TakesNoItem old new × IsAtEnd (untaken new)
+ReadsItem old None new = TakesNoItem old new × IsAtEnd (bytes_untaken new)
 
 -- whether a body can be put into an item
-abbrev pub takes_body : Item → Bool
-takes_body (Command (Load load)) = true
-takes_body (Command _) = false
-takes_body (Bad fault) = false
-takes_body (Last fault) = false
+abbrev pub may_take_body : Item → Bool
+may_take_body (Command (Load load)) = true
+may_take_body (Command _) = false
+may_take_body (Bad fault) = false
+may_take_body (Last fault) = false

@@ -7,8 +7,8 @@ use Rattle.lj_wire.specs.declared.item.Fault.TheVariants.{Long, Enough}
 use Rattle.lj_wire.specs.declared.item.Item.{Item}
 use Rattle.lj_wire.specs.declared.item.Item.TheVariants.{Last}
 use Rattle.lj_wire.specs.declared.limits.TheConstants.{LONG_LINE_BYTES, MAX_ITEMS}
-use Rattle.lj_wire.specs.Items.{ends}
-use Rattle.lj_wire.specs.Commands.{announced, item_of}
+use Rattle.lj_wire.specs.Items.{is_ending}
+use Rattle.lj_wire.specs.Commands.{body_len_announced, item_of}
 use Rattle.lj_wire.specs.Texts.{is_memory}
 use Rattle.lj_wire.specs.Told.{texts, last_user}
 
@@ -26,7 +26,7 @@ pub record IsLineItem (bytes : List ℕ) (item : Item) : Type 0 where
   pub body : List ℕ
   pub whole : bytes ≡ line ++ 10 ∷ body
   pub is_line : IsLine line
-  pub announces : length body ≡ announced line
+  pub announces : length body ≡ body_len_announced line
   pub means : item ≡ item_of line body
 
 -- as many bytes without a line feed as no line has
@@ -48,7 +48,7 @@ pub record IsOpenBody (bytes : List ℕ) : Type 0 where
   pub body : List ℕ
   pub whole : bytes ≡ line ++ 10 ∷ body
   pub is_line : IsLine line
-  pub announces : length body < announced line
+  pub announces : length body < body_len_announced line
 
 -- less than a whole item, and nothing after it
 abbrev pub IsPart : ℕ → List ℕ → Type 0
@@ -60,8 +60,8 @@ abbrev pub Splits : ℕ → List ℕ → List Item → List ℕ → Type 0
 Splits n bytes [] rest = (bytes ≡ rest) × IsPart n rest
 Splits n bytes (item ∷ items) rest =
     (front : List ℕ) × (behind : List ℕ) × (bytes ≡ front ++ behind) × IsItem n front item
-    × (ends item ≡ true → (items ≡ []) × (behind ≡ rest))
-    × (ends item ≡ false → Splits (n + 1) behind items rest)
+    × (is_ending item ≡ true → (items ≡ []) × (behind ≡ rest))
+    × (is_ending item ≡ false → Splits (n + 1) behind items rest)
 
 -- a mark for each text, set only where the text is the memory refusal
 abbrev pub AreMarks : List Bool → List (List ℕ) → Type 0

@@ -3,7 +3,7 @@ use Rattle.std.specs.Prelude.{ℕ, ◌+◌, Bool, List, [], ◌∷◌, ◌++◌,
 use Rattle.std.specs.Fmt.{decimal, signed_decimal}
 use Rattle.std.specs.List.{join_with_byte, concat}
 use Rattle.std.specs.Str.{bytes_eq}
-use Rattle.lj_ring.specs.Mixes.{edge_of}
+use Rattle.lj_ring.specs.Mix.{edge_of}
 use Rattle.lj_ring.specs.declared.coordinates.Place.{Place}
 use Rattle.lj_ring.specs.Places.{micro_of}
 use Rattle.lj_step.specs.Motion.{Simulation}
@@ -15,20 +15,20 @@ use Rattle.lj_session.specs.declared.reply.Reply.TheVariants.{Restored, Forgotte
 use Rattle.lj_session.specs.declared.reply.Reply.TheVariants.{Tugged, Measured, Shown, Dumped, Listed, ListedBranches}
 use Rattle.lj_session.specs.declared.reply.Reply.TheVariants.{Unloaded, Bye, Refused}
 use Rattle.lj_session.specs.Refusals.{refusal_text}
-use Rattle.lj_branch.specs.Named.{named}
+use Rattle.lj_branch.specs.Named.{value_named}
 use Rattle.lj_session.specs.Users.{Session, User, atoms_of}
 
 -- a line of a text
-abbrev pub ended : List ℕ → List ℕ
-ended line = line ++ 10 ∷ []
+abbrev pub ended_line : List ℕ → List ℕ
+ended_line line = line ++ 10 ∷ []
 
 -- a line of words with a blank between each two
 abbrev pub line_of : List (List ℕ) → List ℕ
-line_of words = ended (join_with_byte 32 words)
+line_of words = ended_line (join_with_byte 32 words)
 
 -- `OK` and these words
-abbrev pub ok : List (List ℕ) → List ℕ
-ok words = line_of (codes "OK" ∷ words)
+abbrev pub ok_line : List (List ℕ) → List ℕ
+ok_line words = line_of (codes "OK" ∷ words)
 
 -- the line of a session in a list: its name, its step, how many atoms it has and how much is saved in it
 abbrev pub session_line : List ℕ × Session → List ℕ
@@ -44,7 +44,7 @@ branch_line entry = line_of (entry.0 ∷ signed_decimal entry.1.step ∷ [])
 -- the line of an atom, its place in millionths of a file unit
 abbrev pub atom_line : ℕ → List ℕ → Place → List ℕ
 atom_line edge symbol place =
-    ended (atom_text symbol (micro_of edge place.x) (micro_of edge place.y) (micro_of edge place.z))
+    ended_line (atom_text symbol (micro_of edge place.x) (micro_of edge place.y) (micro_of edge place.z))
 
 -- the lines of all atoms
 abbrev pub atom_lines : ℕ → List (List ℕ) → List Place → List (List ℕ)
@@ -55,60 +55,60 @@ atom_lines edge [] places = []
 -- the frame of a session: the number of its atoms, its step, and a line for each atom
 abbrev pub frame_lines : Session → List (List ℕ)
 frame_lines session =
-    ended (count_text (atoms_of session)) ∷ ended (comment_text session.sim.step)
+    ended_line (count_text (atoms_of session)) ∷ ended_line (comment_text session.sim.step)
     ∷ atom_lines (edge_of session.composition.mix) session.symbols session.sim.cur
 
 -- `OK DUMP`, and the frame
 abbrev pub dump_lines : List ℕ → Option Session → List (List ℕ)
 dump_lines name (Some session) =
-    ok (codes "DUMP" ∷ name ∷ signed_decimal session.sim.step ∷ decimal (atoms_of session + 2) ∷ [])
+    ok_line (codes "DUMP" ∷ name ∷ signed_decimal session.sim.step ∷ decimal (atoms_of session + 2) ∷ [])
     ∷ frame_lines session
 dump_lines name None = []
 
 -- `OK LIST`, and a line for each session
 abbrev pub session_lines : User → List (List ℕ)
-session_lines user = ok (codes "LIST" ∷ decimal (length user.sessions) ∷ []) ∷ map session_line user.sessions
+session_lines user = ok_line (codes "LIST" ∷ decimal (length user.sessions) ∷ []) ∷ map session_line user.sessions
 
 -- `OK LIST`, and a line for each that is saved in the session
 abbrev pub branch_lines : List ℕ → Option Session → List (List ℕ)
 branch_lines name (Some session) =
-    ok (codes "LIST" ∷ name ∷ decimal (length session.saved) ∷ []) ∷ map branch_line session.saved
+    ok_line (codes "LIST" ∷ name ∷ decimal (length session.saved) ∷ []) ∷ map branch_line session.saved
 branch_lines name None = []
 
 -- the text of a reply, with the user after the command
 unfoldable pub text : User → Reply → List ℕ
-text user (Loaded name atoms) = ok (codes "LOAD" ∷ name ∷ codes "0" ∷ decimal atoms ∷ [])
-text user (LoadedMix name atoms) = ok (codes "LOADMIX" ∷ name ∷ codes "0" ∷ decimal atoms ∷ [])
-text user (Advanced name step) = ok (codes "ADVANCE" ∷ name ∷ signed_decimal step ∷ [])
-text user (Started name step) = ok (codes "START" ∷ name ∷ signed_decimal step ∷ [])
-text user (Reversed name step) = ok (codes "REVERSE" ∷ name ∷ signed_decimal step ∷ [])
-text user (Branched name branch step) = ok (codes "BRANCH" ∷ name ∷ branch ∷ signed_decimal step ∷ [])
-text user (Restored name branch step) = ok (codes "RESTORE" ∷ name ∷ branch ∷ signed_decimal step ∷ [])
-text user (Forgotten name branch) = ok (codes "FORGET" ∷ name ∷ branch ∷ [])
-text user (Tugged name atom step) = ok (codes "TUG" ∷ name ∷ decimal atom ∷ signed_decimal step ∷ [])
+text user (Loaded name atoms) = ok_line (codes "LOAD" ∷ name ∷ codes "0" ∷ decimal atoms ∷ [])
+text user (LoadedMix name atoms) = ok_line (codes "LOADMIX" ∷ name ∷ codes "0" ∷ decimal atoms ∷ [])
+text user (Advanced name step) = ok_line (codes "ADVANCE" ∷ name ∷ signed_decimal step ∷ [])
+text user (Started name step) = ok_line (codes "START" ∷ name ∷ signed_decimal step ∷ [])
+text user (Reversed name step) = ok_line (codes "REVERSE" ∷ name ∷ signed_decimal step ∷ [])
+text user (Branched name branch step) = ok_line (codes "BRANCH" ∷ name ∷ branch ∷ signed_decimal step ∷ [])
+text user (Restored name branch step) = ok_line (codes "RESTORE" ∷ name ∷ branch ∷ signed_decimal step ∷ [])
+text user (Forgotten name branch) = ok_line (codes "FORGET" ∷ name ∷ branch ∷ [])
+text user (Tugged name atom step) = ok_line (codes "TUG" ∷ name ∷ decimal atom ∷ signed_decimal step ∷ [])
 text user (Measured name step atoms momentum kinetic potential) =
-    ok (codes "MEASURE" ∷ name ∷ signed_decimal step ∷ decimal atoms
+    ok_line (codes "MEASURE" ∷ name ∷ signed_decimal step ∷ decimal atoms
     ∷ (map signed_decimal momentum ++ decimal kinetic ∷ signed_decimal potential ∷ []))
 text user (Shown name step atom place) =
-    ok (codes "SHOW" ∷ name ∷ signed_decimal step ∷ decimal atom ∷ decimal place.x
+    ok_line (codes "SHOW" ∷ name ∷ signed_decimal step ∷ decimal atom ∷ decimal place.x
     ∷ decimal place.y ∷ decimal place.z ∷ [])
-text user (Dumped name) = concat (dump_lines name (named name user.sessions))
+text user (Dumped name) = concat (dump_lines name (value_named name user.sessions))
 text user Listed = concat (session_lines user)
-text user (ListedBranches name) = concat (branch_lines name (named name user.sessions))
-text user (Unloaded name) = ok (codes "DROP" ∷ name ∷ [])
-text user Bye = ok (codes "BYE" ∷ [])
-text user (Refused refusal) = ended (refusal_text refusal)
+text user (ListedBranches name) = concat (branch_lines name (value_named name user.sessions))
+text user (Unloaded name) = ok_line (codes "DROP" ∷ name ∷ [])
+text user Bye = ok_line (codes "BYE" ∷ [])
+text user (Refused refusal) = ended_line (refusal_text refusal)
 
 -- the lines of a reply: DUMP and LIST have many, any other one
 unfoldable pub reply_lines : User → Reply → List (List ℕ)
-reply_lines user (Dumped name) = dump_lines name (named name user.sessions)
+reply_lines user (Dumped name) = dump_lines name (value_named name user.sessions)
 reply_lines user Listed = session_lines user
-reply_lines user (ListedBranches name) = branch_lines name (named name user.sessions)
+reply_lines user (ListedBranches name) = branch_lines name (value_named name user.sessions)
 reply_lines user reply = text user reply ∷ []
 
 -- the text that tells want of memory
 abbrev pub memory_text : List ℕ
-memory_text = ended (refusal_text Memory)
+memory_text = ended_line (refusal_text Memory)
 
 -- whether a text is the memory refusal
 abbrev pub is_memory : List ℕ → Bool

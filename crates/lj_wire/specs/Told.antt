@@ -3,7 +3,7 @@ use Rattle.std.specs.Prelude.{ℕ, Bool, false, List, [], ◌∷◌}
 use Rattle.lj_session.specs.declared.reply.Reply.{Reply}
 use Rattle.lj_session.specs.declared.reply.Reply.TheVariants.{Refused}
 use Rattle.lj_quota.specs.declared.Quota.{Quota}
-use Rattle.lj_session.specs.Users.{User, fresh}
+use Rattle.lj_session.specs.Users.{User, fresh_user}
 use Rattle.lj_session.specs.Answers.{answer}
 use Rattle.lj_wire.specs.declared.item.Item.{Item}
 use Rattle.lj_wire.specs.declared.item.Item.TheVariants.{Command, Bad, Last}
@@ -11,14 +11,14 @@ use Rattle.lj_wire.specs.Items.{refusal_of}
 use Rattle.lj_wire.specs.Texts.{text}
 
 -- the reply to an item, and the user after it
-abbrev pub answered : User → Item → Bool → Reply × User
-answered user (Command command) mark = answer user command mark
-answered user (Bad fault) mark = (Refused (refusal_of fault), user)
-answered user (Last fault) mark = (Refused (refusal_of fault), user)
+abbrev pub item_reply : User → Item → Bool → Reply × User
+item_reply user (Command command) mark = answer user command mark
+item_reply user (Bad fault) mark = (Refused (refusal_of fault), user)
+item_reply user (Last fault) mark = (Refused (refusal_of fault), user)
 
 -- the text that an item is answered, and the user after it
-abbrev pub told : User → Item → Bool → List ℕ × User
-told user item mark = let a = answered user item mark in (text a.1 a.0, a.1)
+abbrev pub item_text : User → Item → Bool → List ℕ × User
+item_text user item mark = let a = item_reply user item mark in (text a.1 a.0, a.1)
 
 -- a mark says that memory was refused to an item, and a missing one that it was not
 abbrev pub first_mark : List Bool → Bool
@@ -34,13 +34,13 @@ other_marks (mark ∷ marks) = marks
 abbrev pub texts : User → List Item → List Bool → List (List ℕ)
 texts user [] marks = []
 texts user (item ∷ items) marks =
-    let next = told user item (first_mark marks) in next.0 ∷ texts next.1 items (other_marks marks)
+    let next = item_text user item (first_mark marks) in next.0 ∷ texts next.1 items (other_marks marks)
 
 -- the user after items
 abbrev pub last_user : User → List Item → List Bool → User
 last_user user [] marks = user
-last_user user (item ∷ items) marks = last_user (told user item (first_mark marks)).1 items (other_marks marks)
+last_user user (item ∷ items) marks = last_user (item_text user item (first_mark marks)).1 items (other_marks marks)
 
 -- A user's items answered alone, from the user without sessions: the texts, and the last user.
 abbrev pub alone : Quota → List Item → List Bool → List (List ℕ) × User
-alone quota items marks = (texts (fresh quota) items marks, last_user (fresh quota) items marks)
+alone quota items marks = (texts (fresh_user quota) items marks, last_user (fresh_user quota) items marks)

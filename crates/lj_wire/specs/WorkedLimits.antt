@@ -3,12 +3,12 @@ use Rattle.std.specs.Prelude.{◌≡◌, true, [], Some, None, pos, negsuc, code
 use Rattle.std.proofs.Common.{inl, inr}
 use Rattle.std.proofs.Math.ListN.{replicate}
 use Rattle.std.proofs.lemmas.Bool.{ltb-true}
-use Rattle.lj_session.specs.Users.{fresh}
+use Rattle.lj_session.specs.Users.{fresh_user}
 use Rattle.lj_wire.specs.declared.item.Fault.TheVariants.{Body, Line, Long, Enough}
 use Rattle.lj_wire.specs.declared.item.Item.TheVariants.{Bad, Last}
-use Rattle.lj_wire.specs.Commands.{announced, item_of}
+use Rattle.lj_wire.specs.Commands.{body_len_announced, item_of}
 use Rattle.lj_wire.specs.Displacements.{displacement_of}
-use Rattle.lj_wire.specs.Told.{told}
+use Rattle.lj_wire.specs.Told.{item_text}
 use Rattle.lj_wire.specs.Streams.{IsItem}
 use Rattle.lj_quota.specs.declared.TheConstants.Quota.{USUAL}
 use Rattle.lj_wire.specs.Played.{computed}
@@ -18,7 +18,7 @@ pub long_line : item_of (replicate 257 120) [] ≡ Bad Line
 long_line = refl
 
 -- a body has at most 1,048,576 bytes
-pub greatest_count : announced (codes "LOAD a 256 1 1 rest 1048576") ≡ 1048576
+pub greatest_count : body_len_announced (codes "LOAD a 256 1 1 rest 1048576") ≡ 1048576
 unfolding computed
 greatest_count = refl
 
@@ -45,13 +45,13 @@ unfolding computed
 great_displacement = refl
 
 -- where memory is refused to a LOAD its body is not looked at
-pub load_without_memory : (told (fresh USUAL) (item_of (codes "LOAD a 256 1 1 rest 2") (codes "9\n")) true).0
+pub load_without_memory : (item_text (fresh_user USUAL) (item_of (codes "LOAD a 256 1 1 rest 2") (codes "9\n")) true).0
     ≡ codes "ERR 90 MEMORY\n"
 unfolding computed
 load_without_memory = refl
 
 -- but what its line is refused for comes first
-pub sigma_without_memory : (told (fresh USUAL) (item_of (codes "LOAD a 256 99 1 rest 2") (codes "9\n")) true).0
+pub sigma_without_memory : (item_text (fresh_user USUAL) (item_of (codes "LOAD a 256 99 1 rest 2") (codes "9\n")) true).0
     ≡ codes "ERR 37 SIGMA\n"
 unfolding computed
 sigma_without_memory = refl

@@ -1,6 +1,6 @@
 //! The first line of a connection: who asks for its state.
 ghost use Rattle.std.specs.Prelude.{◌≡◌, Some, codes};
-ghost use Rattle.lj_wire.specs.Greetings.{asked, greeting, hello_of, token_word};
+ghost use Rattle.lj_wire.specs.Greetings.{hello_asked, greeting, hello_of, token_word};
 
 use crate::line::{is_over, words_in};
 use crate::words::Words;
@@ -85,7 +85,7 @@ fn greeting(mut words: Words) -> Option<Hello>
 
 // The words after HELLO: a name and a token.
 fn asked(mut words: Words) -> Option<Hello>
-    ensures { result ≡ asked words.entry }
+    ensures { result ≡ hello_asked words.entry }
 {
     let name = words.next()?;
     let token = words.next()?;

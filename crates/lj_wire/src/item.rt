@@ -1,7 +1,7 @@
 //! Items of a stream of bytes.
 ghost use Rattle.std.specs.Prelude.{◌≡◌, List, ℕ};
 ghost use Rattle.lj_session.specs.declared.body.LoadBody.TheVariants.{Unread};
-ghost use Rattle.lj_wire.specs.Items.{refusal_of, ends, with_body};
+ghost use Rattle.lj_wire.specs.Items.{refusal_of, is_ending, with_body};
 ghost use Rattle.lj_wire.specs.Commands.{item_with};
 
 use lj_session::{Command, Load, LoadBody, Refusal};
@@ -51,7 +51,7 @@ impl From<Fault> for Refusal {
 impl Item {
     /// Whether the connection ends with this item.
     pub fn ends(&self) -> bool
-        ensures { result ≡ ends self.now }
+        ensures { result ≡ is_ending self.now }
     {
         match self {
             Item::Command(Command::Bye) | Item::Last(_) => true,

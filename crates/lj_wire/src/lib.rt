@@ -1,7 +1,7 @@
 //! The line protocol: items of a stream, and the texts of replies.
 #![tactic(auto)]
 
-mod command;
+mod command_line;
 mod displacement;
 mod ends;
 mod hello;

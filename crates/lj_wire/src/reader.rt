@@ -3,23 +3,23 @@ ghost use Rattle.std.specs.Prelude.{◌≡◌, [], IfOk, IfSome, IfNone, OnErr};
 ghost use Rattle.std.specs.Io.KnownBytes.{prepend_known};
 ghost use Rattle.lj_wire.specs.declared.reader.phase.Phase.TheVariants.{Open};
 
-mod body;
 mod buffer;
 mod greeting;
-mod input;
 mod items;
 mod laws;
+mod load_body;
 mod phase;
+mod source_input;
 
 use crate::ends::{ReadFault, Source};
 use crate::hello::Hello;
 use crate::item::{Fault, Item};
 use crate::limits::MAX_ITEMS;
 use greeting::read_hello;
-use input::Input;
 use items::read_item;
 pub use laws::{handed_are_all, handed_come_first, lost_is_marked};
 pub use phase::Phase;
+use source_input::Input;
 use std::alloc::Global;
 use std::marker::Model;
 
@@ -38,13 +38,13 @@ impl<S: Source> Model for LineReader<S> {
     ghost use Rattle.std.specs.Prelude.{◌≡◌, ◌+◌, ◌≤◌};
     ghost use Rattle.lj_wire.specs.declared.limits.TheConstants.{MAX_ITEMS};
     ghost use Rattle.lj_wire.specs.declared.reader.phase.Phase.TheVariants.{Open};
-    ghost use Rattle.lj_wire.specs.Ahead.{untaken};
-    ghost use Rattle.lj_wire.specs.Standings.{Standing};
+    ghost use Rattle.lj_wire.specs.Input.{bytes_untaken};
+    ghost use Rattle.lj_wire.specs.LineReader.{LineReader};
 
-    ghost Value = { Standing };
+    ghost Value = { LineReader };
 
     ghost view = { λ reader. record {
-      left = untaken reader.input;
+      left = bytes_untaken reader.input;
       held = reader.input.held;
       unread = reader.input.unread;
       errors = reader.input.errors;
@@ -56,7 +56,7 @@ impl<S: Source> Model for LineReader<S> {
 }
 
 impl<S: Source> LineReader<S> {
-    ghost use Rattle.lj_wire.specs.Standings.{HandsOut, HandsNone, HasFailed};
+    ghost use Rattle.lj_wire.specs.LineReader.{HandsOut, HandsNone, HasFailed};
     ghost use Rattle.lj_wire.specs.Greetings.{Greets, GreetsNone, HasFailedEarly};
 
     /// A reader of `source` that has read nothing.

@@ -1,10 +1,10 @@
 //! What a line says: its item, and the body that follows it.
 ghost use Rattle.std.specs.Prelude.{◌≡◌, Some, unwrap_or};
 ghost use Rattle.lj_session.specs.declared.body.LoadBody.TheVariants.{Unread};
-ghost use Rattle.lj_wire.specs.Commands.{announced, item_with, last_count, verb_command};
-ghost use Rattle.lj_wire.specs.Commands.{counted_item, or_syntax, over_item, verb_body_len, verb_item};
+ghost use Rattle.lj_wire.specs.Commands.{body_len_announced, item_with, last_count, verb_command};
+ghost use Rattle.lj_wire.specs.Commands.{counted_item, item_or_syntax, over_item, verb_body_len, verb_item};
 
-use crate::command::{parse_count, parse_words};
+use crate::command_line::{parse_count, parse_words};
 use crate::item::{Fault, Item};
 use crate::limits::LONG_LINE_BYTES;
 use crate::line::{is_over, words_in};
@@ -25,7 +25,7 @@ pub struct LineReading {
 /// Reads a line, which is given without its line feed.
 pub fn read_line(line: &[u8]) -> LineReading
     ensures item { result.item ≡ item_with line.now Unread }
-    ensures body { result.body ≡ announced line.now }
+    ensures body { result.body ≡ body_len_announced line.now }
 {
     if is_over(line) {
         return without_body(over_item(line));
@@ -65,7 +65,7 @@ fn over_item(line: &[u8]) -> Item
 }
 
 fn or_syntax(command: Option<Command>) -> Item
-    ensures { result ≡ or_syntax command }
+    ensures { result ≡ item_or_syntax command }
 {
     match command {
         Some(command) => Item::Command(command),
@@ -86,7 +86,8 @@ fn read_command(verb: Verb, words: Words) -> LineReading
 
 // What the line of a load says.
 fn read_load(verb: Verb, words: Words) -> LineReading
-    ensures item { result.item ≡ counted_item (last_count words.entry) (verb_command verb Unread words.entry) }
+    ensures item { result.item
+        ≡ counted_item (last_count words.entry) (verb_command verb Unread words.entry) }
     ensures body { result.body ≡ unwrap_or (last_count words.entry) 0 }
 {
     match last_count(words.copy()) {

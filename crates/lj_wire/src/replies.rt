@@ -5,13 +5,13 @@ ghost use Rattle.std.specs.List.{flat_map};
 ghost use Rattle.std.specs.Fmt.{decimal, signed_decimal};
 ghost use Rattle.std.specs.Option.{ForSome, option_map};
 ghost use Rattle.arrayvec.specs.ArrayVec.{array_vec_len};
-ghost use Rattle.lj_ring.specs.Mixes.{edge_of};
+ghost use Rattle.lj_ring.specs.Mix.{edge_of};
 ghost use Rattle.lj_session.specs.Refusals.{refusal_text};
-ghost use Rattle.lj_branch.specs.Named.{named};
+ghost use Rattle.lj_branch.specs.Named.{value_named};
 ghost use Rattle.lj_session.specs.Users.{User};
-ghost use Rattle.lj_session.specs.States.{held_at, names, user_of, session_meant};
-ghost use Rattle.lj_session.specs.Owners.{IsSettled};
-ghost use Rattle.lj_wire.specs.Texts.{ok, ended, text, reply_lines, line_of, session_line, session_lines, branch_line};
+ghost use Rattle.lj_session.specs.UserState.{held_session_at, names, user_of, session_meant};
+ghost use Rattle.lj_session.specs.Owner.{IsSettled};
+ghost use Rattle.lj_wire.specs.Texts.{ok_line, ended_line, text, reply_lines, line_of, session_line, session_lines, branch_line};
 ghost use Rattle.lj_wire.specs.Texts.{branch_lines, dump_lines, atom_lines};
 ghost use Rattle.lj_wire.specs.Lines.{blank_and, is_one_line};
 
@@ -70,7 +70,7 @@ fn begin(line: &mut Line, verb: &[u8])
 /// Appends the line feed.
 fn end(line: &mut Line)
     requires { array_vec_len line.old < MAX_REPLY_LINE_BYTES }
-    ensures { line.new.items ≡ ended line.old.items }
+    ensures { line.new.items ≡ ended_line line.old.items }
 {
     line.push(b'\n');
 }
@@ -78,7 +78,7 @@ fn end(line: &mut Line)
 /// `OK`, the word of a load, a session, its step 0 and how many atoms it has.
 fn loaded_line(line: &mut Line, verb: &[u8], name: &Name, atoms: usize)
     requires { length verb.now ≤ 16 }
-    ensures { line.new.items ≡ ok (verb.now ∷ name.now ∷ codes "0" ∷ decimal atoms ∷ []) }
+    ensures { line.new.items ≡ ok_line (verb.now ∷ name.now ∷ codes "0" ∷ decimal atoms ∷ []) }
 {
     begin(line, verb);
     push_word(line, name.as_bytes());
@@ -91,7 +91,7 @@ fn loaded_line(line: &mut Line, verb: &[u8], name: &Name, atoms: usize)
 fn number_line<I: Integer>(line: &mut Line, verb: &[u8], name: &Name, number: I)
     requires word { length verb.now ≤ 16 }
     requires number { I.MAX_STR_LEN ≤ 40 }
-    ensures { line.new.items ≡ ok (verb.now ∷ name.now ∷ I.text number ∷ []) }
+    ensures { line.new.items ≡ ok_line (verb.now ∷ name.now ∷ I.text number ∷ []) }
 {
     begin(line, verb);
     push_word(line, name.as_bytes());
@@ -110,7 +110,7 @@ fn numbers_line<I: Integer, J: Integer>(
     requires word { length verb.now ≤ 16 }
     requires first { I.MAX_STR_LEN ≤ 40 }
     requires second { J.MAX_STR_LEN ≤ 40 }
-    ensures { line.new.items ≡ ok (verb.now ∷ name.now ∷ I.text first ∷ J.text second ∷ []) }
+    ensures { line.new.items ≡ ok_line (verb.now ∷ name.now ∷ I.text first ∷ J.text second ∷ []) }
 {
     begin(line, verb);
     push_word(line, name.as_bytes());
@@ -122,7 +122,7 @@ fn numbers_line<I: Integer, J: Integer>(
 /// `OK`, the word of a command, and a session.
 fn name_line(line: &mut Line, verb: &[u8], name: &Name)
     requires { length verb.now ≤ 16 }
-    ensures { line.new.items ≡ ok (verb.now ∷ name.now ∷ []) }
+    ensures { line.new.items ≡ ok_line (verb.now ∷ name.now ∷ []) }
 {
     begin(line, verb);
     push_word(line, name.as_bytes());
@@ -131,7 +131,7 @@ fn name_line(line: &mut Line, verb: &[u8], name: &Name)
 
 /// `OK HELLO name`: the user of this name is let in.
 pub fn put_welcome_line(line: &mut Line, name: &Name)
-    ensures { line.new.items ≡ ok (codes "HELLO" ∷ name.now ∷ []) }
+    ensures { line.new.items ≡ ok_line (codes "HELLO" ∷ name.now ∷ []) }
 {
     name_line(line, b"HELLO", name);
 }
@@ -139,7 +139,7 @@ pub fn put_welcome_line(line: &mut Line, name: &Name)
 /// `OK`, the word of a command, a session, and a name under which something is saved in it.
 fn names_line(line: &mut Line, verb: &[u8], name: &Name, branch: &Name)
     requires { length verb.now ≤ 16 }
-    ensures { line.new.items ≡ ok (verb.now ∷ name.now ∷ branch.now ∷ []) }
+    ensures { line.new.items ≡ ok_line (verb.now ∷ name.now ∷ branch.now ∷ []) }
 {
     begin(line, verb);
     push_word(line, name.as_bytes());
@@ -150,7 +150,7 @@ fn names_line(line: &mut Line, verb: &[u8], name: &Name, branch: &Name)
 /// The same with a step number.
 fn names_and_step_line(line: &mut Line, verb: &[u8], name: &Name, branch: &Name, step: i64)
     requires { length verb.now ≤ 16 }
-    ensures { line.new.items ≡ ok (verb.now ∷ name.now ∷ branch.now ∷ signed_decimal step ∷ []) }
+    ensures { line.new.items ≡ ok_line (verb.now ∷ name.now ∷ branch.now ∷ signed_decimal step ∷ []) }
 {
     begin(line, verb);
     push_word(line, name.as_bytes());
@@ -161,7 +161,7 @@ fn names_and_step_line(line: &mut Line, verb: &[u8], name: &Name, branch: &Name,
 
 /// `OK BYE`.
 fn bye_line(line: &mut Line)
-    ensures { line.new.items ≡ ok (codes "BYE" ∷ []) }
+    ensures { line.new.items ≡ ok_line (codes "BYE" ∷ []) }
 {
     begin(line, b"BYE");
     end(line);
@@ -169,7 +169,7 @@ fn bye_line(line: &mut Line)
 
 /// `OK SHOW s step i x y z`.
 fn shown_line(line: &mut Line, name: &Name, step: i64, atom: u64, place: &Place)
-    ensures { line.new.items ≡ ok (codes "SHOW" ∷ name.now ∷ signed_decimal step ∷ decimal atom
+    ensures { line.new.items ≡ ok_line (codes "SHOW" ∷ name.now ∷ signed_decimal step ∷ decimal atom
         ∷ decimal place.now.x ∷ decimal place.now.y ∷ decimal place.now.z ∷ []) }
 {
     begin(line, b"SHOW");
@@ -208,7 +208,7 @@ fn push_momentum(line: &mut Line, momentum: &[i64; 3])
 
 /// A line of a frame with its line feed.
 fn frame_line(line: &mut Line, text: &FrameLine)
-    ensures { line.new.items ≡ ended text.now.items }
+    ensures { line.new.items ≡ ended_line text.now.items }
 {
     line.clear();
     push(line, text.as_slice());
@@ -217,7 +217,7 @@ fn frame_line(line: &mut Line, text: &FrameLine)
 
 /// The line of a refusal.
 pub fn put_refusal_line(line: &mut Line, refusal: Refusal)
-    ensures { line.new.items ≡ ended (refusal_text refusal) }
+    ensures { line.new.items ≡ ended_line (refusal_text refusal) }
 {
     line.clear();
     let number = refusal.number();
@@ -242,7 +242,7 @@ fn measured_line(
     kinetic: u128,
     potential: i128,
 )
-    ensures { line.new.items ≡ ok (codes "MEASURE" ∷ name.now ∷ signed_decimal step ∷ decimal atoms
+    ensures { line.new.items ≡ ok_line (codes "MEASURE" ∷ name.now ∷ signed_decimal step ∷ decimal atoms
         ∷ (map signed_decimal momentum.now ++ decimal kinetic ∷ signed_decimal potential ∷ [])) }
 {
     begin_measured(line, name, step, atoms);
@@ -254,7 +254,7 @@ fn measured_line(
 
 /// `OK LIST k`.
 fn listed_line(line: &mut Line, sessions: usize)
-    ensures { line.new.items ≡ ok (codes "LIST" ∷ decimal sessions ∷ []) }
+    ensures { line.new.items ≡ ok_line (codes "LIST" ∷ decimal sessions ∷ []) }
 {
     begin(line, b"LIST");
     push_number(line, sessions);
@@ -264,7 +264,8 @@ fn listed_line(line: &mut Line, sessions: usize)
 /// The line of a session in a list: its name, the step that it is going to, how many atoms it has and how much is saved in
 /// it.
 fn entry_line(line: &mut Line, name: &Name, step: i64, atoms: usize, branches: usize)
-    ensures { line.new.items ≡ line_of (name.now ∷ signed_decimal step ∷ decimal atoms ∷ decimal branches ∷ []) }
+    ensures { line.new.items
+        ≡ line_of (name.now ∷ signed_decimal step ∷ decimal atoms ∷ decimal branches ∷ []) }
 {
     line.clear();
     push(line, name.as_bytes());
@@ -304,9 +305,10 @@ fn branch_line(line: &mut Line, branches: &Branches, i: usize)
 /// The line of an atom in a frame of the i-th session.
 fn atom_line(line: &mut Line, state: &UserState, i: usize, atom: usize)
     requires session { i < length state.now.sessions }
-    requires atom { ForSome (held_at state.now i) (λ held. atom < length held.live.sim.cur) }
-    ensures { IfSome (held_at state.now i) (λ held.
-        Some line.new.items ≡ slice_get (atom_lines (edge_of held.live.composition.mix) held.symbols held.live.sim.cur) atom) }
+    requires atom { ForSome (held_session_at state.now i) (λ held. atom < length held.live.sim.cur) }
+    ensures { IfSome (held_session_at state.now i) (λ held.
+        Some line.new.items
+        ≡ slice_get (atom_lines (edge_of held.live.composition.mix) held.symbols held.live.sim.cur) atom) }
 {
     let edge = state.edge_at(i);
     let Place { x, y, z } = state.sim_at(i).place(atom);
@@ -381,8 +383,9 @@ fn list_line(line: &mut Line, state: &UserState, k: usize) -> Option<()>
 /// Line k of the reply to LIST of the i-th session, which has this name. None past the last line.
 fn branches_line(line: &mut Line, state: &UserState, i: usize, name: &Name, k: usize) -> Option<()>
     requires { i < length state.now.sessions }
-    ensures text { IfSome (held_at state.now i) (λ held.
-        option_map (λ _. line.new.items) result ≡ slice_get (branch_lines name.now (Some (session_meant held))) k) }
+    ensures text { IfSome (held_session_at state.now i) (λ held.
+        option_map (λ _. line.new.items) result
+        ≡ slice_get (branch_lines name.now (Some (session_meant held))) k) }
     ensures unchanged { IfNone result (line.new ≡ line.old) }
 {
     let branches = state.branches_at(i);
@@ -402,9 +405,10 @@ fn branches_line(line: &mut Line, state: &UserState, i: usize, name: &Name, k: u
 /// line.
 fn dump_line(line: &mut Line, state: &UserState, i: usize, name: &Name, k: usize) -> Option<()>
     requires session { i < length state.now.sessions }
-    requires settled { ForSome (held_at state.now i) (λ held. held.owed ≡ 0) }
-    ensures text { IfSome (held_at state.now i) (λ held.
-        option_map (λ _. line.new.items) result ≡ slice_get (dump_lines name.now (Some (session_meant held))) k) }
+    requires settled { ForSome (held_session_at state.now i) (λ held. held.owed ≡ 0) }
+    ensures text { IfSome (held_session_at state.now i) (λ held.
+        option_map (λ _. line.new.items) result
+        ≡ slice_get (dump_lines name.now (Some (session_meant held))) k) }
     ensures unchanged { IfNone result (line.new ≡ line.old) }
 {
     let sim = state.sim_at(i);
@@ -422,7 +426,8 @@ fn dump_line(line: &mut Line, state: &UserState, i: usize, name: &Name, k: usize
 /// Line k of a reply, counted from 0, with the state of the user after the command. None past the last line.
 pub fn reply_line(state: &UserState, reply: &Reply, k: usize) -> Option<Line>
     requires settled { IsSettled state.now reply.now }
-    ensures { option_map (λ line. line.items) result ≡ slice_get (reply_lines (user_of state.now) reply.now) k }
+    ensures { option_map (λ line. line.items) result
+        ≡ slice_get (reply_lines (user_of state.now) reply.now) k }
 {
     let mut line = Line::new();
     put_reply_line(&mut line, state, reply, k)?;
@@ -434,7 +439,8 @@ pub fn reply_line(state: &UserState, reply: &Reply, k: usize) -> Option<Line>
 #[tactic(auto, unfolding(crate::specs::Texts::reply_lines))]
 pub fn put_reply_line(line: &mut Line, state: &UserState, reply: &Reply, k: usize) -> Option<()>
     requires settled { IsSettled state.now reply.now }
-    ensures text { option_map (λ _. line.new.items) result ≡ slice_get (reply_lines (user_of state.now) reply.now) k }
+    ensures text { option_map (λ _. line.new.items) result
+        ≡ slice_get (reply_lines (user_of state.now) reply.now) k }
     ensures unchanged { IfNone result (line.new ≡ line.old) }
 {
     match reply {

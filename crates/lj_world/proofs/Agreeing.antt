@@ -1,8 +1,8 @@
 -- Scripts that agree: what they are told, and the headline from there.
 use Rattle.std.proofs.Common.{◌≡◌, ℕ, Bool, List, [], ◌∷◌, ◌++◌, length, take, drop, inl, inr, refl, sym, ap, ap₂, subst, subst₂, take-append-drop}
-use Rattle.lj_session.specs.Users.{User, fresh}
+use Rattle.lj_session.specs.Users.{User, fresh_user}
 use Rattle.lj_wire.specs.declared.item.Item.{Item}
-use Rattle.lj_wire.specs.Told.{told, texts}
+use Rattle.lj_wire.specs.Told.{item_text, texts}
 use Rattle.lj_world.specs.Scripts.{IsPrefix, OneIsPrefix}
 use Rattle.lj_world.specs.Laws.{RepliesAreFirstTexts, AgreeingScriptsAgreeInTexts, Headline, alone_texts, script_in}
 
@@ -34,14 +34,14 @@ firsts_agree user (item ∷ items) [] (mark ∷ marks) (sign ∷ signs) p q = in
 firsts_agree user (item ∷ items) (other ∷ others) (mark ∷ marks) (sign ∷ signs) p q =
     let a = heads item other items others p in
     let b = heads mark sign marks signs q in
-    let same : told user item mark ≡ told user other sign = ap₂ (told user) a.0 b.0 in
-    let next = told user item mark in
+    let same : item_text user item mark ≡ item_text user other sign = ap₂ (item_text user) a.0 b.0 in
+    let next = item_text user item mark in
     let ih = firsts_agree next.1 items others marks signs a.1 b.1 in
     subst (λ (n : List ℕ × User). OneIsPrefix (firsts user (item ∷ items) (mark ∷ marks)) (n.0 ∷ firsts n.1 others signs)) same
     (with_head next.0 (firsts next.1 items marks) (firsts next.1 others signs) ih)
 
 pub scripts_agree : AgreeingScriptsAgreeInTexts
-scripts_agree quota one other agree = firsts_agree (fresh quota) one.items other.items one.marks other.marks agree.items agree.marks
+scripts_agree quota one other agree = firsts_agree (fresh_user quota) one.items other.items one.marks other.marks agree.items agree.marks
 
 take_is_prefix : {A : Type 0} (n : ℕ) (xs : List A) → IsPrefix (take n xs) xs
 take_is_prefix n xs = (drop n xs, sym (take-append-drop n xs))

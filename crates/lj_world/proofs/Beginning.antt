@@ -4,8 +4,8 @@ use Rattle.lj_session.specs.declared.command.Command.{Command as Order}
 use Rattle.lj_session.specs.declared.reply.Reply.{Reply}
 use Rattle.lj_session.specs.declared.reply.Reply.TheVariants.{Refused}
 use Rattle.lj_session.specs.Users.{User}
-use Rattle.lj_session.specs.States.{turns_before, OthersKept, OtherSessionsKept, IsIdleIn, StepsFollow}
-use Rattle.lj_session.specs.Owners.{Owning, user_in, IsAnswered, IsReplied, IsLastTurn, is_waited_for}
+use Rattle.lj_session.specs.UserState.{turns_before, OthersKept, OtherSessionsKept, IsIdleIn, StepsFollow}
+use Rattle.lj_session.specs.Owner.{Owner, user_in, IsAnswered, IsReplied, IsLastTurn, is_waited_for}
 use Rattle.lj_wire.specs.declared.item.Fault.{Fault}
 use Rattle.lj_wire.specs.declared.item.Item.TheVariants.{Command, Bad, Last}
 use Rattle.lj_wire.specs.Items.{refusal_of}
@@ -13,7 +13,7 @@ use Rattle.lj_wire.specs.Texts as texts
 use Rattle.lj_world.specs.Begun.{Answers, BeginsAtOnce, TurnsLast}
 
 -- a command that is answered, as a text
-told_answer : (owner next : Owning) (command : Order) (reply : Reply) (text : List ℕ) → IsAnswered (user_in owner) command reply (user_in next)
+told_answer : (owner next : Owner) (command : Order) (reply : Reply) (text : List ℕ) → IsAnswered (user_in owner) command reply (user_in next)
     → next.waiting ≡ None → next.number ≡ owner.number → text ≡ texts.text (user_in next) reply → Answers owner (Command command) text next
 told_answer owner next command reply text answered idle number made = record {
   mark = answered.mark;
@@ -24,7 +24,7 @@ told_answer owner next command reply text answered idle number made = record {
 }
 
 -- a command before which no turn comes
-pub command_answered : (owner next : Owning) (command : Order) (reply : Reply) (text : List ℕ)
+pub command_answered : (owner next : Owner) (command : Order) (reply : Reply) (text : List ℕ)
     → turns_before owner.state command ≡ 0 → IsAnswered (user_in owner) command reply (user_in next)
     → next.waiting ≡ None → next.number ≡ owner.number → OthersKept command owner.state next.state
     → StepsFollow command owner.state next.state → text ≡ texts.text (user_in next) reply
@@ -36,7 +36,7 @@ command_answered owner next command reply text none answered idle number others 
 }
 
 -- what waits, at the last turn of its session
-pub wait_answered : (owner next : Owning) (name : List ℕ) (reply : Reply) (text : List ℕ) → IsLastTurn name owner
+pub wait_answered : (owner next : Owner) (name : List ℕ) (reply : Reply) (text : List ℕ) → IsLastTurn name owner
     → IsReplied owner reply (user_in next) → next.waiting ≡ None → next.number ≡ owner.number → IsIdleIn next.state name
     → OtherSessionsKept name owner.state next.state → text ≡ texts.text (user_in next) reply → TurnsLast owner name text next
 wait_answered owner next name reply text last replied idle number rests others made = by owner.waiting refl
@@ -54,7 +54,7 @@ wait_answered owner next name reply text last replied idle number rests others m
     }
 
 -- a line that is no command
-pub fault_answered : (owner : Owning) (fault : Fault) (text : List ℕ) → owner.waiting ≡ None
+pub fault_answered : (owner : Owner) (fault : Fault) (text : List ℕ) → owner.waiting ≡ None
     → text ≡ texts.text (user_in owner) (Refused (refusal_of fault)) → BeginsAtOnce owner (Bad fault) text owner
 fault_answered owner fault text idle made = record {
   at_once = refl;
@@ -63,7 +63,7 @@ fault_answered owner fault text idle made = record {
 }
 
 -- a fault that ends the connection
-pub last_answered : (owner : Owning) (fault : Fault) (text : List ℕ) → owner.waiting ≡ None
+pub last_answered : (owner : Owner) (fault : Fault) (text : List ℕ) → owner.waiting ≡ None
     → text ≡ texts.text (user_in owner) (Refused (refusal_of fault)) → BeginsAtOnce owner (Last fault) text owner
 last_answered owner fault text idle made = record {
   at_once = refl;

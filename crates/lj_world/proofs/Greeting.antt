@@ -1,9 +1,9 @@
 -- Steps of the machine in which a connection says HELLO.
 use Rattle.std.proofs.Common.{◌≡◌, ◌≢◌, ℕ, ◌<◌, List, length, set, slice_get, Option, Some, None, IsSomeAnd, refl, ap, ◌∙◌, sym, subst, inl, inr, arith}
 use Rattle.std.specs.Option.{option_map}
-use Rattle.lj_access.specs.Rows.{Row, Pass, HasTicketLeft, user_with, next_number, changed, with_ticket}
+use Rattle.lj_access.specs.Rows.{Row, Ticket, HasTicketLeft, user_with, next_number, with_row_changed, with_ticket}
 use Rattle.lj_world.specs.declared.event.Event.TheVariants.{Hello}
-use Rattle.lj_world.specs.States.{State, Talk, Hand, IsConnection, talk_at, greeted, with_talk, with_rows}
+use Rattle.lj_world.specs.Machine.{Machine, Connection, Worker, IsConnection, connection_at, greeted_connection, with_connection, with_rows}
 use Rattle.lj_world.specs.Happenings.{Happens}
 use Rattle.lj_world.specs.Runs.{Step}
 use Rattle.lj_world.specs.Machines.{IsMachine}
@@ -11,19 +11,19 @@ use Rattle.lj_world.proofs.RowLemmas.{row_changed}
 use Rattle.lj_world.proofs.RowsKept.{has_changed, put_talk}
 
 -- no connection has a number out of range
-pub greets_nowhere : (s : State) (connection : ℕ) (name token : List ℕ) → (IsConnection connection → ⊥)
+pub greets_nowhere : (s : Machine) (connection : ℕ) (name token : List ℕ) → (IsConnection connection → ⊥)
     → Step s (Hello connection name token) None s
 unfolding Happens
 greets_nowhere s connection name token out = inr (λ p. out p.2.1.within, refl, refl)
 
 -- a connection that is known says no HELLO
-pub greets_known : (s : State) (connection : ℕ) (name token : List ℕ) → talk_at s connection ≢ None
+pub greets_known : (s : Machine) (connection : ℕ) (name token : List ℕ) → connection_at s connection ≢ None
     → Step s (Hello connection name token) None s
 unfolding Happens
 greets_known s connection name token known = inr (λ p. known p.2.1.is_new, refl, refl)
 
 -- nobody with this name and token has a ticket left
-pub denied : (s : State) (connection : ℕ) (name token : List ℕ)
+pub denied : (s : Machine) (connection : ℕ) (name token : List ℕ)
     → (IsSomeAnd (user_with s.rows name token) (λ user. IsSomeAnd (slice_get s.rows user) HasTicketLeft) → ⊥)
     → Step s (Hello connection name token) None s
 unfolding Happens
@@ -38,13 +38,13 @@ row_there None P fact = absurd fact
 row_there (Some row) P fact = (row, refl, fact)
 
 -- what is known of a ticket that was granted
-pub record IsGranted (rows : List Row) (name token : List ℕ) (ticket : Pass) : Type 0 where
+pub record IsGranted (rows : List Row) (name token : List ℕ) (ticket : Ticket) : Type 0 where
   pub left : IsSomeAnd (user_with rows name token) (λ user. IsSomeAnd (slice_get rows user) HasTicketLeft)
   pub user : user_with rows name token ≡ Some ticket.user
   pub number : next_number rows ticket.user ≡ Some ticket.number
 
 -- the row from which it was granted
-pub granted_row : (rows : List Row) (name token : List ℕ) (ticket : Pass) → IsGranted rows name token ticket
+pub granted_row : (rows : List Row) (name token : List ℕ) (ticket : Ticket) → IsGranted rows name token ticket
     → (row : Row) × (slice_get rows ticket.user ≡ Some row) × HasTicketLeft row × (row.granted ≡ ticket.number)
 granted_row rows name token ticket g =
     let P : Option Row → Type 0 = λ o. IsSomeAnd o HasTicketLeft in
@@ -55,10 +55,10 @@ granted_row rows name token ticket g =
     (r.0, r.1, r.2, cc)
 
 -- a connection is granted a ticket
-pub greets : (s : State) (connection : ℕ) (name token : List ℕ) (ticket : Pass) → IsConnection connection → talk_at s connection ≡ None
+pub greets : (s : Machine) (connection : ℕ) (name token : List ℕ) (ticket : Ticket) → IsConnection connection → connection_at s connection ≡ None
     → IsGranted s.rows name token ticket
     → Step s (Hello connection name token) None
-    (with_talk connection (greeted ticket.user ticket.number) (with_rows (changed ticket.user with_ticket s.rows) s))
+    (with_connection connection (greeted_connection ticket.user ticket.number) (with_rows (with_row_changed ticket.user with_ticket s.rows) s))
 unfolding Happens
 greets s connection name token ticket within new g =
     let r = granted_row s.rows name token ticket g in
@@ -72,16 +72,16 @@ greets s connection name token ticket within new g =
         row = r.0;
         there = r.1;
         left = r.2;
-        next = ap (λ n. with_talk connection (greeted ticket.user n) (with_rows (changed ticket.user with_ticket s.rows) s)) (sym r.3);
+        next = ap (λ n. with_connection connection (greeted_connection ticket.user n) (with_rows (with_row_changed ticket.user with_ticket s.rows) s)) (sym r.3);
       },
     )
 
 -- the machine has its connections and rows afterwards
-pub greets_keeps : (rows : List Row) (talks : List (Option Talk)) (hands : List (Option Hand)) (connection : ℕ) (name token : List ℕ)
-    (ticket : Pass) → IsMachine rows talks hands → connection < length talks → IsGranted rows name token ticket
-    → IsMachine (changed ticket.user with_ticket rows) (set talks connection (Some (greeted ticket.user ticket.number))) hands
+pub greets_keeps : (rows : List Row) (talks : List (Option Connection)) (hands : List (Option Worker)) (connection : ℕ) (name token : List ℕ)
+    (ticket : Ticket) → IsMachine rows talks hands → connection < length talks → IsGranted rows name token ticket
+    → IsMachine (with_row_changed ticket.user with_ticket rows) (set talks connection (Some (greeted_connection ticket.user ticket.number))) hands
 greets_keeps rows talks hands connection name token ticket m within g =
-    put_talk rows (changed ticket.user with_ticket rows) talks hands connection (greeted ticket.user ticket.number) m within (
+    put_talk rows (with_row_changed ticket.user with_ticket rows) talks hands connection (greeted_connection ticket.user ticket.number) m within (
       with_ticket r.0,
       row_changed rows ticket.user with_ticket r.0 r.1,
       record {

@@ -5,7 +5,7 @@ use Rattle.std.proofs.lemmas.Bool.{eqb-false}
 use Rattle.std.proofs.lemmas.Bool.Decides.{eqb_tells}
 use Rattle.lj_session.specs.Users.{User}
 use Rattle.lj_access.specs.Rows.{Row, user_with}
-use Rattle.lj_world.specs.States.{State, Talk, talk_at}
+use Rattle.lj_world.specs.Machine.{Machine, Connection, connection_at}
 use Rattle.lj_world.specs.Scripts.{Heard}
 use Rattle.lj_world.proofs.Tellings.{Texts}
 use Rattle.lj_world.proofs.Seats.{Seat, heard_of, seat_with, Goes, arrives, ends_now, works, begins, answers, turns_on, turns_last, grown}
@@ -27,11 +27,11 @@ distinct_changed c seat x seats new (there {other} {line = rest} {new = changed}
 
 -- Of a user that begins from a value: what is kept in a state, beside what was heard and what the user was told. The rows
 -- are those in which the run began.
-pub record Keeps (rows : List Row) (user : ℕ) (from : User) (s : State) (hs : List Heard) (texts : Texts) : Type 0 where
+pub record Keeps (rows : List Row) (user : ℕ) (from : User) (s : Machine) (hs : List Heard) (texts : Texts) : Type 0 where
   pub seats : List Seat
   pub heard_is : hs ≡ map heard_of seats
   pub places : length s.talks ≡ 65
-  pub seated : (c : ℕ) → talk_at s c ≡ option_map (λ seat. seat.talk) (found c seats)
+  pub seated : (c : ℕ) → connection_at s c ≡ option_map (λ seat. seat.talk) (found c seats)
   pub distinct : Distinct seats
   pub names : (name token : List ℕ) → user_with s.rows name token ≡ user_with rows name token
   pub granted : (v : ℕ) (row : Row) → slice_get s.rows v ≡ Some row → row.granted ≡ length (line_in v seats)
@@ -41,18 +41,18 @@ pub record Keeps (rows : List Row) (user : ℕ) (from : User) (s : State) (hs : 
   pub numbered : Numbered 0 (line_in user seats)
 
 -- a connection that is known has its seat
-pub seat_at : (c : ℕ) (seats : List Seat) (talk : Talk) → option_map (λ seat. seat.talk) (found c seats) ≡ Some talk
+pub seat_at : (c : ℕ) (seats : List Seat) (talk : Connection) → option_map (λ seat. seat.talk) (found c seats) ≡ Some talk
     → (seat : Seat) × (found c seats ≡ Some (seat_with talk seat))
 seat_at c seats talk e = by (found c seats) e
   where
     by : (o : Option Seat) → option_map (λ seat. seat.talk) o ≡ Some talk → (seat : Seat) × (o ≡ Some (seat_with talk seat))
     by None h = absurd (no_talk talk h)
       where
-        no_talk : (t : Talk) → None ≡ Some t → ⊥
+        no_talk : (t : Connection) → None ≡ Some t → ⊥
         no_talk t k = cc
     by (Some seat) h = (seat, ap (λ t. Some (seat_with t seat)) (same seat.talk talk h))
       where
-        same : (a b : Talk) → Some a ≡ Some b → a ≡ b
+        same : (a b : Connection) → Some a ≡ Some b → a ≡ b
         same a b k = cc
 
 -- what stays of a connection that goes on
@@ -75,15 +75,15 @@ abbrev pub told_if : Bool → Option (List ℕ) → Option (List ℕ)
 told_if mine reply = cond mine reply None
 
 -- the places after one connection is changed
-pub seated_changed : (s t : State) (c : ℕ) (seat x : Seat) (seats new : List Seat) → Changes c seat x seats new → x.connection ≡ seat.connection
+pub seated_changed : (s t : Machine) (c : ℕ) (seat x : Seat) (seats new : List Seat) → Changes c seat x seats new → x.connection ≡ seat.connection
     → length s.talks ≡ 65 → c < 65 → t.talks ≡ slice_set s.talks c (Some x.talk)
-    → ((d : ℕ) → talk_at s d ≡ option_map (λ seat. seat.talk) (found d seats)) → (d : ℕ) → talk_at t d ≡ option_map (λ seat. seat.talk) (found d new)
+    → ((d : ℕ) → connection_at s d ≡ option_map (λ seat. seat.talk) (found d seats)) → (d : ℕ) → connection_at t d ≡ option_map (λ seat. seat.talk) (found d new)
 seated_changed s t c seat x seats new ch same places within talks seated d = by (eqb_tells d c)
   where
-    read : talk_at t d ≡ slice_index_or (slice_set s.talks c (Some x.talk)) d None
+    read : connection_at t d ≡ slice_index_or (slice_set s.talks c (Some x.talk)) d None
     read = ap (λ ts. slice_index_or ts d None) talks
 
-    by : (nat_eq d c ≡ true) × (d ≡ c) ⊎ (nat_eq d c ≡ false) × (d ≢ c) → talk_at t d ≡ option_map (λ seat. seat.talk) (found d new)
+    by : (nat_eq d c ≡ true) × (d ≡ c) ⊎ (nat_eq d c ≡ false) × (d ≢ c) → connection_at t d ≡ option_map (λ seat. seat.talk) (found d new)
     by (inl (_, is)) =
         read ∙ ap (λ k. slice_index_or (slice_set s.talks c (Some x.talk)) k None) is
         ∙ get_or-set_same s.talks c (Some x.talk) None (omega (arith, places, within))
@@ -93,10 +93,10 @@ seated_changed s t c seat x seats new ch same places within talks seated d = by 
         ∙ sym (ap (option_map (λ seat. seat.talk)) (found_other c d seat x seats new ch same differs))
 
 -- a place that is not empty is one of them
-pub within_places : (talks : List (Option Talk)) (c : ℕ) (talk : Talk) → slice_index_or talks c None ≡ Some talk → c < length talks
+pub within_places : (talks : List (Option Connection)) (c : ℕ) (talk : Connection) → slice_index_or talks c None ≡ Some talk → c < length talks
 within_places [] c talk e = absurd (no_talk talk e)
   where
-    no_talk : (t : Talk) → None ≡ Some t → ⊥
+    no_talk : (t : Connection) → None ≡ Some t → ⊥
     no_talk t k = cc
 within_places (first ∷ talks) zero talk e = omega arith
 within_places (first ∷ talks) (suc c) talk e = let ih = within_places talks c talk e in omega (arith, ih)
@@ -112,7 +112,7 @@ pub record Renewed (seats : List Seat) (c : ℕ) (seat x : Seat) : Type 0 where
   pub within : c < 65
   pub lengths : (v : ℕ) → length (line_in v new) ≡ length (line_in v seats)
 
-pub renewed : {rows : List Row} {user : ℕ} {from : User} {s : State} {hs : List Heard} {texts : Texts} (k : Keeps rows user from s hs texts)
+pub renewed : {rows : List Row} {user : ℕ} {from : User} {s : Machine} {hs : List Heard} {texts : Texts} (k : Keeps rows user from s hs texts)
     (c : ℕ) (seat x : Seat) → found c k.seats ≡ Some seat → Same seat x → Renewed k.seats c seat x
 renewed {s} k c seat x is_found same = record { new = changed.0; changes = changed.1; within = place; lengths = lengths_stay }
   where
@@ -130,14 +130,14 @@ renewed {s} k c seat x is_found same = record { new = changed.0; changes = chang
         by false e = ap length (line_stays v c seat x k.seats changed.0 changed.1 e same.user)
 
 -- a connection goes on, and all rows stay
-pub goes : (rows : List Row) (user : ℕ) (from : User) (s t : State) (hs new_hs : List Heard) (texts : Texts) (k : Keeps rows user from s hs texts)
+pub goes : (rows : List Row) (user : ℕ) (from : User) (s t : Machine) (hs new_hs : List Heard) (texts : Texts) (k : Keeps rows user from s hs texts)
     (c : ℕ) (seat x : Seat) (reply : Option (List ℕ)) → found c k.seats ≡ Some seat → Goes seat reply x → t.rows ≡ s.rows
     → t.talks ≡ slice_set s.talks c (Some x.talk) → ((new : List Seat) → Changes c seat x k.seats new → new_hs ≡ map heard_of new)
     → Keeps rows user from t new_hs (grown texts (told_if (nat_eq seat.talk.user user) reply))
 goes rows user from s t hs new_hs texts k c seat x reply is_found g rows_stay talks heard_new = record {
   seats = r.new;
   heard_is = heard_new r.new r.changes;
-  places = ap length talks ∙ length-set {A = Option Talk} s.talks c (Some x.talk) ∙ k.places;
+  places = ap length talks ∙ length-set {A = Option Connection} s.talks c (Some x.talk) ∙ k.places;
   seated = seated_changed s t c seat x k.seats r.new r.changes same.connection k.places r.within talks k.seated;
   distinct = distinct_changed c seat x k.seats r.new r.changes same.connection k.distinct;
   names = λ name token. ap (λ r. user_with r name token) rows_stay ∙ k.names name token;

@@ -3,13 +3,13 @@
 use Rattle.std.proofs.Common.{◌≡◌, ℕ, zero, suc, ◌+◌, ◌≤◌, true, false, cond, nat_eq, List, [], ◌∷◌, ◌++◌, map, Option, Some, None, refl, sym, ◌∙◌, ap, subst, append_assoc, append-nil, arith}
 use Rattle.lj_session.specs.declared.command.Command.{Command as Order}
 use Rattle.lj_session.specs.Users.{User}
-use Rattle.lj_session.specs.States.{Owned, user_of}
-use Rattle.lj_session.specs.Owners.{Owning, user_in}
+use Rattle.lj_session.specs.UserState.{UserState, user_of}
+use Rattle.lj_session.specs.Owner.{Owner, user_in}
 use Rattle.lj_wire.specs.declared.item.Item.{Item}
 use Rattle.lj_wire.specs.declared.item.Item.TheVariants.{Command}
-use Rattle.lj_world.specs.States.{waiting, inside}
+use Rattle.lj_world.specs.Machine.{waiting, inside}
 use Rattle.lj_world.specs.Connections.{IsDone}
-use Rattle.lj_world.specs.Scripts.{is_closed, cut, joined}
+use Rattle.lj_world.specs.Scripts.{is_closed, items_to_end, items_joined}
 use Rattle.lj_world.specs.Laws.{WaitsOn}
 use Rattle.lj_world.proofs.Tellings.{Texts, Told, told-append}
 use Rattle.lj_world.proofs.Cuts.{cut-none}
@@ -32,7 +32,7 @@ Numbered n (seat ∷ line) = (seat.talk.number ≡ n) × Numbered (suc n) line
 
 -- So many connections have left; the state is at home and all others wait, or the next one owns it and all after it wait.
 -- From a user on, these are the texts that all were told.
-unfoldable pub Stands : User → ℕ → Option Owned → List Seat → Texts → Type 0
+unfoldable pub Stands : User → ℕ → Option UserState → List Seat → Texts → Type 0
 Stands from zero (Some state) line texts = (texts ≡ []) × (user_of state ≡ from) × AllWait line
 Stands from zero None [] texts = ⊥
 Stands from zero None (seat ∷ line) texts = Owns from texts seat × AllWait line
@@ -73,7 +73,7 @@ grown-append early late None = refl
 grown-append early late (Some text) = append_assoc early late (text ∷ [])
 
 -- one connection goes on
-pub stands_goes : (from : User) (past : ℕ) (home : Option Owned) (connection : ℕ) (seat x : Seat) (line new : List Seat) (texts : Texts) (reply : Option (List ℕ))
+pub stands_goes : (from : User) (past : ℕ) (home : Option UserState) (connection : ℕ) (seat x : Seat) (line new : List Seat) (texts : Texts) (reply : Option (List ℕ))
     → Changes connection seat x line new → Goes seat reply x → Stands from past home line texts → Stands from past home new (grown texts reply)
 unfolding Stands
 stands_goes from zero (Some state) connection seat x line new texts reply ch g (none, same, ws) =
@@ -96,7 +96,7 @@ stands_goes from (suc past) home connection seat x line new texts reply (there {
 )
 
 -- the first ticket that has not left enters
-pub stands_enters : (from : User) (past n : ℕ) (state : Owned) (connection : ℕ) (seat : Seat) (owner : Owning) (line new : List Seat) (texts : Texts)
+pub stands_enters : (from : User) (past n : ℕ) (state : UserState) (connection : ℕ) (seat : Seat) (owner : Owner) (line new : List Seat) (texts : Texts)
     → Changes connection seat (seat_inside owner seat) line new → seat.talk.stage ≡ waiting → Numbered n line → seat.talk.number ≡ n + past
     → owner.waiting ≡ None → user_in owner ≡ user_of state → Stands from past (Some state) line texts → Stands from past None new texts
 unfolding Stands AllWait Numbered
@@ -116,7 +116,7 @@ stands_enters from (suc past) n state connection seat owner line new texts (ther
 )
 
 -- the owner leaves
-pub stands_leaves : (from : User) (past : ℕ) (connection : ℕ) (seat : Seat) (owner : Owning) (state : Owned) (line new : List Seat) (texts : Texts)
+pub stands_leaves : (from : User) (past : ℕ) (connection : ℕ) (seat : Seat) (owner : Owner) (state : UserState) (line new : List Seat) (texts : Texts)
     → Changes connection seat (seat_gone seat) line new → seat.talk.stage ≡ inside owner → owner.waiting ≡ None → IsDone seat.talk
     → user_of state ≡ user_in owner → Stands from past None line texts → Stands from (suc past) (Some state) new texts
 unfolding Stands AllWait
@@ -135,7 +135,7 @@ all_wait_append [] x ws w = (w, tt)
 all_wait_append (seat ∷ line) x (v, ws) w = (v, all_wait_append line x ws w)
 
 -- a connection more waits
-pub stands_hello : (from : User) (past : ℕ) (home : Option Owned) (line : List Seat) (x : Seat) (texts : Texts) → Waits x → Stands from past home line texts
+pub stands_hello : (from : User) (past : ℕ) (home : Option UserState) (line : List Seat) (x : Seat) (texts : Texts) → Waits x → Stands from past home line texts
     → Stands from past home (line ++ x ∷ []) texts
 unfolding Stands
 stands_hello from zero (Some state) line x texts w (none, same, ws) = (none, same, all_wait_append line x ws w)
@@ -162,26 +162,26 @@ pub record Account (from : User) (items : List Item) (texts : Texts) (value : Us
 
 -- the items of a line
 abbrev pub items_in : List Seat → List Item
-items_in line = joined (map heard_of line)
+items_in line = items_joined (map heard_of line)
 
 -- the items of the connections after one, where it is closed
 abbrev tail_items : Seat → List Seat → List Item
 tail_items seat line = cond (is_closed (heard_of seat)) (items_in line) []
 
-now_account : (from : User) (texts : Texts) (seat : Seat) (owner : Owning) (line : List Seat) → Now from texts seat owner
+now_account : (from : User) (texts : Texts) (seat : Seat) (owner : Owner) (line : List Seat) → Now from texts seat owner
     → Account from (items_in (seat ∷ line)) texts (user_in owner) owner.waiting
 unfolding At
 now_account from texts seat owner line (rests idle _ answered split none is_told) = record {
   answered = answered;
-  others = cut seat.talk.inbox ++ tail_items seat line;
+  others = items_to_end seat.talk.inbox ++ tail_items seat line;
   last = user_in owner;
-  split = ap (λ xs. cut xs ++ tail_items seat line) split ∙ ap (λ xs. xs ++ tail_items seat line) (cut-none answered seat.talk.inbox none)
-      ∙ append_assoc answered (cut seat.talk.inbox) (tail_items seat line);
+  split = ap (λ xs. items_to_end xs ++ tail_items seat line) split ∙ ap (λ xs. xs ++ tail_items seat line) (cut-none answered seat.talk.inbox none)
+      ∙ append_assoc answered (items_to_end seat.talk.inbox) (tail_items seat line);
   is_told = is_told;
-  at = subst (λ o. At (user_in owner) (user_in owner) o (cut seat.talk.inbox ++ tail_items seat line)) (sym idle) refl;
+  at = subst (λ o. At (user_in owner) (user_in owner) o (items_to_end seat.talk.inbox ++ tail_items seat line)) (sym idle) refl;
 }
 now_account from texts seat owner line (over idle _ one is_told) = record {
-  answered = cut seat.items;
+  answered = items_to_end seat.items;
   others = tail_items seat line;
   last = user_in owner;
   split = refl;
@@ -189,19 +189,19 @@ now_account from texts seat owner line (over idle _ one is_told) = record {
   at = subst (λ o. At (user_in owner) (user_in owner) o (tail_items seat line)) (sym idle) refl;
 }
 now_account from texts seat owner line (waits_on left still _ answered first split none goes value is_told on) =
-    let others = cut (Command first ∷ seat.talk.inbox) ++ tail_items seat line in
+    let others = items_to_end (Command first ∷ seat.talk.inbox) ++ tail_items seat line in
     record {
       answered = answered;
       others = others;
       last = value;
-      split = ap (λ xs. cut xs ++ tail_items seat line) split
+      split = ap (λ xs. items_to_end xs ++ tail_items seat line) split
           ∙ ap (λ xs. xs ++ tail_items seat line) (cut-none answered (Command first ∷ seat.talk.inbox) none)
-          ∙ append_assoc answered (cut (Command first ∷ seat.talk.inbox)) (tail_items seat line);
+          ∙ append_assoc answered (items_to_end (Command first ∷ seat.talk.inbox)) (tail_items seat line);
       is_told = is_told;
       at = subst (λ o. At value (user_in owner) o others) (sym still) (first, _, refl, on.waits);
     }
 
-home_account : (from : User) (state : Owned) (line : List Seat) (texts : Texts) → texts ≡ [] → user_of state ≡ from
+home_account : (from : User) (state : UserState) (line : List Seat) (texts : Texts) → texts ≡ [] → user_of state ≡ from
     → Account from (items_in line) texts (user_of state) None
 unfolding At
 home_account from state line texts none same =
@@ -211,18 +211,18 @@ later_account : (from between : User) (seat : Seat) (line : List Seat) (early la
     → HasLeft from seat early between → texts ≡ early ++ late → Account between (items_in line) late value waits
     → Account from (items_in (seat ∷ line)) texts value waits
 later_account from between seat line early late texts value waits left whole a = record {
-  answered = cut seat.items ++ a.answered;
+  answered = items_to_end seat.items ++ a.answered;
   others = a.others;
   last = a.last;
-  split = ap (λ b. cut seat.items ++ cond b (items_in line) []) left.closed ∙ ap (λ xs. cut seat.items ++ xs) a.split
-      ∙ sym (append_assoc (cut seat.items) a.answered a.others);
-  is_told = subst (λ ts. Told from (cut seat.items ++ a.answered) ts a.last) (sym whole)
-      (told-append from (cut seat.items) early between a.answered late a.last left.is_told a.is_told);
+  split = ap (λ b. items_to_end seat.items ++ cond b (items_in line) []) left.closed ∙ ap (λ xs. items_to_end seat.items ++ xs) a.split
+      ∙ sym (append_assoc (items_to_end seat.items) a.answered a.others);
+  is_told = subst (λ ts. Told from (items_to_end seat.items ++ a.answered) ts a.last) (sym whole)
+      (told-append from (items_to_end seat.items) early between a.answered late a.last left.is_told a.is_told);
   at = a.at;
 }
 
 -- a line that stands has a value
-pub stands_account : (from : User) (past : ℕ) (home : Option Owned) (line : List Seat) (texts : Texts) → Stands from past home line texts
+pub stands_account : (from : User) (past : ℕ) (home : Option UserState) (line : List Seat) (texts : Texts) → Stands from past home line texts
     → (value : User) × (waits : Option Order) × Account from (items_in line) texts value waits
 unfolding Stands
 stands_account from zero (Some state) line texts (none, same, ws) = (user_of state, None, home_account from state line texts none same)
@@ -233,14 +233,14 @@ stands_account from (suc past) home (seat ∷ line) texts (between, early, late,
     let a = stands_account between past home line late s in
     (a.0, a.1, later_account from between seat line early late texts a.0 a.1 left whole a.2)
 
-one_state : (home : Option Owned) (a b : Owned) → home ≡ Some a → home ≡ Some b → a ≡ b
+one_state : (home : Option UserState) (a b : UserState) → home ≡ Some a → home ≡ Some b → a ≡ b
 one_state home a b e h = cc
 
-not_away : (home : Option Owned) (a : Owned) → home ≡ None → home ≡ Some a → ⊥
+not_away : (home : Option UserState) (a : UserState) → home ≡ None → home ≡ Some a → ⊥
 not_away home a e h = cc
 
 -- the value that is at home is that of the script
-pub account_home : (from : User) (past : ℕ) (home : Option Owned) (state : Owned) (line : List Seat) (texts : Texts) → home ≡ Some state
+pub account_home : (from : User) (past : ℕ) (home : Option UserState) (state : UserState) (line : List Seat) (texts : Texts) → home ≡ Some state
     → Stands from past home line texts → Account from (items_in line) texts (user_of state) None
 unfolding Stands
 account_home from zero (Some other) state line texts e (none, same, ws) =
@@ -251,7 +251,7 @@ account_home from (suc past) home state (seat ∷ line) texts e (between, early,
     later_account from between seat line early late texts (user_of state) None left whole (account_home between past home state line late e s)
 
 -- and so is the value of the owner
-pub account_owned : (from : User) (past : ℕ) (home : Option Owned) (connection : ℕ) (seat x : Seat) (line new : List Seat) (owner : Owning) (texts : Texts)
+pub account_owned : (from : User) (past : ℕ) (home : Option UserState) (connection : ℕ) (seat x : Seat) (line new : List Seat) (owner : Owner) (texts : Texts)
     → Changes connection seat x line new → seat.talk.stage ≡ inside owner → Stands from past home line texts
     → (home ≡ None) × Account from (items_in line) texts (user_in owner) owner.waiting
 unfolding Stands AllWait

@@ -2,13 +2,13 @@
 use Rattle.std.proofs.Common.{List, [], ◌∷◌, ◌++◌, Option, None, option_to_list, inl, inr, refl}
 use Rattle.lj_world.specs.declared.event.Event.{Event}
 use Rattle.lj_world.specs.declared.transcript.Entry.{Entry}
-use Rattle.lj_world.specs.States.{State}
+use Rattle.lj_world.specs.Machine.{Machine}
 use Rattle.lj_world.specs.Runs.{Step, IsPossible}
 use Rattle.lj_world.specs.Laws.{HasRun, EachListHasARun}
 
 -- a step from which the other events have a run begins a run
-begins_run : (old : State) (event : Event) (events : List Event) → ¬ HasRun old (event ∷ events)
-    → (reply : Option Entry) (between : State) → Step old event reply between → ¬ HasRun between events
+begins_run : (old : Machine) (event : Event) (events : List Event) → ¬ HasRun old (event ∷ events)
+    → (reply : Option Entry) (between : Machine) → Step old event reply between → ¬ HasRun between events
 begins_run old event events none reply between step r =
     none (option_to_list reply ++ r.0, r.1, (reply, between, r.0, step, r.2, refl))
 

@@ -2,13 +2,13 @@
 use Rattle.std.proofs.Common.{ℕ, Option, refl, sym, subst, inl, inr}
 use Rattle.std.proofs.lemmas.Bool.{cases_eq}
 use Rattle.lj_book.specs.Picks.{IsPick}
-use Rattle.lj_book.specs.Held.{Held, Entry, Puts}
+use Rattle.lj_book.specs.Book.{Book, Entry, Puts}
 use Rattle.lj_world.specs.declared.event.Deed.{Deed}
 use Rattle.lj_world.specs.declared.event.Deed.TheVariants.{Take, Compute, Give, HandBack}
 use Rattle.lj_world.specs.Picked.{ChangesPicked, DeedHeeds}
 
 -- the picked one changes
-pub puts_picked : (Passes : ℕ → Type 0) (pick : ℕ) (old new : Held) (key : ℕ) (slot : Option Entry) → Puts old new key slot
+pub puts_picked : (Passes : ℕ → Type 0) (pick : ℕ) (old new : Book) (key : ℕ) (slot : Option Entry) → Puts old new key slot
     → IsPick Passes pick key → ChangesPicked Passes pick old new
 puts_picked Passes pick old new key slot puts is k changes = elim (cases_eq k key) [
   | inl same ↦ subst (IsPick Passes pick) (sym same) is
@@ -16,7 +16,7 @@ puts_picked Passes pick old new key slot puts is k changes = elim (cases_eq k ke
 ]
 
 -- nothing changes at a deed
-pub still_heeds : (deed : Deed) (book : Held) → DeedHeeds deed book book
+pub still_heeds : (deed : Deed) (book : Book) → DeedHeeds deed book book
 still_heeds (Take pick) book = λ key changes. absurd (changes refl)
 still_heeds Compute book = tt
 still_heeds Give book = tt

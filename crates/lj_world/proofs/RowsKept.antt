@@ -1,26 +1,26 @@
 -- The rows of users where one changes, and connections with their rows.
 use Rattle.std.proofs.Common.{◌≡◌, ◌≢◌, ℕ, zero, suc, ◌<◌, List, [], ◌∷◌, length, set, get_or, slice_get, Option, Some, None, refl, ap, ◌∙◌, sym, subst, inl, inr, length-set, get_or-set_same, get_or-set_other}
 use Rattle.std.proofs.lemmas.Bool.{cases_eq}
-use Rattle.lj_access.specs.Rows.{Row, HasEntered, changed, changed_to}
-use Rattle.lj_world.specs.States.{Talk, Hand}
+use Rattle.lj_access.specs.Rows.{Row, HasEntered, with_row_changed, with_row_changed_to}
+use Rattle.lj_world.specs.Machine.{Connection, Worker}
 use Rattle.lj_world.specs.Kept.{IsRowOf, HasRow, Stays}
 use Rattle.lj_world.specs.Machines.{IsMachine}
 use Rattle.lj_world.proofs.RowLemmas.{row_changed, row_other}
 
 -- a connection whose row changes has the changed row, where that fits
-pub has_changed : (rows : List Row) (user : ℕ) (change : Row → Row) (talk : Talk) → HasRow rows talk
+pub has_changed : (rows : List Row) (user : ℕ) (change : Row → Row) (talk : Connection) → HasRow rows talk
     → ((row : Row) → slice_get rows user ≡ Some row → talk.user ≡ user → IsRowOf talk row → IsRowOf talk (change row))
-    → HasRow (changed user change rows) talk
+    → HasRow (with_row_changed user change rows) talk
 has_changed rows user change talk has fits =
     elim (cases_eq talk.user user) [
       | inl same ↦
           let there : slice_get rows user ≡ Some has.0 = ap (slice_get rows) (sym same) ∙ has.1 in
-          (change has.0, ap (slice_get (changed user change rows)) same ∙ row_changed rows user change has.0 there, fits has.0 there same has.2)
+          (change has.0, ap (slice_get (with_row_changed user change rows)) same ∙ row_changed rows user change has.0 there, fits has.0 there same has.2)
       | inr other ↦ (has.0, row_other rows user change talk.user (λ e. other (sym e)) ∙ has.1, has.2)
     ]
 
 -- a connection that has a row has it too where it stays
-pub stays_has : (rows : List Row) (old new : Talk) → Stays old new → HasRow rows old → HasRow rows new
+pub stays_has : (rows : List Row) (old new : Connection) → Stays old new → HasRow rows old → HasRow rows new
 stays_has rows old new stays has = (
   has.0,
   ap (slice_get rows) stays.user ∙ has.1,
@@ -31,10 +31,10 @@ stays_has rows old new stays has = (
 )
 
 -- a connection comes to a place, or stands there as another
-pub put_talk : (rows after : List Row) (talks : List (Option Talk)) (hands : List (Option Hand)) (c : ℕ) (talk : Talk)
+pub put_talk : (rows after : List Row) (talks : List (Option Connection)) (hands : List (Option Worker)) (c : ℕ) (talk : Connection)
     → IsMachine rows talks hands → c < length talks → HasRow after talk
-    → ((d : ℕ) (other : Talk) → d ≢ c → get_or talks d None ≡ Some other → HasRow after other)
-    → ((d : ℕ) (other : Talk) → d ≢ c → get_or talks d None ≡ Some other → other.user ≡ talk.user → other.number ≢ talk.number)
+    → ((d : ℕ) (other : Connection) → d ≢ c → get_or talks d None ≡ Some other → HasRow after other)
+    → ((d : ℕ) (other : Connection) → d ≢ c → get_or talks d None ≡ Some other → other.user ≡ talk.user → other.number ≢ talk.number)
     → IsMachine after (set talks c (Some talk)) hands
 put_talk rows after talks hands c talk m within has others unlike = record {
   places = length-set talks c (Some talk) ∙ m.places;
@@ -49,30 +49,30 @@ put_talk rows after talks hands c talk m within has others unlike = record {
     at_other : (d : ℕ) → d ≢ c → get_or (set talks c (Some talk)) d None ≡ get_or talks d None
     at_other d other = get_or-set_other talks c d (Some talk) None other
 
-    is_talk : (d : ℕ) (a : Talk) → d ≡ c → get_or (set talks c (Some talk)) d None ≡ Some a → a ≡ talk
+    is_talk : (d : ℕ) (a : Connection) → d ≡ c → get_or (set talks c (Some talk)) d None ≡ Some a → a ≡ talk
     is_talk d a same e = let k = ap (λ i. get_or (set talks c (Some talk)) i None) same in cc at_here
 
-    known : (d : ℕ) (other : Talk) → get_or (set talks c (Some talk)) d None ≡ Some other → HasRow after other
+    known : (d : ℕ) (other : Connection) → get_or (set talks c (Some talk)) d None ≡ Some other → HasRow after other
     known d other e = elim (cases_eq d c) [
       | inl same ↦ subst (HasRow after) (sym (is_talk d other same e)) has
       | inr apart ↦ others d other apart (sym (at_other d apart) ∙ e)
     ]
 
-    apart : (d e : ℕ) (a b : Talk) → get_or (set talks c (Some talk)) d None ≡ Some a → get_or (set talks c (Some talk)) e None ≡ Some b
+    apart : (d e : ℕ) (a b : Connection) → get_or (set talks c (Some talk)) d None ≡ Some a → get_or (set talks c (Some talk)) e None ≡ Some b
         → a.user ≡ b.user → a.number ≡ b.number → d ≡ e
     apart d e a b x y user number = elim (cases_eq d c) [
       | inl d_here ↦ elim (cases_eq e c) [
         | inl e_here ↦ d_here ∙ sym e_here
         | inr e_apart ↦
             let is : a ≡ talk = is_talk d a d_here x in
-            absurd (unlike e b e_apart (sym (at_other e e_apart) ∙ y) (sym user ∙ ap (λ (t : Talk). t.user) is)
-            (sym number ∙ ap (λ (t : Talk). t.number) is))
+            absurd (unlike e b e_apart (sym (at_other e e_apart) ∙ y) (sym user ∙ ap (λ (t : Connection). t.user) is)
+            (sym number ∙ ap (λ (t : Connection). t.number) is))
       ]
       | inr d_apart ↦ elim (cases_eq e c) [
         | inl e_here ↦
             let is : b ≡ talk = is_talk e b e_here y in
-            absurd (unlike d a d_apart (sym (at_other d d_apart) ∙ x) (user ∙ ap (λ (t : Talk). t.user) is)
-            (number ∙ ap (λ (t : Talk). t.number) is))
+            absurd (unlike d a d_apart (sym (at_other d d_apart) ∙ x) (user ∙ ap (λ (t : Connection). t.user) is)
+            (number ∙ ap (λ (t : Connection). t.number) is))
         | inr e_apart ↦ m.apart d e a b (sym (at_other d d_apart) ∙ x) (sym (at_other e e_apart) ∙ y) user number
       ]
     ]

@@ -3,18 +3,18 @@ use Rattle.std.proofs.Common.{◌≡◌, ℕ, zero, suc, Bool, true, false, cond
 use Rattle.std.proofs.lemmas.List.{length-map}
 use Rattle.std.proofs.lemmas.Option.{slice_get-map}
 use Rattle.lj_quota.specs.declared.Quota.{Quota}
-use Rattle.lj_session.specs.Users.{User as Value, fresh}
-use Rattle.lj_session.specs.States.{user_of, empty}
+use Rattle.lj_session.specs.Users.{User as Value, fresh_user}
+use Rattle.lj_session.specs.UserState.{user_of, empty_state}
 use Rattle.lj_wire.specs.Texts.{is_memory}
 use Rattle.lj_wire.specs.Told.{texts}
 use Rattle.lj_wire.specs.Laws.{MarkIsTold}
 use Rattle.lj_access.specs.declared.user.User.{User}
-use Rattle.lj_access.specs.Rows.{Row, opening}
+use Rattle.lj_access.specs.Rows.{Row, first_row}
 use Rattle.lj_world.specs.declared.event.Event.{Event}
 use Rattle.lj_world.specs.declared.transcript.Entry.{Entry}
-use Rattle.lj_world.specs.States.{State, Talk, start}
+use Rattle.lj_world.specs.Machine.{Machine, Connection, start}
 use Rattle.lj_world.specs.Runs.{Run}
-use Rattle.lj_world.specs.Scripts.{Heard, hear, heard, line_of, joined, replies}
+use Rattle.lj_world.specs.Scripts.{Heard, heard_after, all_heard, line_of, items_joined, replies}
 use Rattle.lj_world.specs.Laws.{Known, HasQuota, RepliesAreFirstTexts}
 use Rattle.lj_world.proofs.Tellings.{Texts, texts-told}
 use Rattle.lj_world.proofs.Seats.{grown}
@@ -39,19 +39,19 @@ replies_grow user told_texts (Some e) later = by (nat_eq e.user user)
 
 module _ (known : Known) (rows : List Row) (user : ℕ) (from : Value) where
   -- what is kept is kept by a run
-  pub run_keeps : (events : List Event) (s t : State) (hs : List Heard) (told_texts : Texts) (entries : List Entry) (k : Keeps rows user from s hs told_texts)
-      → Run s events entries t → Keeps rows user from t (fold (hear rows) hs events) (told_texts ++ replies user entries)
+  pub run_keeps : (events : List Event) (s t : Machine) (hs : List Heard) (told_texts : Texts) (entries : List Entry) (k : Keeps rows user from s hs told_texts)
+      → Run s events entries t → Keeps rows user from t (fold (heard_after rows) hs events) (told_texts ++ replies user entries)
   run_keeps [] s t hs told_texts entries k (none, same) =
       let texts_are : told_texts ++ replies user entries ≡ told_texts = ap (λ es. told_texts ++ replies user es) none ∙ append-nil told_texts in
       subst (Keeps rows user from t hs) (sym texts_are) (subst (λ z. Keeps rows user from z hs told_texts) (sym same) k)
   run_keeps (event ∷ events) s t hs told_texts entries k (reply, between, later, step, more, whole) =
       let next = step_keeps known rows user from s between hs told_texts event reply k step in
-      let ih = run_keeps events between t (hear rows hs event) (grown told_texts (told_to user reply)) later next more in
+      let ih = run_keeps events between t (heard_after rows hs event) (grown told_texts (told_to user reply)) later next more in
       let texts_are : grown told_texts (told_to user reply) ++ replies user later ≡ told_texts ++ replies user entries =
       replies_grow user told_texts reply later ∙ ap (λ es. told_texts ++ replies user es) (sym whole) in
-      subst (Keeps rows user from t (fold (hear rows) (hear rows hs event) events)) texts_are ih
+      subst (Keeps rows user from t (fold (heard_after rows) (heard_after rows hs event) events)) texts_are ih
 
-empty_places : ℕ → List (Option Talk)
+empty_places : ℕ → List (Option Connection)
 empty_places n = replicate n None
 
 no_talk : (n c : ℕ) → slice_index_or (empty_places n) c None ≡ None
@@ -60,12 +60,12 @@ no_talk zero c = refl
 no_talk (suc n) zero = refl
 no_talk (suc n) (suc c) = no_talk n c
 
-opened : (o : Option User) (row : Row) → option_map opening o ≡ Some row → row.granted ≡ 0
+opened : (o : Option User) (row : Row) → option_map first_row o ≡ Some row → row.granted ≡ 0
 opened None row e = absurd (none_some row e)
   where
     none_some : (a : Row) → None ≡ Some a → ⊥
     none_some a h = cc
-opened (Some user) row e = sym (ap (λ r. r.granted) (same (opening user) row e))
+opened (Some user) row e = sym (ap (λ r. r.granted) (same (first_row user) row e))
   where
     same : (a b : Row) → Some a ≡ Some b → a ≡ b
     same a b h = cc
@@ -82,7 +82,7 @@ user_there (Some u) quota e = (u, refl, same u.quota quota e)
     same a b h = cc
 
 -- it holds at the start
-pub start_keeps : (users : List User) (user : ℕ) (quota : Quota) → HasQuota users user quota → Keeps (map opening users) user (fresh quota) (start users) [] []
+pub start_keeps : (users : List User) (user : ℕ) (quota : Quota) → HasQuota users user quota → Keeps (map first_row users) user (fresh_user quota) (start users) [] []
 unfolding found Distinct Stands AllWait Numbered empty_places
 start_keeps users user quota has_quota =
     let there = user_there (slice_get users user) quota has_quota in
@@ -93,10 +93,10 @@ start_keeps users user quota has_quota =
       seated = λ c. no_talk 65 c;
       distinct = tt;
       names = λ name token. refl;
-      granted = λ v row e. opened (slice_get users v) row (sym (slice_get-map opening users v) ∙ e);
-      row = opening there.0;
-      there_is = slice_get-map opening users user ∙ ap (option_map opening) there.1;
-      stands = (refl, ap (λ q. user_of (empty q)) there.2, tt);
+      granted = λ v row e. opened (slice_get users v) row (sym (slice_get-map first_row users v) ∙ e);
+      row = first_row there.0;
+      there_is = slice_get-map first_row users user ∙ ap (option_map first_row) there.1;
+      stands = (refl, ap (λ q. user_of (empty_state q)) there.2, tt);
       numbered = tt;
     }
 
@@ -105,15 +105,15 @@ take_front [] ys = refl
 take_front (x ∷ xs) ys = ap (λ l. x ∷ l) (take_front xs ys)
 
 -- the items of a script are those of the line
-pub script_items : (rows : List Row) (user : ℕ) (from : Value) (t : State) (hs : List Heard) (told_texts : Texts) (k : Keeps rows user from t hs told_texts)
-    → joined (line_of user hs) ≡ items_in (line_in user k.seats)
-script_items rows user from t hs told_texts k = ap (λ h. joined (line_of user h)) k.heard_is ∙ ap joined (line_heard user k.seats)
+pub script_items : (rows : List Row) (user : ℕ) (from : Value) (t : Machine) (hs : List Heard) (told_texts : Texts) (k : Keeps rows user from t hs told_texts)
+    → items_joined (line_of user hs) ≡ items_in (line_in user k.seats)
+script_items rows user from t hs told_texts k = ap (λ h. items_joined (line_of user h)) k.heard_is ∙ ap items_joined (line_heard user k.seats)
 
 -- what is kept at the end of a run
-pub run_kept : Known → (users : List User) (events : List Event) (entries : List Entry) (last : State) (user : ℕ) (quota : Quota) → Run (start users) events entries last
-    → HasQuota users user quota → Keeps (map opening users) user (fresh quota) last (heard users events) (replies user entries)
+pub run_kept : Known → (users : List User) (events : List Event) (entries : List Entry) (last : Machine) (user : ℕ) (quota : Quota) → Run (start users) events entries last
+    → HasQuota users user quota → Keeps (map first_row users) user (fresh_user quota) last (all_heard users events) (replies user entries)
 run_kept known users events entries last user quota run has_quota =
-    run_keeps known (map opening users) user (fresh quota) events (start users) last [] [] entries (start_keeps users user quota has_quota) run
+    run_keeps known (map first_row users) user (fresh_user quota) events (start users) last [] [] entries (start_keeps users user quota has_quota) run
 
 -- the replies of a user are the first texts of its script alone
 pub are_first_texts : MarkIsTold → Known → RepliesAreFirstTexts
@@ -121,10 +121,10 @@ are_first_texts marked known users events entries user quota (last, run) has_quo
     let k = run_kept known users events entries last user quota run has_quota in
     let told_texts = replies user entries in
     let marks = map is_memory told_texts in
-    let a = (stands_account (fresh quota) k.row.past k.row.home (line_in user k.seats) told_texts k.stands).2 in
-    let items = joined (line_of user (heard users events)) in
-    let items_are : items ≡ a.answered ++ a.others = script_items (map opening users) user (fresh quota) last (heard users events) told_texts k ∙ a.split in
-    let all : texts (fresh quota) items marks ≡ told_texts ++ texts a.last a.others [] =
-    ap (λ xs. texts (fresh quota) xs marks) items_are ∙ texts-told marked (fresh quota) a.answered told_texts a.last a.others a.is_told in
+    let a = (stands_account (fresh_user quota) k.row.past k.row.home (line_in user k.seats) told_texts k.stands).2 in
+    let items = items_joined (line_of user (all_heard users events)) in
+    let items_are : items ≡ a.answered ++ a.others = script_items (map first_row users) user (fresh_user quota) last (all_heard users events) told_texts k ∙ a.split in
+    let all : texts (fresh_user quota) items marks ≡ told_texts ++ texts a.last a.others [] =
+    ap (λ xs. texts (fresh_user quota) xs marks) items_are ∙ texts-told marked (fresh_user quota) a.answered told_texts a.last a.others a.is_told in
     sym (ap (take (length marks)) all ∙ ap (λ n. take n (told_texts ++ texts a.last a.others [])) (length-map told_texts is_memory)
     ∙ take_front told_texts (texts a.last a.others []))

@@ -4,25 +4,25 @@ use Rattle.std.proofs.lemmas.List.{length-map}
 use Rattle.std.proofs.lemmas.List.Quantifiers.{position-Some}
 use Rattle.std.proofs.lemmas.Option.{slice_get-get_or}
 use Rattle.std.specs.List.{list_any}
-use Rattle.lj_tile.specs.Tasks.{Work}
+use Rattle.lj_tile.specs.Task.{Task}
 use Rattle.lj_session.specs.Users.{User}
-use Rattle.lj_session.specs.States.{rested}
-use Rattle.lj_session.specs.Owners.{Owning, user_in, entered, left_in, with_task_posted}
+use Rattle.lj_session.specs.UserState.{state_at_rest}
+use Rattle.lj_session.specs.Owner.{Owner, user_in, owner_of_state, command_left, with_task_posted}
 use Rattle.lj_session.specs.Laws.{AcceptKeepsUser}
 use Rattle.lj_wire.specs.declared.item.Item.{Item}
 use Rattle.lj_wire.specs.declared.item.Item.TheVariants.{Command}
-use Rattle.lj_access.specs.Rows.{Row, is_of, user_with, lent, with_home}
+use Rattle.lj_access.specs.Rows.{Row, is_of, user_with, without_home, with_home}
 use Rattle.lj_world.specs.declared.event.Event.{Event}
 use Rattle.lj_world.specs.declared.event.Event.TheVariants.{Hello, At, By}
 use Rattle.lj_world.specs.declared.event.Act.{Act}
 use Rattle.lj_world.specs.declared.event.Act.TheVariants.{Arrive, End, Enter, Next, Post, Fetch, Turn, Leave}
 use Rattle.lj_world.specs.declared.transcript.Entry.{Entry}
-use Rattle.lj_world.specs.States.{State, Talk, inside, gone, talk_at, with_stage}
-use Rattle.lj_world.specs.Connections.{Here, here, to, Receives, Closes, GoesIn, IsGiven, GoesHome, Does}
-use Rattle.lj_world.specs.Happenings.{Happens, SaysHello, entry, with_here}
+use Rattle.lj_world.specs.Machine.{Machine, Connection, inside, gone, connection_at, with_stage}
+use Rattle.lj_world.specs.Connections.{Here, here_of, with_here, Receives, Closes, GoesIn, IsGiven, GoesHome, Does}
+use Rattle.lj_world.specs.Happenings.{Happens, SaysHello, entry, with_here_at}
 use Rattle.lj_world.specs.Runs.{Step, IsPossible}
 use Rattle.lj_world.specs.Laws.{Known}
-use Rattle.lj_world.specs.Scripts.{Heard, hear, with_heard, with_item, with_end, greeting, is_granted, line_of}
+use Rattle.lj_world.specs.Scripts.{Heard, heard_after, with_heard, with_item, with_end, greeting, is_granted, line_of}
 use Rattle.lj_world.proofs.Lifting.{does_happens}
 use Rattle.lj_world.proofs.Tellings.{Texts}
 use Rattle.lj_world.proofs.Seats.{Seat, heard_of, seat_with, seat_inside, GoesOn, Goes, arrives, ends_now, works, begins, answers, turns_on, turns_last, grown}
@@ -38,10 +38,10 @@ told_to user None = None
 told_to user (Some e) = told_if (nat_eq e.user user) (Some e.text)
 
 -- what is kept after an event
-abbrev pub KeepsAfter : List Row → ℕ → User → State → List Heard → Texts → Option Entry → Type 0
+abbrev pub KeepsAfter : List Row → ℕ → User → Machine → List Heard → Texts → Option Entry → Type 0
 KeepsAfter rows user from t hs texts reply = Keeps rows user from t hs (grown texts (told_to user reply))
 
-quiet : (rows : List Row) (user : ℕ) (from : User) (t : State) (hs : List Heard) (texts : Texts) (reply : Option Entry) → reply ≡ None → Keeps rows user from t hs texts
+quiet : (rows : List Row) (user : ℕ) (from : User) (t : Machine) (hs : List Heard) (texts : Texts) (reply : Option Entry) → reply ≡ None → Keeps rows user from t hs texts
     → KeepsAfter rows user from t hs texts reply
 unfolding told_to
 quiet rows user from t hs texts reply r k = subst (KeepsAfter rows user from t hs texts) (sym r) k
@@ -51,7 +51,7 @@ told_none true = refl
 told_none false = refl
 
 -- rows and connections stay
-front_stays : (rows : List Row) (user : ℕ) (from : User) (s t : State) (hs : List Heard) (texts : Texts) → Keeps rows user from s hs texts
+front_stays : (rows : List Row) (user : ℕ) (from : User) (s t : Machine) (hs : List Heard) (texts : Texts) → Keeps rows user from s hs texts
     → t.rows ≡ s.rows → t.talks ≡ s.talks → Keeps rows user from t hs texts
 front_stays rows user from s t hs texts k rows_stay talks_stay = record {
   seats = k.seats;
@@ -68,7 +68,7 @@ front_stays rows user from s t hs texts k rows_stay talks_stay = record {
 }
 
 -- what a connection is told is told to its user
-told_own : (user c : ℕ) (talk : Talk) (text : Option (List ℕ)) → told_to user (option_map (entry c talk) text) ≡ told_if (nat_eq talk.user user) text
+told_own : (user c : ℕ) (talk : Connection) (text : Option (List ℕ)) → told_to user (option_map (entry c talk) text) ≡ told_if (nat_eq talk.user user) text
 unfolding told_to
 told_own user c talk None = sym (told_none (nat_eq talk.user user))
 told_own user c talk (Some text) = refl
@@ -77,35 +77,35 @@ same_row : (o : Option Row) (a b : Row) → o ≡ Some a → o ≡ Some b → a 
 same_row o a b e h = cc
 
 -- an owner that is given a result keeps what waits, and the user
-given_keeps : AcceptKeepsUser → (owner after : Owning) (work : Work) → IsGiven owner work after
+given_keeps : AcceptKeepsUser → (owner after : Owner) (work : Task) → IsGiven owner work after
     → (after.waiting ≡ owner.waiting) × (user_in after ≡ user_in owner)
-given_keeps accept owner after work (inl h) = (ap (λ (o : Owning). o.waiting) h.1, ap user_in h.1 ∙ accept work owner)
-given_keeps accept owner after work (inr h) = (ap (λ (o : Owning). o.waiting) h.1, ap user_in h.1)
+given_keeps accept owner after work (inl h) = (ap (λ (o : Owner). o.waiting) h.1, ap user_in h.1 ∙ accept work owner)
+given_keeps accept owner after work (inr h) = (ap (λ (o : Owner). o.waiting) h.1, ap user_in h.1)
 
 -- a known connection does something
-module _ (known : Known) (rows : List Row) (user : ℕ) (from : User) (s : State) (hs : List Heard) (texts : Texts)
-    (k : Keeps rows user from s hs texts) (c : ℕ) (talk : Talk) (is_known : talk_at s c ≡ Some talk) where
+module _ (known : Known) (rows : List Row) (user : ℕ) (from : User) (s : Machine) (hs : List Heard) (texts : Texts)
+    (k : Keeps rows user from s hs texts) (c : ℕ) (talk : Connection) (is_known : connection_at s c ≡ Some talk) where
   abbrev old : Here
-  old = here talk s.rows s.book
+  old = here_of talk s.rows s.book
 
   -- what is kept where this is there afterwards, this was heard, and the connection is told this
   abbrev After : Here → List Heard → Option (List ℕ) → Type 0
-  After h heard text = Keeps rows user from (with_here c h s) heard (grown texts (told_if (nat_eq talk.user user) text))
+  After h heard text = Keeps rows user from (with_here_at c h s) heard (grown texts (told_if (nat_eq talk.user user) text))
 
   its_seat : (seat : Seat) × (found c k.seats ≡ Some (seat_with talk seat))
   its_seat = seat_at c k.seats talk (sym (k.seated c) ∙ is_known)
 
   -- nothing is told
-  quietly : (h : Here) (heard : List Heard) (text : Option (List ℕ)) → text ≡ None → Keeps rows user from (with_here c h s) heard texts → After h heard text
+  quietly : (h : Here) (heard : List Heard) (text : Option (List ℕ)) → text ≡ None → Keeps rows user from (with_here_at c h s) heard texts → After h heard text
   quietly h heard text e kept =
-      subst (λ o. Keeps rows user from (with_here c h s) heard (grown texts o)) (sym (ap (told_if (nat_eq talk.user user)) e ∙ told_none (nat_eq talk.user user))) kept
+      subst (λ o. Keeps rows user from (with_here_at c h s) heard (grown texts o)) (sym (ap (told_if (nat_eq talk.user user)) e ∙ told_none (nat_eq talk.user user))) kept
 
   -- the connection goes on, and what it brought stays
   one_goes : (h x : Here) (text : Option (List ℕ)) → h ≡ x → x.rows ≡ s.rows → ((seat : Seat) → Goes (seat_with talk seat) text (seat_with x.talk seat))
       → ((seat : Seat) → heard_of (seat_with x.talk seat) ≡ heard_of (seat_with talk seat)) → After h hs text
   one_goes h x text next rows_stay g unheard =
       let seat = seat_with talk its_seat.0 in
-      goes rows user from s (with_here c h s) hs hs texts k c seat (seat_with x.talk its_seat.0) text its_seat.1 (g its_seat.0)
+      goes rows user from s (with_here_at c h s) hs hs texts k c seat (seat_with x.talk its_seat.0) text its_seat.1 (g its_seat.0)
       (ap (λ (z : Here). z.rows) next ∙ rows_stay) (ap (λ (z : Here). slice_set s.talks c (Some z.talk)) next)
       (λ line ch. k.heard_is ∙ sym (heard_stays c seat (seat_with x.talk its_seat.0) k.seats line ch (unheard its_seat.0)))
 
@@ -114,7 +114,7 @@ module _ (known : Known) (rows : List Row) (user : ℕ) (from : User) (s : State
       let seat = seat_with talk its_seat.0 in
       let x : Seat = record { connection = seat.connection; items = seat.items ++ item ∷ []; talk = record talk { inbox = talk.inbox ++ item ∷ [] } } in
       let heard_is : heard_of x ≡ with_item item (heard_of seat) = sym (ap (λ b. cond b (heard_of seat) (heard_of x)) d.not_ended) in
-      goes rows user from s (with_here c h s) hs (with_heard c (with_item item) hs) texts k c seat x None its_seat.1 (arrives item d.not_ended)
+      goes rows user from s (with_here_at c h s) hs (with_heard c (with_item item) hs) texts k c seat x None its_seat.1 (arrives item d.not_ended)
       (ap (λ (z : Here). z.rows) d.next) (ap (λ (z : Here). slice_set s.talks c (Some z.talk)) d.next)
       (λ line ch. ap (with_heard c (with_item item)) k.heard_is ∙ heard_changes c (with_item item) seat x k.seats line ch heard_is)
 
@@ -122,15 +122,15 @@ module _ (known : Known) (rows : List Row) (user : ℕ) (from : User) (s : State
   end_keeps text h d =
       let seat = seat_with talk its_seat.0 in
       let x : Seat = seat_with (record talk { ended = true }) its_seat.0 in
-      goes rows user from s (with_here c h s) hs (with_heard c with_end hs) texts k c seat x None its_seat.1 ends_now
+      goes rows user from s (with_here_at c h s) hs (with_heard c with_end hs) texts k c seat x None its_seat.1 ends_now
       (ap (λ (z : Here). z.rows) d.next) (ap (λ (z : Here). slice_set s.talks c (Some z.talk)) d.next)
       (λ line ch. ap (with_heard c with_end) k.heard_is ∙ heard_changes c with_end seat x k.seats line ch refl)
 
-  enter_keeps : (text : Option (List ℕ)) (h : Here) → GoesIn old text h → Keeps rows user from (with_here c h s) hs texts
+  enter_keeps : (text : Option (List ℕ)) (h : Here) → GoesIn old text h → Keeps rows user from (with_here_at c h s) hs texts
   enter_keeps text h d =
-      let owner : Owning = entered d.state talk.user in
+      let owner : Owner = owner_of_state d.state talk.user in
       let seat = seat_with talk its_seat.0 in
-      rows_go rows user from s (with_here c h s) hs texts k c seat (seat_inside owner seat) lent its_seat.1
+      rows_go rows user from s (with_here_at c h s) hs texts k c seat (seat_inside owner seat) without_home its_seat.1
       (record { connection = refl; user = refl; number = refl }) refl lent_leaves
       (ap (λ (z : Here). z.rows) d.next) (ap (λ (z : Here). slice_set s.talks c (Some z.talk)) d.next)
       (λ mine line ch.
@@ -140,22 +140,22 @@ module _ (known : Known) (rows : List Row) (user : ℕ) (from : User) (s : State
       stands_enters from k.row.past 0 d.state c seat owner (line_in user k.seats) line texts ch d.waits k.numbered (omega (arith, number)) refl (known.rest d.state)
       (subst (λ o. Stands from k.row.past o (line_in user k.seats) texts) home k.stands))
 
-  leave_keeps : (text : Option (List ℕ)) (h : Here) → GoesHome old text h → Keeps rows user from (with_here c h s) hs texts
+  leave_keeps : (text : Option (List ℕ)) (h : Here) → GoesHome old text h → Keeps rows user from (with_here_at c h s) hs texts
   leave_keeps text h d =
       let seat = seat_with talk its_seat.0 in
       let x = seat_with (with_stage gone talk) its_seat.0 in
-      rows_go rows user from s (with_here c h s) hs texts k c seat x (with_home (rested d.owner.state)) its_seat.1
-      (record { connection = refl; user = refl; number = refl }) refl (home_leaves (rested d.owner.state))
+      rows_go rows user from s (with_here_at c h s) hs texts k c seat x (with_home (state_at_rest d.owner.state)) its_seat.1
+      (record { connection = refl; user = refl; number = refl }) refl (home_leaves (state_at_rest d.owner.state))
       (ap (λ (z : Here). z.rows) d.next) (ap (λ (z : Here). slice_set s.talks c (Some z.talk)) d.next)
       (λ mine line ch.
       let away = (account_owned from k.row.past k.row.home c seat x (line_in user k.seats) line d.owner texts ch d.owns k.stands).0 in
-      subst (λ n. Stands from n (Some (rested d.owner.state)) line texts) (sym (add-one k.row.past))
-      (stands_leaves from k.row.past c seat d.owner (rested d.owner.state) (line_in user k.seats) line texts ch d.owns d.idle d.done
+      subst (λ n. Stands from n (Some (state_at_rest d.owner.state)) line texts) (sym (add-one k.row.past))
+      (stands_leaves from k.row.past c seat d.owner (state_at_rest d.owner.state) (line_in user k.seats) line texts ch d.owns d.idle d.done
       (known.rest d.owner.state)
       (subst (λ o. Stands from k.row.past o (line_in user k.seats) texts) away k.stands)))
 
   -- a turn that answers nothing
-  turn_keeps : (owner after : Owning) (h : Here) → talk.stage ≡ inside owner → h ≡ to (with_stage (inside after) talk) old
+  turn_keeps : (owner after : Owner) (h : Here) → talk.stage ≡ inside owner → h ≡ with_here (with_stage (inside after) talk) old
       → Turned owner after → After h hs None
   turn_keeps owner after h owns next (stays w u) =
       one_goes h _ None next refl (λ seat. works owner after talk.posted owns w u) (λ seat. refl)
@@ -163,7 +163,7 @@ module _ (known : Known) (rows : List Row) (user : ℕ) (from : User) (s : State
       one_goes h _ None next refl (λ seat. turns_on owner after command left owns is now on) (λ seat. refl)
 
   -- what is kept is kept by what the connection does
-  does_keeps : (act : Act) (text : Option (List ℕ)) (h : Here) → Does act old text h → After h (hear rows hs (At c act)) text
+  does_keeps : (act : Act) (text : Option (List ℕ)) (h : Here) → Does act old text h → After h (heard_after rows hs (At c act)) text
   does_keeps (Arrive item) text h d = subst (After h (with_heard c (with_item item) hs)) (sym d.quiet) (arrive_keeps item text h d)
   does_keeps End text h d = subst (After h (with_heard c with_end hs)) (sym d.quiet) (end_keeps text h d)
   does_keeps Enter text h d = quietly h hs text d.quiet (enter_keeps text h d)
@@ -171,11 +171,11 @@ module _ (known : Known) (rows : List Row) (user : ℕ) (from : User) (s : State
       let command = d.begins.command in
       let on = begun_goes_on known.alike known.begun command d.owner d.begins.takes_turns in
       one_goes h _ None d.next refl
-      (λ seat. begins d.owner d.after command (left_in command d.owner.state) d.items d.can.owns d.can.idle d.can.not_over
+      (λ seat. begins d.owner d.after command (command_left command d.owner.state) d.items d.can.owns d.can.idle d.can.not_over
       (d.can.inbox ∙ ap (λ i. i ∷ d.items) d.begins.is)
       (known.goes_on.whole d.owner.state (Command command) d.begins.takes_turns)
-      (ap (λ (o : Owning). o.waiting) d.begins.next)
-      (subst (λ (o : Owning). GoesOn (user_in d.owner) command (user_in o) (left_in command d.owner.state)) (sym d.begins.next) on))
+      (ap (λ (o : Owner). o.waiting) d.begins.next)
+      (subst (λ (o : Owner). GoesOn (user_in d.owner) command (user_in o) (command_left command d.owner.state)) (sym d.begins.next) on))
       (λ seat. refl)
   does_keeps Next (Some told) h d =
       one_goes h _ (Some told) d.next refl
@@ -201,18 +201,18 @@ module _ (known : Known) (rows : List Row) (user : ℕ) (from : User) (s : State
   does_keeps Leave text h d = quietly h hs text d.quiet (leave_keeps text h d)
 
 -- a known connection is heard
-is_heard : (rows : List Row) (user : ℕ) (from : User) (s : State) (hs : List Heard) (texts : Texts) (k : Keeps rows user from s hs texts) (c : ℕ)
+is_heard : (rows : List Row) (user : ℕ) (from : User) (s : Machine) (hs : List Heard) (texts : Texts) (k : Keeps rows user from s hs texts) (c : ℕ)
     → list_any (λ h. nat_eq h.connection c) hs ≡ is_some (found c k.seats)
 is_heard rows user from s hs texts k c = ap (list_any (λ h. nat_eq h.connection c)) k.heard_is ∙ any_found c k.seats
 
 -- the number of a user's tickets is the length of its line
-line_length : (rows : List Row) (user : ℕ) (from : User) (s : State) (hs : List Heard) (texts : Texts) (k : Keeps rows user from s hs texts) (v : ℕ) (row : Row)
+line_length : (rows : List Row) (user : ℕ) (from : User) (s : Machine) (hs : List Heard) (texts : Texts) (k : Keeps rows user from s hs texts) (v : ℕ) (row : Row)
     → slice_get s.rows v ≡ Some row → length (line_of v hs) ≡ row.granted
 line_length rows user from s hs texts k v row e =
     ap (λ l. length (line_of v l)) k.heard_is ∙ ap length (line_heard v k.seats) ∙ length-map (line_in v k.seats) heard_of ∙ sym (k.granted v row e)
 
 -- what the machine grants is granted in what is heard
-hello_granted : (rows : List Row) (user : ℕ) (from : User) (s t : State) (hs : List Heard) (texts : Texts) (k : Keeps rows user from s hs texts)
+hello_granted : (rows : List Row) (user : ℕ) (from : User) (s t : Machine) (hs : List Heard) (texts : Texts) (k : Keeps rows user from s hs texts)
     (c : ℕ) (name token : List ℕ) (p : SaysHello s c name token t) → is_granted c p.user hs ≡ true
 hello_granted rows user from s t hs texts k c name token p =
     let none = nowhere c k.seats (sym (k.seated c) ∙ p.is_new) in
@@ -240,16 +240,16 @@ no_seat None e = refl
 no_seat (Some seat) e = absurd (true≢false e)
 
 -- and what is granted there can be granted by the machine
-hello_possible : (rows : List Row) (user : ℕ) (from : User) (s : State) (hs : List Heard) (texts : Texts) (k : Keeps rows user from s hs texts)
+hello_possible : (rows : List Row) (user : ℕ) (from : User) (s : Machine) (hs : List Heard) (texts : Texts) (k : Keeps rows user from s hs texts)
     (c : ℕ) (name token : List ℕ) (v : ℕ) → user_with rows name token ≡ Some v → is_granted c v hs ≡ true
-    → (t : State) × SaysHello s c name token t
+    → (t : Machine) × SaysHello s c name token t
 hello_possible rows user from s hs texts k c name token v is_named granted =
     let number = and_left (nat_le 1 c && nat_le c 64) _ granted in
     let others = and_right (nat_le 1 c && nat_le c 64) _ granted in
     let fresh = not_true (list_any (λ h. nat_eq h.connection c) hs) (and_left _ _ others) in
     let none = no_seat (found c k.seats) (sym (is_heard rows user from s hs texts k c) ∙ fresh) in
-    let here : user_with s.rows name token ≡ Some v = k.names name token ∙ is_named in
-    let within = (position-Some (is_of name token) s.rows v k.row here).0 in
+    let here_of : user_with s.rows name token ≡ Some v = k.names name token ∙ is_named in
+    let within = (position-Some (is_of name token) s.rows v k.row here_of).0 in
     let row = slice_index_or s.rows v k.row in
     let there : slice_get s.rows v ≡ Some row = slice_get-get_or s.rows v k.row within in
     let left = ltb-true (length (line_of v hs)) 4294967296 (and_right (not (list_any (λ h. nat_eq h.connection c) hs)) _ others) in (
@@ -258,7 +258,7 @@ hello_possible rows user from s hs texts k c name token v is_named granted =
         within = record { first = leb-true 1 c (and_left (nat_le 1 c) (nat_le c 64) number); last = leb-true c 64 (and_right (nat_le 1 c) (nat_le c 64) number) };
         is_new = k.seated c ∙ ap (option_map (λ seat. seat.talk)) none;
         user = v;
-        named = here;
+        named = here_of;
         row = row;
         there = there;
         left = omega (arith, left, line_length rows user from s hs texts k v row there);
@@ -267,7 +267,7 @@ hello_possible rows user from s hs texts k c name token v is_named granted =
     )
 
 module _ (known : Known) (rows : List Row) (user : ℕ) (from : User) where
-  hello_keeps : (s t : State) (hs : List Heard) (texts : Texts) (k : Keeps rows user from s hs texts) (c : ℕ) (name token : List ℕ)
+  hello_keeps : (s t : Machine) (hs : List Heard) (texts : Texts) (k : Keeps rows user from s hs texts) (c : ℕ) (name token : List ℕ)
       → SaysHello s c name token t → Keeps rows user from t (greeting c (user_with rows name token) hs) texts
   hello_keeps s t hs texts k c name token p =
       let is_named : user_with rows name token ≡ Some p.user = sym (k.names name token) ∙ p.named in
@@ -277,20 +277,20 @@ module _ (known : Known) (rows : List Row) (user : ℕ) (from : User) where
       subst (λ h. Keeps rows user from t h texts) (sym heard_is) (hello_goes rows user from s t hs texts k c name token p)
 
   -- what is kept is kept by what happens
-  happens_keeps : (s t : State) (hs : List Heard) (texts : Texts) (event : Event) (reply : Option Entry) (k : Keeps rows user from s hs texts)
-      → Happens s event reply t → KeepsAfter rows user from t (hear rows hs event) texts reply
+  happens_keeps : (s t : Machine) (hs : List Heard) (texts : Texts) (event : Event) (reply : Option Entry) (k : Keeps rows user from s hs texts)
+      → Happens s event reply t → KeepsAfter rows user from t (heard_after rows hs event) texts reply
   unfolding Happens told_to
   happens_keeps s t hs texts (Hello c name token) reply k (r, p) =
       quiet rows user from t _ texts reply r (hello_keeps s t hs texts k c name token p)
   happens_keeps s t hs texts (At c act) reply k p =
       let told : told_if (nat_eq p.talk.user user) p.text ≡ told_to user reply = sym (ap (told_to user) p.replies ∙ told_own user c p.talk p.text) in
-      subst₂ (λ z o. Keeps rows user from z (hear rows hs (At c act)) (grown texts o)) (sym p.next) told
+      subst₂ (λ z o. Keeps rows user from z (heard_after rows hs (At c act)) (grown texts o)) (sym p.next) told
       (does_keeps known rows user from s hs texts k c p.talk p.known act p.text p.after p.does)
   happens_keeps s t hs texts (By worker deed) reply k (r, p) =
       quiet rows user from t hs texts reply r (front_stays rows user from s t hs texts k (ap (λ z. z.rows) p.next) (ap (λ z. z.talks) p.next))
 
 -- nothing is heard at an event that is not possible
-module _ (rows : List Row) (user : ℕ) (from : User) (s : State) (hs : List Heard) (texts : Texts) (k : Keeps rows user from s hs texts) where
+module _ (rows : List Row) (user : ℕ) (from : User) (s : Machine) (hs : List Heard) (texts : Texts) (k : Keeps rows user from s hs texts) where
   unheard_hello : (c : ℕ) (name token : List ℕ) → ¬ IsPossible s (Hello c name token) → greeting c (user_with rows name token) hs ≡ hs
   unfolding Happens
   unheard_hello c name token impossible = by (user_with rows name token) refl
@@ -305,14 +305,14 @@ module _ (rows : List Row) (user : ℕ) (from : User) (s : State) (hs : List Hea
       by (Some v) e = at v e (is_granted c v hs) refl
 
   -- a change of a connection that is not known, or that changes nothing of what was heard
-  unheard_change : (c : ℕ) (change : Heard → Heard) → ((seat : Seat) → talk_at s c ≡ Some seat.talk → change (heard_of seat) ≡ heard_of seat)
+  unheard_change : (c : ℕ) (change : Heard → Heard) → ((seat : Seat) → connection_at s c ≡ Some seat.talk → change (heard_of seat) ≡ heard_of seat)
       → with_heard c change hs ≡ hs
   unheard_change c change same = by (found c k.seats) refl
     where
       by : (o : Option Seat) → found c k.seats ≡ o → with_heard c change hs ≡ hs
       by None e = ap (with_heard c change) k.heard_is ∙ heard_nowhere c change k.seats e ∙ sym k.heard_is
       by (Some seat) e =
-          let is_known : talk_at s c ≡ Some seat.talk = k.seated c ∙ ap (option_map (λ x. x.talk)) e in
+          let is_known : connection_at s c ≡ Some seat.talk = k.seated c ∙ ap (option_map (λ x. x.talk)) e in
           let new = found_changes c k.seats seat seat e in
           ap (with_heard c change) k.heard_is ∙ heard_changes c change seat seat k.seats new.0 new.1 (sym (same seat is_known))
           ∙ heard_stays c seat seat k.seats new.0 new.1 refl ∙ sym k.heard_is
@@ -320,7 +320,7 @@ module _ (rows : List Row) (user : ℕ) (from : User) (s : State) (hs : List Hea
   unheard_arrive : (c : ℕ) (item : Item) → ¬ IsPossible s (At c (Arrive item)) → with_heard c (with_item item) hs ≡ hs
   unheard_arrive c item impossible = unheard_change c (with_item item) (λ seat e. by seat e seat.talk.ended refl)
     where
-      by : (seat : Seat) → talk_at s c ≡ Some seat.talk → (b : Bool) → seat.talk.ended ≡ b → with_item item (heard_of seat) ≡ heard_of seat
+      by : (seat : Seat) → connection_at s c ≡ Some seat.talk → (b : Bool) → seat.talk.ended ≡ b → with_item item (heard_of seat) ≡ heard_of seat
       by seat e true is_ended = ap (λ b. cond b (heard_of seat) (record (heard_of seat) { items = seat.items ++ item ∷ [] })) is_ended
       by seat e false still =
           absurd (impossible (_, _, does_happens (Arrive item) s c seat.talk None _ e (record { quiet = refl; not_ended = still; next = refl })))
@@ -329,7 +329,7 @@ module _ (rows : List Row) (user : ℕ) (from : User) (s : State) (hs : List Hea
   unheard_end c impossible =
       unheard_change c with_end (λ seat e. absurd (impossible (_, _, does_happens End s c seat.talk None _ e (record { quiet = refl; next = refl }))))
 
-  unheard : (event : Event) → ¬ IsPossible s event → hear rows hs event ≡ hs
+  unheard : (event : Event) → ¬ IsPossible s event → heard_after rows hs event ≡ hs
   unheard (Hello c name token) impossible = unheard_hello c name token impossible
   unheard (At c (Arrive item)) impossible = unheard_arrive c item impossible
   unheard (At c End) impossible = unheard_end c impossible
@@ -337,11 +337,11 @@ module _ (rows : List Row) (user : ℕ) (from : User) (s : State) (hs : List Hea
 
 module _ (known : Known) (rows : List Row) (user : ℕ) (from : User) where
   -- what is kept is kept by each step
-  pub step_keeps : (s t : State) (hs : List Heard) (texts : Texts) (event : Event) (reply : Option Entry) (k : Keeps rows user from s hs texts)
-      → Step s event reply t → KeepsAfter rows user from t (hear rows hs event) texts reply
+  pub step_keeps : (s t : Machine) (hs : List Heard) (texts : Texts) (event : Event) (reply : Option Entry) (k : Keeps rows user from s hs texts)
+      → Step s event reply t → KeepsAfter rows user from t (heard_after rows hs event) texts reply
   step_keeps s t hs texts event reply k (inl h) = happens_keeps known rows user from s t hs texts event reply k h
   step_keeps s t hs texts event reply k (inr (impossible, r, same)) =
-      quiet rows user from t (hear rows hs event) texts reply r
-      (front_stays rows user from s t (hear rows hs event) texts
+      quiet rows user from t (heard_after rows hs event) texts reply r
+      (front_stays rows user from s t (heard_after rows hs event) texts
       (subst (λ h. Keeps rows user from s h texts) (sym (unheard rows user from s hs texts k event impossible)) k)
       (ap (λ z. z.rows) same) (ap (λ z. z.talks) same))

@@ -3,7 +3,7 @@ use Rattle.std.proofs.Common.{◌≡◌, ℕ, suc, Bool, List, [], ◌∷◌, �
 use Rattle.lj_session.specs.Users.{User}
 use Rattle.lj_wire.specs.declared.item.Item.{Item}
 use Rattle.lj_wire.specs.Texts.{is_memory}
-use Rattle.lj_wire.specs.Told.{told, texts, last_user}
+use Rattle.lj_wire.specs.Told.{item_text, texts, last_user}
 use Rattle.lj_wire.specs.Laws.{MarkIsTold}
 
 -- a list of texts
@@ -15,7 +15,7 @@ abbrev pub Told : User → List Item → Texts → User → Type 0
 Told user [] told_texts last = (told_texts ≡ []) × (last ≡ user)
 Told user (item ∷ items) told_texts last =
     (mark : Bool) × (text : List ℕ) × (next : User) × (later : Texts)
-    × ((text, next) ≡ told user item mark) × Told next items later last × (told_texts ≡ text ∷ later)
+    × ((text, next) ≡ item_text user item mark) × Told next items later last × (told_texts ≡ text ∷ later)
 
 pub told-append : (user : User) (items : List Item) (early : Texts) (between : User) (others : List Item) (late : Texts) (last : User)
     → Told user items early between → Told between others late last → Told user (items ++ others) (early ++ late) last
@@ -26,16 +26,16 @@ told-append user (item ∷ items) early between others late last (mark, text, ne
 
 -- one item more
 pub told-push : (user : User) (items : List Item) (early : Texts) (between : User) (item : Item) (mark : Bool) (text : List ℕ) (last : User)
-    → Told user items early between → (text, last) ≡ told between item mark → Told user (items ++ item ∷ []) (early ++ text ∷ []) last
+    → Told user items early between → (text, last) ≡ item_text between item mark → Told user (items ++ item ∷ []) (early ++ text ∷ []) last
 told-push user items early between item mark text last h is =
     told-append user items early between (item ∷ []) (text ∷ []) last h (mark, text, last, [], is, (refl, refl), refl)
 
 module _ (marked : MarkIsTold) where
   -- the mark of an item is whether its text is the memory refusal
-  told-by_text : (user : User) (item : Item) (mark : Bool) (text : List ℕ) (next : User) → (text, next) ≡ told user item mark
-      → told user item (is_memory text) ≡ (text, next)
+  told-by_text : (user : User) (item : Item) (mark : Bool) (text : List ℕ) (next : User) → (text, next) ≡ item_text user item mark
+      → item_text user item (is_memory text) ≡ (text, next)
   told-by_text user item mark text next is =
-      ap (λ (p : List ℕ × User). told user item (is_memory p.0)) is ∙ sym (marked user item mark) ∙ sym is
+      ap (λ (p : List ℕ × User). item_text user item (is_memory p.0)) is ∙ sym (marked user item mark) ∙ sym is
 
   -- the texts are the first of those that the marks give, also where other items follow
   pub texts-told : (user : User) (items : List Item) (told_texts : Texts) (last : User) (others : List Item) → Told user items told_texts last

@@ -4,17 +4,17 @@ use Rattle.std.proofs.lemmas.List.{length-map}
 use Rattle.std.proofs.lemmas.Option.{slice_get-map}
 use Rattle.lj_quota.specs.declared.Quota.{Quota}
 use Rattle.lj_session.specs.declared.command.Command.{Command as Order}
-use Rattle.lj_session.specs.Users.{User as Value, fresh}
-use Rattle.lj_session.specs.States.{Owned, user_of}
-use Rattle.lj_session.specs.Owners.{Owning, user_in}
+use Rattle.lj_session.specs.Users.{User as Value, fresh_user}
+use Rattle.lj_session.specs.UserState.{UserState, user_of}
+use Rattle.lj_session.specs.Owner.{Owner, user_in}
 use Rattle.lj_wire.specs.declared.item.Item.{Item}
 use Rattle.lj_wire.specs.declared.item.Item.TheVariants.{Command}
 use Rattle.lj_wire.specs.Texts.{is_memory}
 use Rattle.lj_wire.specs.Told.{last_user}
 use Rattle.lj_wire.specs.Laws.{MarkIsTold}
-use Rattle.lj_access.specs.Rows.{Row, opening}
-use Rattle.lj_world.specs.States.{State, inside}
-use Rattle.lj_world.specs.Scripts.{Heard, heard, line_of, joined, replies}
+use Rattle.lj_access.specs.Rows.{Row, first_row}
+use Rattle.lj_world.specs.Machine.{Machine, inside}
+use Rattle.lj_world.specs.Scripts.{Heard, all_heard, line_of, items_joined, replies}
 use Rattle.lj_world.specs.Laws.{Known, HasValue, IsAtHome, IsOwned, IsScriptValue, HasTicket, ValueIsThatOfScript, TicketsAreInOrder, WaitsOn}
 use Rattle.lj_world.proofs.Tellings.{Texts, told-length, last_user-told}
 use Rattle.lj_world.proofs.Seats.{Seat, heard_of, seat_with}
@@ -60,15 +60,15 @@ found_in seat seats (later {other} {line = rest} more) (none, d) = by (nat_eq ot
     by false e ih = ap (λ b. cond b (Some other) (found seat.connection rest)) e ∙ ih
 
 -- the value of a line that stands: at home, or with the owner
-data Stood (home : Option Owned) (line : List Seat) : Type 0 where
-  at_home : (state : Owned) → home ≡ Some state → Stood home line
-  owned : (seat : Seat) (owner : Owning) → In seat line → seat.talk.stage ≡ inside owner → Stood home line
+data Stood (home : Option UserState) (line : List Seat) : Type 0 where
+  at_home : (state : UserState) → home ≡ Some state → Stood home line
+  owned : (seat : Seat) (owner : Owner) → In seat line → seat.talk.stage ≡ inside owner → Stood home line
 
-stood_later : (home : Option Owned) (seat : Seat) (line : List Seat) → Stood home line → Stood home (seat ∷ line)
+stood_later : (home : Option UserState) (seat : Seat) (line : List Seat) → Stood home line → Stood home (seat ∷ line)
 stood_later home seat line (at_home state e) = at_home state e
 stood_later home seat line (owned other owner i e) = owned other owner (later i) e
 
-stood : (from : Value) (past : ℕ) (home : Option Owned) (line : List Seat) (texts : Texts) → Stands from past home line texts → Stood home line
+stood : (from : Value) (past : ℕ) (home : Option UserState) (line : List Seat) (texts : Texts) → Stands from past home line texts → Stood home line
 unfolding Stands
 stood from zero (Some state) line texts s = at_home state refl
 stood from zero None [] texts s = absurd s
@@ -77,7 +77,7 @@ stood from (suc past) home [] texts s = absurd s
 stood from (suc past) home (seat ∷ line) texts (between, early, late, left, s, whole) = stood_later home seat line (stood between past home line late s)
 
 -- each user has a value
-has_value : (rows : List Row) (user : ℕ) (from : Value) (t : State) (hs : List Heard) (texts : Texts) → Keeps rows user from t hs texts
+has_value : (rows : List Row) (user : ℕ) (from : Value) (t : Machine) (hs : List Heard) (texts : Texts) → Keeps rows user from t hs texts
     → (value : Value) × (waits : Option Order) × HasValue t user value waits
 has_value rows user from t hs texts k = by (stood from k.row.past k.row.home (line_in user k.seats) texts k.stands)
   where
@@ -100,7 +100,7 @@ has_value rows user from t hs texts k = by (stood from k.row.past k.row.home (li
         } in (user_in owner, owner.waiting, inr own)
 
 -- the value of a user in what is kept is accounted for
-value_account : (rows : List Row) (user : ℕ) (from : Value) (t : State) (hs : List Heard) (texts : Texts) (k : Keeps rows user from t hs texts)
+value_account : (rows : List Row) (user : ℕ) (from : Value) (t : Machine) (hs : List Heard) (texts : Texts) (k : Keeps rows user from t hs texts)
     (value : Value) (waits : Option Order) → HasValue t user value waits → Account from (items_in (line_in user k.seats)) texts value waits
 value_account rows user from t hs texts k value waits (inl (h, none)) =
     let row : h.row ≡ k.row = same_some (slice_get t.rows user) h.row k.row h.there k.there_is in
@@ -127,7 +127,7 @@ get_after (x ∷ xs) y ys = get_after xs y ys
 
 -- what is accounted for is the value of the script
 script_value : MarkIsTold → (quota : Quota) (items : List Item) (told_texts : Texts) (value : Value) (waits : Option Order)
-    → Account (fresh quota) items told_texts value waits → IsScriptValue quota (record { items = items; marks = map is_memory told_texts }) value waits
+    → Account (fresh_user quota) items told_texts value waits → IsScriptValue quota (record { items = items; marks = map is_memory told_texts }) value waits
 unfolding At
 script_value marked quota items told_texts value waits a = by waits a.at
   where
@@ -135,12 +135,12 @@ script_value marked quota items told_texts value waits a = by waits a.at
     marks = map is_memory told_texts
 
     counted : length marks ≡ length a.answered
-    counted = length-map told_texts is_memory ∙ sym (told-length (fresh quota) a.answered told_texts a.last a.is_told)
+    counted = length-map told_texts is_memory ∙ sym (told-length (fresh_user quota) a.answered told_texts a.last a.is_told)
 
-    so_far : last_user (fresh quota) (take (length marks) items) marks ≡ a.last
+    so_far : last_user (fresh_user quota) (take (length marks) items) marks ≡ a.last
     so_far =
-        ap (λ xs. last_user (fresh quota) xs marks) (ap (λ n. take n items) counted ∙ ap (take (length a.answered)) a.split ∙ take_front a.answered a.others)
-        ∙ last_user-told marked (fresh quota) a.answered told_texts a.last a.is_told
+        ap (λ xs. last_user (fresh_user quota) xs marks) (ap (λ n. take n items) counted ∙ ap (take (length a.answered)) a.split ∙ take_front a.answered a.others)
+        ∙ last_user-told marked (fresh_user quota) a.answered told_texts a.last a.is_told
 
     by : (o : Option Order) → At a.last value o a.others → IsScriptValue quota (record { items = items; marks = marks }) value o
     by None at = at ∙ sym so_far
@@ -155,13 +155,13 @@ script_value marked quota items told_texts value waits a = by waits a.at
 pub value_is_of_script : MarkIsTold → Known → ValueIsThatOfScript
 value_is_of_script marked known users events entries last user quota run has_quota =
     let k = run_kept known users events entries last user quota run has_quota in
-    let rows = map opening users in
-    let hs = heard users events in
+    let rows = map first_row users in
+    let hs = all_heard users events in
     let told_texts = replies user entries in (
-      has_value rows user (fresh quota) last hs told_texts k,
-      λ value waits h. script_value marked quota (joined (line_of user hs)) told_texts value waits
-          (subst (λ xs. Account (fresh quota) xs told_texts value waits) (sym (script_items rows user (fresh quota) last hs told_texts k))
-          (value_account rows user (fresh quota) last hs told_texts k value waits h)),
+      has_value rows user (fresh_user quota) last hs told_texts k,
+      λ value waits h. script_value marked quota (items_joined (line_of user hs)) told_texts value waits
+          (subst (λ xs. Account (fresh_user quota) xs told_texts value waits) (sym (script_items rows user (fresh_user quota) last hs told_texts k))
+          (value_account rows user (fresh_user quota) last hs told_texts k value waits h)),
     )
 
 -- the seat at a place of a line
@@ -183,7 +183,7 @@ pub tickets_in_order : Known → TicketsAreInOrder
 tickets_in_order known users events entries last user quota run has_quota n h e =
     let k = run_kept known users events entries last user quota run has_quota in
     let line = line_in user k.seats in
-    let heard_line : line_of user (heard users events) ≡ map heard_of line = ap (line_of user) k.heard_is ∙ line_heard user k.seats in
+    let heard_line : line_of user (all_heard users events) ≡ map heard_of line = ap (line_of user) k.heard_is ∙ line_heard user k.seats in
     let read : option_map heard_of (slice_get line n) ≡ Some h =
     sym (slice_get-map heard_of line n) ∙ ap (λ l. slice_get l n) (sym heard_line) ∙ e in
     let m = mapped (slice_get line n) h read in

@@ -7,10 +7,10 @@ use Rattle.std.proofs.lemmas.Slice.Eq.{bytes_eq-Decides}
 use Rattle.lj_session.specs.declared.command.Command.{Command as Order}
 use Rattle.lj_session.specs.declared.command.Command.TheVariants.{Measure}
 use Rattle.lj_session.specs.Turns.{turns, waits_for}
-use Rattle.lj_session.specs.States.{Held, changed, held_in, owed_in, steps_before, turns_before, is_whole_in, is_measured}
-use Rattle.lj_session.specs.States.{whole_of, step_passed}
-use Rattle.lj_session.specs.Owners.{Owning, user_in, with_state, begun, begun_again, left_in, is_waited_for, turned_from}
-use Rattle.lj_session.specs.Owners.{IsLastTurn}
+use Rattle.lj_session.specs.UserState.{HeldSession, with_session_changed, held_session, owed_in, steps_before, turns_before, is_whole_in, is_measured}
+use Rattle.lj_session.specs.UserState.{is_whole_session, with_step_passed}
+use Rattle.lj_session.specs.Owner.{Owner, user_in, with_state, owner_begun, owner_begun_again, command_left, is_waited_for, owner_turned}
+use Rattle.lj_session.specs.Owner.{IsLastTurn}
 use Rattle.lj_session.specs.Laws.{BegunWaitsAlike}
 use Rattle.lj_session.proofs.Entries.{by_test}
 use Rattle.lj_session.proofs.Holding.{named-held}
@@ -22,7 +22,7 @@ use Rattle.lj_world.specs.Begun.{CanTurn}
 use Rattle.lj_world.proofs.Seats.{GoesOn}
 
 -- A turn that answers nothing: what waits stays, and the user; or what waits is begun again.
-pub data Turned (owner after : Owning) : Type 0 where
+pub data Turned (owner after : Owner) : Type 0 where
   stays : after.waiting ≡ owner.waiting → user_in after ≡ user_in owner → Turned owner after
   again : (command left : Order) → owner.waiting ≡ Some command → after.waiting ≡ Some left
       → GoesOn (user_in owner) command (user_in after) left → Turned owner after
@@ -37,16 +37,16 @@ waited_name command name h = by (waits_for command) refl
         let same = sym (ap (λ o. option_map_or (λ session. bytes_eq session name) o false) e) ∙ h in
         ap (λ n. Some n) ((bytes_eq-Decides session name).0 same)
 
-there : (owner : Owning) (name : List ℕ) → is_whole_in owner.state name ≡ true
-    → (held : Held) × (held_in owner.state name ≡ Some held)
-there owner name whole = by (held_in owner.state name) refl
+there : (owner : Owner) (name : List ℕ) → is_whole_in owner.state name ≡ true
+    → (held : HeldSession) × (held_session owner.state name ≡ Some held)
+there owner name whole = by (held_session owner.state name) refl
   where
-    by : (o : Option Held) → held_in owner.state name ≡ o → (held : Held) × (o ≡ Some held)
-    by None e = absurd (true≢false (sym (ap whole_of (sym e) ∙ whole)))
+    by : (o : Option HeldSession) → held_session owner.state name ≡ o → (held : HeldSession) × (o ≡ Some held)
+    by None e = absurd (true≢false (sym (ap is_whole_session (sym e) ∙ whole)))
     by (Some held) e = (held, refl)
 
 -- the turn of the energies of a MEASURE is the last before it
-measured_last : (owner : Owning) (name : List ℕ) → is_whole_in owner.state name ≡ true → owed_in owner.state name ≡ 0
+measured_last : (owner : Owner) (name : List ℕ) → is_whole_in owner.state name ≡ true → owed_in owner.state name ≡ 0
     → is_measured owner.waiting name ≡ true → IsLastTurn name owner
 unfolding waits_for
 measured_last owner name whole none = by owner.waiting refl
@@ -65,7 +65,7 @@ measured_last owner name whole none = by owner.waiting refl
         }
 
 -- a turn that is not the last is of a step that is owed
-turn_owed : (session : Option (List ℕ)) (owner : Owning) (name : List ℕ) → CanTurn session owner name
+turn_owed : (session : Option (List ℕ)) (owner : Owner) (name : List ℕ) → CanTurn session owner name
     → ¬ IsLastTurn name owner → 0 < owed_in owner.state name
 turn_owed session owner name can more = by_test (nat_lt 0 (owed_in owner.state name))
     (λ t. ltb-true 0 (owed_in owner.state name) t)
@@ -76,10 +76,10 @@ turn_owed session owner name can more = by_test (nat_lt 0 (owed_in owner.state n
 
 module _ (alike : AlikeIsTold) (begins : BegunWaitsAlike) where
   -- a command that is begun waits as it would be answered now
-  pub begun_goes_on : (command : Order) (owner : Owning) → 0 < turns_before owner.state command
-      → GoesOn (user_in owner) command (user_in (begun command owner)) (left_in command owner.state)
+  pub begun_goes_on : (command : Order) (owner : Owner) → 0 < turns_before owner.state command
+      → GoesOn (user_in owner) command (user_in (owner_begun command owner)) (command_left command owner.state)
   begun_goes_on command owner some = record {
-    alike = λ mark. alike (user_in (begun command owner)) (left_in command owner.state) (user_in owner) command mark
+    alike = λ mark. alike (user_in (owner_begun command owner)) (command_left command owner.state) (user_in owner) command mark
         (begins command owner some).left;
     waits = by_test (nat_lt 0 (steps_before owner.state command))
         (λ t. inl ((begins command owner some).user ∙ rw t refl, rw t refl))
@@ -91,12 +91,12 @@ module _ (alike : AlikeIsTold) (begins : BegunWaitsAlike) where
   }
 
   -- and so does what waits where a turn answers nothing
-  pub turn_goes_on : (session : Option (List ℕ)) (owner : Owning) (name : List ℕ) → CanTurn session owner name
-      → ¬ IsLastTurn name owner → Turned owner (turned_from name owner)
+  pub turn_goes_on : (session : Option (List ℕ)) (owner : Owner) (name : List ℕ) → CanTurn session owner name
+      → ¬ IsLastTurn name owner → Turned owner (owner_turned name owner)
   turn_goes_on session owner name can more = by_test (is_waited_for owner.waiting name) waited other
     where
-      passed : Owning
-      passed = with_state (changed name step_passed owner.state) owner
+      passed : Owner
+      passed = with_state (with_session_changed name with_step_passed owner.state) owner
 
       some : 0 < owed_in owner.state name
       some = turn_owed session owner name can more
@@ -104,11 +104,11 @@ module _ (alike : AlikeIsTold) (begins : BegunWaitsAlike) where
       same : user_in passed ≡ user_in owner
       same = passed_user owner.state name some
 
-      other : is_waited_for owner.waiting name ≡ false → Turned owner (turned_from name owner)
+      other : is_waited_for owner.waiting name ≡ false → Turned owner (owner_turned name owner)
       other t = rw t (stays refl same)
 
       by : (waiting : Option Order) → owner.waiting ≡ waiting → is_waited_for waiting name ≡ true
-          → Turned owner (begun_again waiting passed)
+          → Turned owner (owner_begun_again waiting passed)
       by None e t = absurd (true≢false (sym t))
       by (Some command) e t =
           let fewer = passed_turns owner.state name command (waited_name command name t) some in
@@ -118,9 +118,9 @@ module _ (alike : AlikeIsTold) (begins : BegunWaitsAlike) where
             last = ap (λ w. option_map_or (turns_before owner.state) w 0) e ∙ one;
           }) in
           let left : 0 < turns_before passed.state command = omega (arith, fewer, last) in
-          again command (left_in command passed.state) e refl
-          (subst (λ u. GoesOn u command (user_in (begun command passed)) (left_in command passed.state)) same
+          again command (command_left command passed.state) e refl
+          (subst (λ u. GoesOn u command (user_in (owner_begun command passed)) (command_left command passed.state)) same
           (begun_goes_on command passed left))
 
-      waited : is_waited_for owner.waiting name ≡ true → Turned owner (turned_from name owner)
+      waited : is_waited_for owner.waiting name ≡ true → Turned owner (owner_turned name owner)
       waited t = rw t (by owner.waiting refl t)

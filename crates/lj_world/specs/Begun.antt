@@ -1,63 +1,63 @@
 -- What an owner's beginning of an item and its turn of a session come to, where what is answered is a text.
 use Rattle.std.specs.Prelude.{◌≡◌, ℕ, ◌<◌, Bool, true, List, Option, Some, None}
 use Rattle.lj_session.specs.declared.command.Command.{Command as Order}
-use Rattle.lj_session.specs.States.{Owned, turns_before, is_whole_in, IsIdleIn, OthersKept, OtherSessionsKept, StepsFollow}
-use Rattle.lj_session.specs.Owners.{Owning, user_in, owes, begun, ready_session, turned_from, IsLastTurn}
+use Rattle.lj_session.specs.UserState.{UserState, turns_before, is_whole_in, IsIdleIn, OthersKept, OtherSessionsKept, StepsFollow}
+use Rattle.lj_session.specs.Owner.{Owner, user_in, is_owing, owner_begun, ready_session, owner_turned, IsLastTurn}
 use Rattle.lj_wire.specs.declared.item.Item.{Item}
 use Rattle.lj_wire.specs.declared.item.Item.TheVariants.{Command, Bad, Last}
-use Rattle.lj_wire.specs.Told.{told}
+use Rattle.lj_wire.specs.Told.{item_text}
 use Rattle.lj_wire.specs.Runs.{item_before}
 
 -- An item is answered: for some mark the text and the next user are what the item is told. Nothing waits then.
-pub record Answers (owner : Owning) (item : Item) (text : List ℕ) (next : Owning) : Type 0 where
+pub record Answers (owner : Owner) (item : Item) (text : List ℕ) (next : Owner) : Type 0 where
   pub mark : Bool
-  pub is_told : (text, user_in next) ≡ told (user_in owner) item mark
+  pub is_told : (text, user_in next) ≡ item_text (user_in owner) item mark
   pub idle : next.waiting ≡ None
   pub number : next.number ≡ owner.number
 
 -- the open steps after an item: those of a command's session follow from what it does, and all others are as they were
-abbrev pub LeavesSteps : Item → Owned → Owned → Type 0
+abbrev pub LeavesSteps : Item → UserState → UserState → Type 0
 LeavesSteps (Command command) old new = OthersKept command old new × StepsFollow command old new
 LeavesSteps (Bad fault) old new = new ≡ old
 LeavesSteps (Last fault) old new = new ≡ old
 
 -- no turn comes before the item is answered, and it is answered now
-pub record BeginsAtOnce (owner : Owning) (item : Item) (text : List ℕ) (after : Owning) : Type 0 where
+pub record BeginsAtOnce (owner : Owner) (item : Item) (text : List ℕ) (after : Owner) : Type 0 where
   pub at_once : item_before owner.state item ≡ 0
   pub answers : Answers owner item text after
   pub steps : LeavesSteps item owner.state after.state
 
 -- the item is a command before which turns come, and waits
-pub record BeginsToWait (owner : Owning) (item : Item) (after : Owning) : Type 0 where
+pub record BeginsToWait (owner : Owner) (item : Item) (after : Owner) : Type 0 where
   pub command : Order
   pub is : item ≡ Command command
   pub takes_turns : 0 < turns_before owner.state command
-  pub next : after ≡ begun command owner
+  pub next : after ≡ owner_begun command owner
 
 -- the item is answered by this text, or waits
-abbrev pub Begins : Owning → Item → Option (List ℕ) → Owning → Type 0
+abbrev pub Begins : Owner → Item → Option (List ℕ) → Owner → Type 0
 Begins owner item None after = BeginsToWait owner item after
 Begins owner item (Some text) after = BeginsAtOnce owner item text after
 
 -- the session that a turn is of: the one that is named, or the first that is ready
-abbrev pub session_to_turn : Option (List ℕ) → Owning → Option (List ℕ)
+abbrev pub session_to_turn : Option (List ℕ) → Owner → Option (List ℕ)
 session_to_turn None owner = ready_session owner
 session_to_turn (Some name) owner = Some name
 
 -- the turn is of this session, which owes a step of which all tiles are in
-pub record CanTurn (session : Option (List ℕ)) (owner : Owning) (name : List ℕ) : Type 0 where
+pub record CanTurn (session : Option (List ℕ)) (owner : Owner) (name : List ℕ) : Type 0 where
   pub named : session_to_turn session owner ≡ Some name
-  pub owes : owes owner name ≡ true
+  pub owes : is_owing owner name ≡ true
   pub whole : is_whole_in owner.state name ≡ true
 
 -- it is not the last turn before something is answered, and the session goes one step on
-pub record TurnsOn (owner : Owning) (name : List ℕ) (after : Owning) : Type 0 where
+pub record TurnsOn (owner : Owner) (name : List ℕ) (after : Owner) : Type 0 where
   pub more : ¬ IsLastTurn name owner
-  pub next : after ≡ turned_from name owner
+  pub next : after ≡ owner_turned name owner
 
 -- It is the last turn before what waits is answered, which is answered now. Nothing is owed to the session then, and
 -- every other is held as it was.
-pub record TurnsLast (owner : Owning) (name : List ℕ) (text : List ℕ) (after : Owning) : Type 0 where
+pub record TurnsLast (owner : Owner) (name : List ℕ) (text : List ℕ) (after : Owner) : Type 0 where
   pub last : IsLastTurn name owner
   pub command : Order
   pub waits : owner.waiting ≡ Some command
@@ -66,6 +66,6 @@ pub record TurnsLast (owner : Owning) (name : List ℕ) (text : List ℕ) (after
   pub others : OtherSessionsKept name owner.state after.state
 
 -- the step of this session is turned, and what waits is answered by this text, or nothing is
-abbrev pub TurnsTo : Owning → List ℕ → Option (List ℕ) → Owning → Type 0
+abbrev pub TurnsTo : Owner → List ℕ → Option (List ℕ) → Owner → Type 0
 TurnsTo owner name None after = TurnsOn owner name after
 TurnsTo owner name (Some text) after = TurnsLast owner name text after

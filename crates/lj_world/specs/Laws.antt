@@ -3,9 +3,9 @@ use Rattle.std.specs.Prelude.{◌≡◌, ◌≢◌, ℕ, ◌<◌, nat_eq, List, 
 use Rattle.std.specs.Option.{option_map, option_and_then}
 use Rattle.lj_quota.specs.declared.Quota.{Quota}
 use Rattle.lj_session.specs.declared.command.Command.{Command as Order}
-use Rattle.lj_session.specs.Users.{User as Value, fresh}
-use Rattle.lj_session.specs.States.{Owned, user_of}
-use Rattle.lj_session.specs.Owners.{Owning, user_in, rest_of}
+use Rattle.lj_session.specs.Users.{User as Value, fresh_user}
+use Rattle.lj_session.specs.UserState.{UserState, user_of}
+use Rattle.lj_session.specs.Owner.{Owner, user_in, rest_of}
 use Rattle.lj_session.specs.Turns.{turns}
 use Rattle.lj_session.specs.Laws.{RestKeepsUser, PostedKeepsUser, AcceptKeepsUser, BegunWaitsAlike, user_taking}
 use Rattle.lj_wire.specs.declared.item.Item.TheVariants.{Command}
@@ -16,9 +16,9 @@ use Rattle.lj_access.specs.Rows.{Row, user_with}
 use Rattle.lj_world.specs.declared.event.Event.{Event}
 use Rattle.lj_world.specs.declared.event.Event.TheVariants.{Hello, At, By}
 use Rattle.lj_world.specs.declared.transcript.Entry.{Entry}
-use Rattle.lj_world.specs.States.{State, Talk, inside, start, talk_at}
+use Rattle.lj_world.specs.Machine.{Machine, Connection, inside, start, connection_at}
 use Rattle.lj_world.specs.Runs.{Step, Run, IsTranscript}
-use Rattle.lj_world.specs.Scripts.{Heard, Script, Agree, IsPrefix, OneIsPrefix, heard, line_of, replies, script}
+use Rattle.lj_world.specs.Scripts.{Heard, Script, Agree, IsPrefix, OneIsPrefix, all_heard, line_of, replies, script}
 
 -- What is known of what waits: the laws of owners and of texts on which those of runs stand.
 pub record Known : Type 0 where
@@ -96,26 +96,26 @@ TellsAsAnyOther users events entries =
     } in Agree (script_in one) (script_in other) → TellAlike one other
 
 -- The state of the user is at home, and this is its value.
-pub record IsAtHome (s : State) (user : ℕ) (value : Value) : Type 0 where
+pub record IsAtHome (s : Machine) (user : ℕ) (value : Value) : Type 0 where
   pub row : Row
   pub there : slice_get s.rows user ≡ Some row
-  pub state : Owned
+  pub state : UserState
   pub home : row.home ≡ Some state
   pub is : value ≡ user_of state
 
 -- A connection owns the state of the user, this is its value, and this waits or nothing.
-pub record IsOwned (s : State) (user : ℕ) (value : Value) (waits : Option Order) : Type 0 where
+pub record IsOwned (s : Machine) (user : ℕ) (value : Value) (waits : Option Order) : Type 0 where
   pub connection : ℕ
-  pub talk : Talk
-  pub known : talk_at s connection ≡ Some talk
+  pub talk : Connection
+  pub known : connection_at s connection ≡ Some talk
   pub of_user : talk.user ≡ user
-  pub owner : Owning
+  pub owner : Owner
   pub owns : talk.stage ≡ inside owner
   pub is : value ≡ user_in owner
   pub left : waits ≡ owner.waiting
 
 -- the value of a user in a state, and what waits
-abbrev pub HasValue : State → ℕ → Value → Option Order → Type 0
+abbrev pub HasValue : Machine → ℕ → Value → Option Order → Type 0
 HasValue s user value waits = IsAtHome s user value × (waits ≡ None) ⊎ IsOwned s user value waits
 
 -- A command takes steps of its own: the value counts them, and what is left of it waits.
@@ -130,7 +130,7 @@ WaitsOn before command value left = (value ≡ before) × (left ≡ command) ⊎
 
 -- the user after so many items of a script as have marks
 abbrev pub value_so_far : Quota → Script → Value
-value_so_far quota s = last_user (fresh quota) (take (length s.marks) s.items) s.marks
+value_so_far quota s = last_user (fresh_user quota) (take (length s.marks) s.items) s.marks
 
 -- The value is that of the script so far; while something waits, it is the script's next item that does.
 abbrev pub IsScriptValue : Quota → Script → Value → Option Order → Type 0
@@ -142,57 +142,57 @@ IsScriptValue quota s value (Some left) =
 -- In every run each user has a value, and it is that of its script so far.
 abbrev pub ValueIsThatOfScript : Type 0
 ValueIsThatOfScript =
-    (users : List User) (events : List Event) (entries : List Entry) (last : State) (user : ℕ) (quota : Quota)
+    (users : List User) (events : List Event) (entries : List Entry) (last : Machine) (user : ℕ) (quota : Quota)
     → Run (start users) events entries last → HasQuota users user quota
     → ((value : Value) × (waits : Option Order) × HasValue last user value waits)
     × ((value : Value) (waits : Option Order) → HasValue last user value waits
     → IsScriptValue quota (script user users events entries) value waits)
 
 -- The connection has the user's ticket of this number.
-pub record HasTicket (s : State) (connection user number : ℕ) : Type 0 where
-  pub talk : Talk
-  pub known : talk_at s connection ≡ Some talk
+pub record HasTicket (s : Machine) (connection user number : ℕ) : Type 0 where
+  pub talk : Connection
+  pub known : connection_at s connection ≡ Some talk
   pub of_user : talk.user ≡ user
   pub numbered : talk.number ≡ number
 
 -- In every run a user's n-th granted HELLO, counted from 0, gets its ticket n.
 abbrev pub TicketsAreInOrder : Type 0
 TicketsAreInOrder =
-    (users : List User) (events : List Event) (entries : List Entry) (last : State) (user : ℕ) (quota : Quota)
+    (users : List User) (events : List Event) (entries : List Entry) (last : Machine) (user : ℕ) (quota : Quota)
     → Run (start users) events entries last → HasQuota users user quota
-    → (n : ℕ) (h : Heard) → slice_get (line_of user (heard users events)) n ≡ Some h
+    → (n : ℕ) (h : Heard) → slice_get (line_of user (all_heard users events)) n ≡ Some h
     → HasTicket last h.connection user n
 
 -- the user of a connection, if it is known
-abbrev pub connected : State → ℕ → Option ℕ
-connected s connection = option_map (λ talk. talk.user) (talk_at s connection)
+abbrev pub user_connected : Machine → ℕ → Option ℕ
+user_connected s connection = option_map (λ talk. talk.user) (connection_at s connection)
 
 -- the user whose event it is, if it is a user's: workers act for none
-abbrev pub actor : State → Event → Option ℕ
+abbrev pub actor : Machine → Event → Option ℕ
 actor s (Hello connection name token) = user_with s.rows name token
-actor s (At connection act) = connected s connection
+actor s (At connection act) = user_connected s connection
 actor s (By worker deed) = None
 
 -- the connection of a number, if it is this user's
-abbrev pub talk_of : ℕ → State → ℕ → Option Talk
-talk_of user s connection =
-    option_and_then (λ talk. if nat_eq talk.user user then Some talk else None) (talk_at s connection)
+abbrev pub connection_of : ℕ → Machine → ℕ → Option Connection
+connection_of user s connection =
+    option_and_then (λ talk. if nat_eq talk.user user then Some talk else None) (connection_at s connection)
 
 -- Nothing of the user has changed, its row or its connections, and nothing is replied to it.
-pub record Untouched (user : ℕ) (old : State) (reply : Option Entry) (new : State) : Type 0 where
+pub record Untouched (user : ℕ) (old : Machine) (reply : Option Entry) (new : Machine) : Type 0 where
   pub row : slice_get new.rows user ≡ slice_get old.rows user
-  pub talks : (connection : ℕ) → talk_of user new connection ≡ talk_of user old connection
+  pub talks : (connection : ℕ) → connection_of user new connection ≡ connection_of user old connection
   pub untold : option_map (λ e. e.user) reply ≢ Some user
 
 -- An event that is not this user's changes nothing of it.
 abbrev pub OthersChangeNothing : Type 0
-OthersChangeNothing = (old : State) (event : Event) (reply : Option Entry) (new : State) (user : ℕ)
+OthersChangeNothing = (old : Machine) (event : Event) (reply : Option Entry) (new : Machine) (user : ℕ)
     → Step old event reply new → actor old event ≢ Some user → Untouched user old reply new
 
 -- These events have a run from this state.
-abbrev pub HasRun : State → List Event → Type 0
-HasRun old events = (entries : List Entry) × (last : State) × Run old events entries last
+abbrev pub HasRun : Machine → List Event → Type 0
+HasRun old events = (entries : List Entry) × (last : Machine) × Run old events entries last
 
 -- No list of events is without a run, whichever state it begins in: what cannot happen changes nothing.
 abbrev pub EachListHasARun : Type 0
-EachListHasARun = (old : State) (events : List Event) → ¬ ¬ HasRun old events
+EachListHasARun = (old : Machine) (events : List Event) → ¬ ¬ HasRun old events

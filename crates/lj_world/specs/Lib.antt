@@ -1,4 +1,4 @@
-pub mod States
+pub mod Machine
 pub mod Connections
 pub mod Workers
 pub mod Happenings
@@ -12,6 +12,6 @@ pub mod Positions
 pub mod Holdings
 pub mod Kept
 pub mod Machines
-pub mod Worlds
+pub mod World
 pub mod Worked
 pub mod Limits

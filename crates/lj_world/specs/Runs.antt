@@ -3,30 +3,30 @@ use Rattle.std.specs.Prelude.{◌≡◌, List, [], ◌∷◌, ◌++◌, Option, 
 use Rattle.lj_access.specs.declared.user.User.{User}
 use Rattle.lj_world.specs.declared.event.Event.{Event}
 use Rattle.lj_world.specs.declared.transcript.Entry.{Entry}
-use Rattle.lj_world.specs.States.{State, start}
+use Rattle.lj_world.specs.Machine.{Machine, start}
 use Rattle.lj_world.specs.Happenings.{Happens}
 
 -- the event is possible
-abbrev pub IsPossible : State → Event → Type 0
-IsPossible old event = (reply : Option Entry) × (new : State) × Happens old event reply new
+abbrev pub IsPossible : Machine → Event → Type 0
+IsPossible old event = (reply : Option Entry) × (new : Machine) × Happens old event reply new
 
 -- A step: the event happens, or it is not possible, and then nothing is told and nothing changes.
-abbrev pub Step : State → Event → Option Entry → State → Type 0
+abbrev pub Step : Machine → Event → Option Entry → Machine → Type 0
 Step old event reply new =
     Happens old event reply new ⊎ (¬ IsPossible old event) × (reply ≡ None) × (new ≡ old)
 
 -- Steps of one kind over these events, one after the other, which tell these replies.
-abbrev pub RunBy : (State → Event → Option Entry → State → Type 0) → State → List Event → List Entry → State → Type 0
+abbrev pub RunBy : (Machine → Event → Option Entry → Machine → Type 0) → Machine → List Event → List Entry → Machine → Type 0
 RunBy IsStep old [] replies new = (replies ≡ []) × (new ≡ old)
 RunBy IsStep old (event ∷ events) replies new =
-    (reply : Option Entry) × (between : State) × (later : List Entry)
+    (reply : Option Entry) × (between : Machine) × (later : List Entry)
     × IsStep old event reply between × RunBy IsStep between events later new
     × (replies ≡ option_to_list reply ++ later)
 
 -- Steps over these events, one after the other, which tell these replies.
-abbrev pub Run : State → List Event → List Entry → State → Type 0
+abbrev pub Run : Machine → List Event → List Entry → Machine → Type 0
 Run old events replies new = RunBy Step old events replies new
 
 -- These replies are the whole transcript of a run from these users over just these events, in their order.
 abbrev pub IsTranscript : List User → List Event → List Entry → Type 0
-IsTranscript users events replies = (last : State) × Run (start users) events replies last
+IsTranscript users events replies = (last : Machine) × Run (start users) events replies last

@@ -2,11 +2,11 @@
 use Rattle.std.specs.Prelude.{◌≡◌, ℕ, Bool, true, false, ◌&&◌, ◌||◌, not, nat_eq, nat_le, nat_lt, List, [], ◌∷◌, ◌++◌, map, filter, fold, length, Option, Some, None, if◌then◌else◌, ◌⊎◌}
 use Rattle.std.specs.List.{list_any}
 use Rattle.lj_wire.specs.declared.item.Item.{Item}
-use Rattle.lj_wire.specs.Items.{ends}
+use Rattle.lj_wire.specs.Items.{is_ending}
 use Rattle.lj_wire.specs.Texts.{is_memory}
 use Rattle.lj_access.specs.declared.user.User.{User}
-use Rattle.lj_access.specs.declared.row.TheConstants.{MAX_TICKETS}
-use Rattle.lj_access.specs.Rows.{Row, opening, user_with}
+use Rattle.lj_access.specs.declared.user_row.TheConstants.{MAX_TICKETS}
+use Rattle.lj_access.specs.Rows.{Row, first_row, user_with}
 use Rattle.lj_world.specs.declared.event.Event.{Event}
 use Rattle.lj_world.specs.declared.event.Event.TheVariants.{Hello, At}
 use Rattle.lj_world.specs.declared.event.Act.TheVariants.{Arrive, End}
@@ -23,27 +23,27 @@ pub record Heard : Type 0 where
 -- with another value for the connection of a number
 abbrev pub with_heard : ℕ → (Heard → Heard) → List Heard → List Heard
 with_heard connection change [] = []
-with_heard connection change (h ∷ heard) =
-    if nat_eq h.connection connection then change h ∷ heard else h ∷ with_heard connection change heard
+with_heard connection change (h ∷ all_heard) =
+    if nat_eq h.connection connection then change h ∷ all_heard else h ∷ with_heard connection change all_heard
 
 -- the connections of a user
 abbrev pub line_of : ℕ → List Heard → List Heard
-line_of user heard = filter (λ h. nat_eq h.user user) heard
+line_of user all_heard = filter (λ h. nat_eq h.user user) all_heard
 
 -- the connection of this number is new, and its user has a ticket left
 abbrev pub is_granted : ℕ → ℕ → List Heard → Bool
-is_granted connection user heard =
+is_granted connection user all_heard =
     (nat_le 1 connection && nat_le connection MAX_CONNECTIONS)
-    && (not (list_any (λ h. nat_eq h.connection connection) heard)
-    && nat_lt (length (line_of user heard)) MAX_TICKETS)
+    && (not (list_any (λ h. nat_eq h.connection connection) all_heard)
+    && nat_lt (length (line_of user all_heard)) MAX_TICKETS)
 
 -- a HELLO heard, as the user of its name and token if there is one: the connection goes last if it is granted
 abbrev pub greeting : ℕ → Option ℕ → List Heard → List Heard
-greeting connection None heard = heard
-greeting connection (Some user) heard =
-    if is_granted connection user heard
-    then heard ++ record { connection = connection; user = user; items = []; ended = false } ∷ []
-    else heard
+greeting connection None all_heard = all_heard
+greeting connection (Some user) all_heard =
+    if is_granted connection user all_heard
+    then all_heard ++ record { connection = connection; user = user; items = []; ended = false } ∷ []
+    else all_heard
 
 -- an item arrives unless the connection has ended
 abbrev pub with_item : Item → Heard → Heard
@@ -54,29 +54,29 @@ abbrev pub with_end : Heard → Heard
 with_end h = record h { ended = true }
 
 -- what was heard, after one event more; the rows have the names and tokens of the users
-abbrev pub hear : List Row → List Heard → Event → List Heard
-hear rows heard (Hello connection name token) = greeting connection (user_with rows name token) heard
-hear rows heard (At connection (Arrive item)) = with_heard connection (with_item item) heard
-hear rows heard (At connection End) = with_heard connection with_end heard
-hear rows heard _ = heard
+abbrev pub heard_after : List Row → List Heard → Event → List Heard
+heard_after rows all_heard (Hello connection name token) = greeting connection (user_with rows name token) all_heard
+heard_after rows all_heard (At connection (Arrive item)) = with_heard connection (with_item item) all_heard
+heard_after rows all_heard (At connection End) = with_heard connection with_end all_heard
+heard_after rows all_heard _ = all_heard
 
 -- the granted connections, in the order of their HELLO
-abbrev pub heard : List User → List Event → List Heard
-heard users events = fold (hear (map opening users)) [] events
+abbrev pub all_heard : List User → List Event → List Heard
+all_heard users events = fold (heard_after (map first_row users)) [] events
 
 -- the items up to the first that ends the connection, which is one of them
-abbrev pub cut : List Item → List Item
-cut [] = []
-cut (item ∷ items) = item ∷ (if ends item then [] else cut items)
+abbrev pub items_to_end : List Item → List Item
+items_to_end [] = []
+items_to_end (item ∷ items) = item ∷ (if is_ending item then [] else items_to_end items)
 
 -- the connection has ended, or an item that ends it arrived
 abbrev pub is_closed : Heard → Bool
-is_closed h = h.ended || list_any ends h.items
+is_closed h = h.ended || list_any is_ending h.items
 
 -- the items of connections, each cut, where a next connection counts only if this one is closed
-abbrev pub joined : List Heard → List Item
-joined [] = []
-joined (h ∷ heard) = cut h.items ++ (if is_closed h then joined heard else [])
+abbrev pub items_joined : List Heard → List Item
+items_joined [] = []
+items_joined (h ∷ all_heard) = items_to_end h.items ++ (if is_closed h then items_joined all_heard else [])
 
 -- The texts that a run replies to a user, in order.
 abbrev pub replies : ℕ → List Entry → List (List ℕ)
@@ -91,7 +91,7 @@ pub record Script : Type 0 where
 -- the reply is that memory ran out.
 abbrev pub script : ℕ → List User → List Event → List Entry → Script
 script user users events entries = record {
-  items = joined (line_of user (heard users events));
+  items = items_joined (line_of user (all_heard users events));
   marks = map is_memory (replies user entries);
 }
 

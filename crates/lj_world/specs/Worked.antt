@@ -8,7 +8,7 @@ use Rattle.lj_access.specs.declared.user.User.{User}
 use Rattle.lj_world.specs.declared.event.Event.{Event}
 use Rattle.lj_world.specs.declared.event.Event.TheVariants.{Hello, At}
 use Rattle.lj_world.specs.declared.event.Act.TheVariants.{Arrive, End}
-use Rattle.lj_world.specs.Scripts.{heard, line_of, joined}
+use Rattle.lj_world.specs.Scripts.{all_heard, line_of, items_joined}
 
 -- two users, A and B, and their tokens
 abbrev pub token_a : List ℕ
@@ -44,7 +44,7 @@ end connection = At connection End
 
 -- the items that the connections of A bring
 abbrev pub brought : List Event → List Item
-brought events = joined (line_of 0 (heard (user_a ∷ user_b ∷ []) events))
+brought events = items_joined (line_of 0 (all_heard (user_a ∷ user_b ∷ []) events))
 
 -- the second connection's item counts once the first has ended
 pub ended_first : brought (hello 1 ∷ hello 2 ∷ arrive 2 bye ∷ arrive 1 list ∷ end 1 ∷ []) ≡ list ∷ bye ∷ []

@@ -1,6 +1,6 @@
 //! Items begun and steps turned by an owner, where what is answered is a text.
 ghost use Rattle.std.specs.Prelude.{◌≡◌, None, true, IfOk, IfSome, IfNone, List, ℕ};
-ghost use Rattle.lj_session.specs.States.{is_whole_in};
+ghost use Rattle.lj_session.specs.UserState.{is_whole_in};
 ghost use Rattle.lj_world.specs.Begun.{Begins, CanTurn, TurnsTo};
 
 use crate::texts::text_of;

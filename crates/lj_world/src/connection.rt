@@ -1,10 +1,10 @@
 //! Connections, and what each of them does.
 ghost use Rattle.std.specs.Prelude.{◌≡◌, ◌↔◌, None, IfOk, IsTrue, OnErr, List};
 ghost use Rattle.lj_access.specs.Rows.{Row};
-ghost use Rattle.lj_book.specs.Held.{Held, IsDoneAt};
+ghost use Rattle.lj_book.specs.Book.{Book, IsDoneAt};
 ghost use Rattle.lj_world.specs.declared.event.Act.TheVariants.{Arrive, End, Enter, Next, Post, Fetch, Turn, Leave};
-ghost use Rattle.lj_world.specs.States.{greeted};
-ghost use Rattle.lj_world.specs.Connections.{IsDone, here};
+ghost use Rattle.lj_world.specs.Machine.{greeted_connection};
+ghost use Rattle.lj_world.specs.Connections.{IsDone, here_of};
 ghost use Rattle.lj_world.specs.Attempts.{Acts};
 ghost use Rattle.lj_world.specs.Picked.{ChangesPicked, ActHeeds};
 ghost use Rattle.lj_world.specs.Kept.{HasRow, Stays};
@@ -39,9 +39,9 @@ pub(crate) struct Connection {
 }
 
 impl Model for Connection {
-    ghost use Rattle.lj_world.specs.States.{Talk};
+    ghost use Rattle.lj_world.specs.Machine.{Connection};
 
-    ghost Value = { Talk };
+    ghost Value = { Connection };
 
     ghost use Rattle.lj_world.specs.Positions.{stage_of, HasTicket};
 
@@ -61,7 +61,7 @@ impl Model for Connection {
 impl Connection {
     /// Has this ticket, and nothing in its inbox.
     pub(crate) fn new(alloc: Global, ticket: Ticket) -> Connection
-        ensures { result ≡ greeted ticket.user ticket.number }
+        ensures { result ≡ greeted_connection ticket.user ticket.number }
     {
         Connection {
             alloc,
@@ -95,7 +95,8 @@ impl Connection {
     ) -> Result<Option<ReplyText>, AllocError>
         requires { HasRow directory.old self.old }
         ensures acts { IfOk result (λ text.
-            Acts act (here self.old directory.old book.old) text (here self.new directory.new book.new)) }
+            Acts act (here_of self.old directory.old book.old) text
+            (here_of self.new directory.new book.new)) }
         ensures picked { ActHeeds act self.old.user book.old book.new }
         ensures stays { OnErr result (Stays self.old self.new) }
         ensures rows { OnErr result (directory.new ≡ directory.old) }
@@ -115,8 +116,8 @@ impl Connection {
 
     /// Notes an item that has arrived, unless the connection has ended.
     fn arrive(&mut self, item: Item) -> Result<(), AllocError>
-        ensures acts { IfOk result (λ _. (rows : List Row) (book : Held)
-            → Acts (Arrive item) (here self.old rows book) None (here self.new rows book)) }
+        ensures acts { IfOk result (λ _. (rows : List Row) (book : Book)
+            → Acts (Arrive item) (here_of self.old rows book) None (here_of self.new rows book)) }
         ensures stays { OnErr result (Stays self.old self.new) }
     {
         if !self.ended {
@@ -127,16 +128,16 @@ impl Connection {
 
     /// Notes that nothing more arrives.
     fn end(&mut self)
-        ensures { (rows : List Row) (book : Held)
-            → Acts End (here self.old rows book) None (here self.new rows book) }
+        ensures { (rows : List Row) (book : Book)
+            → Acts End (here_of self.old rows book) None (here_of self.new rows book) }
     {
         self.ended = true;
     }
 
     /// Takes the state of its user, where it is its turn.
     fn enter(&mut self, directory: &mut Directory)
-        ensures { (book : Held)
-            → Acts Enter (here self.old directory.old book) None (here self.new directory.new book) }
+        ensures { (book : Book)
+            → Acts Enter (here_of self.old directory.old book) None (here_of self.new directory.new book) }
     {
         let Position::Waiting = &self.position else {
             return;
@@ -151,8 +152,8 @@ impl Connection {
 
     /// Begins the next item of its inbox.
     fn next(&mut self) -> Result<Option<ReplyText>, AllocError>
-        ensures acts { IfOk result (λ text. (rows : List Row) (book : Held)
-            → Acts Next (here self.old rows book) text (here self.new rows book)) }
+        ensures acts { IfOk result (λ text. (rows : List Row) (book : Book)
+            → Acts Next (here_of self.old rows book) text (here_of self.new rows book)) }
         ensures stays { OnErr result (Stays self.old self.new) }
     {
         let Position::Inside(owner) = &mut self.position else {
@@ -173,7 +174,7 @@ impl Connection {
     /// Posts the next task that a session has.
     fn post(&mut self, book: &mut Book)
         ensures { (rows : List Row)
-            → Acts Post (here self.old rows book.old) None (here self.new rows book.new) }
+            → Acts Post (here_of self.old rows book.old) None (here_of self.new rows book.new) }
     {
         if self.posted >= MAX_POSTED {
             return;
@@ -193,7 +194,7 @@ impl Connection {
     /// Fetches a result of its user. One that no session awaits is dropped.
     fn fetch(&mut self, book: &mut Book, pick: usize)
         ensures acts { (rows : List Row)
-            → Acts (Fetch pick) (here self.old rows book.old) None (here self.new rows book.new) }
+            → Acts (Fetch pick) (here_of self.old rows book.old) None (here_of self.new rows book.new) }
         ensures picked { ChangesPicked (IsDoneAt self.old.user book.old) pick book.old book.new }
     {
         let Position::Inside(owner) = &mut self.position else {
@@ -211,8 +212,8 @@ impl Connection {
 
     /// Turns the step of a session: of the one that is named, or of the first that is ready.
     fn turn(&mut self, session: Option<Name>) -> Result<Option<ReplyText>, AllocError>
-        ensures acts { IfOk result (λ text. (rows : List Row) (book : Held)
-            → Acts (Turn session) (here self.old rows book) text (here self.new rows book)) }
+        ensures acts { IfOk result (λ text. (rows : List Row) (book : Book)
+            → Acts (Turn session) (here_of self.old rows book) text (here_of self.new rows book)) }
         ensures stays { OnErr result (Stays self.old self.new) }
     {
         let Position::Inside(owner) = &mut self.position else {
@@ -227,7 +228,8 @@ impl Connection {
     /// Hands the state of its user back, where nothing is left to answer.
     fn leave(&mut self, directory: &mut Directory, book: &mut Book)
         requires { HasRow directory.old self.old }
-        ensures { Acts Leave (here self.old directory.old book.old) None (here self.new directory.new book.new) }
+        ensures { Acts Leave (here_of self.old directory.old book.old) None
+            (here_of self.new directory.new book.new) }
     {
         if !self.is_done() {
             return;

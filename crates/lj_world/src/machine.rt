@@ -4,7 +4,7 @@ ghost use Rattle.std.specs.List.{IsDistinct};
 ghost use Rattle.std.specs.Str.{bytes_eq};
 ghost use Rattle.lj_access.specs.Users.{names};
 ghost use Rattle.lj_world.specs.declared.event.Event.TheVariants.{Hello, At, By};
-ghost use Rattle.lj_world.specs.States.{start};
+ghost use Rattle.lj_world.specs.Machine.{start};
 ghost use Rattle.lj_world.specs.Runs.{Step};
 ghost use Rattle.lj_world.specs.Picked.{PickedStep};
 
@@ -31,9 +31,9 @@ pub(crate) struct Machine {
 }
 
 impl Model for Machine {
-    ghost use Rattle.lj_world.specs.States.{State};
+    ghost use Rattle.lj_world.specs.Machine.{Machine};
 
-    ghost Value = { State };
+    ghost Value = { Machine };
 
     ghost use Rattle.lj_world.specs.Machines.{IsMachine};
 

@@ -1,7 +1,7 @@
 //! The text of a reply.
 ghost use Rattle.std.specs.Prelude.{◌≡◌, IfOk};
-ghost use Rattle.lj_session.specs.States.{user_of};
-ghost use Rattle.lj_session.specs.Owners.{IsSettled};
+ghost use Rattle.lj_session.specs.UserState.{user_of};
+ghost use Rattle.lj_session.specs.Owner.{IsSettled};
 ghost use Rattle.lj_wire.specs.Texts.{text};
 
 use crate::transcript::ReplyText;

@@ -1,6 +1,6 @@
 //! The hands of workers, and what each worker does.
 ghost use Rattle.std.specs.Prelude.{◌≡◌, Some, false};
-ghost use Rattle.lj_book.specs.Held.{Held, IsOpenAt};
+ghost use Rattle.lj_book.specs.Book.{Book, IsOpenAt};
 ghost use Rattle.lj_world.specs.declared.event.Deed.TheVariants.{Take, Compute, Give, HandBack};
 ghost use Rattle.lj_world.specs.Workers.{bench};
 ghost use Rattle.lj_world.specs.Attempts.{Tries};
@@ -21,13 +21,13 @@ pub(crate) struct Worker {
 }
 
 impl Model for Worker {
-    ghost use Rattle.lj_world.specs.States.{Hand};
+    ghost use Rattle.lj_world.specs.Machine.{Worker};
 
-    ghost Value = { Hand };
+    ghost Value = { Worker };
 
-    ghost use Rattle.lj_world.specs.Holdings.{work_of, is_computed};
+    ghost use Rattle.lj_world.specs.Holdings.{task_of, is_computed};
 
-    ghost view = { λ w. record { key = w.key; work = work_of w.holding; computed = is_computed w.holding } };
+    ghost view = { λ w. record { key = w.key; work = task_of w.holding; computed = is_computed w.holding } };
 }
 
 /// Does what a worker is asked for, or nothing where it cannot.
@@ -78,7 +78,7 @@ impl Worker {
 
     /// Computes the task that it holds, unless that is done.
     fn compute(&mut self, table: &Table)
-        ensures { (book : Held) → Tries Compute (bench (Some self.old) book) (bench (Some self.new) book) }
+        ensures { (book : Book) → Tries Compute (bench (Some self.old) book) (bench (Some self.new) book) }
     {
         if let Holding::Task(task) = &self.holding {
             self.holding = Holding::Done(compute(task.copy(), table));

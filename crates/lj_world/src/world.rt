@@ -3,7 +3,7 @@ ghost use Rattle.std.specs.Prelude.{◌≡◌, ◌↔◌, ◌≤◌, length, IsT
 ghost use Rattle.std.specs.List.{IsDistinct};
 ghost use Rattle.std.specs.Str.{bytes_eq};
 ghost use Rattle.lj_access.specs.Users.{names};
-ghost use Rattle.lj_world.specs.States.{start};
+ghost use Rattle.lj_world.specs.Machine.{start};
 ghost use Rattle.lj_world.specs.Runs.{Step, IsTranscript};
 ghost use Rattle.lj_world.specs.Picked.{HeedsPick, IsPickedTranscript};
 ghost use Rattle.lj_world.specs.Laws.{TellsAsAnyOther};
@@ -43,9 +43,9 @@ pub struct World {
 }
 
 impl Model for World {
-    ghost use Rattle.lj_world.specs.Worlds.{Condition};
+    ghost use Rattle.lj_world.specs.World.{World};
 
-    ghost Value = { Condition };
+    ghost Value = { World };
 
     ghost view = { λ world. record { state = world.machine; lost = world.lost } };
 }

@@ -4,11 +4,11 @@ use Rattle.std.proofs.Common.{Result, Ok, Err, refl, sym, ap, ◌∙◌, ◌⊎�
 use Rattle.std.proofs.Common.{add-zero}
 use Rattle.std.proofs.lemmas.Bool.{cases_Bool}
 use Rattle.std.proofs.lemmas.List.{length-append}
-use Rattle.lj_xyz.specs.declared.fault.XyzKind.{XyzKind}
-use Rattle.lj_xyz.specs.declared.fault.XyzKind.TheVariants as kind
-use Rattle.lj_xyz.specs.declared.fault.XyzFault.{XyzFault}
-use Rattle.lj_xyz.specs.declared.row.Row.{Row}
-use Rattle.lj_xyz.specs.declared.reader.Position.{Position}
+use Rattle.lj_xyz.specs.declared.xyz_fault.XyzKind.{XyzKind}
+use Rattle.lj_xyz.specs.declared.xyz_fault.XyzKind.TheVariants as kind
+use Rattle.lj_xyz.specs.declared.xyz_fault.XyzFault.{XyzFault}
+use Rattle.lj_xyz.specs.declared.atom_row.Row.{Row}
+use Rattle.lj_xyz.specs.declared.frame_reader.Position.{Position}
 use Rattle.lj_xyz.specs.Lines.{words_of}
 use Rattle.lj_xyz.specs.Symbols.{SymbolPair}
 use Rattle.lj_xyz.specs.Atoms.{◌>>=◌, count_of, row_of}

@@ -3,12 +3,12 @@ use Rattle.std.proofs.Common.{◌≡◌, ℕ, true, inl, inr, List, [], ◌∷�
 use Rattle.std.specs.Prelude.{IfOk, IsOk, ◌↔◌}
 use Rattle.std.specs.Option.{ok_or}
 use Rattle.std.proofs.lemmas.Bool.{cases_Bool, eqb-true}
-use Rattle.lj_xyz.specs.declared.fault.XyzFault.{XyzFault}
-use Rattle.lj_xyz.specs.declared.fault.XyzError.{XyzError}
-use Rattle.lj_xyz.specs.declared.fault.XyzError.TheVariants as errors
-use Rattle.lj_xyz.specs.declared.row.Row.{Row}
-use Rattle.lj_xyz.specs.declared.reader.Position.{Position}
-use Rattle.lj_xyz.specs.declared.reader.Position.TheVariants.{First}
+use Rattle.lj_xyz.specs.declared.xyz_fault.XyzFault.{XyzFault}
+use Rattle.lj_xyz.specs.declared.xyz_fault.XyzError.{XyzError}
+use Rattle.lj_xyz.specs.declared.xyz_fault.XyzError.TheVariants as errors
+use Rattle.lj_xyz.specs.declared.atom_row.Row.{Row}
+use Rattle.lj_xyz.specs.declared.frame_reader.Position.{Position}
+use Rattle.lj_xyz.specs.declared.frame_reader.Position.TheVariants.{First}
 use Rattle.lj_fixed.specs.Numbers.{number_of}
 use Rattle.lj_xyz.specs.Symbols.{SymbolPair}
 use Rattle.lj_xyz.specs.Atoms.{is_count, count_if}

@@ -3,17 +3,17 @@ use Rattle.std.specs.Prelude.{ℕ, Bool, ◌&&◌, nat_le, ℤ, List, ◌∷◌,
 use Rattle.lj_fixed.specs.declared.numbers.NumberFault.{NumberFault}
 use Rattle.lj_fixed.specs.Decimal.{nano_of}
 use Rattle.lj_fixed.specs.Numbers.{number_of}
-use Rattle.lj_xyz.specs.declared.fault.XyzKind.{XyzKind}
-use Rattle.lj_xyz.specs.declared.fault.XyzKind.TheVariants as kind
-use Rattle.lj_xyz.specs.declared.reader.TheConstants.{MAX_ATOMS}
-use Rattle.lj_xyz.specs.declared.row.Row.{Row}
+use Rattle.lj_xyz.specs.declared.xyz_fault.XyzKind.{XyzKind}
+use Rattle.lj_xyz.specs.declared.xyz_fault.XyzKind.TheVariants as kind
+use Rattle.lj_xyz.specs.declared.frame_reader.TheConstants.{MAX_FRAME_ATOMS}
+use Rattle.lj_xyz.specs.declared.atom_row.Row.{Row}
 use Rattle.lj_xyz.specs.Lines.{words_of}
 use Rattle.lj_xyz.specs.Kinds.{kind_of}
 use Rattle.lj_xyz.specs.Symbols.{SymbolPair, is_symbol, is_of_species}
 
 -- a number of atoms that a frame may have
 abbrev pub is_count : ℕ → Bool
-is_count n = nat_le 1 n && nat_le n MAX_ATOMS
+is_count n = nat_le 1 n && nat_le n MAX_FRAME_ATOMS
 
 -- a number, if a frame may have so many atoms
 abbrev pub count_if : Option ℕ → Option ℕ

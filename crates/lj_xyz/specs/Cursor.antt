@@ -1,9 +1,9 @@
 -- Where a reader stands in the lines of its text.
 use Rattle.std.specs.Prelude.{◌≡◌, List, length, Result, Ok, Err}
-use Rattle.lj_xyz.specs.declared.fault.XyzFault.{XyzFault}
+use Rattle.lj_xyz.specs.declared.xyz_fault.XyzFault.{XyzFault}
 use Rattle.lj_xyz.specs.declared.lines.Lines.{Lines}
-use Rattle.lj_xyz.specs.declared.reader.Passed.{Passed}
-use Rattle.lj_xyz.specs.declared.row.Row.{Row}
+use Rattle.lj_xyz.specs.declared.frame_reader.Passed.{Passed}
+use Rattle.lj_xyz.specs.declared.atom_row.Row.{Row}
 use Rattle.lj_xyz.specs.Lines.{lines_of}
 use Rattle.lj_xyz.specs.Reading.{Left, Keeps}
 

@@ -1,11 +1,11 @@
 -- What is printed of a fault.
 use Rattle.std.specs.Prelude.{ℕ, List, ◌++◌, codes}
 use Rattle.std.specs.Fmt.{decimal}
-use Rattle.lj_xyz.specs.declared.fault.XyzError.{XyzError}
-use Rattle.lj_xyz.specs.declared.fault.XyzError.TheVariants.{Fault, Memory}
-use Rattle.lj_xyz.specs.declared.fault.XyzFault.{XyzFault}
-use Rattle.lj_xyz.specs.declared.fault.XyzKind.{XyzKind}
-use Rattle.lj_xyz.specs.declared.fault.XyzKind.TheVariants.{Count, Short, Symbol, Species, Number, Range, Pair}
+use Rattle.lj_xyz.specs.declared.xyz_fault.XyzError.{XyzError}
+use Rattle.lj_xyz.specs.declared.xyz_fault.XyzError.TheVariants.{Fault, Memory}
+use Rattle.lj_xyz.specs.declared.xyz_fault.XyzFault.{XyzFault}
+use Rattle.lj_xyz.specs.declared.xyz_fault.XyzKind.{XyzKind}
+use Rattle.lj_xyz.specs.declared.xyz_fault.XyzKind.TheVariants.{Count, Short, Symbol, Species, Number, Range, Pair}
 
 -- what is wrong, in words
 abbrev pub kind_text : XyzKind → List ℕ

@@ -3,12 +3,12 @@
 use Rattle.std.specs.Prelude.{◌≡◌, ℕ, ◌+◌, ◌<◌, Bool, true, false, ◌==◌, List, [], ◌∷◌, ◌++◌, length, map, Option, Some}
 use Rattle.std.specs.Prelude.{None, Result, Ok, Err, ◌⊎◌}
 use Rattle.std.specs.List.{AllByRecursion}
-use Rattle.lj_xyz.specs.declared.fault.XyzKind.{XyzKind}
-use Rattle.lj_xyz.specs.declared.fault.XyzKind.TheVariants as kind
-use Rattle.lj_xyz.specs.declared.fault.XyzFault.{XyzFault}
-use Rattle.lj_xyz.specs.declared.row.Row.{Row}
-use Rattle.lj_xyz.specs.declared.reader.Position.{Position}
-use Rattle.lj_xyz.specs.declared.reader.Position.TheVariants.{First, Second}
+use Rattle.lj_xyz.specs.declared.xyz_fault.XyzKind.{XyzKind}
+use Rattle.lj_xyz.specs.declared.xyz_fault.XyzKind.TheVariants as kind
+use Rattle.lj_xyz.specs.declared.xyz_fault.XyzFault.{XyzFault}
+use Rattle.lj_xyz.specs.declared.atom_row.Row.{Row}
+use Rattle.lj_xyz.specs.declared.frame_reader.Position.{Position}
+use Rattle.lj_xyz.specs.declared.frame_reader.Position.TheVariants.{First, Second}
 use Rattle.lj_xyz.specs.Lines.{words_of}
 use Rattle.lj_xyz.specs.Symbols.{SymbolPair}
 use Rattle.lj_xyz.specs.Atoms.{count_of, row_of}

@@ -1,10 +1,10 @@
 -- How large a frame of XYZ text and a symbol may be.
 use Rattle.std.specs.Prelude.{◌≡◌, refl}
-use Rattle.lj_xyz.specs.declared.reader.TheConstants.{MAX_ATOMS}
+use Rattle.lj_xyz.specs.declared.frame_reader.TheConstants.{MAX_FRAME_ATOMS}
 use Rattle.lj_xyz.specs.declared.symbol.TheConstants.{MAX_SYMBOL_BYTES}
 
 -- a frame has at most 4,096 atoms
-most_atoms : MAX_ATOMS ≡ 4096
+most_atoms : MAX_FRAME_ATOMS ≡ 4096
 most_atoms = refl
 
 -- a symbol has at most 16 bytes

@@ -2,14 +2,14 @@
 -- this crate.
 use Rattle.std.specs.Prelude.{◌≡◌, ℕ, zero, suc, ◌+◌, List, [], ◌∷◌, length, Option, Some, None, Result, Ok, Err, IsOk}
 use Rattle.std.specs.Prelude.{if◌then◌else◌}
-use Rattle.lj_xyz.specs.declared.fault.XyzKind.{XyzKind}
-use Rattle.lj_xyz.specs.declared.fault.XyzKind.TheVariants as kind
-use Rattle.lj_xyz.specs.declared.fault.XyzFault.{XyzFault}
-use Rattle.lj_xyz.specs.declared.fault.XyzError.{XyzError}
-use Rattle.lj_xyz.specs.declared.fault.XyzError.TheVariants as errors
-use Rattle.lj_xyz.specs.declared.row.Row.{Row}
-use Rattle.lj_xyz.specs.declared.reader.Position.{Position}
-use Rattle.lj_xyz.specs.declared.reader.Position.TheVariants.{First, Second}
+use Rattle.lj_xyz.specs.declared.xyz_fault.XyzKind.{XyzKind}
+use Rattle.lj_xyz.specs.declared.xyz_fault.XyzKind.TheVariants as kind
+use Rattle.lj_xyz.specs.declared.xyz_fault.XyzFault.{XyzFault}
+use Rattle.lj_xyz.specs.declared.xyz_fault.XyzError.{XyzError}
+use Rattle.lj_xyz.specs.declared.xyz_fault.XyzError.TheVariants as errors
+use Rattle.lj_xyz.specs.declared.atom_row.Row.{Row}
+use Rattle.lj_xyz.specs.declared.frame_reader.Position.{Position}
+use Rattle.lj_xyz.specs.declared.frame_reader.Position.TheVariants.{First, Second}
 use Rattle.lj_xyz.specs.Lines.{words_of}
 use Rattle.lj_xyz.specs.Symbols.{SymbolPair}
 use Rattle.lj_xyz.specs.Atoms.{◌>>=◌, count_of, row_of}

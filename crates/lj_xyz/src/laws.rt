@@ -1,7 +1,7 @@
 //! Laws of reading.
 ghost use Rattle.std.specs.Prelude.{◌≡◌, ℕ, List, Option, Result};
-ghost use Rattle.lj_xyz.specs.declared.fault.XyzFault.{XyzFault};
-ghost use Rattle.lj_xyz.specs.declared.row.Row.{Row};
+ghost use Rattle.lj_xyz.specs.declared.xyz_fault.XyzFault.{XyzFault};
+ghost use Rattle.lj_xyz.specs.declared.atom_row.Row.{Row};
 ghost use Rattle.lj_xyz.specs.Frames.{Mode, IsReading};
 ghost use Rattle.lj_xyz.specs.Reading.{reading};
 ghost use Rattle.lj_xyz.specs.Symbols.{SymbolPair};

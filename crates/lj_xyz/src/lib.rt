@@ -1,20 +1,20 @@
 //! The text of XYZ files: frames of atoms read from the lines of a body, and written line by line.
 #![tactic(auto)]
 
-mod fault;
+mod atom_row;
+mod frame_reader;
 mod laws;
 mod lines;
-mod reader;
-mod row;
 mod symbol;
 mod symbol_pair;
 mod writer;
+mod xyz_fault;
 
-pub use fault::{XyzError, XyzFault, XyzKind};
+pub use atom_row::{FramePair, Row, Rows};
+pub use frame_reader::{MAX_FRAME_ATOMS, read_pair, read_rest};
 pub use laws::one_reading;
 pub use lines::{split_word, without_return};
-pub use reader::{MAX_ATOMS, read_pair, read_rest};
-pub use row::{FramePair, Row, Rows};
 pub use symbol::Symbol;
 pub use symbol_pair::SymbolPair;
 pub use writer::{FrameLine, atom_line, comment_line, count_line};
+pub use xyz_fault::{XyzError, XyzFault, XyzKind};

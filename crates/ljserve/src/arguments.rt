@@ -4,7 +4,9 @@ ghost use Rattle.ljserve.specs.declared.serve.hub.Kept.TheVariants.{Queue};
 ghost use Rattle.clap.specs.Values.{kind_of};
 ghost use Rattle.clap.specs.declared.error.kind.ErrorKind.TheVariants.{InvalidValue};
 
-use crate::option_limits::{MAX_ACCEPTED, MAX_ATOMS, MAX_BRANCHES, MAX_SESSIONS, MAX_WORKERS};
+use crate::option_limits::{
+    MAX_ACCEPTED, MAX_QUOTA_ATOMS, MAX_QUOTA_BRANCHES, MAX_QUOTA_SESSIONS, MAX_WORKERS,
+};
 use crate::serve::Kept;
 use clap::error::ErrorKind;
 use clap::{Arg, ArgMatches, Command, Error, value_parser};
@@ -98,13 +100,13 @@ fn program<'a>(alloc: Global) -> Result<Command<'a>, AllocError> {
 fn run_command<'a>(alloc: Global) -> Result<Command<'a>, AllocError> {
     Command::new(alloc, "run")
         .about("Answers the commands of standard input on standard output, as those of one user")
-        .arg(limit(alloc, "sessions", "8", MAX_SESSIONS as i64).help(
+        .arg(limit(alloc, "sessions", "8", MAX_QUOTA_SESSIONS as i64).help(
             "How many sessions the user may have, 0 to 64",
         ))?
-        .arg(limit(alloc, "atoms", "16384", MAX_ATOMS as i64).help(
+        .arg(limit(alloc, "atoms", "16384", MAX_QUOTA_ATOMS as i64).help(
             "How many atoms in all sessions together, 0 to 65536",
         ))?
-        .arg(limit(alloc, "branches", "16", MAX_BRANCHES as i64).help(
+        .arg(limit(alloc, "branches", "16", MAX_QUOTA_BRANCHES as i64).help(
             "How many saved simulations in all sessions together, 0 to 256",
         ))
 }

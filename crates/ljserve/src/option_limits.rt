@@ -1,13 +1,13 @@
 //! The most that an option of the command line, or a line of a user, may say.
 
 /// Sessions.
-pub const MAX_SESSIONS: u64 = 64;
+pub const MAX_QUOTA_SESSIONS: u64 = 64;
 
 /// Atoms of all sessions together.
-pub const MAX_ATOMS: u64 = 65_536;
+pub const MAX_QUOTA_ATOMS: u64 = 65_536;
 
 /// Saved simulations of all sessions together.
-pub const MAX_BRANCHES: u64 = 256;
+pub const MAX_QUOTA_BRANCHES: u64 = 256;
 
 /// Threads of a server that compute.
 pub const MAX_WORKERS: u64 = 16;

@@ -1,7 +1,7 @@
 //! The work that is owed to sessions, done over a pool: while a command waits for it, and before the next one is read. Tasks
 //! are written in one room, which is handed down.
 ghost use Rattle.std.specs.Prelude.{◌≡◌, ◌+◌, ◌-◌, ◌<◌, ◌≤◌, length, Bool, true, false, [], ◌∷◌, Some, None, Ok, IsSome, IfOk, IfErr, IfSome, OnErr, OnOk};
-ghost use Rattle.lj_session.specs.Owners.{IsReplied, IsSettled, user_in, ready_session};
+ghost use Rattle.lj_session.specs.Owner.{IsReplied, IsSettled, user_in, ready_session};
 ghost use Rattle.lj_wire.specs.Runs.{item_before};
 ghost use Rattle.lj_pool.specs.declared.engine.running.Halt.TheVariants.{TooManyStrays};
 ghost use Rattle.lj_pool.specs.Seen.{SameOwed};
@@ -208,11 +208,12 @@ fn post_next<P: Pool>(
     ensures goes_on { GoesOn owner.old (P.seen pool.old) owner.new (P.seen pool.new) }
     ensures fewer { IfOk result (λ posted. posted ≡ true → posts_coming owner.new < posts_coming owner.old) }
     ensures owes { (wait ≡ false → 0 < length (P.seen pool.old).owed) → IsSome owner.old.waiting
-        → ready_session owner.old ≡ None → IfOk result (λ posted. posted ≡ false → 0 < length (P.seen pool.new).owed) }
+        → ready_session owner.old ≡ None
+        → IfOk result (λ posted. posted ≡ false → 0 < length (P.seen pool.new).owed) }
     ensures halted { IfErr result (λ halt. IsHalted halt (P.seen pool.old) (P.seen pool.new)) }
     ensures own { let user = owner.old.number in P.for_others pool.new user ≡ P.for_others pool.old user }
 {
-    if pool.full() {
+    if pool.is_full() {
         return Ok(false);
     }
     if !owner.next_task_in(room) {

@@ -2,7 +2,7 @@
 ghost use Rattle.std.specs.Prelude.{◌≡◌, ◌+◌, ◌-◌, ◌<◌, ℕ, List, Option, [], ◌∷◌, None, IfOk, IfErr, IfSome, OnErr, OnOk};
 ghost use Rattle.std.specs.Prelude.{true};
 ghost use Rattle.std.specs.Io.KnownBytes.{IsAtEnd};
-ghost use Rattle.lj_session.specs.Owners.{IsSettled, user_in};
+ghost use Rattle.lj_session.specs.Owner.{IsSettled, user_in};
 ghost use Rattle.lj_wire.specs.declared.reader.phase.Phase.TheVariants.{Open};
 ghost use Rattle.lj_wire.specs.Ends.{Rises};
 ghost use Rattle.lj_wire.specs.Runs.{item_before};
@@ -16,9 +16,9 @@ ghost use Rattle.lj_pool.specs.Running.{IsHalted};
 ghost use Rattle.lj_pool.specs.Serving.{AnswersItem};
 ghost use Rattle.lj_pool.specs.Served.{Serves};
 
-use crate::engine::replies::put_reply;
 use crate::engine::running::{Halt, answer, work_ahead};
 use crate::engine::served::{Served, ending_of};
+use crate::engine::writing::put_reply;
 use crate::pool::{MAX_STRAYS, Pool};
 use lj_session::{Command, Owner, UserState};
 use lj_tile::Task;
@@ -43,7 +43,8 @@ pub fn serve<R: Source, W: Sink, P: Pool>(
     ensures read_fault { result.1 ≡ served.ReadFault → Rises (R.errors reader) (R.errors result.2) }
     ensures write_fault { result.1 ≡ served.WriteFault → Rises (W.faults writer.old) (W.faults writer.new) }
     ensures closed { result.1 ≡ served.PoolClosed → (P.seen pool.new).closed ≡ true }
-    ensures strays { result.1 ≡ served.TooManyStrays → StraysRise MAX_STRAYS (P.seen pool.old) (P.seen pool.new) }
+    ensures strays { result.1 ≡ served.TooManyStrays
+        → StraysRise MAX_STRAYS (P.seen pool.old) (P.seen pool.new) }
     ensures none_owed { IfSome result.0 (λ owned. NoneOwed owned → (P.seen pool.new).owed ≡ []) }
     ensures own { P.for_others pool.new user ≡ P.for_others pool.old user }
     ensures quota { IfSome result.0 (λ owned. owned.quota ≡ state.quota) }
@@ -72,7 +73,8 @@ pub fn serve_lines<R: Source, W: Sink, P: Pool>(
     ensures read_fault { result.1 ≡ served.ReadFault → Rises lines.old.errors lines.new.errors }
     ensures write_fault { result.1 ≡ served.WriteFault → Rises (W.faults writer.old) (W.faults writer.new) }
     ensures closed { result.1 ≡ served.PoolClosed → (P.seen pool.new).closed ≡ true }
-    ensures strays { result.1 ≡ served.TooManyStrays → StraysRise MAX_STRAYS (P.seen pool.old) (P.seen pool.new) }
+    ensures strays { result.1 ≡ served.TooManyStrays
+        → StraysRise MAX_STRAYS (P.seen pool.old) (P.seen pool.new) }
     ensures none_owed { IfSome result.0 (λ owned. NoneOwed owned → (P.seen pool.new).owed ≡ []) }
     ensures own { P.for_others pool.new user ≡ P.for_others pool.old user }
     ensures quota { IfSome result.0 (λ owned. owned.quota ≡ state.quota) }

@@ -1,6 +1,6 @@
 //! What lies under the lock of a pool.
 ghost use Rattle.std.specs.Prelude.{◌≡◌, ◌+◌, ◌-◌, ◌≤◌, ◌<◌, ◌↔◌, ℕ, Some, None, true, false, IsOk, IsTrue, IfErr, IfNone, IfSome, OnErr, OnOk};
-ghost use Rattle.lj_book.specs.Held.{Out, at, standing, Fetches, Gives, HandsBack, IsDoneAt, IsOpenAt, Posts, Takes, Withdraws};
+ghost use Rattle.lj_book.specs.Book.{Out, entry_at, entry_count, Fetches, Gives, HandsBack, IsDoneAt, IsOpenAt, Posts, Takes, Withdraws};
 ghost use Rattle.lj_pool.specs.declared.pool.NotPosted.TheVariants.{Closed};
 ghost use Rattle.lj_pool.specs.Desks.{HasRoom};
 
@@ -57,7 +57,7 @@ impl<L: Ledger> Desk<L> {
         if self.book.post_from(task).is_err() {
             return Err(NotPosted::Full);
         }
-        self.untold.count();
+        self.untold.note_posted();
         Ok(())
     }
 
@@ -81,7 +81,7 @@ impl<L: Ledger> Desk<L> {
 
     /// Gives a result, and credits it to the share of its worker if it is accepted. Whether it is.
     pub(crate) fn give(&mut self, key: Key, done: &Done, share: &mut Share<L>) -> bool
-        ensures accepted { IsTrue result ↔ (at self.old.book key ≡ Some (Out done.now)) }
+        ensures accepted { IsTrue result ↔ (entry_at self.old.book key ≡ Some (Out done.now)) }
         ensures gives { result ≡ true → Gives self.old.book self.new.book key done.now }
         ensures credited { result ≡ true → share.new ≡ share.old + 1 }
         ensures unchanged { result ≡ false → self.new.book ≡ self.old.book }
@@ -101,7 +101,7 @@ impl<L: Ledger> Desk<L> {
     /// Hands back a task that was taken, of which the workers are to be told as of one that was posted. Whether it was out;
     /// it is not where its user's entries were withdrawn.
     pub(crate) fn hand_back(&mut self, key: Key, task: &Task) -> bool
-        ensures was_out { IsTrue result ↔ (at self.old.book key ≡ Some (Out task.now)) }
+        ensures was_out { IsTrue result ↔ (entry_at self.old.book key ≡ Some (Out task.now)) }
         ensures hands_back { result ≡ true → HandsBack self.old.book self.new.book key task.now }
         ensures untold { result ≡ true → 1 ≤ self.new.untold }
         ensures unchanged { result ≡ false → self.new.book ≡ self.old.book }
@@ -112,7 +112,7 @@ impl<L: Ledger> Desk<L> {
         if self.book.hand_back(key, task).is_err() {
             return false;
         }
-        self.untold.count();
+        self.untold.note_posted();
         true
     }
 
@@ -160,7 +160,7 @@ impl<L: Ledger> Desk<L> {
 
     /// Whether no task can be posted before an entry leaves the book.
     pub(crate) fn is_full(&self) -> bool
-        ensures { IsTrue result ↔ (standing self.now.book ≡ MAX_ENTRIES) }
+        ensures { IsTrue result ↔ (entry_count self.now.book ≡ MAX_ENTRIES) }
     {
         self.book.counts().entries == MAX_ENTRIES as u64
     }
@@ -171,7 +171,7 @@ impl<L: Ledger> Desk<L> {
         ensures given { result.given ≡ self.now.book.given }
         ensures fetched { result.fetched ≡ self.now.book.fetched }
         ensures withdrawn { result.withdrawn ≡ self.now.book.withdrawn }
-        ensures entries { result.entries ≡ standing self.now.book }
+        ensures entries { result.entries ≡ entry_count self.now.book }
         ensures balance { result.posted ≡ result.fetched + result.withdrawn + result.entries }
         ensures given_posted { result.given ≤ result.posted }
     {

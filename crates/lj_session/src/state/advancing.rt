@@ -6,15 +6,15 @@ ghost use Rattle.lj_tile.specs.declared.names.Kind.TheVariants.{Energy};
 ghost use Rattle.lj_session.specs.declared.command.Command.TheVariants as commands;
 ghost use Rattle.lj_session.specs.Answers.{answer};
 ghost use Rattle.lj_session.specs.Turns as definition;
-ghost use Rattle.lj_session.specs.States as states;
-ghost use Rattle.lj_session.specs.States.{IsWhole, MayAdvance, Performs, Reads, changed, held_in, names};
-ghost use Rattle.lj_session.specs.States.{owed_in};
-ghost use Rattle.lj_session.specs.States.{owing, turns_before, user_of};
+ghost use Rattle.lj_session.specs.UserState as states;
+ghost use Rattle.lj_session.specs.UserState.{IsWhole, MayAdvance, Performs, Reads, with_session_changed, held_session, names};
+ghost use Rattle.lj_session.specs.UserState.{owed_in};
+ghost use Rattle.lj_session.specs.UserState.{with_more_owed, turns_before, user_of};
 
 use crate::command::Command;
 use crate::refusal::Refusal;
 use crate::reply::Reply;
-use crate::session::Session;
+use crate::session::HeldSession;
 use crate::state::UserState;
 use lj_tile::Name;
 
@@ -94,9 +94,9 @@ impl UserState {
 
     /// Owes so many steps more to a session, which may go on by them.
     pub(crate) fn owe(&mut self, name: &Name, steps: u64)
-        requires session { IsSome (held_in self.old name.now) }
-        requires near { ForSome (held_in self.old name.now) (MayAdvance steps) }
-        ensures owed { self.new ≡ changed name.now (owing steps) self.old }
+        requires session { IsSome (held_session self.old name.now) }
+        requires near { ForSome (held_session self.old name.now) (MayAdvance steps) }
+        ensures owed { self.new ≡ with_session_changed name.now (with_more_owed steps) self.old }
         ensures user { user_of self.new
             ≡ (answer (user_of self.old) (commands.Advance name.now steps) false).1 }
     {
@@ -154,9 +154,9 @@ impl UserState {
 
     /// The reply to a MEASURE, by the whole energy step of the session.
     pub(crate) fn measured(&self, name: Name) -> Reply
-        requires session { IsSome (held_in self.now name) }
+        requires session { IsSome (held_session self.now name) }
         requires settled { owed_in self.now name ≡ 0 }
-        requires whole { ForSome (held_in self.now name) (IsWhole Energy) }
+        requires whole { ForSome (held_session self.now name) (IsWhole Energy) }
         ensures { Reads self.now (commands.Measure name) (Ok result) }
     {
         let sim = self.session(&name).sim();
@@ -171,9 +171,9 @@ impl UserState {
     }
 
     /// The session of a name.
-    fn session(&self, name: &Name) -> &Session
-        requires { IsSome (held_in self.now name.now) }
-        ensures { held_in self.now name.now ≡ Some result.now }
+    fn session(&self, name: &Name) -> &HeldSession
+        requires { IsSome (held_session self.now name.now) }
+        ensures { held_session self.now name.now ≡ Some result.now }
     {
         self.find(name).unwrap()
     }

@@ -1,15 +1,15 @@
 //! LOAD and LOADMIX, and DROP.
 ghost use Rattle.std.specs.Prelude.{◌≡◌, OnErr};
 ghost use Rattle.lj_session.specs.declared.command.Command.TheVariants as commands;
-ghost use Rattle.lj_session.specs.Loads.{admitted};
-ghost use Rattle.lj_session.specs.States.{Performs, user_of, owed_in};
+ghost use Rattle.lj_session.specs.Loads.{admission};
+ghost use Rattle.lj_session.specs.UserState.{Performs, user_of, owed_in};
 
 use crate::body::LoadBody;
 use crate::command::Load;
 use crate::opening::Opening;
 use crate::refusal::Refusal;
 use crate::reply::Reply;
-use crate::session::Session;
+use crate::session::HeldSession;
 use crate::state::UserState;
 use lj_quota::{may_load, may_session};
 use lj_ring::Mix;
@@ -63,7 +63,7 @@ impl UserState {
 
     /// How the atoms of a load interact. Its body is not looked at.
     fn admit(&self, load: &Load) -> Result<Mix, Refusal>
-        ensures { result ≡ admitted (user_of self.now) load.now }
+        ensures { result ≡ admission (user_of self.now) load.now }
     {
         if self.has(&load.name) {
             return Err(Refusal::Exists);

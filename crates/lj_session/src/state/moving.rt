@@ -1,7 +1,7 @@
 //! REVERSE and TUG.
 ghost use Rattle.std.specs.Prelude.{◌≡◌, OnErr};
 ghost use Rattle.lj_session.specs.declared.command.Command.TheVariants as commands;
-ghost use Rattle.lj_session.specs.States.{Performs, owed_in};
+ghost use Rattle.lj_session.specs.UserState.{Performs, owed_in};
 
 use crate::refusal::Refusal;
 use crate::reply::Reply;

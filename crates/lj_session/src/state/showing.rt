@@ -2,7 +2,7 @@
 ghost use Rattle.std.specs.Prelude.{◌≡◌, Bool, position};
 ghost use Rattle.std.specs.Str.{bytes_eq};
 ghost use Rattle.lj_session.specs.declared.command.Command.TheVariants as commands;
-ghost use Rattle.lj_session.specs.States.{Reads, names, owed_in};
+ghost use Rattle.lj_session.specs.UserState.{Reads, names, owed_in};
 
 use crate::refusal::Refusal;
 use crate::reply::Reply;

@@ -6,10 +6,10 @@ ghost use Rattle.std.specs.Option.{ForSome, option_copied};
 ghost use Rattle.std.specs.Str.{bytes_eq};
 ghost use Rattle.lj_tile.specs.declared.names.Kind.TheVariants.{Force};
 ghost use Rattle.lj_step.specs.OpenSteps.{tile_number_of};
-ghost use Rattle.lj_session.specs.States.{IsWhole, IsAwaited, user_of, held_in, names, owed_in, changed};
-ghost use Rattle.lj_session.specs.States.{IsNextTile, first_with_task, with_step, with_posted};
-ghost use Rattle.lj_session.specs.States.{with_tile_in, step_closed, step_passed, rested, is_whole_in};
-ghost use Rattle.lj_session.specs.States as states;
+ghost use Rattle.lj_session.specs.UserState.{IsWhole, IsAwaited, user_of, held_session, names, owed_in, with_session_changed};
+ghost use Rattle.lj_session.specs.UserState.{IsNextTile, first_with_task, with_step, with_posted};
+ghost use Rattle.lj_session.specs.UserState.{with_tile_in, with_no_step, with_step_passed, state_at_rest, is_whole_in};
+ghost use Rattle.lj_session.specs.UserState as states;
 
 use crate::state::UserState;
 use lj_step::NotAwaited;
@@ -18,7 +18,7 @@ use lj_tile::{Done, Kind, Label, Name, Task};
 impl UserState {
     /// Opens a step of a kind in a session. No tile of it is posted or in.
     pub(crate) fn open_step(&mut self, name: &Name, kind: Kind)
-        ensures opened { self.new ≡ changed name.now (with_step kind) self.old }
+        ensures opened { self.new ≡ with_session_changed name.now (with_step kind) self.old }
         ensures user { user_of self.new ≡ user_of self.old }
     {
         let Some(session) = self.sessions.get_mut(name) else {
@@ -29,7 +29,7 @@ impl UserState {
 
     /// Closes the open step of a session.
     pub(crate) fn close_step(&mut self, name: &Name)
-        ensures closed { self.new ≡ changed name.now step_closed self.old }
+        ensures closed { self.new ≡ with_session_changed name.now with_no_step self.old }
         ensures user { user_of self.new ≡ user_of self.old }
     {
         let Some(session) = self.sessions.get_mut(name) else {
@@ -41,7 +41,7 @@ impl UserState {
     /// Begins each step anew: of a session to which steps are owed one is open, with no tile posted or in, and of every
     /// other none.
     pub(crate) fn rest(&mut self)
-        ensures rested { self.new ≡ rested self.old }
+        ensures rested { self.new ≡ state_at_rest self.old }
         ensures user { user_of self.new ≡ user_of self.old }
         ensures distinct { IsDistinct bytes_eq (names self.new) }
     {
@@ -82,7 +82,7 @@ impl UserState {
     pub(crate) fn post(&mut self, i: usize, k: usize)
         requires { IsNextTile self.old i k }
         ensures posted { (name : List ℕ) → slice_get (names self.old) i ≡ Some name
-            → self.new ≡ changed name with_posted self.old }
+            → self.new ≡ with_session_changed name with_posted self.old }
         ensures user { user_of self.new ≡ user_of self.old }
     {
         let Some(session) = self.sessions.get_index_mut(i) else {
@@ -95,7 +95,8 @@ impl UserState {
     pub(crate) fn take_in(&mut self, label: &Label, done: &Done) -> Result<(), NotAwaited>
         ensures accepted { IsOk result ↔ IsAwaited self.old label.now done.now }
         ensures taken { OnOk result
-            (self.new ≡ changed label.now.session (with_tile_in (tile_number_of done.now)) self.old) }
+            (self.new ≡ with_session_changed label.now.session
+            (with_tile_in (tile_number_of done.now)) self.old) }
         ensures user { user_of self.new ≡ user_of self.old }
         ensures unchanged { OnErr result (self.new ≡ self.old) }
     {
@@ -141,10 +142,10 @@ impl UserState {
     /// Turns the whole force step of a session, one that is owed: its motion goes one step on, and the next step is open
     /// if one is owed.
     pub(crate) fn pass_step(&mut self, name: &Name)
-        requires session { IsSome (held_in self.old name.now) }
+        requires session { IsSome (held_session self.old name.now) }
         requires owed { 0 < owed_in self.old name.now }
-        requires whole { ForSome (held_in self.old name.now) (IsWhole Force) }
-        ensures passed { self.new ≡ changed name.now step_passed self.old }
+        requires whole { ForSome (held_session self.old name.now) (IsWhole Force) }
+        ensures passed { self.new ≡ with_session_changed name.now with_step_passed self.old }
         ensures user { user_of self.new ≡ user_of self.old }
     {
         let Some(session) = self.sessions.get_mut(name) else {

@@ -22,7 +22,7 @@ const LAST: u8 = 8;
 
 /// Posts a task that nobody computes, and waits for its result. Whether none came, and the end is closed.
 fn wait_in_vain<L: Room, R: Wait + Abort>(rt: &R, end: &mut QueueEnd<L, R>) -> bool {
-    if end.full() || end.post(task(rt, USER, 0), false).is_err() || end.owed() == 0 {
+    if end.is_full() || end.post(task(rt, USER, 0), false).is_err() || end.owed() == 0 {
         return false;
     }
     end.fetch(USER).is_none() && end.closed()

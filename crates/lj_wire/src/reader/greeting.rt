@@ -1,10 +1,10 @@
 //! The first line of a connection, read whole.
 ghost use Rattle.std.specs.Prelude.{◌≡◌, [], IfOk, OnOk, OnErr};
-ghost use Rattle.lj_wire.specs.Ahead.{TakesPart};
+ghost use Rattle.lj_wire.specs.Input.{TakesPart};
 ghost use Rattle.lj_wire.specs.Ends.{Rises};
 ghost use Rattle.lj_wire.specs.Greetings.{ReadsHello};
 
-use super::input::{Front, Input, Passed};
+use super::source_input::{Front, Input, Passed};
 use crate::ends::{ReadFault, Source};
 use crate::hello::{Hello, parse_hello};
 

@@ -1,11 +1,11 @@
 //! Items read whole.
 ghost use Rattle.std.specs.Prelude.{◌≡◌, [], IfOk, OnOk, OnErr};
-ghost use Rattle.lj_wire.specs.Ahead.{ReadsFor};
+ghost use Rattle.lj_wire.specs.Input.{ReadsFor};
 ghost use Rattle.lj_wire.specs.Ends.{Rises};
-ghost use Rattle.lj_wire.specs.Steps.{takes_body, Finishes, ReadsItem, TakesFewer, TakesNoItem};
+ghost use Rattle.lj_wire.specs.Steps.{may_take_body, Finishes, ReadsItem, TakesFewer, TakesNoItem};
 
-use super::body::{pass, read_body};
-use super::input::{Front, Input, Passed};
+use super::load_body::{pass, read_body};
+use super::source_input::{Front, Input, Passed};
 use crate::ends::{ReadFault, Source};
 use crate::item::{Fault, Item};
 use crate::reading::read_line;
@@ -66,7 +66,7 @@ fn finish<S: Source>(
 }
 
 fn takes_body(item: &Item) -> bool
-    ensures { result ≡ takes_body item.now }
+    ensures { result ≡ may_take_body item.now }
 {
     matches!(item, Item::Command(Command::Load(_)))
 }

@@ -1,5 +1,5 @@
 //! Laws of what a reader hands out: functions that do nothing, whose contracts are the laws.
-ghost use Rattle.lj_wire.specs.Standings.{HandedComeFirst, HandedAreAll, LostIsMarked};
+ghost use Rattle.lj_wire.specs.LineReader.{HandedComeFirst, HandedAreAll, LostIsMarked};
 
 /// The items that a reader hands out are the first items of the stream, but that loads for whose
 /// bodies no memory was found are marked.

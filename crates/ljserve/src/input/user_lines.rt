@@ -3,7 +3,7 @@ ghost use Rattle.std.specs.Prelude.{◌≡◌, ◌↔◌, ◌≤◌, [], length,
 ghost use Rattle.ljserve.specs.Named.{AreUsers};
 
 use crate::input::text::{FromLines, LineFault, TextFault, first_line, read_lines, without_user};
-use crate::option_limits::{MAX_ATOMS, MAX_BRANCHES, MAX_SESSIONS};
+use crate::option_limits::{MAX_QUOTA_ATOMS, MAX_QUOTA_BRANCHES, MAX_QUOTA_SESSIONS};
 use lj_access::{MAX_USERS, Token, User, is_named};
 use lj_fixed::parse_number;
 use lj_quota::Quota;
@@ -113,9 +113,9 @@ fn parse_user(mut words: Words) -> Option<User> {
         name: Name::parse(words.next()?)?,
         token: Token::parse(words.next()?)?,
         quota: Quota {
-            sessions: parse_limited(words.next()?, MAX_SESSIONS)?,
-            atoms: parse_limited(words.next()?, MAX_ATOMS)?,
-            branches: parse_limited(words.next()?, MAX_BRANCHES)?,
+            sessions: parse_limited(words.next()?, MAX_QUOTA_SESSIONS)?,
+            atoms: parse_limited(words.next()?, MAX_QUOTA_ATOMS)?,
+            branches: parse_limited(words.next()?, MAX_QUOTA_BRANCHES)?,
         },
     };
     words.end()?;

@@ -3,7 +3,7 @@
 use std::sync::atomic::{AtomicU64, Ordering};
 
 /// The most connections that are open at once.
-pub const MAX_OPEN: u64 = 64;
+pub const MAX_OPEN_CONNECTIONS: u64 = 64;
 
 /// As many seats as connections may be open at once.
 #[derive(Drop)]
@@ -26,7 +26,7 @@ impl Seats {
 
     /// A seat, if one is free. Only one thread may ask at a time.
     pub fn take(&self) -> Option<Seat<'_>> {
-        if self.taken.load(Ordering::SeqCst) >= MAX_OPEN {
+        if self.taken.load(Ordering::SeqCst) >= MAX_OPEN_CONNECTIONS {
             return None;
         }
         self.taken.fetch_add(1, Ordering::SeqCst);

@@ -5,7 +5,7 @@ ghost use Rattle.ljserve.specs.Named.{AreUsers};
 use crate::serve::hub::{Hub, Kept};
 use crate::serve::lock_hub::LockHub;
 use crate::serve::queue_hub::QueueHub;
-use crate::serve::seats::MAX_OPEN;
+use crate::serve::seats::MAX_OPEN_CONNECTIONS;
 use crate::serve::visit::Server;
 use lj_access::{Directory, User};
 use lj_queue::{CONNECTIONS, QueueBlank, Room};
@@ -151,7 +151,7 @@ fn answer_all<'a, H: Hub + Sync, R: Threads + Wait + Clock + Log + Sync>(
                 continue;
             };
             let Some(seat) = server.seats.take() else {
-                info!(rt; "connection {number}: closed, since {MAX_OPEN} others are open");
+                info!(rt; "connection {number}: closed, since {MAX_OPEN_CONNECTIONS} others are open");
                 continue;
             };
             info!(rt; "connection {number}: from {from}");

@@ -1,10 +1,10 @@
 use Rattle.std.specs.Prelude.{◌≡◌, ◌<◌, ℕ, slice_index_or, vec_len}
-use Rattle.lj_queue.specs.Passes.{IsRest, untouched}
+use Rattle.lj_queue.specs.PoolPass.{IsRest, untouched_pass}
 use Rattle.lj_queue.proofs.rest.passes_of.Given as goal
 
 abbrev pub invariant-loop-number : goal.invariant-loop-number
 invariant-loop-number g l = record {
   rest : IsRest g.L.Room.table l.number l.first;
   count : vec_len l.passes ≡ l.number;
-  numbered : (i : ℕ) → i < l.number → slice_index_or l.passes.items i (untouched 0) ≡ untouched i;
+  numbered : (i : ℕ) → i < l.number → slice_index_or l.passes.items i (untouched_pass 0) ≡ untouched_pass i;
 }

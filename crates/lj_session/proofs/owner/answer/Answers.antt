@@ -1,13 +1,13 @@
 use Rattle.std.proofs.Common.{◌≡◌, sym, subst, arith}
 use Rattle.lj_session.specs.declared.command.Command.{Command}
-use Rattle.lj_session.specs.States.{Owned, steps_before, turns_before}
-use Rattle.lj_session.specs.Owners.{IsSettled}
+use Rattle.lj_session.specs.UserState.{UserState, steps_before, turns_before}
+use Rattle.lj_session.specs.Owner.{IsSettled}
 use Rattle.lj_session.specs.Begins.{OnRefusal}
 use Rattle.lj_session.proofs.AtWork.{at_work-performed, steps-performed}
 use Rattle.lj_session.proofs.Others.{refused-unchanged, settled-performed}
 use Rattle.lj_session.proofs.owner.answer.Goals as goal
 
-none_owed : (owned : Owned) (command : Command) → turns_before owned command ≡ 0 → steps_before owned command ≡ 0
+none_owed : (owned : UserState) (command : Command) → turns_before owned command ≡ 0 → steps_before owned command ≡ 0
 none_owed owned command none = omega (arith, none)
 
 pub returns-clause-settled : goal.returns-clause-settled

@@ -5,8 +5,8 @@ use Rattle.lj_tile.specs.declared.names.Kind.TheVariants.{Energy}
 use Rattle.lj_session.specs.Turns.{turns, waits_for}
 use Rattle.std.specs.Prelude.{IsSome, true}
 use Rattle.lj_session.specs.Answers.{answer, can_advance, session_named}
-use Rattle.lj_session.specs.States.{Held, Owned, IsAtWork, user_of, held_in, owed_in, owing, with_step, session_meant, steps_before, turns_before}
-use Rattle.lj_session.specs.Owners.{rest_of, taken_up}
+use Rattle.lj_session.specs.UserState.{HeldSession, UserState, IsAtWork, user_of, held_session, owed_in, with_more_owed, with_step, session_meant, steps_before, turns_before}
+use Rattle.lj_session.specs.Owner.{rest_of, state_taking_up}
 use Rattle.lj_session.proofs.AtWork.{at_work-changed, at_work-measured, at_work-waits, kind-owing}
 use Rattle.lj_session.proofs.Holding.{owed-of}
 use Rattle.lj_session.proofs.Others.{others-changed}
@@ -26,29 +26,29 @@ none_of : (m k : ℕ) → m ≤ 0 → m ≡ k → k ≡ 0
 none_of m k few is = omega (arith, few, is)
 
 -- so its own turns are left
-own_some : (owned : Owned) (command : Command) → 0 < turns_before owned command → steps_before owned command ≡ 0
+own_some : (owned : UserState) (command : Command) → 0 < turns_before owned command → steps_before owned command ≡ 0
     → 0 < turns (user_of owned) command
 own_some owned command some none = omega (arith, some, none)
 
 -- and an ADVANCE can go on
-goes_of : (owned : Owned) (command : Command) (name : List ℕ) (n : ℕ) → 0 < turns_before owned command
+goes_of : (owned : UserState) (command : Command) (name : List ℕ) (n : ℕ) → 0 < turns_before owned command
     → steps_before owned command ≡ 0 → command ≡ Advance name n → Goes owned name n
 goes_of owned command name n some none which =
     goes owned name n (subst (λ (k : Command). 0 < turns (user_of owned) k) which (own_some owned command some none))
 
-none-owed : (owned : Owned) (command : Command) (name : List ℕ) (n : ℕ) → command ≡ Advance name n
+none-owed : (owned : UserState) (command : Command) (name : List ℕ) (n : ℕ) → command ≡ Advance name n
     → steps_before owned command ≡ 0 → owed_in owned name ≡ 0
 unfolding waits_for
 none-owed owned command name n is none = rw is at none
 
-is_there : (owned : Owned) (name : List ℕ) {n : ℕ} → Goes owned name n → IsSome (held_in owned name)
+is_there : (owned : UserState) (name : List ℕ) {n : ℕ} → Goes owned name n → IsSome (held_session owned name)
 is_there owned name g = rw g.there refl
 
-near_of : (owned : Owned) (name : List ℕ) (n : ℕ) → Goes owned name n → (held : Held) → held_in owned name ≡ Some held
+near_of : (owned : UserState) (name : List ℕ) (n : ℕ) → Goes owned name n → (held : HeldSession) → held_session owned name ≡ Some held
     → can_advance (session_meant held) n ≡ true
-near_of owned name n g held e = subst (λ (h : Held). can_advance (session_meant h) n ≡ true) (same g.held held (sym g.there ∙ e)) g.near
+near_of owned name n g held e = subst (λ (h : HeldSession). can_advance (session_meant h) n ≡ true) (same g.held held (sym g.there ∙ e)) g.near
   where
-    same : (a b : Held) → Some a ≡ Some b → a ≡ b
+    same : (a b : HeldSession) → Some a ≡ Some b → a ≡ b
     same a b k = cc
 
 pub owe-requires-clause-session : goal.owe-requires-clause-session
@@ -66,16 +66,16 @@ returns-in-Advance-clause-left c =
     ∙ sym (left-taken c.args.command c.args.state.now (none_of c.steps_before.result _ c.if-steps_before-gt0.false c.steps_before.ensures))
 
 pub returns-in-Advance-clause-begun : goal.returns-in-Advance-clause-begun
-unfolding taken_up
+unfolding state_taking_up
 returns-in-Advance-clause-begun c =
-    c.owe.ensures.owed ∙ sym (ap (λ k. taken_up k c.args.state.now) c.in-Advance.is)
+    c.owe.ensures.owed ∙ sym (ap (λ k. state_taking_up k c.args.state.now) c.in-Advance.is)
     ∙ sym (begun-taken c.args.command c.args.state.now (none_of c.steps_before.result _ c.if-steps_before-gt0.false c.steps_before.ensures))
 
 pub returns-in-Advance-clause-alike : goal.returns-in-Advance-clause-alike
 returns-in-Advance-clause-alike c = λ mark.
     let old = c.args.state.now in
     ap (λ n. answer (user_of c.owe.new.self) (Advance n 0) mark) c.copy.ensures
-    ∙ ap (λ (o : Owned). answer (user_of o) (Advance c.in-Advance.name 0) mark) c.owe.ensures.owed
+    ∙ ap (λ (o : UserState). answer (user_of o) (Advance c.in-Advance.name 0) mark) c.owe.ensures.owed
     ∙ taken_alike old c.in-Advance.name c.in-Advance.steps (goes_of c.args.state.now c.args.command c.in-Advance.name c.in-Advance.steps c.requires.waits
     (none_of c.steps_before.result _ c.if-steps_before-gt0.false c.steps_before.ensures) c.in-Advance.is) mark
     ∙ ap (λ k. answer (user_of old) k mark) (sym c.in-Advance.is)
@@ -84,8 +84,8 @@ pub returns-in-Advance-clause-at_work : goal.returns-in-Advance-clause-at_work
 returns-in-Advance-clause-at_work c =
     let old = c.args.state.now in
     let name = c.in-Advance.name in
-    subst (λ (o : Owned). IsAtWork None o) (sym c.owe.ensures.owed)
-    (at_work-changed None old name (owing c.in-Advance.steps)
+    subst (λ (o : UserState). IsAtWork None o) (sym c.owe.ensures.owed)
+    (at_work-changed None old name (with_more_owed c.in-Advance.steps)
     (λ held e. kind-owing None name c.in-Advance.steps held refl (c.requires.at_work name held e)) c.requires.at_work)
 
 pub returns-in-Advance-clause-turns : goal.returns-in-Advance-clause-turns
@@ -94,23 +94,23 @@ returns-in-Advance-clause-turns c =
     let none = none_of c.steps_before.result _ c.if-steps_before-gt0.false c.steps_before.ensures in
     let owed = none-owed old c.args.command c.in-Advance.name c.in-Advance.steps c.in-Advance.is none in
     ap (λ n. turns_before c.owe.new.self (Advance n 0)) c.copy.ensures
-    ∙ ap (λ (o : Owned). turns_before o (Advance c.in-Advance.name 0)) c.owe.ensures.owed
+    ∙ ap (λ (o : UserState). turns_before o (Advance c.in-Advance.name 0)) c.owe.ensures.owed
     ∙ taken_turns old c.in-Advance.name c.in-Advance.steps (goes_of old c.args.command c.in-Advance.name c.in-Advance.steps
     c.requires.waits none c.in-Advance.is) owed
     ∙ ap (turns_before old) (sym c.in-Advance.is)
 
 pub returns-in-Advance-clause-others : goal.returns-in-Advance-clause-others
 returns-in-Advance-clause-others c = λ other apart.
-    ap (λ (o : Owned). held_in o other) c.owe.ensures.owed
-    ∙ others-changed c.args.state.now c.in-Advance.name (owing c.in-Advance.steps) other
+    ap (λ (o : UserState). held_session o other) c.owe.ensures.owed
+    ∙ others-changed c.args.state.now c.in-Advance.name (with_more_owed c.in-Advance.steps) other
     (λ same. apart (ap session_named c.in-Advance.is ∙ same))
 
-measured_of : (owned : Owned) (command : Command) (name : List ℕ) → 0 < turns_before owned command
-    → steps_before owned command ≡ 0 → command ≡ Measure name → (held : Held) × (held_in owned name ≡ Some held)
+measured_of : (owned : UserState) (command : Command) (name : List ℕ) → 0 < turns_before owned command
+    → steps_before owned command ≡ 0 → command ≡ Measure name → (held : HeldSession) × (held_session owned name ≡ Some held)
 measured_of owned command name some none which =
     measured_there owned name (subst (λ (k : Command). 0 < turns (user_of owned) k) which (own_some owned command some none))
 
-none-measured : (owned : Owned) (command : Command) (name : List ℕ) → command ≡ Measure name → steps_before owned command ≡ 0
+none-measured : (owned : UserState) (command : Command) (name : List ℕ) → command ≡ Measure name → steps_before owned command ≡ 0
     → owed_in owned name ≡ 0
 unfolding waits_for
 none-measured owned command name is none = rw is at none
@@ -122,9 +122,9 @@ returns-in-Measure-clause-left c =
     ∙ sym (left-taken c.args.command c.args.state.now (none_of c.steps_before.result _ c.if-steps_before-gt0.false c.steps_before.ensures))
 
 pub returns-in-Measure-clause-begun : goal.returns-in-Measure-clause-begun
-unfolding taken_up
+unfolding state_taking_up
 returns-in-Measure-clause-begun c =
-    c.open_step.ensures.opened ∙ sym (ap (λ k. taken_up k c.args.state.now) c.in-Measure.is)
+    c.open_step.ensures.opened ∙ sym (ap (λ k. state_taking_up k c.args.state.now) c.in-Measure.is)
     ∙ sym (begun-taken c.args.command c.args.state.now (none_of c.steps_before.result _ c.if-steps_before-gt0.false c.steps_before.ensures))
 
 pub returns-in-Measure-clause-at_work : goal.returns-in-Measure-clause-at_work
@@ -134,7 +134,7 @@ returns-in-Measure-clause-at_work c =
     (none_of c.steps_before.result _ c.if-steps_before-gt0.false c.steps_before.ensures) c.in-Measure.is in
     let none = none_of c.steps_before.result _ c.if-steps_before-gt0.false c.steps_before.ensures in
     subst (λ n. IsAtWork (Some (Measure n)) c.open_step.new.self) (sym c.copy-in-Measure.ensures)
-    (subst (λ (o : Owned). IsAtWork (Some (Measure c.in-Measure.name)) o) (sym c.open_step.ensures.opened)
+    (subst (λ (o : UserState). IsAtWork (Some (Measure c.in-Measure.name)) o) (sym c.open_step.ensures.opened)
     (at_work-measured old c.in-Measure.name held.0 held.1
     (owed-of old c.in-Measure.name held.0 held.1 (none-measured old c.args.command c.in-Measure.name c.in-Measure.is none))
     c.requires.at_work))
@@ -145,17 +145,17 @@ returns-in-Measure-clause-turns c =
     let held = measured_of old c.args.command c.in-Measure.name c.requires.waits
     (none_of c.steps_before.result _ c.if-steps_before-gt0.false c.steps_before.ensures) c.in-Measure.is in
     ap (λ n. turns_before c.open_step.new.self (Measure n)) c.copy-in-Measure.ensures
-    ∙ ap (λ (o : Owned). turns_before o (Measure c.in-Measure.name)) c.open_step.ensures.opened
+    ∙ ap (λ (o : UserState). turns_before o (Measure c.in-Measure.name)) c.open_step.ensures.opened
     ∙ measured_turns old c.in-Measure.name held.0 held.1 ∙ ap (turns_before old) (sym c.in-Measure.is)
 
 pub returns-in-Measure-clause-others : goal.returns-in-Measure-clause-others
 returns-in-Measure-clause-others c = λ other apart.
-    ap (λ (o : Owned). held_in o other) c.open_step.ensures.opened
+    ap (λ (o : UserState). held_session o other) c.open_step.ensures.opened
     ∙ others-changed c.args.state.now c.in-Measure.name (with_step Energy) other
     (λ same. apart (ap session_named c.in-Measure.is ∙ same))
 
 -- no other command takes a turn
-default-turns : (owned : Owned) (command : Command) → 0 < turns_before owned command → steps_before owned command ≡ 0
+default-turns : (owned : UserState) (command : Command) → 0 < turns_before owned command → steps_before owned command ≡ 0
     → ((name : List ℕ) (n : ℕ) → command ≡ Advance name n → ⊥) → ((name : List ℕ) → command ≡ Measure name → ⊥) → ⊥
 default-turns owned command some none advance measure =
     let own = own_some owned command some none in

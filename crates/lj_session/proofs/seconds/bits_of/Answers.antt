@@ -2,7 +2,7 @@ use Rattle.std.proofs.Common.{◌≡◌, ◌+◌, ◌*◌, ◌^◌, ◌<◌, ℕ
 use Rattle.std.specs.Prelude.{if◌then◌else◌}
 use Rattle.std.proofs.lemmas.List.{length-take-le, take_more}
 use Rattle.lj_session.specs.Substances.{seconds_among}
-use Rattle.lj_xyz.specs.declared.row.Row.{Row}
+use Rattle.lj_xyz.specs.declared.atom_row.Row.{Row}
 use Rattle.lj_xyz.specs.Symbols.{is_second}
 use Rattle.lj_session.proofs.PlacesWhere.{bit_of, places-few, places-more}
 use Rattle.lj_session.proofs.seconds.bits_of.Goals.{then-is_second, else-is_second}

@@ -1,8 +1,8 @@
 use Rattle.std.proofs.Common.{◌≡◌, ◌≤◌, ◌<◌, ◌+◌, ◌*◌, ◌^◌, length, [], ◌∷◌, ◌++◌, sym, ap, ◌∙◌, arith}
 use Rattle.std.proofs.lemmas.List.{nil_from_length}
-use Rattle.lj_step.specs.Sets.{joined}
+use Rattle.lj_step.specs.Sets.{number_of_bits}
 use Rattle.lj_session.specs.Substances.{seconds_among}
-use Rattle.lj_xyz.specs.declared.row.Row.{Row}
+use Rattle.lj_xyz.specs.declared.atom_row.Row.{Row}
 use Rattle.lj_xyz.specs.Symbols.{is_second}
 use Rattle.lj_session.proofs.PlacesWhere.{block-more}
 use Rattle.lj_session.proofs.seconds.blocks_of.Goals as goal
@@ -20,6 +20,6 @@ loop-rest-preserved c =
     let pushed : c.push.new.self.items ≡ seconds ++ seconds_among symbols block ∷ [] =
     c.in_ok-push.ensures.items ∙ ap (λ n. seconds ++ n ∷ []) c.bits_of.ensures in
     c.loop-rest.invariant
-    ∙ ap (λ r. joined seconds + 2 ^ (64 * length seconds) * seconds_among symbols r) whole
+    ∙ ap (λ r. number_of_bits seconds + 2 ^ (64 * length seconds) * seconds_among symbols r) whole
     ∙ block-more (λ (row : Row). is_second symbols row.symbol) seconds block others most last
-    ∙ ap (λ list. joined list + 2 ^ (64 * length list) * seconds_among symbols others) (sym pushed)
+    ∙ ap (λ list. number_of_bits list + 2 ^ (64 * length list) * seconds_among symbols others) (sym pushed)

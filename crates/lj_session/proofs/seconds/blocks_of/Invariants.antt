@@ -1,12 +1,12 @@
 use Rattle.std.proofs.Common.{◌≡◌, ◌+◌, ◌*◌, ◌^◌, length}
-use Rattle.lj_step.specs.Sets.{joined}
+use Rattle.lj_step.specs.Sets.{number_of_bits}
 use Rattle.lj_session.specs.Substances.{seconds_among}
 use Rattle.lj_session.proofs.seconds.blocks_of.Given as goal
 
 abbrev pub invariant-loop-rest : goal.invariant-loop-rest
 invariant-loop-rest l =
     seconds_among l.symbols l.rows
-    ≡ joined l.seconds.items + 2 ^ (64 * length l.seconds.items) * seconds_among l.symbols l.rest
+    ≡ number_of_bits l.seconds.items + 2 ^ (64 * length l.seconds.items) * seconds_among l.symbols l.rest
 
 abbrev pub decreases-loop-rest : goal.decreases-loop-rest
 decreases-loop-rest l = length l.rest

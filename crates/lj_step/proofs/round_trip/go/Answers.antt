@@ -1,7 +1,7 @@
 use Rattle.std.proofs.Common.{◌≡◌, ◌≤◌, ◌+◌, unsigned_abs, ap, sym, ◌∙◌, subst, add-one, arith}
-use Rattle.lj_step.specs.Motion.{steps, stepped}
+use Rattle.lj_step.specs.Motion.{steps, next_simulation}
 use Rattle.lj_step.specs.Laws.{drift}
-use Rattle.lj_step.specs.Live.{Live}
+use Rattle.lj_step.specs.Sim.{Sim}
 use Rattle.lj_step.proofs.Drift.{drift_kept}
 use Rattle.lj_step.proofs.Undone.{steps_more}
 use Rattle.lj_step.proofs.RoundTrip.{next_size}
@@ -22,16 +22,16 @@ loop-preserved c =
     c.loop.counter c.args.steps c.loop.invariant.step c.loop.invariant.dir c.requires c.loop-test.true).0 in
     let same = c.step.ensures in
     record {
-      composition = ap (λ (v : Live). v.composition) same ∙ c.loop.invariant.composition;
+      composition = ap (λ (v : Sim). v.composition) same ∙ c.loop.invariant.composition;
       motion =
-          ap (λ (v : Live). v.sim) same
-          ∙ ap (λ u. stepped u sim) c.loop.invariant.composition
-          ∙ ap (stepped old.composition) c.loop.invariant.motion
+          ap (λ (v : Sim). v.sim) same
+          ∙ ap (λ u. next_simulation u sim) c.loop.invariant.composition
+          ∙ ap (next_simulation old.composition) c.loop.invariant.motion
           ∙ sym (ap (λ n. steps old.composition n old.sim) (add-one c.loop.counter)
           ∙ steps_more old.composition c.loop.counter old.sim);
-      step = subst (λ (v : Live). unsigned_abs v.sim.step ≤ unsigned_abs old.sim.step + (c.loop.counter + 1))
+      step = subst (λ (v : Sim). unsigned_abs v.sim.step ≤ unsigned_abs old.sim.step + (c.loop.counter + 1))
           (sym same) size;
-      dir = ap (λ (v : Live). unsigned_abs v.sim.dir) same ∙ c.loop.invariant.dir;
+      dir = ap (λ (v : Sim). unsigned_abs v.sim.dir) same ∙ c.loop.invariant.dir;
     }
 
 pub returns-clause-drift : goal.returns-clause-drift

@@ -2,7 +2,7 @@ use Rattle.std.proofs.Common.{◌≡◌, ◌≤◌, ◌<◌, ◌^◌, ◌+◌, �
 use Rattle.std.proofs.Common.{arith}
 use Rattle.lj_tile.specs.declared.names.Kind.TheVariants.{Force}
 use Rattle.lj_step.specs.Motion.{Simulation}
-use Rattle.lj_step.specs.Live.{Live}
+use Rattle.lj_step.specs.Sim.{Sim}
 use Rattle.lj_step.specs.OpenSteps.{cover, tiles_of}
 use Rattle.lj_step.specs.InOrder.{AwaitsFrom}
 use Rattle.lj_step.proofs.TilesTaken.{opened_awaits, kind_is, all_taken, is_awaited, awaits_next}
@@ -19,11 +19,11 @@ pub loop-i-init : goal.loop-i-init
 loop-i-init c =
     let opened = c.open_step.ensures in
     record {
-      composition = ap (λ (v : Live). v.composition) opened;
-      motion = ap (λ (v : Live). v.sim) opened;
+      composition = ap (λ (v : Sim). v.composition) opened;
+      motion = ap (λ (v : Sim). v.sim) opened;
       end = c.tiles-i-end.ensures.value ∙ ap tiles_of opened
-          ∙ sym (ap (λ (v : Live). length (cover v.composition v.sim.cur)) opened);
-      tiles = subst (λ (v : Live). AwaitsFrom Force v.composition v.sim.cur 0 v.part) (sym opened)
+          ∙ sym (ap (λ (v : Sim). length (cover v.composition v.sim.cur)) opened);
+      tiles = subst (λ (v : Sim). AwaitsFrom Force v.composition v.sim.cur 0 v.part) (sym opened)
           (opened_awaits Force c.args.sim.now.composition c.args.sim.now.sim.cur _ refl);
     }
 
@@ -39,10 +39,10 @@ loop-i-preserved c =
     c.task.ensures.value is_work in
     let taken = when_ok c.accept.result (c.accept.ensures.accepted.1 awaited) c.accept.ensures.taken in
     record {
-      composition = ap (λ (v : Live). v.composition) taken ∙ c.loop-i.invariant.composition;
-      motion = ap (λ (v : Live). v.sim) taken ∙ c.loop-i.invariant.motion;
-      end = c.loop-i.invariant.end ∙ sym (ap (λ (v : Live). length (cover v.composition v.sim.cur)) taken);
-      tiles = subst (λ (v : Live). AwaitsFrom Force v.composition v.sim.cur (c.loop-i.i + 1) v.part) (sym taken) next;
+      composition = ap (λ (v : Sim). v.composition) taken ∙ c.loop-i.invariant.composition;
+      motion = ap (λ (v : Sim). v.sim) taken ∙ c.loop-i.invariant.motion;
+      end = c.loop-i.invariant.end ∙ sym (ap (λ (v : Sim). length (cover v.composition v.sim.cur)) taken);
+      tiles = subst (λ (v : Sim). AwaitsFrom Force v.composition v.sim.cur (c.loop-i.i + 1) v.part) (sym taken) next;
     }
 
 pub turn-requires : goal.turn-requires

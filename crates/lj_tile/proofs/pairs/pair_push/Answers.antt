@@ -1,7 +1,7 @@
 use Rattle.std.proofs.Common.{FitsSigned, w64, w32, rules, sym, ◌∙◌, ap}
 use Rattle.std.proofs.lemmas.Int.{to_z-of_z}
 use Rattle.lj_table.specs.Entries.{push_at}
-use Rattle.lj_tile.specs.Pushes.{opposite}
+use Rattle.lj_tile.specs.Pushes.{opposite_push}
 use Rattle.lj_tile.proofs.Opposites.{push_back_is, nothing_back}
 use Rattle.lj_tile.proofs.PushLemmas.{push_is, push_self, nothing_is, zero_bits}
 use Rattle.lj_tile.proofs.pairs.pair_push.Goals as goal
@@ -48,4 +48,4 @@ pub returns-clause-back : goal.returns-clause-back
 returns-clause-back c =
     push_back_is c.args.scale.now c.args.here.now c.args.there.now c.strength.ensures.near c.dist2.ensures.first
     c.dist2.ensures.second
-    ∙ ap opposite (sym (returns-clause-value c))
+    ∙ ap opposite_push (sym (returns-clause-value c))

@@ -1,6 +1,6 @@
 use Rattle.std.proofs.Common.{◌<◌, ◌+◌, ℕ, length, slice_index_or, ap, sym, ◌∙◌, refl, w64, arith}
 use Rattle.std.specs.Int.{trailing_zeros}
-use Rattle.lj_tile.specs.Pushes.{plus, no_push}
+use Rattle.lj_tile.specs.Pushes.{sum_of_pushes, no_push}
 use Rattle.lj_tile.proofs.SumLemmas.{next_set, from_next, from_empty, from_all}
 use Rattle.lj_tile.proofs.RowLemmas.{pushes_more, pushes_past, inside, pushed_none, pushed_past, pushed_next, length_set}
 use Rattle.lj_tile.proofs.sums.add_row.Goals as goal
@@ -52,7 +52,7 @@ loop-rest-preserved c =
       within = omega (arith, within);
       bits = from_next set c.loop-rest.s c.loop-rest.rest _ c.loop-rest.invariant.bits;
       sum = c.plus-sum.ensures
-          ∙ ap (λ p. plus p c.pair_push-push.result)
+          ∙ ap (λ p. sum_of_pushes p c.pair_push-push.result)
           (c.loop-rest.invariant.sum ∙ pushes_past u set here places c.loop-rest.s next (omega arith) found.before)
           ∙ pushes_more u set here places next c.pair_push-push.result
           (inside u set here places next c.pair_push-push.result found.set c.pair_push-push.ensures.value);
@@ -60,7 +60,7 @@ loop-rest-preserved c =
       rows = pushed_next u set here places next c.args.second.now c.loop-rest.second c.minus.result
           (pushed_past u set here places c.loop-rest.s next c.args.second.now c.loop-rest.second c.loop-rest.invariant.rows
           (omega arith) found.before) (omega (arith, found.within, c.loop-rest.invariant.room)) within found.set
-          (c.minus.ensures ∙ ap (plus (slice_index_or c.loop-rest.second next no_push)) (sym c.pair_push-push.ensures.back));
+          (c.minus.ensures ∙ ap (sum_of_pushes (slice_index_or c.loop-rest.second next no_push)) (sym c.pair_push-push.ensures.back));
     }
 
 pub returns-clause-sum : goal.returns-clause-sum

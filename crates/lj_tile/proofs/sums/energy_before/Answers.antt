@@ -6,20 +6,20 @@ use Rattle.lj_ring.specs.declared.mixes.Class.{Class}
 use Rattle.lj_ring.specs.declared.mixes.Species.{Species}
 use Rattle.lj_ring.specs.declared.mixes.Species.TheVariants.{First, Second}
 use Rattle.lj_ring.specs.declared.coordinates.Place.{Place}
-use Rattle.lj_ring.specs.Mixes.{Mixture, class_of, can_interact}
+use Rattle.lj_ring.specs.Mix.{Mix, class_of, can_interact}
 use Rattle.lj_ring.specs.Ring.{IsOnRing}
 use Rattle.lj_ring.proofs.MixLemmas.{cannot_interact}
-use Rattle.lj_tile.specs.Blocks.{Sites}
+use Rattle.lj_tile.specs.Block.{Block}
 use Rattle.lj_tile.specs.Species.{species_at}
 use Rattle.lj_tile.specs.Tiles.{place_at}
-use Rattle.lj_tile.specs.Tasks.{are_in_order, class_in}
+use Rattle.lj_tile.specs.Task.{are_in_order, class_in}
 use Rattle.lj_tile.specs.Rows.{energy_of}
 use Rattle.lj_tile.proofs.SumLemmas.{far_energy, unchosen, not_chosen, sum_is}
 use Rattle.lj_tile.proofs.Splits.{IsSplit, ColumnSplit, split_of, part_within, column_total}
 use Rattle.lj_tile.proofs.sums.energy_before.Goals as goal
 
 block_is : (c : goal.After-energy_with) → c.places-places.result.now ≡ c.args.task.now.a.places
-block_is c = c.places-places.ensures.value ∙ ap (λ (block : Sites). block.places) c.first.ensures.value
+block_is c = c.places-places.ensures.value ∙ ap (λ (block : Block). block.places) c.first.ensures.value
 
 pub energy_with-of_firsts-requires-clause-within : goal.energy_with-of_firsts-requires-clause-within
 energy_with-of_firsts-requires-clause-within c t set =
@@ -34,15 +34,15 @@ energy_with-requires-clause-within c t set =
 own_is : (c : goal.After-energy_with) → c.species_at-own.result ≡ species_at c.args.task.now.b.seconds c.args.s
 own_is c =
     c.species_at-own.ensures
-    ∙ ap (λ set. species_at set c.args.s) (c.seconds.ensures ∙ ap (λ (block : Sites). block.seconds) c.second-2.ensures.value)
+    ∙ ap (λ set. species_at set c.args.s) (c.seconds.ensures ∙ ap (λ (block : Block). block.seconds) c.second-2.ensures.value)
 
 there_is : (c : goal.After-energy_with) → place_at c.places.result.now c.args.s ≡ place_at c.args.task.now.b.places c.args.s
 there_is c =
     ap (λ (places : List Place). place_at places c.args.s)
-    (c.places.ensures.value ∙ ap (λ (block : Sites). block.places) c.second.ensures.value)
+    (c.places.ensures.value ∙ ap (λ (block : Block). block.places) c.second.ensures.value)
 
 seconds_is : (c : goal.After-energy_with) → c.seconds-seconds.result ≡ c.args.task.now.a.seconds
-seconds_is c = c.seconds-seconds.ensures ∙ ap (λ (block : Sites). block.seconds) c.first-2.ensures.value
+seconds_is c = c.seconds-seconds.ensures ∙ ap (λ (block : Block). block.seconds) c.first-2.ensures.value
 
 firsts : (c : goal.After-energy_with) → ℕ
 firsts c = bit_and (bit_and c.near.result c.earlier.result) (18446744073709551615 - c.seconds-seconds.result)
@@ -74,7 +74,7 @@ split c t within =
     (energy_of w c.args.s t ≡ pos 0) (omega arith) (omega (arith, within, c.first.ensures.sound.most_first)) within
     (c.earlier.ensures t) far other)
 
-class_is : (mix : Mixture) (class : Class) (own : Species) (of : Species) (other : Mixture) (there : Species)
+class_is : (mix : Mix) (class : Class) (own : Species) (of : Species) (other : Mix) (there : Species)
     → class ≡ class_of mix of own → mix ≡ other → own ≡ there → class ≡ class_of other of there
 class_is mix class own of other there e f g = e ∙ ap (λ m. class_of m of own) f ∙ ap (class_of other of) g
 

@@ -1,6 +1,6 @@
 use Rattle.std.proofs.Common.{◌≡◌, ◌<◌, ◌*◌, ◌^◌, ◌∙◌, ap, length, arith}
 use Rattle.lj_ring.specs.Ring.{int_sum_below}
-use Rattle.lj_tile.specs.Blocks.{Sites}
+use Rattle.lj_tile.specs.Block.{Block}
 use Rattle.lj_tile.specs.Rows.{energy_row}
 use Rattle.lj_tile.proofs.SumLemmas.{energy_all, sum_fits, sum_is, sum_size, int_sum_more}
 use Rattle.lj_tile.proofs.sums.energy_sum.Goals as goal
@@ -29,7 +29,7 @@ returns c =
     let all : c.loop-s.s ≡ length c.args.task.now.b.places = omega (
       arith,
       ap length c.places-s-end.ensures.value,
-      ap (λ (block : Sites). length block.places) c.second.ensures.value,
+      ap (λ (block : Block). length block.places) c.second.ensures.value,
     ) in
     c.loop-s.invariant.value
     ∙ ap (λ n. int_sum_below n (energy_row c.args.task.now)) all

@@ -1,6 +1,6 @@
 use Rattle.std.proofs.Common.{◌≤◌, ◌+◌, ◌*◌, ◌^◌, ◌∙◌, ℕ, ap, length, unsigned_abs, w64, to_z, refl, arith}
 use Rattle.std.specs.Int.{trailing_zeros}
-use Rattle.lj_table.specs.Entries.{energy_at, weighted}
+use Rattle.lj_table.specs.Entries.{energy_at, weighted_energy}
 use Rattle.lj_tile.specs.Rows.{energy_in}
 use Rattle.lj_tile.proofs.SumLemmas.{next_set, from_next, from_empty, from_all, sum_past, counted, uncounted}
 use Rattle.lj_tile.proofs.SumLemmas.{sum_fits, sum_is, sum_size, int_sum_more}
@@ -53,7 +53,7 @@ loop-rest-preserved c =
           ∙ sum_past (energy_in class set there places) c.loop-rest.t next (omega arith) (λ t least less.
           uncounted class set there places t (found.before t least less)))
           (counted class set there places next c.energy-sum.result found.set
-          (c.energy-sum.ensures.value ∙ ap (λ s. weighted class.weight (energy_at class.scale s)) c.dist2.ensures.value));
+          (c.energy-sum.ensures.value ∙ ap (λ s. weighted_energy class.weight (energy_at class.scale s)) c.dist2.ensures.value));
       size = sum_size _ c.energy-sum.result next (2 ^ 45) before small;
     }
 

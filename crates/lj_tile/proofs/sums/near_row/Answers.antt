@@ -3,19 +3,19 @@ use Rattle.lj_ring.specs.declared.mixes.Class.{Class}
 use Rattle.lj_ring.specs.declared.mixes.Species.{Species}
 use Rattle.lj_ring.specs.declared.mixes.Species.TheVariants.{First, Second}
 use Rattle.lj_ring.specs.declared.coordinates.Place.{Place}
-use Rattle.lj_ring.specs.Mixes.{Mixture, class_of}
+use Rattle.lj_ring.specs.Mix.{Mix, class_of}
 use Rattle.std.proofs.Common.{List, bit_and}
-use Rattle.lj_tile.specs.Blocks.{Sites}
+use Rattle.lj_tile.specs.Block.{Block}
 use Rattle.lj_tile.specs.Species.{species_at}
 use Rattle.lj_tile.specs.Tiles.{place_at}
-use Rattle.lj_tile.specs.Tasks.{are_in_order}
+use Rattle.lj_tile.specs.Task.{are_in_order}
 use Rattle.lj_tile.specs.Rows.{IsSilent}
 use Rattle.lj_tile.proofs.RowLemmas.{not_in_order}
 use Rattle.lj_tile.proofs.Splits.{IsSplit, RowSplit, split_of, part_within, row_total, rows_total}
 use Rattle.lj_tile.proofs.sums.near_row.Goals as goal
 
 block_is : (c : goal.After-plus) → c.places-places.result.now ≡ c.args.task.now.b.places
-block_is c = c.places-places.ensures.value ∙ ap (λ (block : Sites). block.places) c.second.ensures.value
+block_is c = c.places-places.ensures.value ∙ ap (λ (block : Block). block.places) c.second.ensures.value
 
 pub add_row-of_firsts-requires-clause-within : goal.add_row-of_firsts-requires-clause-within
 add_row-of_firsts-requires-clause-within c s set =
@@ -30,15 +30,15 @@ add_row-of_seconds-requires-clause-within c s set =
 own_is : (c : goal.After-plus) → c.species_at-own.result ≡ species_at c.args.task.now.a.seconds c.args.t
 own_is c =
     c.species_at-own.ensures
-    ∙ ap (λ set. species_at set c.args.t) (c.seconds.ensures ∙ ap (λ (block : Sites). block.seconds) c.first-2.ensures.value)
+    ∙ ap (λ set. species_at set c.args.t) (c.seconds.ensures ∙ ap (λ (block : Block). block.seconds) c.first-2.ensures.value)
 
 here_is : (c : goal.After-plus) → place_at c.places.result.now c.args.t ≡ place_at c.args.task.now.a.places c.args.t
 here_is c =
     ap (λ (places : List Place). place_at places c.args.t)
-    (c.places.ensures.value ∙ ap (λ (block : Sites). block.places) c.first.ensures.value)
+    (c.places.ensures.value ∙ ap (λ (block : Block). block.places) c.first.ensures.value)
 
 seconds_is : (c : goal.After-plus) → c.seconds-seconds.result ≡ c.args.task.now.b.seconds
-seconds_is c = c.seconds-seconds.ensures ∙ ap (λ (block : Sites). block.seconds) c.second-2.ensures.value
+seconds_is c = c.seconds-seconds.ensures ∙ ap (λ (block : Block). block.seconds) c.second-2.ensures.value
 
 firsts : (c : goal.After-plus) → ℕ
 firsts c = bit_and (bit_and c.args.near c.later.result) (18446744073709551615 - c.seconds-seconds.result)
@@ -60,7 +60,7 @@ split c s within =
     (IsSilent w c.args.t s) (omega arith) (omega (arith, within, c.second.ensures.sound.most_second)) within
     (c.later.ensures s) (c.requires.near s within) (not_in_order w c.args.t s))
 
-scale_is : (mix : Mixture) (class : Class) (own : Species) (of : Species) (other : Mixture) (there : Species)
+scale_is : (mix : Mix) (class : Class) (own : Species) (of : Species) (other : Mix) (there : Species)
     → class ≡ class_of mix own of → mix ≡ other → own ≡ there → class.scale ≡ (class_of other there of).scale
 scale_is mix class own of other there e f g =
     ap (λ (k : Class). k.scale) (e ∙ ap (λ m. class_of m own of) f ∙ ap (λ sp. class_of other sp of) g)

@@ -2,19 +2,19 @@ use Rattle.std.proofs.Common.{◌≡◌, ◌<◌, ℕ, length, List, false, ap, 
 use Rattle.std.specs.Int.{bit_at}
 use Rattle.std.proofs.lemmas.Nat.Bits.{bit_at-zero}
 use Rattle.lj_ring.specs.declared.coordinates.Place.{Place}
-use Rattle.lj_ring.specs.Mixes.{can_interact}
+use Rattle.lj_ring.specs.Mix.{can_interact}
 use Rattle.lj_ring.specs.Ring.{IsOnRing, distance}
 use Rattle.lj_ring.proofs.MixLemmas.{cannot_interact}
-use Rattle.lj_tile.specs.Blocks.{Sites}
+use Rattle.lj_tile.specs.Block.{Block}
 use Rattle.lj_tile.specs.Species.{species_at}
 use Rattle.lj_tile.specs.Tiles.{place_at}
 use Rattle.lj_tile.specs.Rows.{IsSilent}
-use Rattle.lj_tile.specs.Tasks.{Work}
+use Rattle.lj_tile.specs.Task.{Task}
 use Rattle.lj_tile.proofs.RowLemmas.{far_silent, row_silent, rows_silent}
 use Rattle.lj_tile.proofs.sums.row.Goals as goal
 
 -- a place whose bit is not set does not push
-far_of : (w : Work) (t near : ℕ) (here : Place) → here ≡ place_at w.a.places t → IsOnRing here
+far_of : (w : Task) (t near : ℕ) (here : Place) → here ≡ place_at w.a.places t → IsOnRing here
     → ((s : ℕ) → s < length w.b.places → IsOnRing (place_at w.b.places s))
     → ((s : ℕ) → s < length w.b.places → bit_at near s ≡ 0
     → can_interact w.mix (distance here (place_at w.b.places s)) ≡ false)
@@ -24,9 +24,9 @@ far_of w t near here its on_ring all far s within none =
     far_silent w t s ring (all s within)
     (cannot_interact w.mix (species_at w.a.seconds t) (species_at w.b.seconds s) _ (rw its at (far s within none)))
 
-here_is : (block : List Place) (sites : Sites) (w : Work) (t : ℕ) → block ≡ sites.places → sites ≡ w.a
+here_is : (block : List Place) (sites : Block) (w : Task) (t : ℕ) → block ≡ sites.places → sites ≡ w.a
     → place_at block t ≡ place_at w.a.places t
-here_is block sites w t of is = ap (λ (places : List Place). place_at places t) (of ∙ ap (λ (a : Sites). a.places) is)
+here_is block sites w t of is = ap (λ (places : List Place). place_at places t) (of ∙ ap (λ (a : Block). a.places) is)
 
 pub near_row-requires-clause-near : goal.near_row-requires-clause-near
 near_row-requires-clause-near c =

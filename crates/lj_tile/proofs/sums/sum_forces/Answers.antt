@@ -1,7 +1,7 @@
 use Rattle.std.proofs.Common.{◌≡◌, ◌<◌, length, slice_index_or, ap, ◌∙◌, arith}
-use Rattle.lj_tile.specs.Blocks.{Sites}
-use Rattle.lj_tile.specs.Pushes.{no_push, plus}
-use Rattle.lj_tile.specs.Rows.{on_first}
+use Rattle.lj_tile.specs.Block.{Block}
+use Rattle.lj_tile.specs.Pushes.{no_push, sum_of_pushes}
+use Rattle.lj_tile.specs.Rows.{sum_on_first}
 use Rattle.lj_tile.proofs.RowLemmas.{first_is, second_is, joined_is}
 use Rattle.lj_tile.proofs.sums.sum_forces.Goals as goal
 
@@ -21,10 +21,10 @@ returns-then-name-clause-first c t within =
     let sound = c.name.ensures.sound in
     let same : w.name.bi ≡ w.name.bj = rw (c.name.ensures.value, c.name-2.ensures.value) at c.if-name.true in
     let also : t < length w.b.places =
-    omega (arith, within, ap (λ (block : Sites). length block.places) (sound.diagonal same)) in
+    omega (arith, within, ap (λ (block : Block). length block.places) (sound.diagonal same)) in
     c.join.ensures.first t (omega (arith, within, sound.most_first))
-    ∙ ap (λ p. plus p (slice_index_or c.sum_pairs.new.sums.second t no_push)) (c.sum_pairs.ensures.first t within)
-    ∙ ap (plus (on_first w t (length w.b.places))) (c.sum_pairs.ensures.second t also)
+    ∙ ap (λ p. sum_of_pushes p (slice_index_or c.sum_pairs.new.sums.second t no_push)) (c.sum_pairs.ensures.first t within)
+    ∙ ap (sum_of_pushes (sum_on_first w t (length w.b.places))) (c.sum_pairs.ensures.second t also)
     ∙ joined_is w t sound same
 
 pub returns-then-name-clause-second : goal.returns-then-name-clause-second

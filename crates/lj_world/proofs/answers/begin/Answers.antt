@@ -1,8 +1,8 @@
 use Rattle.std.proofs.Common.{◌≡◌, ap, ◌∙◌}
-use Rattle.lj_session.specs.States.{Owned, user_of}
+use Rattle.lj_session.specs.UserState.{UserState, user_of}
 use Rattle.lj_session.specs.declared.reply.Reply.{Reply}
 use Rattle.lj_session.specs.declared.reply.Reply.TheVariants.{Refused}
-use Rattle.lj_session.specs.Owners.{Owning, user_in}
+use Rattle.lj_session.specs.Owner.{Owner, user_in}
 use Rattle.lj_wire.specs.Texts.{text}
 use Rattle.lj_world.proofs.Beginning.{command_answered, fault_answered, last_answered}
 use Rattle.lj_world.proofs.answers.begin.Goals.{in-Command+in-Answered, in-Bad, in-Last}
@@ -11,9 +11,9 @@ use Rattle.lj_world.proofs.answers.begin.Goals as goal
 pub returns : goal.returns
 returns c =
     let made : c.in_ok-text_of.field-0 ≡ text (user_in c.match-item.owner) c.match-item.reply =
-    c.in_ok-text_of.ensures ∙ ap (λ (s : Owned). text (user_of s) c.match-item.reply) c.state.ensures in
+    c.in_ok-text_of.ensures ∙ ap (λ (s : UserState). text (user_of s) c.match-item.reply) c.state.ensures in
     let told = λ (is : c.match-item.owner ≡ c.args.owner.now) (reply : Reply) (e : c.match-item.reply ≡ reply).
-    made ∙ ap (λ (o : Owning). text (user_in o) c.match-item.reply) is ∙ ap (text (user_in c.args.owner.now)) e in
+    made ∙ ap (λ (o : Owner). text (user_in o) c.match-item.reply) is ∙ ap (text (user_in c.args.owner.now)) e in
     elim c.match-item.branch [
       | in-Command+in-Answered w ↦
           let b = w.in-Answered.ensures in

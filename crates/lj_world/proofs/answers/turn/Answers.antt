@@ -1,5 +1,5 @@
 use Rattle.std.proofs.Common.{ap, refl, ◌∙◌}
-use Rattle.lj_session.specs.States.{Owned, user_of}
+use Rattle.lj_session.specs.UserState.{UserState, user_of}
 use Rattle.lj_wire.specs.Texts.{text}
 use Rattle.lj_world.proofs.Beginning.{wait_answered}
 use Rattle.lj_world.proofs.answers.turn.Goals as goal
@@ -9,4 +9,4 @@ returns-in_ok-text_of-in-Some c =
     let t = c.in-Some.ensures in
     wait_answered c.args.owner.now c.turn_session.new.self c.args.name.now c.in-Some.reply c.in_ok-text_of-in-Some.field-0
     (t.last.0 refl) t.replied t.idle t.number t.rests t.others
-    (c.in_ok-text_of-in-Some.ensures ∙ ap (λ (s : Owned). text (user_of s) c.in-Some.reply) c.state.ensures)
+    (c.in_ok-text_of-in-Some.ensures ∙ ap (λ (s : UserState). text (user_of s) c.in-Some.reply) c.state.ensures)

@@ -1,4 +1,4 @@
-use Rattle.lj_book.specs.Held.{IsOpenAt}
+use Rattle.lj_book.specs.Book.{IsOpenAt}
 use Rattle.lj_world.proofs.Picking.{puts_picked}
 use Rattle.lj_world.proofs.worker.take.Goals as goal
 

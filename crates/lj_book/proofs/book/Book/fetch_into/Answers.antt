@@ -1,20 +1,20 @@
 use Rattle.std.proofs.Common.{ℕ, ◌+◌, refl, subst}
 use Rattle.lj_book.specs.declared.marks.Mark.TheVariants.{ToFetch}
-use Rattle.lj_book.specs.Held.{Held, Fetches, IsDoneAt}
+use Rattle.lj_book.specs.Book.{Book, Fetches, IsDoneAt}
 use Rattle.lj_book.specs.Picks.{IsPick}
 use Rattle.lj_book.proofs.BookLemmas.{picked}
 use Rattle.lj_book.proofs.book.Book.fetch_into.Goals as goal
 
 pub returns-clause-some : goal.returns-clause-some
 returns-clause-some c e =
-    let new : Held = record {
+    let new : Book = record {
       slots = c.take_out.new.self.slots;
       posted = c.self.inside.posted;
       given = c.self.inside.given;
       fetched = c.self.inside.fetched + 1;
       withdrawn = c.self.inside.withdrawn;
     } in
-    subst (λ (old : Held). (key : ℕ) × Fetches old new c.take_out.new.room key
+    subst (λ (old : Book). (key : ℕ) × Fetches old new c.take_out.new.room key
     × IsPick (IsDoneAt c.args.user old) c.args.pick key) c.self.view_is (
       c.in-Some.key,
       record {

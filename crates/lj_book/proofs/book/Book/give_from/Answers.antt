@@ -1,10 +1,10 @@
 use Rattle.std.proofs.Common.{◌≡◌, Some, ap, sym, ◌∙◌, arith}
 use Rattle.slab.specs.Slab.{get}
 use Rattle.lj_tile.specs.declared.names.TaskName.{TaskName}
-use Rattle.lj_tile.specs.Tasks.{Work}
-use Rattle.lj_book.specs.Held.{Out}
+use Rattle.lj_tile.specs.Task.{Task}
+use Rattle.lj_book.specs.Book.{Out}
 use Rattle.lj_book.specs.declared.marks.Mark.TheVariants.{Taken, ToFetch}
-use Rattle.lj_book.specs.Held.{mark_of}
+use Rattle.lj_book.specs.Book.{mark_of}
 use Rattle.lj_book.specs.Marks.{mark_at}
 use Rattle.lj_book.proofs.BookLemmas.{changed_book, key_within}
 use Rattle.lj_book.proofs.book.Book.give_from.Goals as goal
@@ -15,7 +15,7 @@ invariant_of-self c =
     let out : get c.self.inside.entries c.args.key ≡ Some (Out c.args.done.now) =
     rw c.task.ensures at (c.is_out.ensures.0 c.if-not-is_out.false) in
     let taken : mark_at c.self.inside.marks c.args.key ≡ Taken = held.marked c.args.key ∙ ap mark_of out in
-    let user = ap (λ (n : TaskName). n.label.user) (c.name.ensures.value ∙ ap (λ (w : Work). w.name) c.task-2.ensures) in
+    let user = ap (λ (n : TaskName). n.label.user) (c.name.ensures.value ∙ ap (λ (w : Task). w.name) c.task-2.ensures) in
     rw c.set.ensures
     (changed_book c.self.inside.entries c.self.inside.marks held.marked c.finish.new.self c.args.key _ _
     (key_within c.self.inside.marks c.args.key (λ vacant. let e : Taken ≡ _ = sym taken ∙ vacant in cc))

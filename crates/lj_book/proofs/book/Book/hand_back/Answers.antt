@@ -1,8 +1,8 @@
 use Rattle.std.proofs.Common.{◌≡◌, Some, refl, ap, sym, ◌∙◌, arith}
 use Rattle.slab.specs.Slab.{get}
-use Rattle.lj_book.specs.Held.{Out}
+use Rattle.lj_book.specs.Book.{Out}
 use Rattle.lj_book.specs.declared.marks.Mark.TheVariants.{Taken}
-use Rattle.lj_book.specs.Held.{mark_of}
+use Rattle.lj_book.specs.Book.{mark_of}
 use Rattle.lj_book.specs.Marks.{mark_at}
 use Rattle.lj_book.proofs.BookLemmas.{changed_book, key_within}
 use Rattle.lj_book.proofs.book.Book.hand_back.Goals as goal

@@ -1,5 +1,5 @@
 use Rattle.std.proofs.Common.{ℕ, ◌+◌, refl, subst, arith}
-use Rattle.lj_book.specs.Held.{Held, Posts}
+use Rattle.lj_book.specs.Book.{Book, Posts}
 use Rattle.lj_book.proofs.BookLemmas.{changed_book}
 use Rattle.lj_book.proofs.book.Book.post_from.Goals as goal
 
@@ -16,14 +16,14 @@ invariant_of-self c =
 
 pub returns-clause-posts : goal.returns-clause-posts
 returns-clause-posts c =
-    let new : Held = record {
+    let new : Book = record {
       slots = c.insert-key.new.self.slots;
       posted = c.self.inside.posted + 1;
       given = c.self.inside.given;
       fetched = c.self.inside.fetched;
       withdrawn = c.self.inside.withdrawn;
     } in
-    subst (λ (old : Held). (key : ℕ) × Posts old new c.args.task.now key) c.self.view_is (
+    subst (λ (old : Book). (key : ℕ) × Posts old new c.args.task.now key) c.self.view_is (
       c.insert-key.result,
       record {
         was = c.insert-key.ensures.was_vacant;

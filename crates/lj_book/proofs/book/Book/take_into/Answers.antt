@@ -1,6 +1,6 @@
 use Rattle.std.proofs.Common.{refl, subst, arith}
 use Rattle.lj_book.specs.declared.marks.Mark.TheVariants.{ToTake}
-use Rattle.lj_book.specs.Held.{Held, IsOpenAt}
+use Rattle.lj_book.specs.Book.{Book, IsOpenAt}
 use Rattle.lj_book.specs.Picks.{IsPick}
 use Rattle.lj_book.proofs.BookLemmas.{changed_book, picked}
 use Rattle.lj_book.proofs.book.Book.take_into.Goals as goal
@@ -18,6 +18,6 @@ invariant_of-self c =
 
 pub returns-clause-picked : goal.returns-clause-picked
 returns-clause-picked c =
-    subst (λ (old : Held). IsPick (IsOpenAt old) c.args.pick c.in_ok-key.key) c.self.view_is
+    subst (λ (old : Book). IsPick (IsOpenAt old) c.args.pick c.in_ok-key.key) c.self.view_is
     (picked c.self.inside.entries c.self.inside.marks c.self.invariant.marked ToTake c.args.pick c.in_ok-key.key
     (λ vacant. cc) c.in_ok-key.ensures.some)

@@ -1,5 +1,5 @@
 use Rattle.std.proofs.Common.{◌≤◌, length}
-use Rattle.lj_book.specs.Held.{WithdrawsBelow}
+use Rattle.lj_book.specs.Book.{WithdrawsBelow}
 use Rattle.lj_book.proofs.book.Book.withdraw.Given as goal
 
 abbrev pub invariant-loop-key : goal.invariant-loop-key

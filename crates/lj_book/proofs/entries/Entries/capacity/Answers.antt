@@ -1,6 +1,6 @@
 use Rattle.std.proofs.Common.{◌≤◌, length, subst}
 use Rattle.slab.specs.Slab.{Slab}
-use Rattle.lj_book.specs.Held.{Entry}
+use Rattle.lj_book.specs.Book.{Entry}
 use Rattle.lj_book.proofs.RoomLemmas.{shown_length}
 use Rattle.lj_book.proofs.entries.Entries.capacity.Goals as goal
 

@@ -1,6 +1,6 @@
 use Rattle.std.proofs.Common.{◌∙◌, ◌<◌, length, Some, ap, refl, slice_set, arith, get_or-set_same, get_or-set_other}
-use Rattle.lj_tile.specs.Blank.{blank}
-use Rattle.lj_book.specs.Held.{Entry, weight}
+use Rattle.lj_tile.specs.Blank.{blank_task}
+use Rattle.lj_book.specs.Book.{Entry, weight}
 use Rattle.lj_book.specs.declared.entries.Stage.TheVariants.{Out}
 use Rattle.lj_book.proofs.RoomLemmas.{key_below, is_there, stands, is_out, count, changes, waits, shown_count, told_as}
 use Rattle.lj_book.proofs.entries.Entries.finish.Goals as goal
@@ -24,9 +24,9 @@ returns-clause-updates c =
     omega (arith, key_below s.stages.slots c.args.key Out out.0, c.self.invariant.keys, c.self.invariant.results_too) in
     let updates = changes s.stages s.tasks.items s.results.items _ c.self.view_is c.args.key c.set_stage.new.stages
     s.tasks.items _ _ c.set_stage.ensures.updates (λ k apart. refl)
-    (λ k apart. get_or-set_other s.results.items c.args.key k c.copy_from.new.self blank apart) in
+    (λ k apart. get_or-set_other s.results.items c.args.key k c.copy_from.new.self blank_task apart) in
     told_as _ _ c.args.key _ _ (ap (λ work. Some (Entry.Done work))
-    (get_or-set_same s.results.items c.args.key c.copy_from.new.self blank within ∙ c.copy_from.ensures)) updates
+    (get_or-set_same s.results.items c.args.key c.copy_from.new.self blank_task within ∙ c.copy_from.ensures)) updates
 
 pub returns-clause-len : goal.returns-clause-len
 returns-clause-len c =
@@ -43,5 +43,5 @@ returns-clause-waiting c =
     let s = c.self.inside in
     let waits = waits s.stages s.tasks.items s.results.items _ c.self.view_is c.args.key c.set_stage.new.stages
     s.tasks.items _ _ c.set_stage.ensures.updates (λ k apart. refl)
-    (λ k apart. get_or-set_other s.results.items c.args.key k c.copy_from.new.self blank apart) in
+    (λ k apart. get_or-set_other s.results.items c.args.key k c.copy_from.new.self blank_task apart) in
     omega (arith, waits, ap weight c.requires)

@@ -1,8 +1,8 @@
 use Rattle.std.proofs.Common.{◌<◌, length, get_or, refl, ap, ◌∙◌, Some, slice_set, arith, get_or-set_same, get_or-set_other}
 use Rattle.slab.specs.Slab.{Slab}
-use Rattle.lj_tile.specs.Blank.{blank}
-use Rattle.lj_book.specs.Held.{Entry, weight}
-use Rattle.lj_book.specs.Rooms.{shown_at}
+use Rattle.lj_tile.specs.Blank.{blank_task}
+use Rattle.lj_book.specs.Book.{Entry, weight}
+use Rattle.lj_book.specs.Rooms.{slot_in_rooms}
 use Rattle.lj_book.proofs.RoomLemmas.{here, count, changes, waits, shown_count, told_as}
 use Rattle.lj_book.proofs.entries.Entries.insert.Goals as goal
 
@@ -20,8 +20,8 @@ pub returns-clause-was_vacant : goal.returns-clause-was_vacant
 returns-clause-was_vacant c =
     let s = c.self.inside in
     here s.stages s.tasks.items s.results.items _ c.self.view_is c.insert_reserved-key.result
-    ∙ ap (λ slot. shown_at slot (get_or s.tasks.items c.insert_reserved-key.result blank)
-    (get_or s.results.items c.insert_reserved-key.result blank)) c.insert_reserved-key.ensures.was_vacant
+    ∙ ap (λ slot. slot_in_rooms slot (get_or s.tasks.items c.insert_reserved-key.result blank_task)
+    (get_or s.results.items c.insert_reserved-key.result blank_task)) c.insert_reserved-key.ensures.was_vacant
 
 pub returns-clause-updates : goal.returns-clause-updates
 returns-clause-updates c =
@@ -35,9 +35,9 @@ returns-clause-updates c =
     ) in
     let updates = changes s.stages s.tasks.items s.results.items _ c.self.view_is key c.insert_reserved-key.new.self _
     s.results.items _ c.insert_reserved-key.ensures.updates
-    (λ k apart. get_or-set_other s.tasks.items key k c.copy_from.new.self blank apart) (λ k apart. refl) in
+    (λ k apart. get_or-set_other s.tasks.items key k c.copy_from.new.self blank_task apart) (λ k apart. refl) in
     told_as _ _ key _ _ (ap (λ work. Some (Entry.Open work))
-    (get_or-set_same s.tasks.items key c.copy_from.new.self blank within ∙ c.copy_from.ensures)) updates
+    (get_or-set_same s.tasks.items key c.copy_from.new.self blank_task within ∙ c.copy_from.ensures)) updates
 
 pub returns-clause-len : goal.returns-clause-len
 returns-clause-len c =
@@ -56,5 +56,5 @@ returns-clause-waiting c =
     let key = c.insert_reserved-key.result in
     let waits = waits s.stages s.tasks.items s.results.items _ c.self.view_is key c.insert_reserved-key.new.self _
     s.results.items _ c.insert_reserved-key.ensures.updates
-    (λ k apart. get_or-set_other s.tasks.items key k c.copy_from.new.self blank apart) (λ k apart. refl) in
+    (λ k apart. get_or-set_other s.tasks.items key k c.copy_from.new.self blank_task apart) (λ k apart. refl) in
     omega (arith, waits, ap weight (returns-clause-was_vacant c))

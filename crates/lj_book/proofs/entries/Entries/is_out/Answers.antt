@@ -2,7 +2,7 @@ use Rattle.std.proofs.Common.{◌≡◌, ◌<◌, length, Bool, true, false, Opt
 use Rattle.std.specs.Option.{option_eq}
 use Rattle.std.proofs.lemmas.List.{get_or_read}
 use Rattle.slab.specs.Slab.{get}
-use Rattle.lj_tile.specs.Blank.{blank}
+use Rattle.lj_tile.specs.Blank.{blank_task}
 use Rattle.lj_book.specs.declared.entries.Stage.{Stage}
 use Rattle.lj_book.specs.declared.entries.Stage.TheVariants.{Open, Out, Done}
 use Rattle.lj_book.proofs.RoomLemmas.{key_below, is_out, out_task}
@@ -21,7 +21,7 @@ returns-then-eq c =
     let out : get s.stages c.args.key ≡ Some Out = told _ refl refl _ (sym (rw (c.copied.ensures ∙ c.get.ensures) at c.eq.ensures) ∙ c.if-eq.true) in
     let within : c.args.key < length s.tasks.items =
     omega (arith, key_below s.stages.slots c.args.key Out out, c.self.invariant.keys, c.self.invariant.tasks_too) in
-    let room = get_or_read s.tasks.items c.args.key c.index.result.now within c.index.ensures blank in (
+    let room = get_or_read s.tasks.items c.args.key c.index.result.now within c.index.ensures blank_task in (
       λ same. out_task s.stages s.tasks.items s.results.items _ c.self.view_is c.args.key c.args.task.now out
           (sym room ∙ c.is.ensures.0 same),
       λ here. c.is.ensures.1 (room

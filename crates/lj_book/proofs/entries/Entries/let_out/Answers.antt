@@ -1,7 +1,7 @@
 use Rattle.std.proofs.Common.{◌<◌, length, refl, sym, ap, ◌∙◌, Some, arith}
 use Rattle.std.proofs.lemmas.List.{get_or_read}
-use Rattle.lj_tile.specs.Blank.{blank}
-use Rattle.lj_book.specs.Held.{Entry, weight}
+use Rattle.lj_tile.specs.Blank.{blank_task}
+use Rattle.lj_book.specs.Book.{Entry, weight}
 use Rattle.lj_book.specs.declared.entries.Stage.TheVariants.{Open}
 use Rattle.lj_book.proofs.RoomLemmas.{key_below, is_there, is_open, open_task, count, changes, waits, shown_count, told_as}
 use Rattle.lj_book.proofs.entries.Entries.let_out.Goals as goal
@@ -25,7 +25,7 @@ returns-clause-value c =
     omega (arith, key_below s.stages.slots c.args.key Open opened, c.self.invariant.keys, c.self.invariant.tasks_too) in
     open_task s.stages s.tasks.items s.results.items _ c.self.view_is c.args.key c.requires
     ∙ ap (λ work. Some (Entry.Open work)) (sym (c.copy_from.ensures
-    ∙ get_or_read s.tasks.items c.args.key c.index.result.now within c.index.ensures blank))
+    ∙ get_or_read s.tasks.items c.args.key c.index.result.now within c.index.ensures blank_task))
 
 pub returns-clause-updates : goal.returns-clause-updates
 returns-clause-updates c =
@@ -36,7 +36,7 @@ returns-clause-updates c =
     let updates = changes s.stages s.tasks.items s.results.items _ c.self.view_is c.args.key c.set_stage.new.stages
     s.tasks.items s.results.items _ c.set_stage.ensures.updates (λ k apart. refl) (λ k apart. refl) in
     told_as _ _ c.args.key _ _ (ap (λ work. Some (Entry.Out work))
-    (sym (c.copy_from.ensures ∙ get_or_read s.tasks.items c.args.key c.index.result.now within c.index.ensures blank))) updates
+    (sym (c.copy_from.ensures ∙ get_or_read s.tasks.items c.args.key c.index.result.now within c.index.ensures blank_task))) updates
 
 pub returns-clause-len : goal.returns-clause-len
 returns-clause-len c =

@@ -1,5 +1,5 @@
 use Rattle.std.proofs.Common.{refl, ap, Some, arith}
-use Rattle.lj_book.specs.Held.{Entry, weight}
+use Rattle.lj_book.specs.Book.{Entry, weight}
 use Rattle.lj_book.proofs.RoomLemmas.{is_there, is_out, count, changes, waits, shown_count, told_as}
 use Rattle.lj_book.proofs.entries.Entries.reopen.Goals as goal
 

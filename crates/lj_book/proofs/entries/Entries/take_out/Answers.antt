@@ -1,8 +1,8 @@
 use Rattle.std.proofs.Common.{◌∙◌, ◌<◌, length, Some, ap, sym, arith}
 use Rattle.std.proofs.lemmas.List.{get_or_read}
-use Rattle.lj_tile.specs.Blank.{blank}
+use Rattle.lj_tile.specs.Blank.{blank_task}
 use Rattle.lj_book.specs.declared.entries.Stage.TheVariants.{Done}
-use Rattle.lj_book.specs.Held.{Entry}
+use Rattle.lj_book.specs.Book.{Entry}
 use Rattle.lj_book.proofs.RoomLemmas.{key_below, is_done, done_task}
 use Rattle.lj_book.proofs.entries.Entries.take_out.Goals as goal
 
@@ -20,4 +20,4 @@ returns-clause-value c =
     omega (arith, key_below s.stages.slots c.args.key Done done, c.self.invariant.keys, c.self.invariant.results_too) in
     done_task s.stages s.tasks.items s.results.items _ c.self.view_is c.args.key c.args.user c.requires
     ∙ ap (λ work. Some (Entry.Done work)) (sym (c.copy_from.ensures
-    ∙ get_or_read s.results.items c.args.key c.index.result.now within c.index.ensures blank))
+    ∙ get_or_read s.results.items c.args.key c.index.result.now within c.index.ensures blank_task))

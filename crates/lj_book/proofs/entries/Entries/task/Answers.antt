@@ -2,8 +2,8 @@ use Rattle.std.proofs.Common.{◌≡◌, ◌<◌, length, None, Some, inl, inr, 
 use Rattle.std.specs.Option.{option_copied}
 use Rattle.std.proofs.lemmas.List.{get_or_read}
 use Rattle.slab.specs.Slab.{get}
-use Rattle.lj_tile.specs.Blank.{blank}
-use Rattle.lj_book.specs.Held.{work_at}
+use Rattle.lj_tile.specs.Blank.{blank_task}
+use Rattle.lj_book.specs.Book.{task_at}
 use Rattle.lj_book.specs.declared.entries.Stage.TheVariants.{Open, Out, Done}
 use Rattle.lj_book.proofs.RoomLemmas.{key_below, shows}
 use Rattle.lj_book.proofs.entries.Entries.task.Goals as goal
@@ -13,7 +13,7 @@ returns-in_err-get c =
     let s = c.self.inside in
     let none : get s.stages c.args.key ≡ None = sym c.get.ensures ∙ ap option_copied c.in_err-get.was in
     rw c.from_residual.ensures
-    (sym (ap work_at (shows s.stages s.tasks.items s.results.items _ c.self.view_is c.args.key None none)))
+    (sym (ap task_at (shows s.stages s.tasks.items s.results.items _ c.self.view_is c.args.key None none)))
 
 pub returns-in-Done : goal.returns-in-Done
 returns-in-Done c =
@@ -22,8 +22,8 @@ returns-in-Done c =
     sym c.get.ensures ∙ ap option_copied c.in_ok-get.was ∙ ap Some c.in-Done.is in
     let within : c.args.key < length s.results.items =
     omega (arith, key_below s.stages.slots c.args.key Done done, c.self.invariant.keys, c.self.invariant.results_too) in
-    ap Some (c.task.ensures ∙ get_or_read s.results.items c.args.key c.index.result.now within c.index.ensures blank)
-    ∙ sym (ap work_at (shows s.stages s.tasks.items s.results.items _ c.self.view_is c.args.key (Some Done) done))
+    ap Some (c.task.ensures ∙ get_or_read s.results.items c.args.key c.index.result.now within c.index.ensures blank_task)
+    ∙ sym (ap task_at (shows s.stages s.tasks.items s.results.items _ c.self.view_is c.args.key (Some Done) done))
 
 pub returns-in-Open : goal.returns-in-Open
 returns-in-Open c =
@@ -37,10 +37,10 @@ returns-in-Open c =
       c.self.invariant.keys,
       c.self.invariant.tasks_too,
     ) in
-    ap Some (get_or_read s.tasks.items c.args.key c.index-in-Open.result.now within c.index-in-Open.ensures blank)
+    ap Some (get_or_read s.tasks.items c.args.key c.index-in-Open.result.now within c.index-in-Open.ensures blank_task)
     ∙ elim c.in-Open.is [
-      | inl open_there ↦ sym (ap work_at (shows s.stages s.tasks.items s.results.items _ c.self.view_is c.args.key
+      | inl open_there ↦ sym (ap task_at (shows s.stages s.tasks.items s.results.items _ c.self.view_is c.args.key
           (Some Open) (stands ∙ ap Some open_there)))
-      | inr out_there ↦ sym (ap work_at (shows s.stages s.tasks.items s.results.items _ c.self.view_is c.args.key
+      | inr out_there ↦ sym (ap task_at (shows s.stages s.tasks.items s.results.items _ c.self.view_is c.args.key
           (Some Out) (stands ∙ ap Some out_there)))
     ]

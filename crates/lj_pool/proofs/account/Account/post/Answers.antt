@@ -1,6 +1,6 @@
 use Rattle.std.proofs.Common.{◌≡◌, ◌<◌, ◌+◌, ◌++◌, ◌∷◌, [], Some, length, take, get_or, set, sym, ap, ◌∙◌, subst, arith}
 use Rattle.lj_pool.specs.declared.pool.TheConstants.{MAX_OWED}
-use Rattle.lj_pool.specs.Accounts.{IsKept, works}
+use Rattle.lj_pool.specs.Accounts.{IsKept, tasks_owed}
 use Rattle.lj_pool.proofs.Places.{place_within, works_posted, kept_posted}
 use Rattle.lj_pool.proofs.account.Account.post.Goals as goal
 
@@ -36,9 +36,9 @@ returns-clause-posted c =
     let room : owed < MAX_OWED = omega (arith, c.requires, kept.held, ap (λ s. length s.owed) c.self.view_is) in
     let is = c.from-place.ensures ∙ ap (λ xs. get_or xs owed 0) c.deref.ensures.0 in
     record {
-      owed = ap (λ slot. works (set tasks c.from-place.result slot) (take (owed + 1) places)) c.keep.ensures
-          ∙ subst (λ k. works (set tasks k (Some c.args.task.now)) (take (owed + 1) places)
-          ≡ works tasks (take owed places) ++ c.args.task.now ∷ []) (sym is)
+      owed = ap (λ slot. tasks_owed (set tasks c.from-place.result slot) (take (owed + 1) places)) c.keep.ensures
+          ∙ subst (λ k. tasks_owed (set tasks k (Some c.args.task.now)) (take (owed + 1) places)
+          ≡ tasks_owed tasks (take owed places) ++ c.args.task.now ∷ []) (sym is)
           (works_posted tasks places owed c.args.task.now kept room)
           ∙ ap (λ s. s.owed ++ c.args.task.now ∷ []) c.self.view_is;
       good = ap (λ s. s.good) c.self.view_is;

@@ -1,7 +1,7 @@
 use Rattle.std.proofs.Common.{◌≡◌, ◌<◌, ◌-◌, ◌++◌, ◌∷◌, [], length, take, get_or, sym, ap, ◌∙◌, subst, arith}
 use Rattle.std.specs.List.{remove}
 use Rattle.std.proofs.lemmas.List.{get_or_default}
-use Rattle.lj_pool.specs.Accounts.{IsKept, works}
+use Rattle.lj_pool.specs.Accounts.{IsKept, tasks_owed}
 use Rattle.lj_pool.proofs.Places.{works_left, kept_left}
 use Rattle.lj_pool.proofs.account.Account.take_off.Goals as goal
 
@@ -32,6 +32,6 @@ returns-clause-owed c =
     c.remove-place.ensures.value ∙ get_or_default places here c.remove-place.result 0 within in
     let is = c.push.ensures.items ∙ ap (λ xs. xs ++ c.remove-place.result ∷ []) c.remove-place.ensures.items
     ∙ ap (λ k. remove places here ++ k ∷ []) place in
-    ap (λ xs. works c.self.inside.tasks (take (owed - 1) xs)) is
+    ap (λ xs. tasks_owed c.self.inside.tasks (take (owed - 1) xs)) is
     ∙ works_left c.self.inside.tasks places owed here kept inside
     ∙ ap (λ s. remove s.owed here) c.self.view_is

@@ -1,12 +1,12 @@
 use Rattle.std.proofs.Common.{◌<◌, refl, sym, subst}
-use Rattle.lj_session.specs.Owners.{Owning}
+use Rattle.lj_session.specs.Owner.{Owner}
 use Rattle.lj_pool.specs.Coming.{GoesOn, posts_coming}
 use Rattle.lj_pool.proofs.Gathered.{owes_some}
 use Rattle.lj_pool.proofs.Going.{goes_nothing, goes_posted, fewer_posts}
 use Rattle.lj_pool.proofs.engine.running.post_next.Goals as goal
 
-pub returns-then-full-clause-goes_on : goal.returns-then-full-clause-goes_on
-returns-then-full-clause-goes_on g c = goes_nothing c.args.owner.now (g.P.Pool.seen c.args.pool.now) c.requires.gathers
+pub returns-then-is_full-clause-goes_on : goal.returns-then-is_full-clause-goes_on
+returns-then-is_full-clause-goes_on g c = goes_nothing c.args.owner.now (g.P.Pool.seen c.args.pool.now) c.requires.gathers
 
 pub returns-then-not-next_task_in-clause-goes_on : goal.returns-then-not-next_task_in-clause-goes_on
 returns-then-not-next_task_in-clause-goes_on g c = goes_nothing c.args.owner.now (g.P.Pool.seen c.args.pool.now) c.requires.gathers
@@ -18,13 +18,13 @@ returns-then-not-next_task_in-clause-owes g c = λ alone waits none_ready _.
 
 pub returns-in-Ok-clause-goes_on : goal.returns-in-Ok-clause-goes_on
 returns-in-Ok-clause-goes_on g c =
-    subst (λ (o : Owning). GoesOn c.args.owner.now (g.P.Pool.seen c.args.pool.now) o (g.P.Pool.seen c.post_from.new.self))
+    subst (λ (o : Owner). GoesOn c.args.owner.now (g.P.Pool.seen c.args.pool.now) o (g.P.Pool.seen c.post_from.new.self))
     (sym c.posted.ensures.noted)
     (goes_posted c.args.owner.now (g.P.Pool.seen c.args.pool.now) (g.P.Pool.seen c.post_from.new.self) c.requires.gathers
     c.next_task_in.new.room (c.if-not-next_task_in.ensures.some refl) c.in-Ok.ensures.posted)
 
 pub returns-in-Ok-clause-fewer : goal.returns-in-Ok-clause-fewer
 returns-in-Ok-clause-fewer g c _ =
-    subst (λ (o : Owning). posts_coming o < posts_coming c.args.owner.now) (sym c.posted.ensures.noted)
+    subst (λ (o : Owner). posts_coming o < posts_coming c.args.owner.now) (sym c.posted.ensures.noted)
     (fewer_posts c.args.owner.now (g.P.Pool.seen c.args.pool.now) (g.P.Pool.seen c.post_from.new.self) c.requires.gathers
     c.next_task_in.new.room (c.if-not-next_task_in.ensures.some refl))

@@ -1,5 +1,5 @@
 use Rattle.std.proofs.Common.{refl, sym, ap, ◌∙◌, subst}
-use Rattle.lj_session.specs.Owners.{Owning}
+use Rattle.lj_session.specs.Owner.{Owner}
 use Rattle.lj_pool.specs.Endings.{served_of}
 use Rattle.lj_pool.specs.Served.{Serves}
 use Rattle.lj_pool.proofs.Dialogues.{serving-ceases, serving-fails, serving-stops, serving-halts, serving-breaks}
@@ -15,11 +15,11 @@ items-init g c = record {
   gathers =
       entered_gathers c.args.state c.args.user c.new-owner.result c.new-owner.ensures.value (g.P.Pool.seen c.args.pool.now)
       c.requires.none_owed c.new-owner.ensures.distinct;
-  idle = ap (λ (o : Owning). o.waiting) c.new-owner.ensures.value;
-  number = ap (λ (o : Owning). o.number) c.new-owner.ensures.value;
+  idle = ap (λ (o : Owner). o.waiting) c.new-owner.ensures.value;
+  number = ap (λ (o : Owner). o.number) c.new-owner.ensures.value;
   faults = refl;
   own = refl;
-  quota = ap (λ (o : Owning). o.state.quota) c.new-owner.ensures.value;
+  quota = ap (λ (o : Owner). o.state.quota) c.new-owner.ensures.value;
 }
 
 pub returns-in-Err-clause-told : goal.returns-in-Err-clause-told

@@ -1,11 +1,11 @@
 use Rattle.std.proofs.Common.{◌≡◌, ℕ, List, get_or, slice_set, ap, ◌∙◌}
 use Rattle.std.proofs.lemmas.List.{set-get_or}
-use Rattle.lj_queue.specs.Lists.{Kept}
+use Rattle.lj_queue.specs.ResultList.{ResultList}
 use Rattle.lj_queue.proofs.hall.Hall.keep.Goals as goal
 use Rattle.lj_queue.proofs.hall.Hall.keep.Goals.{then-not-is_present-via-then-not-is_present, then-not-is_present-via-else-not-is_present+then-not-takes, then-not-is_present-via-else-not-is_present+else-not-takes+then-given}
 
 -- a list of results written back as it was
-own_list : (lists : List Kept) (i : ℕ) (list : Kept) → list ≡ get_or lists i list → slice_set lists i list ≡ lists
+own_list : (lists : List ResultList) (i : ℕ) (list : ResultList) → list ≡ get_or lists i list → slice_set lists i list ≡ lists
 own_list lists i list read = ap (slice_set lists i) read ∙ set-get_or lists i list
 
 pub returns-then-not-is_present-clause-dropped : goal.returns-then-not-is_present-clause-dropped

@@ -1,10 +1,10 @@
 use Rattle.std.proofs.Common.{None, subst, sym}
-use Rattle.lj_session.specs.States.{Owned, IsAtWork}
+use Rattle.lj_session.specs.UserState.{UserState, IsAtWork}
 use Rattle.lj_session.proofs.AtWork.{at_work-rested}
 use Rattle.lj_session.proofs.owner.Owner.new.Goals as goal
 
 pub invariant_of-result : goal.invariant_of-result
 invariant_of-result c = record {
-  at_work = subst (λ (owned : Owned). IsAtWork None owned) (sym c.rest.ensures.rested) (at_work-rested c.args.state);
+  at_work = subst (λ (owned : UserState). IsAtWork None owned) (sym c.rest.ensures.rested) (at_work-rested c.args.state);
   some = tt;
 }

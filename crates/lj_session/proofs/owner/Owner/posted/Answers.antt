@@ -1,7 +1,7 @@
 use Rattle.std.proofs.Common.{◌≡◌, ◌∙◌, ap, subst, sym}
-use Rattle.lj_session.specs.KeptOwners.{owning_of}
-use Rattle.lj_session.specs.Owners.{Owning, changed_in, with_state, with_task_posted}
-use Rattle.lj_session.specs.States.{Owned, IsAtWork, owed_in, with_posted}
+use Rattle.lj_session.specs.KeptOwners.{owner_of_kept}
+use Rattle.lj_session.specs.Owner.{Owner, state_changed_in, with_state, with_task_posted}
+use Rattle.lj_session.specs.UserState.{UserState, IsAtWork, owed_in, with_posted}
 use Rattle.lj_session.proofs.AtWork.{at_work-posted, owed-posted}
 use Rattle.lj_session.proofs.Owing.{owed-changed, turns-kept, turns-some}
 use Rattle.lj_session.proofs.owner.Owner.posted.Goals as goal
@@ -12,10 +12,10 @@ invariant_of-self c =
     let waiting = c.self.inside.waiting in
     let next = c.in-Some.ensures.some in
     let posted = c.post.ensures.posted next.name next.named in record {
-      at_work = subst (λ (owned : Owned). IsAtWork waiting owned) (sym posted)
+      at_work = subst (λ (owned : UserState). IsAtWork waiting owned) (sym posted)
           (at_work-posted waiting old next.name c.self.invariant.at_work);
       some = turns-some waiting old c.post.new.self (λ command is. turns-kept old c.post.new.self command c.post.ensures.user
-          (λ name waits. ap (λ (owned : Owned). owed_in owned name) posted
+          (λ name waits. ap (λ (owned : UserState). owed_in owned name) posted
           ∙ owed-changed old next.name with_posted owed-posted name)) c.self.invariant.some;
     }
 
@@ -23,12 +23,12 @@ pub returns-in-Some-clause-noted : goal.returns-in-Some-clause-noted
 returns-in-Some-clause-noted c =
     let old = c.self.inside in
     let next = c.in-Some.ensures.some in
-    ap (λ (owned : Owned). with_state owned (owning_of old)) (c.post.ensures.posted next.name next.named
-    ∙ sym (ap (λ o. changed_in o with_posted old.state) (next.first old.user)))
+    ap (λ (owned : UserState). with_state owned (owner_of_kept old)) (c.post.ensures.posted next.name next.named
+    ∙ sym (ap (λ o. state_changed_in o with_posted old.state) (next.first old.user)))
     ∙ ap with_task_posted c.self.view_is
 
 pub returns-in_default-clause-noted : goal.returns-in_default-clause-noted
 returns-in_default-clause-noted c =
     let old = c.self.inside in
-    subst (λ (owner : Owning). owner ≡ with_task_posted owner) c.self.view_is
-    (sym (ap (λ o. with_state (changed_in o with_posted old.state) (owning_of old)) (c.in_default.ensures.none old.user)))
+    subst (λ (owner : Owner). owner ≡ with_task_posted owner) c.self.view_is
+    (sym (ap (λ o. with_state (state_changed_in o with_posted old.state) (owner_of_kept old)) (c.in_default.ensures.none old.user)))

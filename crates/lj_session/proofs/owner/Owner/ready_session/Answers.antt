@@ -1,8 +1,8 @@
 use Rattle.std.proofs.Common.{◌≡◌, true, List, ℕ, Some, ◌∙◌, ap, sym, subst}
 use Rattle.std.specs.Option.{option_copied}
-use Rattle.lj_session.specs.KeptOwners.{owning_of}
-use Rattle.lj_session.specs.Owners.{Owning, owes}
-use Rattle.lj_session.specs.States.{is_whole_in, names}
+use Rattle.lj_session.specs.KeptOwners.{owner_of_kept}
+use Rattle.lj_session.specs.Owner.{Owner, is_owing}
+use Rattle.lj_session.specs.UserState.{is_whole_in, names}
 use Rattle.lj_session.proofs.Firsts.{find-passes}
 use Rattle.lj_session.proofs.Owing.{whole-owes}
 use Rattle.lj_session.proofs.owner.Owner.ready_session.Goals as goal
@@ -13,8 +13,8 @@ whole c = find-passes (is_whole_in c.self.inside.state) (names c.self.inside.sta
     (sym c.first_whole.ensures ∙ ap option_copied c.in_ok-first_whole.was ∙ ap (λ (n : List ℕ). Some n) (sym c.copy.ensures))
 
 pub returns-clause-whole : goal.returns-clause-whole
-returns-clause-whole c = subst (λ (owner : Owning). is_whole_in owner.state c.copy.result ≡ true) c.self.view_is (whole c)
+returns-clause-whole c = subst (λ (owner : Owner). is_whole_in owner.state c.copy.result ≡ true) c.self.view_is (whole c)
 
 pub returns-clause-owes : goal.returns-clause-owes
-returns-clause-owes c = subst (λ (owner : Owning). owes owner c.copy.result ≡ true) c.self.view_is
-    (whole-owes (owning_of c.self.inside) c.copy.result (whole c) c.self.invariant.at_work)
+returns-clause-owes c = subst (λ (owner : Owner). is_owing owner c.copy.result ≡ true) c.self.view_is
+    (whole-owes (owner_of_kept c.self.inside) c.copy.result (whole c) c.self.invariant.at_work)

@@ -1,6 +1,6 @@
 use Rattle.std.proofs.Common.{◌≡◌, Option, ◌∙◌, ap, refl, subst, sym}
 use Rattle.lj_step.specs.OpenSteps.{tile_number_of}
-use Rattle.lj_session.specs.States.{Held, Owned, IsAtWork, owed_in, changed, with_tile_in}
+use Rattle.lj_session.specs.UserState.{HeldSession, UserState, IsAtWork, owed_in, with_session_changed, with_tile_in}
 use Rattle.lj_session.specs.declared.command.Command.{Command}
 use Rattle.lj_session.specs.KeptOwners.{IsOwner}
 use Rattle.lj_session.proofs.AtWork.{at_work-taken}
@@ -10,26 +10,26 @@ use Rattle.lj_session.proofs.owner.Owner.take_in.Goals as goal
 pub invariant_of-self : goal.invariant_of-self
 invariant_of-self c = either-way c.take_in.result c.take_in.ensures.taken c.take_in.ensures.unchanged taken unchanged
   where
-    old : Owned
+    old : UserState
     old = c.self.inside.state
 
     waiting : Option Command
     waiting = c.self.inside.waiting
 
-    tile : Held → Held
+    tile : HeldSession → HeldSession
     tile = with_tile_in (tile_number_of c.args.done.now)
 
-    taken : c.take_in.new.self ≡ changed c.name.result.now.label.session tile old
+    taken : c.take_in.new.self ≡ with_session_changed c.name.result.now.label.session tile old
         → IsOwner (record { state = c.take_in.new.self; user = c.self.inside.user; waiting = waiting })
     taken is = record {
-      at_work = subst (λ (owned : Owned). IsAtWork waiting owned) (sym is)
+      at_work = subst (λ (owned : UserState). IsAtWork waiting owned) (sym is)
           (at_work-taken waiting old c.name.result.now.label.session (tile_number_of c.args.done.now) c.self.invariant.at_work);
       some = turns-some waiting old c.take_in.new.self (λ command w. turns-kept old c.take_in.new.self command c.take_in.ensures.user
-          (λ other waits. ap (λ (owned : Owned). owed_in owned other) is ∙ owed-changed old c.name.result.now.label.session tile (λ held. refl) other))
+          (λ other waits. ap (λ (owned : UserState). owed_in owned other) is ∙ owed-changed old c.name.result.now.label.session tile (λ held. refl) other))
           c.self.invariant.some;
     }
 
     unchanged : c.take_in.new.self ≡ old
         → IsOwner (record { state = c.take_in.new.self; user = c.self.inside.user; waiting = waiting })
-    unchanged is = subst (λ (owned : Owned). IsOwner (record { state = owned; user = c.self.inside.user; waiting = waiting }))
+    unchanged is = subst (λ (owned : UserState). IsOwner (record { state = owned; user = c.self.inside.user; waiting = waiting }))
         (sym is) c.self.invariant

@@ -2,9 +2,9 @@ use Rattle.std.proofs.Common.{◌≡◌, ◌<◌, true, false, List, ℕ, Option
 use Rattle.std.proofs.lemmas.Bool.{false≢true}
 use Rattle.std.specs.Prelude.{IfSome}
 use Rattle.lj_session.specs.declared.command.Command.{Command}
-use Rattle.lj_session.specs.KeptOwners.{owning_of}
-use Rattle.lj_session.specs.Owners.{Owning, IsLastTurn, IsReplied, is_waited_for}
-use Rattle.lj_session.specs.States.{Owned, IsAtWork, IsIdleIn, OtherSessionsKept, is_whole_in, held_in, owed_in, step_passed, turns_before, user_of}
+use Rattle.lj_session.specs.KeptOwners.{owner_of_kept}
+use Rattle.lj_session.specs.Owner.{Owner, IsLastTurn, IsReplied, is_waited_for}
+use Rattle.lj_session.specs.UserState.{UserState, IsAtWork, IsIdleIn, OtherSessionsKept, is_whole_in, held_session, owed_in, with_step_passed, turns_before, user_of}
 use Rattle.lj_session.proofs.Others.{others-changed, settled-measured}
 use Rattle.lj_session.proofs.Passing.{forces, others-closed, rests-closed}
 use Rattle.lj_session.proofs.Owing.{turns-kept, turns-some, unwaited-owed, unwaited-work, unwaited-apart, owed-apart}
@@ -18,10 +18,10 @@ same_Some a b e = cc
 
 -- the step is whole, and nothing waits for the session
 whole : (c : goal.After-pass_step-arg-1) → is_whole_in c.self.inside.state c.args.name.now ≡ true
-whole c = ap (λ (owner : Owning). is_whole_in owner.state c.args.name.now) c.self.view_is ∙ c.requires
+whole c = ap (λ (owner : Owner). is_whole_in owner.state c.args.name.now) c.self.view_is ∙ c.requires
 
 unwaited : (c : goal.After-pass_step-arg-1) → is_waited_for c.self.inside.waiting c.args.name.now ≡ false
-unwaited c = ap (λ (owner : Owning). is_waited_for owner.waiting c.args.name.now) c.self.view_is
+unwaited c = ap (λ (owner : Owner). is_waited_for owner.waiting c.args.name.now) c.self.view_is
     ∙ sym c.is_waited_for.ensures ∙ c.if-not-is_waited_for.true
 
 pub pass_step-requires-clause-owed : goal.pass_step-requires-clause-owed
@@ -37,29 +37,29 @@ pub invariant_of-self : goal.invariant_of-self
 invariant_of-self c =
     let old = c.self.inside.state in
     let waiting = c.self.inside.waiting in
-    let not = ap (λ (owner : Owning). is_waited_for owner.waiting c.args.name.now) c.self.view_is
+    let not = ap (λ (owner : Owner). is_waited_for owner.waiting c.args.name.now) c.self.view_is
     ∙ sym c.is_waited_for.ensures ∙ c.if-not-is_waited_for.true in record {
-      at_work = subst (λ (owned : Owned). IsAtWork waiting owned) (sym c.pass_step.ensures.passed)
+      at_work = subst (λ (owned : UserState). IsAtWork waiting owned) (sym c.pass_step.ensures.passed)
           (unwaited-work waiting old c.args.name.now not c.self.invariant.at_work);
       some = turns-some waiting old c.pass_step.new.self (λ command is. turns-kept old c.pass_step.new.self command
-          c.pass_step.ensures.user (λ other waits. ap (λ (owned : Owned). owed_in owned other) c.pass_step.ensures.passed
-          ∙ owed-apart old c.args.name.now other step_passed (unwaited-apart command c.args.name.now other waits
+          c.pass_step.ensures.user (λ other waits. ap (λ (owned : UserState). owed_in owned other) c.pass_step.ensures.passed
+          ∙ owed-apart old c.args.name.now other with_step_passed (unwaited-apart command c.args.name.now other waits
           (subst (λ (w : Option Command). is_waited_for w c.args.name.now ≡ false) is not)))) c.self.invariant.some;
     }
 
 pub returns-then-not-is_waited_for-clause-others :
     goal.returns-then-not-is_waited_for-clause-others
 returns-then-not-is_waited_for-clause-others c = λ other apart.
-    ap (λ (owned : Owned). held_in owned other) c.pass_step.ensures.passed
-    ∙ others-changed c.self.inside.state c.args.name.now step_passed other (λ e. apart (same_Some c.args.name.now other e))
-    ∙ ap (λ (owner : Owning). held_in owner.state other) c.self.view_is
+    ap (λ (owned : UserState). held_session owned other) c.pass_step.ensures.passed
+    ∙ others-changed c.self.inside.state c.args.name.now with_step_passed other (λ e. apart (same_Some c.args.name.now other e))
+    ∙ ap (λ (owner : Owner). held_session owner.state other) c.self.view_is
 
 -- the step is whole, and a command waits for the session
 whole_for : (c : After-owed) → is_whole_in c.self.inside.state c.args.name.now ≡ true
-whole_for c = ap (λ (owner : Owning). is_whole_in owner.state c.args.name.now) c.self.view_is ∙ c.requires
+whole_for c = ap (λ (owner : Owner). is_whole_in owner.state c.args.name.now) c.self.view_is ∙ c.requires
 
 waited_for : (c : After-owed) → is_waited_for c.self.inside.waiting c.args.name.now ≡ true
-waited_for c = ap (λ (owner : Owning). is_waited_for owner.waiting c.args.name.now) c.self.view_is
+waited_for c = ap (λ (owner : Owner). is_waited_for owner.waiting c.args.name.now) c.self.view_is
     ∙ sym c.is_waited_for.ensures ∙ c.if-not-is_waited_for.false
 
 none : (c : Then-owed-eq0) → owed_in c.self.inside.state c.args.name.now ≡ 0
@@ -71,16 +71,16 @@ some_of owed found some is = omega (arith, some, is)
 pub measured-reply-requires-clause-whole : goal.measured-reply-requires-clause-whole
 measured-reply-requires-clause-whole c = λ held there.
     let p = goal.at.measured-reply-requires-clause-whole c in
-    measured-whole (owning_of c.self.inside) c.args.name.now c.in_ok-command.command c.in_ok-command.ensures.value
+    measured-whole (owner_of_kept c.self.inside) c.args.name.now c.in_ok-command.command c.in_ok-command.ensures.value
     (waited_for p.After-owed) c.self.invariant.at_work (whole_for p.After-owed) (none p.Then-owed-eq0) held
-    (ap (held_in c.self.inside.state) (sym c.copy.ensures) ∙ there)
+    (ap (held_session c.self.inside.state) (sym c.copy.ensures) ∙ there)
 
 pub invariant_of-self-then-owed-eq0 : goal.invariant_of-self-then-owed-eq0
 invariant_of-self-then-owed-eq0 c =
     let p = goal.at.invariant_of-self-then-owed-eq0 c in record {
       at_work = subst (λ (w : Option Command). IsAtWork w c.close_step.new.self) (sym c.take.ensures.after)
-          (subst (λ (o : Owned). IsAtWork None o) (sym c.close_step.ensures.closed)
-          (measured-work (owning_of c.self.inside) c.args.name.now c.in_ok-command.command c.in_ok-command.ensures.value
+          (subst (λ (o : UserState). IsAtWork None o) (sym c.close_step.ensures.closed)
+          (measured-work (owner_of_kept c.self.inside) c.args.name.now c.in_ok-command.command c.in_ok-command.ensures.value
           (waited_for p.After-owed) c.self.invariant.at_work (whole_for p.After-owed) (none p.Then-owed-eq0)));
       some = subst (λ (w : Option Command). IfSome w (λ command. 0 < turns_before c.close_step.new.self command))
           (sym c.take.ensures.after) tt;
@@ -89,8 +89,8 @@ invariant_of-self-then-owed-eq0 c =
 pub returns-then-owed-eq0-clause-last : goal.returns-then-owed-eq0-clause-last
 returns-then-owed-eq0-clause-last c =
     let p = goal.at.returns-then-owed-eq0-clause-last c in (
-      λ _. subst (λ (owner : Owning). IsLastTurn c.args.name.now owner) c.self.view_is
-          (measured-last (owning_of c.self.inside) c.args.name.now c.in_ok-command.command c.in_ok-command.ensures.value
+      λ _. subst (λ (owner : Owner). IsLastTurn c.args.name.now owner) c.self.view_is
+          (measured-last (owner_of_kept c.self.inside) c.args.name.now c.in_ok-command.command c.in_ok-command.ensures.value
           (waited_for p.After-owed) c.self.invariant.at_work (whole_for p.After-owed) (none p.Then-owed-eq0)),
       λ _. refl,
     )
@@ -98,8 +98,8 @@ returns-then-owed-eq0-clause-last c =
 pub returns-then-owed-eq0-clause-replied : goal.returns-then-owed-eq0-clause-replied
 returns-then-owed-eq0-clause-replied c =
     let p = goal.at.returns-then-owed-eq0-clause-replied c in
-    subst (λ (owner : Owning). IsReplied owner c.measured-reply.result (user_of c.close_step.new.self)) c.self.view_is
-    (measured-replied (owning_of c.self.inside) c.args.name.now c.in_ok-command.command c.in_ok-command.ensures.value
+    subst (λ (owner : Owner). IsReplied owner c.measured-reply.result (user_of c.close_step.new.self)) c.self.view_is
+    (measured-replied (owner_of_kept c.self.inside) c.args.name.now c.in_ok-command.command c.in_ok-command.ensures.value
     (waited_for p.After-owed) c.self.invariant.at_work (whole_for p.After-owed) (none p.Then-owed-eq0)
     c.close_step.new.self c.copy.result c.measured-reply.result c.copy.ensures c.measured-reply.ensures
     c.close_step.ensures.user)
@@ -110,26 +110,26 @@ returns-then-owed-eq0-clause-settled c =
 
 pub returns-then-owed-eq0-clause-rests : goal.returns-then-owed-eq0-clause-rests
 returns-then-owed-eq0-clause-rests c =
-    subst (λ (o : Owned). IsIdleIn o c.args.name.now) (sym c.close_step.ensures.closed)
+    subst (λ (o : UserState). IsIdleIn o c.args.name.now) (sym c.close_step.ensures.closed)
     (rests-closed c.self.inside.state c.args.name.now (none (goal.at.returns-then-owed-eq0-clause-rests c).Then-owed-eq0))
 
 pub returns-then-owed-eq0-clause-others : goal.returns-then-owed-eq0-clause-others
 returns-then-owed-eq0-clause-others c =
-    subst (λ (owner : Owning). OtherSessionsKept c.args.name.now owner.state c.close_step.new.self) c.self.view_is
-    (subst (λ (o : Owned). OtherSessionsKept c.args.name.now c.self.inside.state o) (sym c.close_step.ensures.closed)
+    subst (λ (owner : Owner). OtherSessionsKept c.args.name.now owner.state c.close_step.new.self) c.self.view_is
+    (subst (λ (o : UserState). OtherSessionsKept c.args.name.now c.self.inside.state o) (sym c.close_step.ensures.closed)
     (others-closed c.self.inside.state c.args.name.now))
 
 pub pass_step-requires-2-clause-whole : goal.pass_step-requires-2-clause-whole
 pass_step-requires-2-clause-whole c =
     let p = goal.at.pass_step-requires-2-clause-whole c in
-    passed-whole (owning_of c.self.inside) c.args.name.now c.in_ok-command.command c.in_ok-command.ensures.value
+    passed-whole (owner_of_kept c.self.inside) c.args.name.now c.in_ok-command.command c.in_ok-command.ensures.value
     (waited_for p.After-owed) c.self.invariant.at_work (whole_for p.After-owed) (some_of _ _ c.if-owed-eq0.false c.owed.ensures)
 
 pub invariant_of-self-2 : goal.invariant_of-self-2
 invariant_of-self-2 c =
     let p = goal.at.invariant_of-self-2 c in record {
       at_work = subst (λ (w : Option Command). IsAtWork w c.pass_step-2.new.self) (sym c.take.ensures.after)
-          (passed-work (owning_of c.self.inside) c.args.name.now c.in_ok-command.command c.in_ok-command.ensures.value
+          (passed-work (owner_of_kept c.self.inside) c.args.name.now c.in_ok-command.command c.in_ok-command.ensures.value
           (waited_for p.After-owed) c.self.invariant.at_work (whole_for p.After-owed) (some_of _ _ c.if-owed-eq0.false c.owed.ensures)
           c.pass_step-2.new.self c.pass_step-2.ensures.passed);
       some = subst (λ (w : Option Command). IfSome w (λ command. 0 < turns_before c.pass_step-2.new.self command))
@@ -139,8 +139,8 @@ invariant_of-self-2 c =
 pub returns-in-Answered-clause-last : goal.returns-in-Answered-clause-last
 returns-in-Answered-clause-last c =
     let p = goal.at.returns-in-Answered-clause-last c in (
-      λ _. subst (λ (owner : Owning). IsLastTurn c.args.name.now owner) c.self.view_is
-          (passed-last (owning_of c.self.inside) c.args.name.now c.in_ok-command.command c.in_ok-command.ensures.value
+      λ _. subst (λ (owner : Owner). IsLastTurn c.args.name.now owner) c.self.view_is
+          (passed-last (owner_of_kept c.self.inside) c.args.name.now c.in_ok-command.command c.in_ok-command.ensures.value
           (waited_for p.After-owed) c.self.invariant.at_work (whole_for p.After-owed) (some_of _ _ c.if-owed-eq0.false c.owed.ensures)
           c.pass_step-2.new.self c.pass_step-2.ensures.passed c.in-Answered.ensures.at_once),
       λ _. refl,
@@ -149,7 +149,7 @@ returns-in-Answered-clause-last c =
 pub returns-in-Answered-clause-rests : goal.returns-in-Answered-clause-rests
 returns-in-Answered-clause-rests c =
     let p = goal.at.returns-in-Answered-clause-rests c in
-    passed-rests (owning_of c.self.inside) c.args.name.now c.in_ok-command.command c.in_ok-command.ensures.value
+    passed-rests (owner_of_kept c.self.inside) c.args.name.now c.in_ok-command.command c.in_ok-command.ensures.value
     (waited_for p.After-owed) c.self.invariant.at_work (whole_for p.After-owed) (some_of _ _ c.if-owed-eq0.false c.owed.ensures)
     c.pass_step-2.new.self c.pass_step-2.ensures.passed c.begin.new.self.state c.in-Answered.ensures.at_once
     c.in-Answered.ensures.steps
@@ -157,8 +157,8 @@ returns-in-Answered-clause-rests c =
 pub returns-in-Answered-clause-others : goal.returns-in-Answered-clause-others
 returns-in-Answered-clause-others c =
     let p = goal.at.returns-in-Answered-clause-others c in
-    subst (λ (owner : Owning). OtherSessionsKept c.args.name.now owner.state c.begin.new.self.state) c.self.view_is
-    (passed-others (owning_of c.self.inside) c.args.name.now c.in_ok-command.command c.in_ok-command.ensures.value
+    subst (λ (owner : Owner). OtherSessionsKept c.args.name.now owner.state c.begin.new.self.state) c.self.view_is
+    (passed-others (owner_of_kept c.self.inside) c.args.name.now c.in_ok-command.command c.in_ok-command.ensures.value
     (waited_for p.After-owed) c.self.invariant.at_work (whole_for p.After-owed) (some_of _ _ c.if-owed-eq0.false c.owed.ensures)
     c.pass_step-2.new.self c.pass_step-2.ensures.passed c.begin.new.self.state c.begin.ensures.others)
 
@@ -167,16 +167,16 @@ returns-in-Running-clause-last c =
     let p = goal.at.returns-in-Running-clause-last c in (
       λ never. absurd (false≢true never),
       λ last.
-          absurd (passed-more (owning_of c.self.inside) c.args.name.now c.in_ok-command.command c.in_ok-command.ensures.value
+          absurd (passed-more (owner_of_kept c.self.inside) c.args.name.now c.in_ok-command.command c.in_ok-command.ensures.value
           (waited_for p.After-owed) c.self.invariant.at_work (whole_for p.After-owed) (some_of _ _ c.if-owed-eq0.false c.owed.ensures)
           c.pass_step-2.new.self c.pass_step-2.ensures.passed c.in-Running.ensures.takes_turns
-          (subst (λ (owner : Owning). IsLastTurn c.args.name.now owner) (sym c.self.view_is) last)),
+          (subst (λ (owner : Owner). IsLastTurn c.args.name.now owner) (sym c.self.view_is) last)),
     )
 
 pub returns-in-Running-clause-others : goal.returns-in-Running-clause-others
 returns-in-Running-clause-others c =
     let p = goal.at.returns-in-Running-clause-others c in
-    subst (λ (owner : Owning). OtherSessionsKept c.args.name.now owner.state c.begin.new.self.state) c.self.view_is
-    (passed-others (owning_of c.self.inside) c.args.name.now c.in_ok-command.command c.in_ok-command.ensures.value
+    subst (λ (owner : Owner). OtherSessionsKept c.args.name.now owner.state c.begin.new.self.state) c.self.view_is
+    (passed-others (owner_of_kept c.self.inside) c.args.name.now c.in_ok-command.command c.in_ok-command.ensures.value
     (waited_for p.After-owed) c.self.invariant.at_work (whole_for p.After-owed) (some_of _ _ c.if-owed-eq0.false c.owed.ensures)
     c.pass_step-2.new.self c.pass_step-2.ensures.passed c.begin.new.self.state c.begin.ensures.others)

@@ -5,7 +5,7 @@ use Rattle.lj_session.specs.Faults.{quota_refusal}
 use Rattle.lj_session.proofs.Loading as loading
 use Rattle.lj_session.proofs.Results.{refused}
 use Rattle.lj_session.proofs.Limits.{over-limit, same_over, sessions-over, sessions-room}
-use Rattle.lj_session.specs.States.{user_of}
+use Rattle.lj_session.specs.UserState.{user_of}
 use Rattle.lj_session.proofs.state.UserState.admit.Goals as goal
 
 pub returns-then-has : goal.returns-then-has

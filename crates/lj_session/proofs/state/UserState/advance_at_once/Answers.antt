@@ -1,13 +1,13 @@
 use Rattle.std.proofs.Common.{Ok, sym, ap, ◌∙◌}
 use Rattle.lj_session.specs.declared.command.Command.TheVariants.{Advance}
 use Rattle.lj_session.specs.declared.reply.Reply.TheVariants as reply
-use Rattle.lj_session.specs.Answers.{can_advance, performed}
+use Rattle.lj_session.specs.Answers.{can_advance, command_result}
 use Rattle.lj_session.proofs.Holding.{named-held, named-absent}
 use Rattle.lj_session.proofs.Performing as performing
 use Rattle.lj_session.proofs.Outcomes as outcomes
 use Rattle.lj_session.proofs.Outcomes.{read-step}
 use Rattle.lj_session.proofs.Turning.{advance-turns-near}
-use Rattle.lj_session.specs.States.{session_meant, user_of}
+use Rattle.lj_session.specs.UserState.{session_meant, user_of}
 use Rattle.lj_session.proofs.state.UserState.advance_at_once.Goals as goal
 
 pub returns-in_default : goal.returns-in_default
@@ -32,7 +32,7 @@ returns c = λ mark.
     let none =
     sym (advance-turns-near (user_of old) c.args.name c.args.steps (session_meant held)
     (named-held old c.args.name held found) near) ∙ c.requires.turns in
-    ap (λ n. performed (user_of old) (Advance c.args.name n) mark) none
+    ap (λ n. command_result (user_of old) (Advance c.args.name n) mark) none
     ∙ outcomes.advance-nothing old c.args.name held found (ap (can_advance (session_meant held)) (sym none) ∙ near) mark
     ∙ ap (λ s. Ok (reply.Advanced c.args.name s, user_of old))
     (sym (read-step c.target-step.result c.target-step.ensures.most ∙ c.target-step.ensures.value))

@@ -1,11 +1,11 @@
 use Rattle.std.proofs.Common.{◌≡◌, ◌+◌, false, length, refl, sym, ap, ◌∙◌}
 use Rattle.std.specs.Prelude.{is_some}
-use Rattle.lj_step.specs.Live.{Live}
-use Rattle.lj_branch.specs.Named.{named, put}
+use Rattle.lj_step.specs.Sim.{Sim}
+use Rattle.lj_branch.specs.Named.{value_named, with_value}
 use Rattle.lj_quota.specs.declared.Over.TheVariants.{Branches}
 use Rattle.lj_session.specs.Faults.{quota_refusal}
 use Rattle.lj_session.specs.declared.reply.Reply.TheVariants as reply
-use Rattle.lj_session.specs.States.{Held, keeping, as_session, user_of}
+use Rattle.lj_session.specs.UserState.{HeldSession, with_saved, as_session, user_of}
 use Rattle.lj_session.proofs.Entries.{length-new}
 use Rattle.lj_session.proofs.Limits.{over-limit, same_over, branches-over, branches-room}
 use Rattle.lj_session.proofs.Performing as performing
@@ -32,7 +32,7 @@ as_was c =
     c.in-Some.session.now (c.get_mut.follows.holds c.in-Some.session.now).0
 
 -- nothing is saved under the name yet
-is_new : (c : After-may_branch) → is_some (named c.args.branch c.in-Some.session.now.saved) ≡ false
+is_new : (c : After-may_branch) → is_some (value_named c.args.branch c.in-Some.session.now.saved) ≡ false
 is_new c =
     let held = c.in-Some.session.now in
     is_some-counted c.args.branch held.saved c.branches.result.now c.count_of.result c.branches.ensures
@@ -96,8 +96,8 @@ returns-in_err-save-clause-performs c =
     let new = is_new (goal.at.returns-in_err-save-clause-performs c).After-may_branch in
     performs-refused c.args.self.now _ _ c.from_residual-in_err-save.result _ c.from_residual-in_err-save.ensures.1
     (performs-starved c.args.self.now _ _ _
-    (not-saved c.in_err-save.field-0.0 (is_some (named c.copy.result held.saved)) c.in_err-save.ensures.exists.0
-    (ap (λ b. is_some (named b held.saved)) c.copy.ensures ∙ new))
+    (not-saved c.in_err-save.field-0.0 (is_some (value_named c.copy.result held.saved)) c.in_err-save.ensures.exists.0
+    (ap (λ b. is_some (value_named b held.saved)) c.copy.ensures ∙ new))
     (performing.branch-memory (user_of c.args.self.now) c.args.name (as_session held)
     (is_settled c.self.inside c.args.self.now c.self.view_is c.args.name held c.in-Some.ensures.value c.requires) c.args.branch new
     (branches-room c.self.inside c.args.self.now c.self.view_is c.self.invariant.counted
@@ -113,11 +113,11 @@ pub invariant_of-self-2 : goal.invariant_of-self-2
 invariant_of-self-2 c =
     let held = c.in-Some.session.now in
     let new = is_new (goal.at.invariant_of-self-2 c).After-may_branch in
-    let saved = c.in_ok-save.ensures.saved ∙ ap (λ b. keeping held (put b held.live.sim held.saved)) c.copy.ensures in
+    let saved = c.in_ok-save.ensures.saved ∙ ap (λ b. with_saved held (with_value b held.live.sim held.saved)) c.copy.ensures in
     let wrote = written (goal.at.invariant_of-self-2 c).After-save in record {
-      counted = totals_saved wrote (ap (λ (h : Held). length h.live.sim.cur) saved)
-          (ap (λ (h : Held). length h.saved) saved
-          ∙ length-new c.args.branch held.saved held.live.sim (none-of (named c.args.branch held.saved) new));
+      counted = totals_saved wrote (ap (λ (h : HeldSession). length h.live.sim.cur) saved)
+          (ap (λ (h : HeldSession). length h.saved) saved
+          ∙ length-new c.args.branch held.saved held.live.sim (none-of (value_named c.args.branch held.saved) new));
       reached = reached_as wrote _ _ _
           (outcomes.branch c.args.self.now c.args.name held wrote.found
           (none_owed c.self.inside c.args.self.now c.self.view_is c.args.name held c.in-Some.ensures.value c.requires)
@@ -130,12 +130,12 @@ returns-clause-performs c =
     let held = c.in-Some.session.now in
     let wrote = written (goal.at.returns-clause-performs c).After-save in
     let new = is_new (goal.at.returns-clause-performs c).After-may_branch in
-    let saved = c.in_ok-save.ensures.saved ∙ ap (λ b. keeping held (put b held.live.sim held.saved)) c.copy.ensures in
+    let saved = c.in_ok-save.ensures.saved ∙ ap (λ b. with_saved held (with_value b held.live.sim held.saved)) c.copy.ensures in
     done_at wrote _ (reply.Branched c.args.name c.args.branch) _ _ _
     (outcomes.branch c.args.self.now c.args.name held wrote.found
     (none_owed c.self.inside c.args.self.now c.self.view_is c.args.name held c.in-Some.ensures.value c.requires) c.args.branch new
     (branches-room c.self.inside c.args.self.now c.self.view_is c.self.invariant.counted
     (c.in_ok-may_branch.ensures.may.0 refl)))
     (read-step c.step-step.result c.step-step.ensures.most
-    ∙ (c.step-step.ensures.value ∙ ap (λ (l : Live). l.sim.step) c.sim.ensures
-    ∙ ap (λ (h : Held). h.live.sim.step) saved)) saved
+    ∙ (c.step-step.ensures.value ∙ ap (λ (l : Sim). l.sim.step) c.sim.ensures
+    ∙ ap (λ (h : HeldSession). h.live.sim.step) saved)) saved

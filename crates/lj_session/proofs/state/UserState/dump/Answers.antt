@@ -1,7 +1,7 @@
 use Rattle.std.proofs.Common.{sym}
 use Rattle.lj_session.proofs.Holding.{named-absent, named-held}
 use Rattle.lj_session.proofs.Performing as performing
-use Rattle.lj_session.specs.States.{session_meant, user_of}
+use Rattle.lj_session.specs.UserState.{session_meant, user_of}
 use Rattle.lj_session.proofs.state.UserState.dump.Goals as goal
 
 pub returns-in_default : goal.returns-in_default

@@ -1,6 +1,6 @@
 use Rattle.std.proofs.Common.{◌≡◌, length, sym, ◌∙◌, subst, arith}
 use Rattle.std.proofs.lemmas.List.{length-map}
-use Rattle.lj_session.specs.States.{is_whole_in, names}
+use Rattle.lj_session.specs.UserState.{is_whole_in, names}
 use Rattle.lj_session.proofs.Firsts.{NoneBefore, none-first, none-next, find-at, find-nowhere}
 use Rattle.lj_session.proofs.state.UserState.first_whole.Goals as goal
 

@@ -1,4 +1,4 @@
-use Rattle.lj_session.specs.States.{is_whole_in, names}
+use Rattle.lj_session.specs.UserState.{is_whole_in, names}
 use Rattle.lj_session.proofs.Firsts.{NoneBefore}
 use Rattle.lj_session.proofs.state.UserState.first_whole.Given as goal
 

@@ -1,6 +1,6 @@
 use Rattle.std.proofs.Common.{◌+◌, false, length, refl, ap, ◌∙◌}
-use Rattle.lj_branch.specs.Named.{named}
-use Rattle.lj_session.specs.States.{Held, session_meant, user_of}
+use Rattle.lj_branch.specs.Named.{value_named}
+use Rattle.lj_session.specs.UserState.{HeldSession, session_meant, user_of}
 use Rattle.lj_session.proofs.Entries.{length-taken}
 use Rattle.lj_session.proofs.Performing as performing
 use Rattle.lj_session.proofs.Outcomes as outcomes
@@ -34,7 +34,7 @@ returns-in_err-forget-clause-performs c =
     (performing.refused c.args.self.now _ _ _ (performing.forget-no_branch (user_of c.args.self.now)
     c.args.name false (session_meant held)
     (is_there c.self.inside c.args.self.now c.self.view_is c.args.name held c.in-Some.ensures.value)
-    c.args.branch (none-if (named c.args.branch held.saved) c.in_err-forget.ensures.found.1)))
+    c.args.branch (none-if (value_named c.args.branch held.saved) c.in_err-forget.ensures.found.1)))
 
 pub returns-in_err-forget-clause-unchanged : goal.returns-in_err-forget-clause-unchanged
 returns-in_err-forget-clause-unchanged c =
@@ -44,19 +44,19 @@ returns-in_err-forget-clause-unchanged c =
 pub overflow_sub-self : goal.overflow_sub-self
 overflow_sub-self c =
     let held = c.in-Some.session.now in
-    let saved = some-of (named c.args.branch held.saved) (c.in_ok-forget.ensures.found.0 refl) in
+    let saved = some-of (value_named c.args.branch held.saved) (c.in_ok-forget.ensures.found.0 refl) in
     one_saved (written (goal.at.overflow_sub-self c).After-forget)
-    (ap (λ (h : Held). length h.live.sim.cur) c.in_ok-forget.ensures.taken)
-    (ap (λ (h : Held). length h.saved + 1) c.in_ok-forget.ensures.taken
+    (ap (λ (h : HeldSession). length h.live.sim.cur) c.in_ok-forget.ensures.taken)
+    (ap (λ (h : HeldSession). length h.saved + 1) c.in_ok-forget.ensures.taken
     ∙ length-taken c.args.branch held.saved saved.0 saved.1)
 
 pub invariant_of-self-2 : goal.invariant_of-self-2
 invariant_of-self-2 c =
     let held = c.in-Some.session.now in
-    let saved = some-of (named c.args.branch held.saved) (c.in_ok-forget.ensures.found.0 refl) in
+    let saved = some-of (value_named c.args.branch held.saved) (c.in_ok-forget.ensures.found.0 refl) in
     let wrote = written (goal.at.invariant_of-self-2 c).After-forget in record {
-      counted = totals_forgotten wrote (ap (λ (h : Held). length h.live.sim.cur) c.in_ok-forget.ensures.taken)
-          (ap (λ (h : Held). length h.saved + 1) c.in_ok-forget.ensures.taken
+      counted = totals_forgotten wrote (ap (λ (h : HeldSession). length h.live.sim.cur) c.in_ok-forget.ensures.taken)
+          (ap (λ (h : HeldSession). length h.saved + 1) c.in_ok-forget.ensures.taken
           ∙ length-taken c.args.branch held.saved saved.0 saved.1);
       reached = reached_as wrote _ _ _
           (outcomes.forget c.args.self.now c.args.name held wrote.found c.args.branch saved.0 saved.1)
@@ -67,6 +67,6 @@ pub returns-clause-performs : goal.returns-clause-performs
 returns-clause-performs c =
     let held = c.in-Some.session.now in
     let wrote = written (goal.at.returns-clause-performs c).After-forget in
-    let saved = some-of (named c.args.branch held.saved) (c.in_ok-forget.ensures.found.0 refl) in
+    let saved = some-of (value_named c.args.branch held.saved) (c.in_ok-forget.ensures.found.0 refl) in
     done_as wrote _ _ _ (outcomes.forget c.args.self.now c.args.name held wrote.found c.args.branch saved.0 saved.1)
     c.in_ok-forget.ensures.taken

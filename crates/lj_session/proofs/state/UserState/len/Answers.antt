@@ -1,5 +1,5 @@
 use Rattle.std.proofs.Common.{subst}
-use Rattle.lj_session.specs.States.{Reached}
+use Rattle.lj_session.specs.UserState.{Reached}
 use Rattle.lj_session.proofs.state.UserState.len.Goals as goal
 
 pub returns-clause-reached : goal.returns-clause-reached

@@ -14,8 +14,8 @@ use Rattle.lj_session.proofs.Totals.{used-more}
 use Rattle.lj_session.proofs.Limits.{over-limit, same_over, sessions-within, atoms-over, atoms-room}
 use Rattle.lj_session.proofs.Reaching.{reached-done}
 use Rattle.lj_session.specs.declared.command.Command.TheVariants.{Load}
-use Rattle.lj_session.specs.States.{Owned, Performs, user_of}
-use Rattle.lj_session.specs.Substances.{loaded, symbols_of}
+use Rattle.lj_session.specs.UserState.{UserState, Performs, user_of}
+use Rattle.lj_session.specs.Substances.{load_reply, symbols_of}
 use Rattle.lj_session.proofs.state.UserState.load.Goals.{In_ok-opening, In_ok-insert}
 use Rattle.lj_session.proofs.state.UserState.load.Goals as goal
 
@@ -95,7 +95,7 @@ was_loaded : (c : In_ok-insert)
     → reading (symbols_of c.args.load.substance) (reading_mode c.args.load.mode) (lines_of c.in-Read.body)
     ≡ Ok (frames_of c.in_ok-opening.opening.first c.in_ok-opening.opening.second)
     → Performs c.args.self.now (Load c.args.load)
-    (Ok (loaded c.args.load.substance c.args.load.name c.count-atoms.result))
+    (Ok (load_reply c.args.load.substance c.args.load.name c.count-atoms.result))
     (record { quota = c.self.inside.quota; sessions = c.insert.new.self.entries })
 was_loaded c read =
     let old = c.args.self.now in
@@ -124,7 +124,7 @@ invariant_of-self-2 c =
           (last_of opening.first opening.second) opening.same)) refl;
       reached = reached-done c.self.inside old _ c.self.view_is c.self.invariant (Load c.args.load) _
           (was_loaded (goal.at.invariant_of-self-2 c).In_ok-insert
-          (was_read (goal.at.invariant_of-self-2 c).In_ok-opening)) (ap (λ (o : Owned). o.quota) is_in);
+          (was_read (goal.at.invariant_of-self-2 c).In_ok-opening)) (ap (λ (o : UserState). o.quota) is_in);
     }
 
 pub returns-clause-performs : goal.returns-clause-performs

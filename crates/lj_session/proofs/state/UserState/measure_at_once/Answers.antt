@@ -1,6 +1,6 @@
 use Rattle.lj_session.proofs.Performing as performing
 use Rattle.lj_session.proofs.Turning.{measure-nothing}
-use Rattle.lj_session.specs.States.{user_of}
+use Rattle.lj_session.specs.UserState.{user_of}
 use Rattle.lj_session.proofs.state.UserState.measure_at_once.Goals as goal
 
 pub returns : goal.returns

@@ -1,10 +1,10 @@
 use Rattle.std.proofs.Common.{length, ◌∷◌, [], ap, ◌∙◌}
-use Rattle.lj_step.specs.Live.{Live}
+use Rattle.lj_step.specs.Sim.{Sim}
 use Rattle.lj_step.specs.Motion.{momentum, kinetic, potential}
 use Rattle.lj_session.proofs.Holding.{named-settled, owed-of}
 use Rattle.lj_session.proofs.Performing as performing
 use Rattle.lj_session.proofs.Outcomes.{read-step, read-potential, measured}
-use Rattle.lj_session.specs.States.{as_session, user_of}
+use Rattle.lj_session.specs.UserState.{as_session, user_of}
 use Rattle.lj_session.proofs.state.UserState.measured.Goals as goal
 
 pub returns : goal.returns
@@ -15,9 +15,9 @@ returns c = λ mark.
     performing.measure-done (user_of old) c.args.name mark (as_session held)
     (named-settled old c.args.name held c.session.ensures (owed-of old c.args.name held c.session.ensures c.requires.settled))
     ∙ measured (user_of old) c.args.name _ _ _ _ _ _ _ _ _ _
-    (read-step c.step.result c.step.ensures.most ∙ (c.step.ensures.value ∙ ap (λ (l : Live). l.sim.step) live))
-    (c.count.ensures.value ∙ ap (λ (l : Live). length l.sim.cur) live)
-    (c.momentum.ensures ∙ ap (λ (l : Live). let m = momentum l.sim in m.x ∷ m.y ∷ m.z ∷ []) live)
-    (c.kinetic.ensures ∙ ap (λ (l : Live). kinetic l.sim) live)
+    (read-step c.step.result c.step.ensures.most ∙ (c.step.ensures.value ∙ ap (λ (l : Sim). l.sim.step) live))
+    (c.count.ensures.value ∙ ap (λ (l : Sim). length l.sim.cur) live)
+    (c.momentum.ensures ∙ ap (λ (l : Sim). let m = momentum l.sim in m.x ∷ m.y ∷ m.z ∷ []) live)
+    (c.kinetic.ensures ∙ ap (λ (l : Sim). kinetic l.sim) live)
     (read-potential c.potential.result (record { sfits = c.potential.type_inv })
-    ∙ (c.potential.ensures ∙ ap (λ (l : Live). potential l.composition l.sim.cur) live))
+    ∙ (c.potential.ensures ∙ ap (λ (l : Sim). potential l.composition l.sim.cur) live))

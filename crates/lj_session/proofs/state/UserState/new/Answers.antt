@@ -1,5 +1,5 @@
 use Rattle.std.proofs.Common.{sym, ap, subst}
-use Rattle.lj_session.specs.States.{Reached, used_by}
+use Rattle.lj_session.specs.UserState.{Reached, used_by}
 use Rattle.lj_session.proofs.Reaching.{reached-empty}
 use Rattle.lj_session.proofs.state.UserState.new.Goals as goal
 

@@ -1,5 +1,5 @@
 use Rattle.std.proofs.Common.{◌≡◌, ◌<◌, length, ap, ◌∙◌}
-use Rattle.lj_session.specs.States.{Held, session_meant, step_passed}
+use Rattle.lj_session.specs.UserState.{HeldSession, session_meant, with_step_passed}
 use Rattle.lj_session.proofs.Owed.{meant-passed, count-passed, saved-passed}
 use Rattle.lj_session.proofs.Writing.{Writes, writes, owes-some, changed_by, user_kept, totals_kept, reached_kept}
 use Rattle.lj_session.proofs.state.UserState.pass_step.Goals.{After-pass_step}
@@ -13,22 +13,22 @@ written c = writes c.self.inside c.args.self.now c.self.view_is c.self.invariant
     c.in-Some.ensures.value _ c.pass_step.new.self (c.get_mut.follows.holds c.pass_step.new.self).0
 
 -- the session that is meant stays
-meant : (new held : Held) → new ≡ step_passed held → 0 < held.owed → session_meant new ≡ session_meant held
+meant : (new held : HeldSession) → new ≡ with_step_passed held → 0 < held.owed → session_meant new ≡ session_meant held
 meant new held is some = ap session_meant is ∙ meant-passed held some
 
 pub invariant_of-self-2 : goal.invariant_of-self-2
 invariant_of-self-2 c =
     let held = c.in-Some.session.now in
     let wrote = written (goal.at.invariant_of-self-2 c).After-pass_step in record {
-      counted = totals_kept wrote (ap (λ (h : Held). length h.live.sim.cur) c.pass_step.ensures ∙ count-passed held)
-          (ap (λ (h : Held). length h.saved) c.pass_step.ensures ∙ saved-passed held);
+      counted = totals_kept wrote (ap (λ (h : HeldSession). length h.live.sim.cur) c.pass_step.ensures ∙ count-passed held)
+          (ap (λ (h : HeldSession). length h.saved) c.pass_step.ensures ∙ saved-passed held);
       reached = reached_kept wrote (meant _ held c.pass_step.ensures (owes-some c.self.inside c.args.self.now c.self.view_is
           c.args.name.now held c.in-Some.ensures.value c.requires.owed));
     }
 
 pub returns-clause-passed : goal.returns-clause-passed
 returns-clause-passed c =
-    changed_by (written (goal.at.returns-clause-passed c).After-pass_step) step_passed c.pass_step.ensures
+    changed_by (written (goal.at.returns-clause-passed c).After-pass_step) with_step_passed c.pass_step.ensures
 
 pub returns-clause-user : goal.returns-clause-user
 returns-clause-user c =

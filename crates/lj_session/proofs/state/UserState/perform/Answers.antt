@@ -1,7 +1,7 @@
 use Rattle.std.proofs.Common.{false, refl, ap, ◌∙◌}
 use Rattle.lj_session.proofs.Performing.{done, steps-same, list-done, bye-done}
 use Rattle.lj_session.specs.declared.command.Command.TheVariants.{List, Bye}
-use Rattle.lj_session.specs.States.{index_waited_for, user_of}
+use Rattle.lj_session.specs.UserState.{index_waited_for, user_of}
 use Rattle.lj_session.specs.Turns.{waits_for}
 use Rattle.lj_session.proofs.Holding.{none-before}
 use Rattle.lj_session.proofs.state.UserState.perform.Goals as goal

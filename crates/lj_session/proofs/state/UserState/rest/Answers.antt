@@ -5,7 +5,7 @@ use Rattle.std.specs.Str.{bytes_eq}
 use Rattle.std.proofs.lemmas.Bool.{false≢true}
 use Rattle.indexmap.specs.IndexMap.{set_value_at}
 use Rattle.lj_quota.specs.declared.Quota.{Quota}
-use Rattle.lj_session.specs.States.{Held, Owned, Reached, names, rested, used_by, user_of}
+use Rattle.lj_session.specs.UserState.{HeldSession, UserState, Reached, names, state_at_rest, used_by, user_of}
 use Rattle.lj_session.proofs.Reaching.{reached-same}
 use Rattle.lj_session.proofs.Resting.{rested_to, rested_at, rested_next, rested_all, rested_used, rested_names, length-rested_to}
 use Rattle.lj_session.proofs.Waiting.{rested_user}
@@ -14,20 +14,20 @@ use Rattle.lj_session.proofs.state.UserState.rest.Goals as goal
 
 pub loop-i-init : goal.loop-i-init
 loop-i-init c = record {
-  entries = ap (λ (o : Owned). o.sessions) c.self.view_is;
-  quota = ap (λ (o : Owned). o.quota) c.self.view_is;
+  entries = ap (λ (o : UserState). o.sessions) c.self.view_is;
+  quota = ap (λ (o : UserState). o.quota) c.self.view_is;
   used = refl;
 }
 
 -- at the end all are at rest
 all : (c : After-loop-i) → record { quota = c.loop-i.self-inside.quota; sessions = c.loop-i.self-inside.sessions.entries }
-    ≡ rested c.args.self.now
+    ≡ state_at_rest c.args.self.now
 all c =
     let count : c.loop-i.i ≡ length c.args.self.now.sessions =
     (let past = c.loop-i-test.false in let most = c.loop-i.auto.i-end in omega (arith, past, most))
-    ∙ c.len-i-end.ensures.len ∙ ap (λ (o : Owned). length o.sessions) c.self.view_is in
+    ∙ c.len-i-end.ensures.len ∙ ap (λ (o : UserState). length o.sessions) c.self.view_is in
     ap (λ (q : Quota). record { quota = q; sessions = c.loop-i.self-inside.sessions.entries }) c.loop-i.invariant.quota
-    ∙ ap (λ (es : List (List ℕ × Held)). record { quota = c.args.self.now.quota; sessions = es })
+    ∙ ap (λ (es : List (List ℕ × HeldSession)). record { quota = c.args.self.now.quota; sessions = es })
     (c.loop-i.invariant.entries ∙ rested_all c.loop-i.i c.args.self.now.sessions count)
 
 pub invariant_of-self : goal.invariant_of-self
@@ -53,7 +53,7 @@ there : (c : In_default) → ⊥
 there c =
     let count : length c.loop-i.self-inside.sessions.entries ≡ c.len-i-end.result =
     ap length c.loop-i.invariant.entries ∙ length-rested_to c.loop-i.i c.args.self.now.sessions
-    ∙ ap (λ (o : Owned). length o.sessions) (sym c.self.view_is) ∙ sym c.len-i-end.ensures.len in
+    ∙ ap (λ (o : UserState). length o.sessions) (sym c.self.view_is) ∙ sym c.len-i-end.ensures.len in
     let below = c.loop-i-test.true in
     none_some (c.get_index_mut.ensures.found.1 (omega (arith, below, count)))
   where
@@ -76,12 +76,12 @@ pub loop-i-preserved : goal.loop-i-preserved
 loop-i-preserved c =
     let sessions = c.args.self.now.sessions in
     let i = c.loop-i.i in
-    let found : slice_get (map (λ (e : List ℕ × Held). e.1) sessions) i ≡ Some c.in-Some.session.now =
+    let found : slice_get (map (λ (e : List ℕ × HeldSession). e.1) sessions) i ≡ Some c.in-Some.session.now =
     sym (rested_at i sessions)
-    ∙ ap (λ (es : List (List ℕ × Held)). slice_get (map (λ (e : List ℕ × Held). e.1) es) i) (sym c.loop-i.invariant.entries)
+    ∙ ap (λ (es : List (List ℕ × HeldSession)). slice_get (map (λ (e : List ℕ × HeldSession). e.1) es) i) (sym c.loop-i.invariant.entries)
     ∙ sym c.in-Some.ensures.value in
     record {
-      entries = ap (λ (es : List (List ℕ × Held)). set_value_at es i c.rest.new.self) c.loop-i.invariant.entries
+      entries = ap (λ (es : List (List ℕ × HeldSession)). set_value_at es i c.rest.new.self) c.loop-i.invariant.entries
           ∙ ap (set_value_at (rested_to i sessions) i) c.rest.ensures
           ∙ rested_next i sessions c.in-Some.session.now found
           ∙ ap (λ n. rested_to n sessions) (let one : suc i ≡ i + 1 = omega arith in one);

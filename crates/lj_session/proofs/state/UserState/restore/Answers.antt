@@ -1,8 +1,8 @@
 use Rattle.std.proofs.Common.{◌≡◌, false, length, refl, ap, ◌∙◌}
-use Rattle.lj_step.specs.Live.{Live}
-use Rattle.lj_branch.specs.Named.{named}
+use Rattle.lj_step.specs.Sim.{Sim}
+use Rattle.lj_branch.specs.Named.{value_named}
 use Rattle.lj_session.specs.declared.reply.Reply.TheVariants as reply
-use Rattle.lj_session.specs.States.{Held, moved_to, as_session, user_of}
+use Rattle.lj_session.specs.UserState.{HeldSession, with_simulation, as_session, user_of}
 use Rattle.lj_session.proofs.Performing as performing
 use Rattle.lj_session.proofs.Outcomes as outcomes
 use Rattle.lj_session.proofs.Outcomes.{read-step}
@@ -39,7 +39,7 @@ returns-in_err-restore-clause-performs c =
     (performing.refused c.args.self.now _ _ _ (performing.restore-no_branch (user_of c.args.self.now)
     c.args.name false (as_session held)
     (is_settled c.self.inside c.args.self.now c.self.view_is c.args.name held c.in-Some.ensures.value c.requires)
-    c.args.branch (none-if (named c.args.branch held.saved) c.in_err-restore.ensures.found.1)))
+    c.args.branch (none-if (value_named c.args.branch held.saved) c.in_err-restore.ensures.found.1)))
 
 pub returns-in_err-restore-clause-unchanged : goal.returns-in_err-restore-clause-unchanged
 returns-in_err-restore-clause-unchanged c =
@@ -50,10 +50,10 @@ pub invariant_of-self-2 : goal.invariant_of-self-2
 invariant_of-self-2 c =
     let held = c.in-Some.session.now in
     let saved =
-    some-with (λ sim. c.restore.new.self ≡ moved_to held sim) (named c.args.branch held.saved)
+    some-with (λ sim. c.restore.new.self ≡ with_simulation held sim) (value_named c.args.branch held.saved)
     (c.in_ok-restore.ensures.found.0 refl) c.in_ok-restore.ensures.restored in
     let wrote = written (goal.at.invariant_of-self-2 c).After-restore in record {
-      counted = totals_kept wrote c.in_ok-restore.ensures.count (ap (λ (h : Held). length h.saved) saved.2);
+      counted = totals_kept wrote c.in_ok-restore.ensures.count (ap (λ (h : HeldSession). length h.saved) saved.2);
       reached = reached_as wrote _ _ _
           (outcomes.restore c.args.self.now c.args.name held wrote.found
           (none_owed c.self.inside c.args.self.now c.self.view_is c.args.name held c.in-Some.ensures.value c.requires)
@@ -65,11 +65,11 @@ returns-clause-performs c =
     let held = c.in-Some.session.now in
     let wrote = written (goal.at.returns-clause-performs c).After-restore in
     let saved =
-    some-with (λ sim. c.restore.new.self ≡ moved_to held sim) (named c.args.branch held.saved)
+    some-with (λ sim. c.restore.new.self ≡ with_simulation held sim) (value_named c.args.branch held.saved)
     (c.in_ok-restore.ensures.found.0 refl) c.in_ok-restore.ensures.restored in
     done_at wrote _ (reply.Restored c.args.name c.args.branch) _ _ _
     (outcomes.restore c.args.self.now c.args.name held wrote.found
     (none_owed c.self.inside c.args.self.now c.self.view_is c.args.name held c.in-Some.ensures.value c.requires) c.args.branch saved.0 saved.1)
     (read-step c.step-step.result c.step-step.ensures.most
-    ∙ (c.step-step.ensures.value ∙ ap (λ (l : Live). l.sim.step) c.sim.ensures
-    ∙ ap (λ (h : Held). h.live.sim.step) saved.2)) saved.2
+    ∙ (c.step-step.ensures.value ∙ ap (λ (l : Sim). l.sim.step) c.sim.ensures
+    ∙ ap (λ (h : HeldSession). h.live.sim.step) saved.2)) saved.2

@@ -1,6 +1,6 @@
 use Rattle.std.proofs.Common.{ℕ, length, refl, ap}
 use Rattle.lj_step.specs.OpenSteps.{tile_number_of}
-use Rattle.lj_session.specs.States.{Held, session_meant, with_tile_in}
+use Rattle.lj_session.specs.UserState.{HeldSession, session_meant, with_tile_in}
 use Rattle.lj_session.proofs.Results.{on_ok-then, on_err-then, same-either}
 use Rattle.lj_session.proofs.Writing.{Writes, writes, changed_by, unchanged, user_kept, totals_kept, reached_kept}
 use Rattle.lj_session.proofs.state.UserState.take_in.Goals.{After-take_in}
@@ -16,7 +16,7 @@ written c = writes c.self.inside c.args.self.now c.self.view_is c.self.invariant
 pub invariant_of-self-2 : goal.invariant_of-self-2
 invariant_of-self-2 c =
     let kept =
-    same-either {C = ℕ × ℕ} c.take_in.result (λ (h : Held). (length h.live.sim.cur, length h.saved))
+    same-either {C = ℕ × ℕ} c.take_in.result (λ (h : HeldSession). (length h.live.sim.cur, length h.saved))
     c.take_in.new.self c.in-Some.session.now
     (with_tile_in (tile_number_of c.args.done.now) c.in-Some.session.now)
     c.take_in.ensures.taken c.take_in.ensures.unchanged refl in

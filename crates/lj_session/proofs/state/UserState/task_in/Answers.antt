@@ -1,5 +1,5 @@
 use Rattle.std.proofs.Common.{◌∙◌, ap}
-use Rattle.lj_session.specs.States.{next_tile}
+use Rattle.lj_session.specs.UserState.{next_tile}
 use Rattle.lj_session.proofs.NextTiles.{next-held, next-of}
 use Rattle.lj_session.proofs.state.UserState.task_in.Goals as goal
 

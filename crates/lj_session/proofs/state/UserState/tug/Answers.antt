@@ -1,7 +1,7 @@
 use Rattle.std.proofs.Common.{false, length, refl, ap, ◌∙◌, arith}
-use Rattle.lj_step.specs.Live.{Live}
+use Rattle.lj_step.specs.Sim.{Sim}
 use Rattle.lj_session.specs.declared.reply.Reply.TheVariants as reply
-use Rattle.lj_session.specs.States.{Held, as_session, user_of}
+use Rattle.lj_session.specs.UserState.{HeldSession, as_session, user_of}
 use Rattle.lj_session.proofs.Performing as performing
 use Rattle.lj_session.proofs.Outcomes as outcomes
 use Rattle.lj_session.proofs.Outcomes.{read-step}
@@ -42,7 +42,7 @@ returns-then-atom-count-clause-performs c =
     (is_settled c.self.inside c.args.self.now c.self.view_is c.args.name held c.in-Some.ensures.value c.requires)
     c.args.atom c.args.by.x c.args.by.y c.args.by.z
     (outcomes.past c.args.atom (length held.live.sim.cur)
-    (let n = c.count.ensures.value ∙ ap (λ (l : Live). length l.sim.cur)
+    (let n = c.count.ensures.value ∙ ap (λ (l : Sim). length l.sim.cur)
     c.sim.ensures in let t = c.if-atom-count.true in omega (arith, n, t))))
 
 pub returns-then-atom-count-clause-unchanged : goal.returns-then-atom-count-clause-unchanged
@@ -53,14 +53,14 @@ pub invariant_of-self-2 : goal.invariant_of-self-2
 invariant_of-self-2 c =
     let held = c.in-Some.session.now in
     let wrote = written (goal.at.invariant_of-self-2 c).After-tug in record {
-      counted = totals_kept wrote (ap (λ (h : Held). length h.live.sim.cur) c.tug.ensures)
-          (ap (λ (h : Held). length h.saved) c.tug.ensures);
+      counted = totals_kept wrote (ap (λ (h : HeldSession). length h.live.sim.cur) c.tug.ensures)
+          (ap (λ (h : HeldSession). length h.saved) c.tug.ensures);
       reached = reached_as wrote _ _ _
           (outcomes.tug c.args.self.now c.args.name held wrote.found
           (none_owed c.self.inside c.args.self.now c.self.view_is c.args.name held c.in-Some.ensures.value c.requires)
           c.args.atom c.args.by.x c.args.by.y c.args.by.z
           (outcomes.there c.args.atom (length held.live.sim.cur)
-          (let n = c.count.ensures.value ∙ ap (λ (l : Live). length l.sim.cur)
+          (let n = c.count.ensures.value ∙ ap (λ (l : Sim). length l.sim.cur)
           c.sim.ensures in let t = c.if-atom-count.false in omega (arith, n, t)))) c.tug.ensures;
     }
 
@@ -72,8 +72,8 @@ returns-clause-performs c =
     (outcomes.tug c.args.self.now c.args.name held wrote.found
     (none_owed c.self.inside c.args.self.now c.self.view_is c.args.name held c.in-Some.ensures.value c.requires) c.args.atom c.args.by.x c.args.by.y c.args.by.z
     (outcomes.there c.args.atom (length held.live.sim.cur)
-    (let n = c.count.ensures.value ∙ ap (λ (l : Live). length l.sim.cur)
+    (let n = c.count.ensures.value ∙ ap (λ (l : Sim). length l.sim.cur)
     c.sim.ensures in let t = c.if-atom-count.false in omega (arith, n, t))))
     (read-step c.step-step.result c.step-step.ensures.most
-    ∙ (c.step-step.ensures.value ∙ ap (λ (l : Live). l.sim.step) c.sim-2.ensures
-    ∙ ap (λ (h : Held). h.live.sim.step) c.tug.ensures)) c.tug.ensures
+    ∙ (c.step-step.ensures.value ∙ ap (λ (l : Sim). l.sim.step) c.sim-2.ensures
+    ∙ ap (λ (h : HeldSession). h.live.sim.step) c.tug.ensures)) c.tug.ensures

@@ -1,6 +1,6 @@
 use Rattle.std.proofs.Common.{◌≡◌, Some, None, Ok, false, length, refl, sym, ap, ◌∙◌, arith}
-use Rattle.lj_branch.specs.Named.{named, taken_out}
-use Rattle.lj_step.specs.Live.{Live}
+use Rattle.lj_branch.specs.Named.{value_named, without_value}
+use Rattle.lj_step.specs.Sim.{Sim}
 use Rattle.lj_session.proofs.Holding.{taken-of}
 use Rattle.lj_session.proofs.Writing.{looked_up, not_there, none_owed}
 use Rattle.lj_session.proofs.Performing as performing
@@ -10,20 +10,20 @@ use Rattle.lj_session.proofs.Totals.{used-less, atoms-within, saved-within}
 use Rattle.lj_session.proofs.Reaching.{reached-done}
 use Rattle.lj_session.specs.declared.command.Command.TheVariants.{Unload}
 use Rattle.lj_session.specs.declared.reply.Reply.TheVariants.{Unloaded}
-use Rattle.lj_session.specs.States.{Owned, Performs, user_of, held_in}
+use Rattle.lj_session.specs.UserState.{UserState, Performs, user_of, held_session}
 use Rattle.lj_session.proofs.state.UserState.unload.Goals.{In-Some}
 use Rattle.lj_session.proofs.state.UserState.unload.Goals as goal
 
 -- the session that is taken out was held
-found : (c : In-Some) → held_in c.args.self.now c.args.name ≡ Some c.in-Some.session
+found : (c : In-Some) → held_session c.args.self.now c.args.name ≡ Some c.in-Some.session
 found c =
     looked_up c.self.inside c.args.self.now c.self.view_is c.args.name (Some c.in-Some.session) c.in-Some.ensures.value
 
 -- and its name is gone
-gone : (c : In-Some) → named c.args.name (taken_out c.args.name c.args.self.now.sessions) ≡ None
+gone : (c : In-Some) → value_named c.args.name (without_value c.args.name c.args.self.now.sessions) ≡ None
 gone c =
-    ap (λ (o : Owned). named c.args.name (taken_out c.args.name o.sessions)) (sym c.self.view_is)
-    ∙ ap (named c.args.name) (sym c.in-Some.ensures.entries) ∙ c.in-Some.ensures.updates.1
+    ap (λ (o : UserState). value_named c.args.name (without_value c.args.name o.sessions)) (sym c.self.view_is)
+    ∙ ap (value_named c.args.name) (sym c.in-Some.ensures.entries) ∙ c.in-Some.ensures.updates.1
 
 pub returns-in_default-clause-performs : goal.returns-in_default-clause-performs
 returns-in_default-clause-performs c =
@@ -37,7 +37,7 @@ overflow_sub-self-2 c =
     let held = c.in-Some.session in
     let there = found (goal.at.overflow_sub-self-2 c).In-Some in
     let most = atoms-within c.self.inside old c.self.view_is c.self.invariant.counted c.args.name held there old in
-    let n = c.count.ensures.value ∙ ap (λ (l : Live). length l.sim.cur) c.sim.ensures in
+    let n = c.count.ensures.value ∙ ap (λ (l : Sim). length l.sim.cur) c.sim.ensures in
     omega (arith, most, n)
 
 pub overflow_sub-self-3 : goal.overflow_sub-self-3
@@ -67,10 +67,10 @@ invariant_of-self-2 c =
     let is_out = taken-of c.self.inside old c.self.view_is c.args.name _ c.in-Some.ensures.entries in record {
       counted = used-less c.self.inside old c.self.view_is c.self.invariant.counted c.args.name held there _ is_out
           1 c.count.result c.len.result refl
-          (c.count.ensures.value ∙ ap (λ (l : Live). length l.sim.cur) c.sim.ensures)
+          (c.count.ensures.value ∙ ap (λ (l : Sim). length l.sim.cur) c.sim.ensures)
           (c.len.ensures.value ∙ ap length c.branches.ensures);
       reached = reached-done c.self.inside old _ c.self.view_is c.self.invariant (Unload c.args.name) _
-          (unloaded (goal.at.invariant_of-self-2 c).In-Some) (ap (λ (o : Owned). o.quota) is_out);
+          (unloaded (goal.at.invariant_of-self-2 c).In-Some) (ap (λ (o : UserState). o.quota) is_out);
     }
 
 pub returns-clause-performs : goal.returns-clause-performs

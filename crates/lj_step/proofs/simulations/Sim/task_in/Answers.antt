@@ -1,7 +1,7 @@
 -- The number that is read for the i-th tile, and the task made of it.
 use Rattle.std.proofs.Common.{◌≡◌, ◌<◌, ◌*◌, ap, sym, ◌∙◌, refl, Some, length, arith, true}
-use Rattle.lj_step.specs.Live.{Live, OpenStep}
-use Rattle.lj_step.specs.Kept.{live_of}
+use Rattle.lj_step.specs.Sim.{Sim, OpenStep}
+use Rattle.lj_step.specs.Kept.{sim_of}
 use Rattle.lj_step.specs.OpenSteps.{is_tile, blocks, cover}
 use Rattle.lj_step.proofs.Steps.{tile_found, task_found, step_part}
 use Rattle.lj_step.proofs.TileValues.{open_value}
@@ -19,7 +19,7 @@ found c =
     tile_found a.atoms a.cur.items a.partial c.in-Some.kind c.as_slice.result.now c.args.self.now c.args.i
     c.in-Some-get.number.now c.from.result c.in-Some.is
     c.self.invariant.partial c.as_slice.ensures.value
-    (ap (λ (v : Live). v.composition) c.self.view_is) (ap (λ (v : Live). v.sim.cur) c.self.view_is)
+    (ap (λ (v : Sim). v.composition) c.self.view_is) (ap (λ (v : Sim). v.sim.cur) c.self.view_is)
     (omega arith) read.1 c.from.ensures
 
 pub write_task-requires-clause-tile : goal.write_task-requires-clause-tile
@@ -34,7 +34,7 @@ returns-clause-some c = λ _.
     let open_step : OpenStep = record { kind = c.in-Some.kind; awaited = a.partial.awaited.items } in
     let at = (goal.at.returns-clause-some c).After-from in
     let part =
-    step_part (live_of a) c.args.self.now a.partial.kind a.partial.awaited.items c.in-Some.kind
+    step_part (sim_of a) c.args.self.now a.partial.kind a.partial.awaited.items c.in-Some.kind
     c.self.view_is refl c.in-Some.is in
     sym (task_found c.args.self.now c.args.label.now open_step c.args.i c.from.result part (found at).2) ∙ ap Some (sym c.write_task.ensures)
 
@@ -44,7 +44,7 @@ returns-clause-tile c = λ _.
     let open_step : OpenStep = record { kind = c.in-Some.kind; awaited = a.partial.awaited.items } in
     let at = (goal.at.returns-clause-tile c).After-from in
     let part =
-    step_part (live_of a) c.args.self.now a.partial.kind a.partial.awaited.items c.in-Some.kind
+    step_part (sim_of a) c.args.self.now a.partial.kind a.partial.awaited.items c.in-Some.kind
     c.self.view_is refl c.in-Some.is in
     open_value c.args.self.now c.args.label.now open_step c.args.i c.from.result c.write_task.new.room
     part (found at).2 c.write_task.ensures

@@ -2,10 +2,10 @@ use Rattle.std.proofs.Common.{ℕ, ◌≡◌, ◌≤◌, ◌<◌, ◌^◌, ◌+�
 use Rattle.std.proofs.Common.{subst, sym, to_z, of_z, w64}
 use Rattle.lj_tile.specs.declared.names.Kind.TheVariants.{Force}
 use Rattle.lj_tile.specs.Pushes.{no_push}
-use Rattle.lj_step.specs.Motion.{next_frame, force, stepped}
-use Rattle.lj_step.specs.Live.{Live}
-use Rattle.lj_step.specs.Kept.{sign_of, live_of}
-use Rattle.lj_step.specs.OpenSteps.{kind_of, is_whole, closed}
+use Rattle.lj_step.specs.Motion.{next_frame, force, next_simulation}
+use Rattle.lj_step.specs.Sim.{Sim}
+use Rattle.lj_step.specs.Kept.{sign_of, sim_of}
+use Rattle.lj_step.specs.OpenSteps.{kind_of, is_whole, with_step_closed}
 use Rattle.lj_step.specs.Laws.{AreOnRing}
 use Rattle.lj_step.proofs.Undone.{next_frame_length, next_on_ring}
 use Rattle.lj_step.proofs.StepNumbers.{next_number}
@@ -14,7 +14,7 @@ use Rattle.lj_step.proofs.Sound.{with_frames}
 use Rattle.lj_step.proofs.simulations.Sim.turn.Goals as goal
 
 sum_bound : (c : goal.After-self-3-1) → unsigned_abs (c.self.inside.step +ℤ sign_of c.self.inside.dir) ≤ 10 ^ 12
-sum_bound c = let P : Live → Type 0 =
+sum_bound c = let P : Sim → Type 0 =
     λ v. unsigned_abs (v.sim.step +ℤ v.sim.dir) ≤ 10 ^ 12 in subst P (sym c.self.view_is) c.requires.step
 
 next_step : (c : goal.After-self-3-1) → to_z w64 (of_z w64
@@ -28,8 +28,8 @@ next_step c =
 forces : (c : goal.After-self-3-1) (i : ℕ) → i < length c.as_slice.result.now
     → slice_index_or c.as_slice-2.result.now i no_push ≡ force c.self.inside.atoms c.as_slice.result.now i
 forces c i h =
-    let kind = ap (λ (v : Live). kind_of v.part) c.self.view_is ∙ c.requires.kind in
-    let all = ap (λ (v : Live). is_whole v.part) c.self.view_is ∙ c.requires.whole in
+    let kind = ap (λ (v : Sim). kind_of v.part) c.self.view_is ∙ c.requires.kind in
+    let all = ap (λ (v : Sim). is_whole v.part) c.self.view_is ∙ c.requires.whole in
     let whole = whole_of c.self.inside.partial.kind c.self.inside.partial.awaited.items Force kind all in
     let within : i < length c.self.inside.cur.items = subst (λ xs. i < length xs) c.as_slice.ensures.value h in
     ap (λ xs. slice_index_or xs i no_push) c.as_slice-2.ensures.value
@@ -47,10 +47,10 @@ next_is c =
 
 pub returns : goal.returns
 returns c =
-    turned_is (live_of c.self.inside) c.swap.new.x.items c.swap.new.y.items
+    turned_is (sim_of c.self.inside) c.swap.new.x.items c.swap.new.y.items
     (to_z w64 (of_z w64 (to_z w64 (of_z w64 c.self.inside.step) +ℤ to_z w64 (of_z w64 c.sign.result))))
     (ap (λ v. v.items) c.swap.ensures.x_after) (next_is c) (next_step c)
-    ∙ ap (λ (v : Live). closed v (stepped v.composition v.sim)) c.self.view_is
+    ∙ ap (λ (v : Sim). with_step_closed v (next_simulation v.composition v.sim)) c.self.view_is
 
 pub invariant_of-self : goal.invariant_of-self
 invariant_of-self c =

@@ -1,6 +1,6 @@
 use Rattle.std.proofs.Common.{ℕ, ℤ, ◌≡◌, ◌<◌, ◌^◌, unsigned_abs, FitsSigned, w64, rules, arith, length-set}
 use Rattle.std.proofs.lemmas.Int.{to_z-of_z}
-use Rattle.lj_ring.specs.Scales.{entry}
+use Rattle.lj_ring.specs.Scale.{entry}
 use Rattle.lj_table.specs.Entries.{push_entry, energy_entry}
 use Rattle.lj_table.proofs.Cells.{cells_more}
 use Rattle.lj_table.proofs.tables.Table.new.Goals as goal

@@ -1,5 +1,5 @@
 use Rattle.std.proofs.Common.{ℕ, ◌<◌, ◌≡◌, ◌^◌, pos, length, slice_index_or, unsigned_abs}
-use Rattle.lj_ring.specs.Scales.{entry}
+use Rattle.lj_ring.specs.Scale.{entry}
 use Rattle.lj_table.specs.Entries.{push_entry, energy_entry}
 use Rattle.lj_table.proofs.tables.Table.new.Given as goal
 

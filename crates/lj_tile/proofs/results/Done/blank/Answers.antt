@@ -1,9 +1,9 @@
 use Rattle.std.proofs.Common.{refl, arith}
-use Rattle.lj_tile.specs.Blank.{blank}
-use Rattle.lj_tile.specs.Tasks.{IsTask, task_energy}
+use Rattle.lj_tile.specs.Blank.{blank_task}
+use Rattle.lj_tile.specs.Task.{IsTask, task_energy}
 use Rattle.lj_tile.proofs.results.Done.blank.Goals as goal
 
-sound : IsTask blank
+sound : IsTask blank_task
 sound = record {
   some_first = omega arith;
   some_second = omega arith;

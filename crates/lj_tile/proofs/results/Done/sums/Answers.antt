@@ -1,6 +1,6 @@
 use Rattle.std.proofs.Common.{◌≡◌, length, map, ap, ◌∙◌, rules}
 use Rattle.std.specs.List.{range_with_len}
-use Rattle.lj_tile.specs.Tasks.{task_force}
+use Rattle.lj_tile.specs.Task.{task_force}
 use Rattle.lj_tile.proofs.FirstSums.{first_sums}
 use Rattle.lj_tile.proofs.results.Done.sums.Goals as goal
 

@@ -1,8 +1,8 @@
 use Rattle.std.proofs.Common.{◌≡◌, ◌≤◌, length, take, ap, ◌∙◌, arith}
 use Rattle.std.proofs.lemmas.Result.{IfOk-weaker, IfErr-weaker}
 use Rattle.lj_wire.specs.declared.reader.buffer.TheConstants.{MAX_HELD_BYTES}
-use Rattle.lj_wire.specs.declared.reader.input.Front.TheVariants as front
-use Rattle.lj_wire.specs.declared.reader.input.Passed.TheVariants as passed
+use Rattle.lj_wire.specs.declared.reader.source_input.Front.TheVariants as front
+use Rattle.lj_wire.specs.declared.reader.source_input.Passed.TheVariants as passed
 use Rattle.lj_wire.specs.Steps.{Finds, SearchesFor, Passes}
 use Rattle.lj_wire.proofs.Wholes.{LineTaken, line_taken, goes_onward, finished, open_body, long_line, too_long}
 use Rattle.lj_wire.proofs.reader.items.read_item.Given.{Over}

@@ -1,5 +1,5 @@
 use Rattle.std.proofs.Common.{None, sym, ap, ◌∙◌}
-use Rattle.lj_book.specs.Held.{IsDoneAt}
+use Rattle.lj_book.specs.Book.{IsDoneAt}
 use Rattle.lj_world.specs.contracts.connection.Connection.{the_view}
 use Rattle.lj_world.specs.Positions.{stage_of}
 use Rattle.lj_world.proofs.Acting.{given, fetches}

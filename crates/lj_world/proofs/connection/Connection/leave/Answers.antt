@@ -1,8 +1,8 @@
 use Rattle.std.proofs.Common.{◌≡◌, sym, ap, ◌∙◌, subst, None, IsSomeAnd, slice_get}
-use Rattle.lj_session.specs.States.{Owned, rested}
-use Rattle.lj_session.specs.Owners.{Owning}
-use Rattle.lj_access.specs.Rows.{Pass, HasEntered, changed, with_home}
-use Rattle.lj_world.specs.States.{inside}
+use Rattle.lj_session.specs.UserState.{UserState, state_at_rest}
+use Rattle.lj_session.specs.Owner.{Owner}
+use Rattle.lj_access.specs.Rows.{Ticket, HasEntered, with_row_changed, with_home}
+use Rattle.lj_world.specs.Machine.{inside}
 use Rattle.lj_world.specs.contracts.connection.Connection.{the_view}
 use Rattle.lj_world.specs.Connections.{IsDone}
 use Rattle.lj_world.specs.Kept.{HasRow}
@@ -19,17 +19,17 @@ returns c =
     none_there c.in-Inside.owner.waiting (sym c.is_waiting.ensures.value ∙ c.if-is_waiting.false) in
     let kept = rw c.in-Inside.is at c.self.invariant in
     let ticket : c.in-Some.ticket ≡ record { user = c.self.inside.user; number = c.self.inside.number } = cc in
-    let P : Pass → Type 0 = λ t. IsSomeAnd (slice_get c.args.directory.now t.user) (HasEntered t.number) in
+    let P : Ticket → Type 0 = λ t. IsSomeAnd (slice_get c.args.directory.now t.user) (HasEntered t.number) in
     let entered : P c.in-Some.ticket =
     subst P (sym ticket) (has_entered talk c.args.directory.now c.in-Inside.owner owns row) in
     let home = at_ok c.leave-home.result _ (c.leave-home.ensures.entered.1 entered) c.leave-home.ensures.home in
     let owner : c.in-Inside-replace.owner ≡ c.in-Inside.owner = cc in
-    let state : c.into_state.result ≡ rested c.in-Inside.owner.state =
-    c.into_state.ensures.state ∙ ap (λ (o : Owning). rested o.state) owner in
-    let Q : Pass → Owned → Type 0 =
-    λ t s. c.leave-home.new.self ≡ changed t.user (with_home s) c.args.directory.now in
-    let now : Q (record { user = c.self.inside.user; number = c.self.inside.number }) (rested c.in-Inside.owner.state) =
-    subst (λ t. Q t (rested c.in-Inside.owner.state)) ticket (subst (Q c.in-Some.ticket) state home) in
+    let state : c.into_state.result ≡ state_at_rest c.in-Inside.owner.state =
+    c.into_state.ensures.state ∙ ap (λ (o : Owner). state_at_rest o.state) owner in
+    let Q : Ticket → UserState → Type 0 =
+    λ t s. c.leave-home.new.self ≡ with_row_changed t.user (with_home s) c.args.directory.now in
+    let now : Q (record { user = c.self.inside.user; number = c.self.inside.number }) (state_at_rest c.in-Inside.owner.state) =
+    subst (λ t. Q t (state_at_rest c.in-Inside.owner.state)) ticket (subst (Q c.in-Some.ticket) state home) in
     rw (← c.self.view_is, now, c.replace.ensures.after)
     (leaves talk c.args.directory.now c.args.book.now c.withdraw.new.self c.in-Inside.owner owns idle
     (subst IsDone (sym c.self.view_is) (c.is_done.ensures.0 c.if-not-is_done.false)) c.withdraw.ensures)

@@ -2,7 +2,7 @@ use Rattle.std.proofs.Common.{◌≡◌, List, None, arith, refl, subst, sym, �
 use Rattle.lj_access.specs.Rows.{Row}
 use Rattle.lj_world.specs.contracts.machine.Machine.{the_view}
 use Rattle.lj_world.specs.declared.event.Event.TheVariants.{Hello}
-use Rattle.lj_world.specs.States.{IsConnection}
+use Rattle.lj_world.specs.Machine.{IsConnection}
 use Rattle.lj_world.specs.Runs.{Step}
 use Rattle.lj_world.proofs.Acting.{none_there}
 use Rattle.lj_world.proofs.Places.{read_at}

@@ -1,6 +1,6 @@
 use Rattle.std.proofs.Common.{Option, arith, refl, subst, sym}
 use Rattle.lj_world.specs.contracts.machine.Machine.{the_view}
-use Rattle.lj_world.specs.States.{Hand, IsWorker}
+use Rattle.lj_world.specs.Machine.{Worker, IsWorker}
 use Rattle.lj_world.specs.Workers.{bench}
 use Rattle.lj_world.specs.Attempts.{Tries}
 use Rattle.lj_world.proofs.Places.{read_at}
@@ -26,5 +26,5 @@ returns c =
     record { first = omega (arith, c.if-place-eq0.false); last = omega (arith, c.self.invariant.workers) } in
     rw (← c.self.view_is, c.from-place.ensures)
     (tries_by_pick c.args.deed s c.args.worker b within
-    (subst (λ (hand : Option Hand). Tries c.args.deed (bench hand s.book) b) (sym reads) c.work.ensures.tries)
+    (subst (λ (hand : Option Worker). Tries c.args.deed (bench hand s.book) b) (sym reads) c.work.ensures.tries)
     c.work.ensures.picked)

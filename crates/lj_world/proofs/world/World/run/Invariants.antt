@@ -1,4 +1,4 @@
-use Rattle.lj_world.specs.States.{start}
+use Rattle.lj_world.specs.Machine.{start}
 use Rattle.lj_world.specs.Runs.{RunBy}
 use Rattle.lj_world.specs.Picked.{PickedStep}
 use Rattle.lj_world.proofs.world.World.run.Given as goal

@@ -1,0 +1,118 @@
+//! What the directory keeps of a user.
+ghost use Rattle.std.specs.Prelude.{◌≡◌, ◌↔◌, ◌<◌, IsTrue, IsSome, Some, None};
+ghost use Rattle.lj_access.specs.Rows.{first_row, is_of, HasTicketLeft, IsFirst, CanEnter, HasEntered, with_ticket, without_home, with_home};
+ghost use Rattle.lj_session.specs.UserState.{Reached};
+
+use crate::user::{Token, User};
+use lj_session::UserState;
+use lj_tile::Name;
+use std::alloc::Global;
+use std::marker::Model;
+
+/// The most tickets of one user.
+pub const MAX_TICKETS: u64 = 4_294_967_296;
+
+/// A user: its tickets that were granted, how many of them have left, and its state while no ticket has it.
+#[derive(Drop)]
+pub(crate) struct Row {
+    name: Name,
+    token: Token,
+    granted: u64,
+    past: u64,
+    home: Option<UserState>,
+}
+
+impl Model for Row {
+    ghost use Rattle.lj_access.specs.Rows as rows;
+
+    ghost Value = { rows.Row };
+
+    ghost view = { λ row. record { name = row.name; token = row.token; granted = row.granted; past = row.past; home = row.home } };
+}
+
+impl Row {
+    /// A user without tickets, whose state has no sessions.
+    pub(crate) fn new(alloc: Global, user: User) -> Row
+        ensures { result ≡ first_row user }
+    {
+        Row {
+            name: user.name,
+            token: user.token,
+            granted: 0,
+            past: 0,
+            home: Some(UserState::new(alloc, user.quota)),
+        }
+    }
+
+    pub(crate) fn name(&self) -> &Name
+        ensures { result.now ≡ self.now.name }
+    {
+        &self.name
+    }
+
+    /// Whether the user has this name and this token.
+    pub(crate) fn is_of(&self, name: &[u8], token: &[u8]) -> bool
+        ensures { result ≡ is_of name.now token.now self.now }
+    {
+        (self.name.as_bytes() == name) & self.token.is(token)
+    }
+
+    /// Whether a ticket more may be granted.
+    pub(crate) fn has_ticket_left(&self) -> bool
+        ensures { IsTrue result ↔ HasTicketLeft self.now }
+    {
+        self.granted < MAX_TICKETS
+    }
+
+    /// Grants the next ticket, and answers its number.
+    pub(crate) fn grant(&mut self) -> u32
+        requires { HasTicketLeft self.old }
+        ensures number { result ≡ self.old.granted }
+        ensures granted { self.new ≡ with_ticket self.old }
+    {
+        let granted = self.granted;
+        self.granted = granted + 1;
+        granted as u32
+    }
+
+    /// Whether the ticket of this number may enter.
+    pub(crate) fn can_enter(&self, number: u32) -> bool
+        ensures { IsTrue result ↔ CanEnter number self.now }
+    {
+        self.is_first(number) && self.home.is_some()
+    }
+
+    /// Whether the ticket of this number has entered and has not left.
+    pub(crate) fn has_entered(&self, number: u32) -> bool
+        ensures { IsTrue result ↔ HasEntered number self.now }
+    {
+        self.is_first(number) && self.home.is_none()
+    }
+
+    fn is_first(&self, number: u32) -> bool
+        ensures { IsTrue result ↔ IsFirst number self.now }
+    {
+        u64::from(number) < self.granted && self.past == u64::from(number)
+    }
+
+    /// The state, which is then not at home.
+    pub(crate) fn lend(&mut self) -> UserState
+        requires { IsSome self.old.home }
+        ensures state { self.old.home ≡ Some result }
+        ensures reached { Reached result }
+        ensures lent { self.new ≡ without_home self.old }
+    {
+        let state = self.home.take().unwrap();
+        let _sessions = state.len();
+        state
+    }
+
+    /// Puts the state home, and one ticket more has left.
+    pub(crate) fn take_home(&mut self, number: u32, state: UserState)
+        requires { HasEntered number self.old }
+        ensures { self.new ≡ with_home state self.old }
+    {
+        self.past = u64::from(number) + 1;
+        self.home = Some(state);
+    }
+}

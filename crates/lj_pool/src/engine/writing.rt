@@ -1,0 +1,39 @@
+//! Replies, written line by line.
+ghost use Rattle.std.specs.Prelude.{◌≡◌, ◌≤◌, ◌+◌, ℕ, OnErr, OnOk, length, take};
+ghost use Rattle.std.specs.Io.KnownBytes.{Appends};
+ghost use Rattle.lj_session.specs.UserState.{user_of};
+ghost use Rattle.lj_session.specs.Owner.{IsSettled};
+ghost use Rattle.lj_wire.specs.Ends.{Rises};
+ghost use Rattle.lj_wire.specs.Texts.{text};
+
+use lj_session::{Reply, UserState};
+use lj_wire::{Line, Sink, WriteFault, last_line, put_all, put_reply_line};
+
+/// Writes the lines of a reply, which tells of the state after its command. Each is built in the room of `line`. After
+/// a fault the first bytes of them may have been written.
+pub(crate) fn put_reply<W: Sink>(
+    writer: &mut W,
+    line: &mut Line,
+    state: &UserState,
+    reply: &Reply,
+) -> Result<(), WriteFault>
+    requires settled { IsSettled state.now reply.now }
+    ensures written { OnOk result
+        (Appends (W.contents writer.old) (W.contents writer.new) (text (user_of state.now) reply.now)) }
+    ensures counted { OnOk result (W.faults writer.new ≡ W.faults writer.old) }
+    ensures begun { OnErr result ((n : ℕ) × (n ≤ length (text (user_of state.now) reply.now))
+        × Appends (W.contents writer.old) (W.contents writer.new)
+        (take n (text (user_of state.now) reply.now))) }
+    ensures risen { OnErr result (Rises (W.faults writer.old) (W.faults writer.new)) }
+{
+    let last = last_line(state, reply);
+    let mut k = 0;
+    while let Some(()) = put_reply_line(line, state, reply, k) {
+        put_all(writer, line.as_slice())?;
+        if k == last {
+            break;
+        }
+        k += 1;
+    }
+    Ok(())
+}

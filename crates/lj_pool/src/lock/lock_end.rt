@@ -1,0 +1,121 @@
+//! One connection's end of a pool behind a lock.
+ghost use Rattle.std.specs.Prelude.{◌≡◌, ◌<◌, true, false, length, IfErr, OnErr, OnOk};
+ghost use Rattle.lj_tile.specs.Blank.{blank_task};
+ghost use Rattle.lj_pool.specs.declared.pool.NotPosted.TheVariants.{Closed};
+ghost use Rattle.lj_pool.specs.Seen.{IsHandedOut, IsPosted, SameOwed, StaysClosed, nothing_seen};
+
+use crate::account::Account;
+use crate::lock::lock_pool::LockPool;
+use crate::pool::{NotPosted, Pool};
+use lj_tile::{Done, Task};
+use std::marker::Model;
+use std::sync::Wait;
+use std::sync::ledger::Ledger;
+
+/// An end of a pool behind a lock. It keeps a copy of each task that it is owed, and has room for one result. It takes no
+/// memory.
+#[derive(Drop)]
+pub struct LockEnd<'p, L: Ledger, R: Wait> {
+    rt: &'p R,
+    pool: &'p LockPool<L>,
+    account: Account,
+    room: Done,
+}
+
+impl<'p, L: Ledger, R: Wait> Model for LockEnd<'p, L, R> {
+    ghost use Rattle.lj_pool.specs.LockEnd.{LockEnd};
+
+    ghost Value = { LockEnd };
+
+    ghost view = { λ end. record { seen = end.account; last = end.room } };
+}
+
+impl<'p, L: Ledger, R: Wait> LockEnd<'p, L, R> {
+    /// An end to which nothing is owed.
+    pub(crate) fn new(rt: &'p R, pool: &'p LockPool<L>) -> LockEnd<'p, L, R>
+        ensures seen { result.seen ≡ nothing_seen }
+        ensures last { result.last ≡ blank_task }
+    {
+        LockEnd {
+            rt,
+            pool,
+            account: Account::new(),
+            room: Done::blank(),
+        }
+    }
+}
+
+impl<'p, L: Ledger, R: Wait> Pool for LockEnd<'p, L, R> {
+    ghost use Rattle.lj_pool.specs.declared.pool.TheConstants.{MAX_OWED};
+
+    ghost seen = { λ end. end.seen };
+
+    ghost last = { λ end. end.last };
+
+    ghost for_others = { λ _ _. 0 };
+
+    ghost most = { MAX_OWED };
+
+    fn post_from(&mut self, task: &Task, wait: bool) -> Result<(), NotPosted>
+        requires room { length self.old.seen.owed < MAX_OWED }
+        ensures last { self.new.last ≡ self.old.last }
+        ensures posted { OnOk result (IsPosted task.now self.old.seen self.new.seen) }
+        ensures unchanged { OnErr result (SameOwed self.old.seen self.new.seen) }
+        ensures full { wait ≡ true → IfErr result (λ why. why ≡ Closed) }
+        ensures closed { IfErr result (λ why. why ≡ Closed → self.new.seen.closed ≡ true) }
+        ensures stays_closed { StaysClosed self.old.seen self.new.seen }
+    {
+        let posted = self.pool.post(self.rt, task, wait);
+        self.account.note_post(task, posted);
+        posted
+    }
+
+    fn fetch_in(&mut self, user: u8) -> bool
+        ensures whose { result ≡ true → self.new.last.name.label.user ≡ user }
+        ensures last { result ≡ false → self.new.last ≡ self.old.last }
+        ensures handed_out { result ≡ true → IsHandedOut self.new.last self.old.seen self.new.seen }
+        ensures unchanged { result ≡ false → SameOwed self.old.seen self.new.seen }
+        ensures closed { result ≡ false → self.new.seen.closed ≡ true }
+        ensures stays_closed { StaysClosed self.old.seen self.new.seen }
+    {
+        let owed = self.account.owed();
+        let fetched = self.pool.fetch(self.rt, user, owed, &mut self.room);
+        if fetched {
+            self.account.count(self.room.task());
+        } else {
+            self.account.close();
+        }
+        fetched
+    }
+
+    fn poll_in(&mut self, user: u8) -> bool
+        ensures whose { result ≡ true → self.new.last.name.label.user ≡ user }
+        ensures last { result ≡ false → self.new.last ≡ self.old.last }
+        ensures open { self.new.seen.closed ≡ self.old.seen.closed }
+        ensures handed_out { result ≡ true → IsHandedOut self.new.last self.old.seen self.new.seen }
+        ensures unchanged { result ≡ false → SameOwed self.old.seen self.new.seen }
+        ensures stays_closed { StaysClosed self.old.seen self.new.seen }
+    {
+        let polled = self.pool.poll(self.rt, user, &mut self.room);
+        if polled {
+            self.account.count(self.room.task());
+        }
+        polled
+    }
+
+    fn fetched(&self) -> &Done {
+        &self.room
+    }
+
+    fn owed(&self) -> usize {
+        self.account.owed()
+    }
+
+    fn is_full(&self) -> bool {
+        self.account.is_full()
+    }
+
+    fn closed(&self) -> bool {
+        self.account.is_closed()
+    }
+}

@@ -1,0 +1,96 @@
+-- The passes of a pool whose open tasks lie in a queue, and its ends.
+use Rattle.std.specs.Prelude.{◌≡◌, ℕ, ◌-◌, ◌<◌, ◌≤◌, ◌^◌, List, [], ◌∷◌, ◌++◌, length}
+use Rattle.std.specs.List.{All}
+use Rattle.atomic_table.specs.Seated.{TableId}
+use Rattle.crossbeam_queue.specs.Passes.{Pass, view}
+use Rattle.lj_tile.specs.Task.{Task}
+use Rattle.lj_tile.specs.declared.names.TaskName.{TaskName}
+use Rattle.lj_pool.specs.Seen.{Seen}
+use Rattle.lj_queue.specs.declared.open_task.OpenTask.{OpenTask}
+use Rattle.lj_queue.specs.declared.rule.Hand.{Hand}
+use Rattle.lj_queue.specs.Balance.{all_parts, hand_of, Leaves}
+
+-- a ticket of a task that an end posted for its user
+abbrev pub open_task_of : ℕ → ℕ → Task → OpenTask
+open_task_of end user task = record { end = end; user = user; task = task }
+
+-- the number of a pass, and the tickets that it pushed and popped, in order
+pub record PoolPass : Type 0 where
+  pub number : ℕ
+  pub pushed : List OpenTask
+  pub popped : List OpenTask
+
+-- nothing was pushed or popped
+abbrev pub untouched_pass : ℕ → PoolPass
+untouched_pass number = record { number = number; pushed = []; popped = [] }
+
+-- one ticket more was pushed
+abbrev pub with_push : PoolPass → OpenTask → PoolPass
+with_push pass ticket = record { number = pass.number; pushed = pass.pushed ++ ticket ∷ []; popped = pass.popped }
+
+-- one ticket more was popped
+abbrev pub with_pop : PoolPass → OpenTask → PoolPass
+with_pop pass ticket = record { number = pass.number; pushed = pass.pushed; popped = pass.popped ++ ticket ∷ [] }
+
+-- what a pass has pushed and popped
+abbrev pub pass_of : ℕ → Pass OpenTask Hand → PoolPass
+pass_of number pass =
+    record { number = number; pushed = (view pass).pushed; popped = (view pass).popped }
+
+-- it is a pass of the queue of this name, and no place of the queue is out with it
+pub record IsOf (table : TableId) (pass : Pass OpenTask Hand) : Type 0 where
+  pub same_table : pass.table_id ≡ table
+  pub none_out : pass.me.1 ≡ []
+
+-- A pass of one part, with the lengths of its lists.
+pub record IsCounted (table : TableId) (pass : Pass OpenTask Hand) (pushed popped : ℕ) : Type 0 where
+  pub is_of : IsOf table pass
+  pub one : (view pass).parts ≡ 1
+  pub all_pushed : pushed ≡ length (view pass).pushed
+  pub all_popped : popped ≡ length (view pass).popped
+
+-- What is left of the first pass once so many were cut off, each with one part.
+pub record IsRest (table : TableId) (passes : ℕ) (pass : Pass OpenTask Hand) : Type 0 where
+  pub is_of : IsOf table pass
+  pub most : passes < 2 ^ 64
+  pub rest : view pass ≡ hand_of (all_parts - passes) [] []
+
+-- what a pool is to be made of: the name of its ledger, into how many parts that is cut, and the name of its queue
+pub record QueueBlank : Type 0 where
+  pub name : ℕ
+  pub parts : ℕ
+  pub table : TableId
+
+-- an end of a pool: what it has seen, its pass, its number, its user, the task of the result that it shows, and those of the
+-- results that it has in hand
+pub record QueueEnd : Type 0 where
+  pub seen : Seen
+  pub pass : PoolPass
+  pub number : ℕ
+  pub user : ℕ
+  pub last : Task
+  pub hand : List Task
+
+-- the name of no queue
+abbrev pub no_table : TableId
+no_table = record {
+  words = 0;
+  slots = 0;
+  views_name = 0;
+  atom = 0;
+  block = 0;
+  offset = 0;
+  slot_names = [];
+}
+
+-- Behind what it had popped before, a pass popped just these tickets: those that it pushed again behind what it had
+-- pushed before, each as often, which a gate may send back, and others, which are at least so many.
+pub record PopsFor (results : ℕ) (may_send_back : TaskName → Type 0) (old new : PoolPass) : Type 0 where
+  pub more : List OpenTask
+  pub again : List OpenTask
+  pub others : List OpenTask
+  pub popped : new.popped ≡ old.popped ++ more
+  pub pushed : new.pushed ≡ old.pushed ++ again
+  pub each : Leaves more again others
+  pub sent_back : All (λ ticket. may_send_back ticket.task.name) again
+  pub enough : results ≤ length others

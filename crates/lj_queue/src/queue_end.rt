@@ -1,0 +1,238 @@
+//! One connection's end of a pool with a queue.
+ghost use Rattle.std.specs.Prelude.{◌≡◌, ◌<◌, ◌↔◌, [], ◌∷◌, true, false, length, IfErr, IsTrue, OnErr, OnOk};
+ghost use Rattle.lj_pool.specs.declared.pool.NotPosted.TheVariants.{Closed};
+ghost use Rattle.lj_pool.specs.Seen.{IsHandedOut, IsPosted, SameOwed, StaysClosed, nothing_seen};
+ghost use Rattle.lj_queue.specs.PoolPass.{with_push, open_task_of};
+
+use crate::pass::{CountedPass, PoolPass, Room, Rooms};
+use crate::queue_pool::QueuePool;
+use lj_pool::{Account, MAX_OWED, NotPosted, Pool, TASKS_AT_ONCE, Untold};
+use lj_tile::{Done, Task};
+use std::marker::Model;
+use std::sync::Wait;
+
+/// An end of a pool for one user, with a pass. It keeps a copy of each task that it is owed, and takes no memory. It
+/// hands out results of its user's tasks: what comes of another's that is posted by it is dropped.
+#[derive(Drop)]
+pub struct QueueEnd<'p, L: Room, R: Wait> {
+    rt: &'p R,
+    pool: &'p QueuePool<L>,
+    account: Account,
+    counted: CountedPass<L>,
+    /// The result that was handed out last, and those that are handed out next.
+    rooms: Rooms,
+    number: u64,
+    user: u8,
+    untold: Untold,
+    ghost whose: { rooms.hand.user ≡ user },
+}
+
+impl<'p, L: Room, R: Wait> Model for QueueEnd<'p, L, R> {
+    ghost use Rattle.lj_queue.specs.PoolPass.{QueueEnd};
+
+    ghost Value = { QueueEnd };
+
+    ghost view = { λ end. record {
+      seen = end.account;
+      pass = end.counted;
+      number = end.number;
+      user = end.user;
+      last = end.rooms.last.value;
+      hand = end.rooms.hand.results;
+    } };
+}
+
+impl<'p, L: Room, R: Wait> QueueEnd<'p, L, R> {
+    /// An end of this number, to which nothing is owed.
+    pub(crate) fn new(
+        rt: &'p R,
+        pool: &'p QueuePool<L>,
+        pass: PoolPass<L>,
+        number: u64,
+        user: u8,
+    ) -> QueueEnd<'p, L, R>
+        ensures seen { result.seen ≡ nothing_seen }
+        ensures pass { result.pass ≡ pass }
+        ensures number { result.number ≡ number }
+        ensures user { result.user ≡ user }
+        ensures empty_handed { result.hand ≡ [] }
+    {
+        let (counted, mut rooms) = pass.into_parts();
+        rooms.hand.clear_for(user);
+        QueueEnd {
+            rt,
+            pool,
+            account: Account::new(),
+            counted,
+            rooms,
+            number,
+            user,
+            untold: Untold::new(),
+        }
+    }
+
+    /// Gives its pass back. Results that it is owed may still come for its user.
+    pub fn finish(self) -> PoolPass<L>
+        ensures { result ≡ self.entry.pass }
+    {
+        let mut untold = self.untold;
+        self.pool.tell(self.rt, untold.take_due(1));
+        PoolPass::new(self.counted, self.rooms)
+    }
+}
+
+impl<'p, L: Room, R: Wait> Pool for QueueEnd<'p, L, R> {
+    ghost use Rattle.lj_pool.specs.declared.pool.TheConstants.{MAX_OWED};
+
+    ghost seen = { λ end. end.seen };
+
+    ghost for_others = { λ _ _. 0 };
+
+    ghost most = { MAX_OWED };
+
+    ghost last = { λ end. end.last };
+
+    fn post_from(&mut self, task: &Task, wait: bool) -> Result<(), NotPosted>
+        requires room { length self.old.seen.owed < MAX_OWED }
+        ensures pushed { let ticket = open_task_of self.old.number self.old.user task.now in
+            OnOk result (self.new.pass ≡ with_push self.old.pass ticket) }
+        ensures nothing { OnErr result (self.new.pass ≡ self.old.pass) }
+        ensures number { self.new.number ≡ self.old.number }
+        ensures user { self.new.user ≡ self.old.user }
+        ensures hand { self.new.hand ≡ self.old.hand }
+        ensures posted { OnOk result (IsPosted task.now self.old.seen self.new.seen) }
+        ensures unchanged { OnErr result (SameOwed self.old.seen self.new.seen) }
+        ensures full { wait ≡ true → IfErr result (λ why. why ≡ Closed) }
+        ensures closed { IfErr result (λ why. why ≡ Closed → self.new.seen.closed ≡ true) }
+        ensures stays_closed { StaysClosed self.old.seen self.new.seen }
+    {
+        let (end, user) = (self.number, self.user);
+        let posted = self
+            .pool
+            .post(self.rt, &mut self.counted, end, user, task, wait);
+        self.account.note_post(task, posted);
+        if posted.is_ok() {
+            self.untold.note_posted();
+            self.tell(TASKS_AT_ONCE);
+        }
+        posted
+    }
+
+    fn fetch_in(&mut self, _user: u8) -> bool
+        ensures pass { self.new.pass ≡ self.old.pass }
+        ensures number { self.new.number ≡ self.old.number }
+        ensures user { self.new.user ≡ self.old.user }
+        ensures whose { result ≡ true → self.new.last.name.label.user ≡ self.old.user }
+        ensures in_hand { result ≡ true → 0 < length self.old.hand
+            → self.old.hand ≡ self.new.last ∷ self.new.hand }
+        ensures handed_out { result ≡ true → IsHandedOut self.new.last self.old.seen self.new.seen }
+        ensures unchanged { result ≡ false → SameOwed self.old.seen self.new.seen }
+        ensures closed { result ≡ false → self.new.seen.closed ≡ true }
+        ensures stays_closed { StaysClosed self.old.seen self.new.seen }
+    {
+        if self.is_shut() {
+            self.account.close();
+            return false;
+        }
+        if !self.look() {
+            self.tell(1);
+            self.pool.fetch(
+                self.rt,
+                self.user,
+                self.account.owed(),
+                &mut self.rooms.hand,
+            );
+        }
+        let fetched = self.hand_out();
+        if !fetched {
+            self.account.close();
+        }
+        fetched
+    }
+
+    fn poll_in(&mut self, _user: u8) -> bool
+        ensures pass { self.new.pass ≡ self.old.pass }
+        ensures number { self.new.number ≡ self.old.number }
+        ensures user { self.new.user ≡ self.old.user }
+        ensures open { self.new.seen.closed ≡ self.old.seen.closed }
+        ensures whose { result ≡ true → self.new.last.name.label.user ≡ self.old.user }
+        ensures in_hand { result ≡ true → 0 < length self.old.hand
+            → self.old.hand ≡ self.new.last ∷ self.new.hand }
+        ensures handed_out { result ≡ true → IsHandedOut self.new.last self.old.seen self.new.seen }
+        ensures unchanged { result ≡ false → SameOwed self.old.seen self.new.seen }
+        ensures stays_closed { StaysClosed self.old.seen self.new.seen }
+    {
+        let polled = !self.is_shut() && self.look() && self.hand_out();
+        if !polled {
+            self.tell(1);
+        }
+        polled
+    }
+
+    fn fetched(&self) -> &Done {
+        &self.rooms.last
+    }
+
+    fn owed(&self) -> usize {
+        self.account.owed()
+    }
+
+    fn is_full(&self) -> bool {
+        self.account.is_full()
+    }
+
+    fn closed(&self) -> bool {
+        self.account.is_closed()
+    }
+}
+
+impl<'p, L: Room, R: Wait> QueueEnd<'p, L, R> {
+    /// Whether the pool is closed. The end drops what it has in hand then.
+    fn is_shut(&mut self) -> bool
+        ensures dropped { result ≡ true → self.new.hand ≡ [] }
+        ensures kept { result ≡ false → self.new.hand ≡ self.old.hand }
+        ensures unchanged { self.new ≡ record self.old { hand = self.new.hand } }
+    {
+        let is_shut = self.pool.is_shut();
+        if is_shut {
+            self.rooms.hand.clear_for(self.user);
+        }
+        is_shut
+    }
+
+    /// Takes in hand what results are there, if it has none. Whether it has some now.
+    fn look(&mut self) -> bool
+        ensures some { result ≡ true → 0 < length self.new.hand }
+        ensures none { result ≡ false → self.new.hand ≡ [] }
+        ensures kept { 0 < length self.old.hand → self.new.hand ≡ self.old.hand }
+        ensures unchanged { self.new ≡ record self.old { hand = self.new.hand } }
+    {
+        !self.rooms.hand.is_empty() || self.pool.poll(self.rt, self.user, &mut self.rooms.hand)
+    }
+
+    /// Hands out the next result that it has in hand. False where it has none.
+    fn hand_out(&mut self) -> bool
+        ensures some { IsTrue result ↔ (0 < length self.old.hand) }
+        ensures next { result ≡ true → self.old.hand ≡ self.new.last ∷ self.new.hand }
+        ensures whose { result ≡ true → self.new.last.name.label.user ≡ self.old.user }
+        ensures handed_out { result ≡ true → IsHandedOut self.new.last self.old.seen self.new.seen }
+        ensures unchanged { result ≡ false → self.new ≡ self.old }
+        ensures pass { self.new.pass ≡ self.old.pass }
+        ensures number { self.new.number ≡ self.old.number }
+        ensures user { self.new.user ≡ self.old.user }
+        ensures open { self.new.seen.closed ≡ self.old.seen.closed }
+    {
+        if !self.rooms.hand.pop(self.user, &mut self.rooms.last) {
+            return false;
+        }
+        self.account.count(self.rooms.last.task());
+        true
+    }
+
+    /// Tells workers that wait of the tasks that they were not told of, if these are so many.
+    fn tell(&mut self, least: usize)
+        ensures { self.new ≡ self.old }
+    {
+        self.pool.tell(self.rt, self.untold.take_due(least));
+    }
+}

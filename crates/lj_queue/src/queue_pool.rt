@@ -1,0 +1,437 @@
+//! A pool whose open tasks lie in a queue that no lock guards, and whose results lie under a lock.
+ghost use Rattle.std.specs.Prelude.{◌≡◌, ◌+◌, ◌≤◌, ◌<◌, true, false, ℕ, length, vec_len, slice_index_or, IfErr, IfNone, IfOk, IfSome, OnErr, OnOk};
+ghost use Rattle.std.specs.List.{All};
+ghost use Rattle.lj_pool.specs.Seen.{nothing_seen};
+ghost use Rattle.lj_pool.specs.declared.pool.NotPosted.TheVariants.{Closed};
+ghost use Rattle.lj_queue.specs.ResultList.{empty_list};
+ghost use Rattle.lj_queue.specs.PoolPass.{IsRest, with_push, with_pop, open_task_of, untouched_pass};
+
+use crate::hall::Hall;
+use crate::open_task::OpenTask;
+use crate::pass::{CountedPass, PoolPass, Room};
+use crate::queue_end::QueueEnd;
+use crate::rest::{Rest, passes_of};
+use crate::result_list::ResultList;
+use crate::rule::{OpenTasks, TaskPass};
+use crossbeam_queue::ArrayQueue;
+use lj_pool::{BELLS, NotPosted, Share, bell_of, shares_of};
+use lj_tile::{Done, Task};
+use std::alloc::{AllocError, Global};
+use std::array;
+use std::marker::Model;
+use std::sync::atomic::{AtomicBool, AtomicUsize, Ordering};
+use std::sync::ledger::{self, Blank};
+use std::sync::{Condvar, Mutex, Wait};
+
+/// The most tasks that are open at once.
+pub const MAX_OPEN_TASKS: usize = 1024;
+
+/// The number of passes for connections. Those of the workers come after them.
+pub const CONNECTIONS: usize = 64;
+
+/// So many boxes of no ticket are kept for what is posted next.
+const WARM_BOXES: usize = 64;
+
+/// What a pool is made of: an empty queue, its first pass and a blank ledger.
+#[derive(Drop)]
+pub struct QueueBlank {
+    queue: OpenTasks,
+    first: TaskPass,
+    ledger: Blank,
+}
+
+impl Model for QueueBlank {
+    ghost use Rattle.lj_queue.specs.PoolPass.{IsRest, QueueBlank};
+    ghost use Rattle.lj_queue.specs.declared.queue_pool.TheConstants.{MAX_OPEN_TASKS};
+    ghost use Rattle.std.specs.Prelude.{◌≡◌};
+    ghost use Rattle.crossbeam_queue.specs.Passes.{ruled_capacity};
+
+    ghost Value = { QueueBlank };
+
+    ghost view = { λ b. record { name = b.ledger.name; parts = b.ledger.parts; table = b.queue.table.shared.table_id } };
+
+    ghost invariant = { λ b. IsRest b.queue.table.shared.table_id 0 b.first × (ruled_capacity b.queue ≡ MAX_OPEN_TASKS) };
+}
+
+impl QueueBlank {
+    /// What a pool of so many workers is made of.
+    ///
+    /// # Errors
+    /// Out of memory.
+    pub fn new(alloc: Global, workers: u64) -> Result<QueueBlank, AllocError>
+        ensures { IfOk result (λ blank. blank.parts ≡ workers) }
+    {
+        let (queue, first) = OpenTasks::ruled(alloc, MAX_OPEN_TASKS)?;
+        Ok(QueueBlank {
+            queue,
+            first,
+            ledger: Blank::new(workers),
+        })
+    }
+}
+
+/// Open tasks in a queue, and results in lists of their users behind a lock. Its ends post tasks and fetch results, each
+/// from a thread of its own, and workers compute them (`work_queue`). The lock is never held while a task is computed.
+#[derive(Drop)]
+pub struct QueuePool<L: Room> {
+    pub(crate) queue: OpenTasks,
+    /// The boxes of no ticket. With those of tickets they are as many as may be open, and one for each pass.
+    spare: ArrayQueue<Box<Task>>,
+    /// Those of them that were put by last, which the processors' caches may still hold.
+    warm: ArrayQueue<Box<Task>>,
+    /// What the passes were cut from.
+    pub(crate) rest: Mutex<Rest<L>>,
+    hall: Mutex<Hall<L>>,
+    /// A task was posted. Workers wait for it.
+    posted: Condvar,
+    /// A task was taken while posters waited.
+    room: Condvar,
+    /// Results were kept, at each bell to the users who share it. Their ends wait for it.
+    given: [Condvar; BELLS],
+    /// How many workers wait for a task.
+    idle: AtomicUsize,
+    /// How many ends wait for room.
+    crowded: AtomicUsize,
+    /// Whether the pool is closed, as the hall says too.
+    shut: AtomicBool,
+    ghost is_of: { queue.table.shared.table_id ≡ L.table },
+}
+
+impl<L: Room> QueuePool<L> {
+    /// An empty pool, with its passes, of which the first 64 are for connections and the others for the workers, and a
+    /// share for each worker.
+    ///
+    /// # Errors
+    /// Out of memory.
+    pub fn new(
+        alloc: Global,
+        blank: QueueBlank,
+        workers: usize,
+    ) -> Result<(QueuePool<L>, Vec<PoolPass<L>>, Vec<Share<L>>), AllocError>
+        requires name { blank.name ≡ L.name }
+        requires parts { blank.parts ≡ L.parts }
+        requires one_each { blank.parts ≡ workers }
+        requires table { blank.table ≡ L.table }
+        requires passes { workers + CONNECTIONS ≡ L.passes }
+        ensures passes { IfOk result (λ made. vec_len made.1 ≡ L.passes) }
+        ensures numbered { IfOk result
+            (λ made. (i : ℕ) → i < L.passes
+            → slice_index_or made.1.items i (untouched_pass 0) ≡ untouched_pass i) }
+        ensures one_each { IfOk result (λ made. vec_len made.2 ≡ workers) }
+        ensures nothing { IfOk result (λ made. All (λ count. count ≡ 0) made.2.items) }
+    {
+        let QueueBlank {
+            queue,
+            first,
+            ledger,
+        } = blank;
+        let Some(count) = workers.checked_add(CONNECTIONS) else {
+            return Err(AllocError);
+        };
+        let spare = spare_boxes(alloc, count)?;
+        let warm = ArrayQueue::new(alloc, WARM_BOXES)?;
+        let (results, all) = ledger.open::<L>();
+        let shares = shares_of(alloc, all, workers)?;
+        let (passes, rest) = passes_of(alloc, &queue, first, count)?;
+        let pool = QueuePool {
+            queue,
+            spare,
+            warm,
+            rest: Mutex::new(rest),
+            hall: Mutex::new(Hall::new(alloc, results)?),
+            posted: Condvar::new(),
+            room: Condvar::new(),
+            given: array::from_fn(|_| Condvar::new()),
+            idle: AtomicUsize::new(0),
+            crowded: AtomicUsize::new(0),
+            shut: AtomicBool::new(false),
+        };
+        Ok((pool, passes, shares))
+    }
+
+    /// An end of the pool for a user, to which nothing is owed. It comes in place of the user's present one. Once 2^64 - 1
+    /// ends came the pool is closed, and an end has the number 0, which no present one has.
+    pub fn end<'p, R: Wait>(&'p self, rt: &'p R, pass: PoolPass<L>, user: u8) -> QueueEnd<'p, L, R>
+        ensures seen { result.seen ≡ nothing_seen }
+        ensures pass { result.pass ≡ pass }
+        ensures user { result.user ≡ user }
+    {
+        let entered = self.hall.lock(rt).enter(user);
+        if entered.is_none() {
+            self.close(rt);
+        }
+        QueueEnd::new(rt, self, pass, entered.unwrap_or(0), user)
+    }
+
+    /// Closes the pool: from now on no task is posted or taken and no result fetched.
+    pub fn close<R: Wait>(&self, rt: &R) {
+        self.shut.store(true, Ordering::SeqCst);
+        self.hall.lock(rt).close();
+        self.posted.notify_all();
+        self.room.notify_all();
+        for bell in &self.given {
+            bell.notify_all();
+        }
+    }
+
+    /// Drops the user's results. Its present end is gone: what comes for that is dropped too.
+    pub fn withdraw<R: Wait>(&self, rt: &R, user: u8) {
+        self.hall.lock(rt).withdraw(user);
+    }
+
+    /// Posts a task of an end for its user by a pass. With `wait` it waits while there is no room.
+    pub(crate) fn post<R: Wait>(
+        &self,
+        rt: &R,
+        pass: &mut CountedPass<L>,
+        end: u64,
+        user: u8,
+        task: &Task,
+        wait: bool,
+    ) -> Result<(), NotPosted>
+        ensures pushed { OnOk result (pass.new ≡ with_push pass.old (open_task_of end user task.now)) }
+        ensures nothing { OnErr result (pass.new ≡ pass.old) }
+        ensures full { wait ≡ true → IfErr result (λ why. why ≡ Closed) }
+    {
+        if self.is_shut() {
+            return Err(NotPosted::Closed);
+        }
+        if self.try_post(rt, pass, end, user, task) {
+            Ok(())
+        } else if wait {
+            self.post_later(rt, pass, end, user, task)
+        } else {
+            Err(NotPosted::Full)
+        }
+    }
+
+    /// Posts a task of an end for its user by a pass, in a box of no ticket. Whether there was room.
+    fn try_post<R: Wait>(
+        &self,
+        rt: &R,
+        pass: &mut CountedPass<L>,
+        end: u64,
+        user: u8,
+        task: &Task,
+    ) -> bool
+        ensures pushed { result ≡ true → pass.new ≡ with_push pass.old (open_task_of end user task.now) }
+        ensures nothing { result ≡ false → pass.new ≡ pass.old }
+    {
+        let Some(mut room) = self.spare_box(rt) else {
+            return false;
+        };
+        room.copy_from(task);
+        let ticket = OpenTask {
+            end,
+            user,
+            task: room,
+        };
+        let Err(refused) = pass.push(rt, &self.queue, ticket) else {
+            return true;
+        };
+        self.put_by(rt, refused.task);
+        false
+    }
+
+    /// Waits for room, and posts a task then.
+    fn post_later<R: Wait>(
+        &self,
+        rt: &R,
+        pass: &mut CountedPass<L>,
+        end: u64,
+        user: u8,
+        task: &Task,
+    ) -> Result<(), NotPosted>
+        ensures pushed { OnOk result (pass.new ≡ with_push pass.old (open_task_of end user task.now)) }
+        ensures nothing { OnErr result (pass.new ≡ pass.old) }
+        ensures closed { IfErr result (λ why. why ≡ Closed) }
+    {
+        let mut hall = self.hall.lock(rt);
+        self.crowded.fetch_add(1, Ordering::SeqCst);
+        for _ in rt.forever() {
+            if hall.is_closed() {
+                self.crowded.fetch_sub(1, Ordering::SeqCst);
+                return Err(NotPosted::Closed);
+            }
+            if self.try_post(rt, pass, end, user, task) {
+                self.crowded.fetch_sub(1, Ordering::SeqCst);
+                return Ok(());
+            }
+            self.posted.notify_all();
+            hall = self.room.wait(rt, hall);
+        }
+        unreachable!()
+    }
+
+    /// A box of no ticket, one that was put by lately if there is one.
+    fn spare_box<R: Wait>(&self, rt: &R) -> Option<Box<Task>> {
+        match self.warm.pop(rt) {
+            Some(room) => Some(room),
+            None => self.spare.pop(rt),
+        }
+    }
+
+    /// Puts by the box of a ticket that is no more, for another.
+    pub(crate) fn put_by<R: Wait>(&self, rt: &R, room: Box<Task>) {
+        if let Err(room) = self.warm.push(rt, room) {
+            let _spare = self.spare.push(rt, room);
+        }
+    }
+
+    /// Tells workers that wait that so many tasks were posted.
+    pub(crate) fn tell<R: Wait>(&self, rt: &R, tasks: usize) {
+        if tasks == 0 || self.idle.load(Ordering::SeqCst) == 0 {
+            return;
+        }
+        drop(self.hall.lock(rt));
+        if tasks == 1 {
+            self.posted.notify_one();
+        } else {
+            self.posted.notify_all();
+        }
+    }
+
+    /// Takes an open task by a pass, and waits for one. None where the pool is closed.
+    pub(crate) fn take<R: Wait>(&self, rt: &R, pass: &mut CountedPass<L>) -> Option<OpenTask>
+        ensures popped { IfSome result (λ ticket. pass.new ≡ with_pop pass.old ticket) }
+        ensures nothing { IfNone result (pass.new ≡ pass.old) }
+    {
+        if self.is_shut() {
+            return None;
+        }
+        let taken = match pass.pop(rt, &self.queue) {
+            Some(ticket) => Some(ticket),
+            None => self.take_later(rt, pass),
+        };
+        if self.crowded.load(Ordering::SeqCst) > 0 {
+            drop(self.hall.lock(rt));
+            self.room.notify_all();
+        }
+        taken
+    }
+
+    /// Waits for an open task, and takes it. None where the pool is closed.
+    fn take_later<R: Wait>(&self, rt: &R, pass: &mut CountedPass<L>) -> Option<OpenTask>
+        ensures popped { IfSome result (λ ticket. pass.new ≡ with_pop pass.old ticket) }
+        ensures nothing { IfNone result (pass.new ≡ pass.old) }
+    {
+        let mut hall = self.hall.lock(rt);
+        self.idle.fetch_add(1, Ordering::SeqCst);
+        for _ in rt.forever() {
+            if hall.is_closed() {
+                self.idle.fetch_sub(1, Ordering::SeqCst);
+                return None;
+            }
+            let taken = pass.pop(rt, &self.queue);
+            if taken.is_some() {
+                self.idle.fetch_sub(1, Ordering::SeqCst);
+                return taken;
+            }
+            hall = self.posted.wait(rt, hall);
+        }
+        unreachable!()
+    }
+
+    /// Hands a ticket back by the pass that popped it, and tells a worker that waits.
+    ///
+    /// # Errors
+    /// The ticket, where there is no room for it.
+    pub(crate) fn hand_back<R: Wait>(
+        &self,
+        rt: &R,
+        pass: &mut CountedPass<L>,
+        ticket: OpenTask,
+    ) -> Result<(), OpenTask>
+        ensures pushed { OnOk result (pass.new ≡ with_push pass.old ticket) }
+        ensures unchanged { OnErr result (pass.new ≡ pass.old) }
+        ensures refused { IfErr result (λ refused. refused ≡ ticket) }
+    {
+        pass.push(rt, &self.queue, ticket)?;
+        self.tell(rt, 1);
+        Ok(())
+    }
+
+    /// Gives the result of a task that an end posted for its user. It is kept, its box exchanged for another, and
+    /// credited to the share where that end is present, the task is of its user and there is room for it. It is dropped
+    /// elsewhere.
+    pub(crate) fn give<R: Wait>(
+        &self,
+        rt: &R,
+        end: u64,
+        user: u8,
+        done: &mut Box<Done>,
+        share: &mut Share<L>,
+    )
+        ensures never_falls { share.old ≤ share.new }
+        ensures one_at_most { share.new ≤ share.old + 1 }
+    {
+        let mut hall = self.hall.lock(rt);
+        let rings = hall.keep(end, user, done, share) && hall.bells.note_given(user);
+        drop(hall);
+        if rings {
+            self.given[bell_of(user)].notify_all();
+        }
+    }
+
+    /// Whether the pool is closed.
+    pub(crate) fn is_shut(&self) -> bool {
+        self.shut.load(Ordering::SeqCst)
+    }
+
+    /// Fetches all results of the user that are there in exchange for an empty list, and waits for one. False where the
+    /// pool is closed. So many are owed to the end that asks.
+    pub(crate) fn fetch<R: Wait>(
+        &self,
+        rt: &R,
+        user: u8,
+        owed: usize,
+        hand: &mut ResultList,
+    ) -> bool
+        requires { hand.old ≡ empty_list user }
+        ensures whose { hand.new.user ≡ user }
+        ensures some { result ≡ true → 0 < length hand.new.results }
+        ensures stays_empty { result ≡ false → hand.new ≡ hand.old }
+    {
+        let mut hall = self.hall.lock(rt);
+        for _ in rt.forever() {
+            let fetched = hall.hand_out(user, hand);
+            if fetched || hall.is_closed() {
+                return fetched;
+            }
+            hall.bells.note_waiting(user, owed);
+            hall = self.given[bell_of(user)].wait(rt, hall);
+        }
+        unreachable!()
+    }
+
+    /// Fetches all results of the user that are there now, in exchange for an empty list. False where there is none, or
+    /// the pool is closed.
+    pub(crate) fn poll<R: Wait>(&self, rt: &R, user: u8, hand: &mut ResultList) -> bool
+        requires { hand.old ≡ empty_list user }
+        ensures whose { hand.new.user ≡ user }
+        ensures some { result ≡ true → 0 < length hand.new.results }
+        ensures stays_empty { result ≡ false → hand.new ≡ hand.old }
+    {
+        self.hall.lock(rt).hand_out(user, hand)
+    }
+
+    /// How many results were given, which is what all parts of the ledger have together.
+    pub(crate) fn audited<R: Wait>(&self, rt: &R, all: &mut ledger::Share<L>) -> u64
+        requires { all.old.parts ≡ L.parts }
+        ensures { result ≡ all.old.amount }
+    {
+        self.hall.lock(rt).audited(all)
+    }
+}
+
+/// As many boxes as tickets may be open, and one for each pass.
+fn spare_boxes(alloc: Global, passes: usize) -> Result<ArrayQueue<Box<Task>>, AllocError> {
+    let Some(count) = passes.checked_add(MAX_OPEN_TASKS) else {
+        return Err(AllocError);
+    };
+    let mut boxes = ArrayQueue::new(alloc, count)?;
+    for _ in 0..count {
+        let _spare = boxes.push_mut(Box::new(alloc, Task::blank())?);
+    }
+    Ok(boxes)
+}

@@ -1,0 +1,73 @@
+//! What a worker of a pool does, and the sum of what all have done.
+ghost use Rattle.std.specs.Prelude.{◌≡◌, ◌≤◌, ◌-◌, sum, vec_len, IfNone, IfSome};
+ghost use Rattle.lj_queue.specs.PoolPass.{PopsFor, with_push};
+
+use crate::open_task::OpenTask;
+use crate::pass::{CountedPass, PoolPass, Room};
+use crate::queue_pool::QueuePool;
+use lj_pool::{Gate, Share, merged};
+use lj_table::Table;
+use lj_tile::compute_in;
+use std::sync::Wait;
+
+/// Computes tasks of the pool until it is closed, with a gate between taking a task and computing it. The share that is
+/// handed back has been credited each result that was kept. The pass has popped their tasks, and besides those each task
+/// that it pushed again because the gate sent it back.
+pub fn work_queue<L: Room, G: Gate, R: Wait>(
+    rt: &R,
+    pool: &QueuePool<L>,
+    share: Share<L>,
+    pass: PoolPass<L>,
+    gate: &G,
+    table: &Table,
+) -> (Share<L>, PoolPass<L>)
+    ensures number { result.1.number ≡ pass.number }
+    ensures never_falls { share ≤ result.0 }
+    ensures of_its_own { PopsFor (result.0 - share) (G.sends_back gate.now) pass result.1 }
+{
+    let mut share = share;
+    let (mut counted, mut rooms) = pass.into_parts();
+    for _ in rt.forever() {
+        let Some(ticket) = pool.take(rt, &mut counted) else {
+            break;
+        };
+        if let Some(ticket) = kept(rt, pool, &mut counted, gate, ticket) {
+            gate.between(ticket.task.name());
+            compute_in(&ticket.task, table, &mut rooms.last);
+            pool.give(rt, ticket.end, ticket.user, &mut rooms.last, &mut share);
+            pool.put_by(rt, ticket.task);
+        }
+    }
+    (share, PoolPass::new(counted, rooms))
+}
+
+/// The ticket, unless the gate sends its task back and there is room for it in the queue, where it is open again.
+fn kept<L: Room, G: Gate, R: Wait>(
+    rt: &R,
+    pool: &QueuePool<L>,
+    pass: &mut CountedPass<L>,
+    gate: &G,
+    ticket: OpenTask,
+) -> Option<OpenTask>
+    ensures same { IfSome result (λ kept. kept ≡ ticket) }
+    ensures unchanged { IfSome result (λ _. pass.new ≡ pass.old) }
+    ensures pushed { IfNone result (pass.new ≡ with_push pass.old ticket) }
+    ensures sent_back { IfNone result (G.sends_back gate.now ticket.task.name) }
+{
+    if gate.back(ticket.task.name()) {
+        pool.hand_back(rt, pass, ticket).err()
+    } else {
+        Some(ticket)
+    }
+}
+
+/// How many results of all workers together were kept, which is how many the pool was given.
+pub fn gather<L: Room, R: Wait>(rt: &R, pool: &QueuePool<L>, shares: Vec<Share<L>>) -> u64
+    requires { vec_len shares ≡ L.parts }
+    ensures { result ≡ sum shares.items }
+{
+    match merged(shares) {
+        Some(mut all) => pool.audited(rt, &mut all),
+        None => 0,
+    }
+}

@@ -1,0 +1,317 @@
+-- What the code holds of a user, open steps and all, and the user of the definition that it stands for.
+use Rattle.std.specs.Prelude.{◌≡◌, ◌≢◌, ◌<◌, OnOk, IsSomeAnd, ℕ, ◌+◌, ◌-◌, is_some, Bool, true, false, ◌&&◌, nat_le, nat_lt, List, []}
+use Rattle.std.specs.Prelude.{◌∷◌, length, map, position, slice_get, Option, Some, None, Result, Ok, Err, if◌then◌else◌, ◌⊎◌}
+use Rattle.std.specs.Option.{option_map, option_map_or, option_and_then}
+use Rattle.std.specs.List.{find, range_with_len}
+use Rattle.std.specs.Str.{bytes_eq}
+use Rattle.lj_tile.specs.declared.names.Label.{Label}
+use Rattle.lj_tile.specs.declared.names.Kind.{Kind}
+use Rattle.lj_tile.specs.declared.names.Kind.TheVariants.{Force, Energy}
+use Rattle.lj_tile.specs.Task.{Task}
+use Rattle.lj_step.specs.Motion.{Simulation, next_simulation, steps}
+use Rattle.lj_step.specs.Sim.{Sim}
+use Rattle.lj_step.specs.OpenSteps.{opened_step, with_step_closed, task_at, is_tile_awaited, tiles_of, with_tile, kind_of, is_whole}
+use Rattle.lj_step.specs.OpenSteps.{IsAwaitedTask}
+use Rattle.lj_quota.specs.declared.Quota.{Quota}
+use Rattle.lj_quota.specs.declared.Used.{Used}
+use Rattle.lj_session.specs.declared.command.Command.{Command}
+use Rattle.lj_session.specs.declared.command.Command.TheVariants.{Start, Measure, Forget, ListBranches}
+use Rattle.lj_session.specs.declared.refusal.Refusal.{Refusal}
+use Rattle.lj_session.specs.declared.refusal.Refusal.TheVariants.{Memory}
+use Rattle.lj_session.specs.declared.reply.Reply.{Reply}
+use Rattle.lj_branch.specs.Named.{value_named, with_value}
+use Rattle.lj_session.specs.Users.{Session, User, fresh_user, sessions_used, atoms_used, branches_used}
+use Rattle.lj_session.specs.Answers.{session_named, command_result, answer, can_advance}
+use Rattle.lj_session.specs.Turns.{turns, waits_for}
+
+-- A session as it is held: the symbols of its atoms, its simulation with what they are and its open step, what is saved
+-- in it, and how many steps are owed to it. The first `passed` tiles of the open step's cover have been posted, or were in
+-- when their turn came.
+pub record HeldSession : Type 0 where
+  pub symbols : List (List ℕ)
+  pub live : Sim
+  pub passed : ℕ
+  pub saved : List (List ℕ × Simulation)
+  pub owed : ℕ
+
+-- a saved simulation has so many atoms
+abbrev pub HasCount : ℕ → List ℕ × Simulation → Type 0
+HasCount count entry = length entry.1.cur ≡ count
+
+-- what is held of a user: the quota, and sessions under names, in order of loading
+pub record UserState : Type 0 where
+  pub quota : Quota
+  pub sessions : List (List ℕ × HeldSession)
+
+-- nothing but a quota
+abbrev pub empty_state : Quota → UserState
+empty_state quota = record { quota = quota; sessions = [] }
+
+-- the session that is held, as its present step began
+abbrev pub as_session : HeldSession → Session
+as_session held =
+    record { symbols = held.symbols; composition = held.live.composition; sim = held.live.sim; saved = held.saved }
+
+-- the session that is meant: with all steps done that are owed to it
+abbrev pub session_meant : HeldSession → Session
+session_meant held = record {
+  symbols = held.symbols;
+  composition = held.live.composition;
+  sim = steps held.live.composition held.owed held.live.sim;
+  saved = held.saved;
+}
+
+-- a name with the session that is meant by what is held under it
+abbrev pub as_entry : List ℕ × HeldSession → List ℕ × Session
+as_entry entry = (entry.0, session_meant entry.1)
+
+-- the user that is meant: with all steps done that are owed to the sessions
+abbrev pub user_of : UserState → User
+user_of owned = record { quota = owned.quota; sessions = map as_entry owned.sessions }
+
+-- what the user has of each part of the quota
+abbrev pub used_by : UserState → Used
+used_by owned = record {
+  sessions = sessions_used (user_of owned);
+  atoms = atoms_used (user_of owned);
+  branches = branches_used (user_of owned);
+}
+
+-- the session of a name, if there is one
+abbrev pub held_session : UserState → List ℕ → Option HeldSession
+held_session owned name = value_named name owned.sessions
+
+-- the i-th session, in order of loading
+abbrev pub held_session_at : UserState → ℕ → Option HeldSession
+held_session_at owned i = option_map (λ entry. entry.1) (slice_get owned.sessions i)
+
+-- the names, in order of loading
+abbrev pub names : UserState → List (List ℕ)
+names owned = map (λ entry. entry.0) owned.sessions
+
+-- with another value under the name of a session
+abbrev pub with_held_session : List ℕ → HeldSession → UserState → UserState
+with_held_session name held owned = record owned { sessions = with_value name held owned.sessions }
+
+-- with what is held under a name changed, if something is
+abbrev pub with_session_changed_to : List ℕ → (HeldSession → HeldSession) → Option HeldSession → UserState → UserState
+with_session_changed_to name change None owned = owned
+with_session_changed_to name change (Some held) owned = with_held_session name (change held) owned
+
+-- with the session of a name changed, if there is one
+abbrev pub with_session_changed : List ℕ → (HeldSession → HeldSession) → UserState → UserState
+with_session_changed name change owned = with_session_changed_to name change (held_session owned name) owned
+
+-- a step of a kind opened, of which no tile is posted or in
+abbrev pub with_step : Kind → HeldSession → HeldSession
+with_step kind held =
+    record held { live = record held.live { part = Some (opened_step kind held.live.composition held.live.sim.cur) }; passed = 0 }
+
+-- the position in the cover of the first tile that is neither posted nor in
+abbrev pub next_tile : HeldSession → Option ℕ
+next_tile held = find (is_tile_awaited held.live) (range_with_len held.passed (tiles_of held.live - held.passed))
+
+-- the task of that tile
+abbrev pub next_of : Label → Option HeldSession → Option Task
+next_of label None = None
+next_of label (Some held) = option_and_then (task_at held.live label) (next_tile held)
+
+-- that task of the session that a label names
+abbrev pub next_task : UserState → Label → Option Task
+next_task owned label = next_of label (held_session owned label.session)
+
+-- the first session, in order of loading, that has such a task of the user of a number
+abbrev pub first_with_task : UserState → ℕ → Option (List ℕ)
+first_with_task owned user =
+    find (λ name. is_some (next_task owned (record { user = user; session = name }))) (names owned)
+
+-- The tile of the next task is the one at position `k` in the cover of the session at index `i`.
+pub record IsNextTile (owned : UserState) (i k : ℕ) : Type 0 where
+  pub within : i < length owned.sessions
+  pub name : List ℕ
+  pub named : slice_get (names owned) i ≡ Some name
+  pub held : HeldSession
+  pub at : held_session_at owned i ≡ Some held
+  pub there : held_session owned name ≡ Some held
+  pub tile : next_tile held ≡ Some k
+  pub below : k < tiles_of held.live
+  pub first : (user : ℕ) → first_with_task owned user ≡ Some name
+
+-- with the tiles passed up to a position and at it, if one is given
+abbrev pub with_passed_to : Option ℕ → HeldSession → HeldSession
+with_passed_to None held = held
+with_passed_to (Some i) held = record held { passed = i + 1 }
+
+-- that tile noted as posted
+abbrev pub with_posted : HeldSession → HeldSession
+with_posted held = with_passed_to (next_tile held) held
+
+-- the task is that of a tile that the open step of its session awaits
+abbrev pub IsAwaited : UserState → Label → Task → Type 0
+IsAwaited owned label work = IsSomeAnd (held_session owned label.session) (λ held. IsAwaitedTask held.live label work)
+
+-- one tile more is in
+abbrev pub with_tile_in : ℕ → HeldSession → HeldSession
+with_tile_in k held = record held { live = record held.live { part = with_tile k held.live.part } }
+
+-- whether a step is open in a session and all its tiles are in
+abbrev pub is_whole_session : Option HeldSession → Bool
+is_whole_session None = false
+is_whole_session (Some held) = is_whole held.live.part
+
+-- so of the session of a name
+abbrev pub is_whole_in : UserState → List ℕ → Bool
+is_whole_in owned name = is_whole_session (held_session owned name)
+
+-- with another simulation, and no step open
+abbrev pub with_simulation : HeldSession → Simulation → HeldSession
+with_simulation held sim = record held { live = with_step_closed held.live sim }
+
+-- with other saved simulations
+abbrev pub with_saved : HeldSession → List (List ℕ × Simulation) → HeldSession
+with_saved held saved = record held { saved = saved }
+
+-- so many steps more are owed; where none were, the first of them is open
+abbrev pub with_more_owed : ℕ → HeldSession → HeldSession
+with_more_owed n held =
+    let more = record held { owed = held.owed + n } in
+    if nat_lt 0 n && nat_le held.owed 0 then with_step Force more else more
+
+-- one step on, and one step less is owed; no step is open
+abbrev pub with_step_taken : HeldSession → HeldSession
+with_step_taken held =
+    record (with_simulation held (next_simulation held.live.composition held.live.sim)) { owed = held.owed - 1 }
+
+-- one step on, and the next one open if one is owed
+abbrev pub with_step_passed : HeldSession → HeldSession
+with_step_passed held =
+    let next = with_step_taken held in if nat_lt 0 next.owed then with_step Force next else next
+
+-- no step open, and none of its tiles posted
+abbrev pub with_no_step : HeldSession → HeldSession
+with_no_step held = record (with_simulation held held.live.sim) { passed = 0 }
+
+-- the step begun anew where one is owed, so that no tile is posted or in, and none open elsewhere
+abbrev pub session_at_rest : HeldSession → HeldSession
+session_at_rest held = if nat_lt 0 held.owed then with_step Force held else with_no_step held
+
+-- each session so
+abbrev pub state_at_rest : UserState → UserState
+state_at_rest owned = record owned { sessions = map (λ entry. (entry.0, session_at_rest entry.1)) owned.sessions }
+
+-- how many steps are owed to the session of a name: none where there is no such session
+abbrev pub owed_in : UserState → List ℕ → ℕ
+owed_in owned name = option_map_or (λ held. held.owed) (held_session owned name) 0
+
+-- how many steps are owed to the session that a command waits for
+abbrev pub steps_before : UserState → Command → ℕ
+steps_before owned command = option_map_or (owed_in owned) (waits_for command) 0
+
+-- the index, in order of loading, of the session that a command waits for, if there is one
+abbrev pub index_waited_for : UserState → Command → Option ℕ
+index_waited_for owned command =
+    option_and_then (λ name. position (bytes_eq name) (names owned)) (waits_for command)
+
+-- how many turns of its session come before a command is answered: the steps that are owed there, and its own
+abbrev pub turns_before : UserState → Command → ℕ
+turns_before owned command = steps_before owned command + turns (user_of owned) command
+
+-- what waits measures this session
+abbrev pub is_measured : Option Command → List ℕ → Bool
+is_measured (Some (Measure session)) name = bytes_eq session name
+is_measured _ name = false
+
+-- what the open step of a session sums: pushes where steps are owed to it, energies where what waits measures it, and
+-- nothing where none is open
+abbrev pub kind_owed : Option Command → List ℕ → HeldSession → Option Kind
+kind_owed waiting name held =
+    if nat_lt 0 held.owed then Some Force else (if is_measured waiting name then Some Energy else None)
+
+-- a session may go on by so many steps, after those that are owed to it
+abbrev pub MayAdvance : ℕ → HeldSession → Type 0
+MayAdvance n held = can_advance (session_meant held) n ≡ true
+
+-- A step is open in each session that owes one, and in no other.
+abbrev pub IsAtWork : Option Command → UserState → Type 0
+IsAtWork waiting owned = (name : List ℕ) (held : HeldSession) → held_session owned name ≡ Some held
+    → kind_of held.live.part ≡ kind_owed waiting name held
+
+-- a whole step of a kind is open
+pub record IsWhole (expected : Kind) (held : HeldSession) : Type 0 where
+  pub kind : kind_of held.live.part ≡ Some expected
+  pub whole : is_whole held.live.part ≡ true
+
+-- a step may be turned: a whole force step is open, and the next step number is in range
+pub record CanTurn (held : HeldSession) : Type 0 where
+  pub whole : IsWhole Force held
+  pub near : can_advance (as_session held) 1 ≡ true
+
+-- what a command comes to: a reply with the user after it, or a refusal
+abbrev pub outcome : Result Reply Refusal → User → Result (Reply × User) Refusal
+outcome (Ok reply) next = Ok (reply, next)
+outcome (Err refusal) next = Err refusal
+
+-- A command only reads, and comes to this, whether memory is refused to it or not.
+abbrev pub Reads : UserState → Command → Result Reply Refusal → Type 0
+Reads owned command result = (mark : Bool) → command_result (user_of owned) command mark ≡ outcome result (user_of owned)
+
+-- Every session but the one of this name is held as it was, its open step and what is posted of it included.
+abbrev pub OtherSessionsKept : List ℕ → UserState → UserState → Type 0
+OtherSessionsKept name old new = (other : List ℕ) → name ≢ other → held_session new other ≡ held_session old other
+
+-- Every session but that of the command is held as it was, its open step and what is posted of it included.
+abbrev pub OthersKept : Command → UserState → UserState → Type 0
+OthersKept command old new =
+    (other : List ℕ) → session_named command ≢ Some other → held_session new other ≡ held_session old other
+
+-- no step is owed to a session, and none is open in it
+pub record IsIdle (held : HeldSession) : Type 0 where
+  pub owed : held.owed ≡ 0
+  pub closed : kind_of held.live.part ≡ None
+
+-- the steps of a session are as they were: what is owed, which is open, and what is posted and in of that
+pub record SameSteps (old new : HeldSession) : Type 0 where
+  pub live : new.live ≡ old.live
+  pub passed : new.passed ≡ old.passed
+  pub owed : new.owed ≡ old.owed
+
+-- the steps of a START owed, where the session may go on by them
+abbrev pub with_start : ℕ → HeldSession → HeldSession
+with_start n held = if can_advance (session_meant held) n then with_more_owed n held else held
+
+-- The steps of its session after a command: START owes more, FORGET and LIST leave them as they were, and after another they
+-- are as they were, or none is owed or open.
+abbrev pub StepsAfter : Command → Option HeldSession → HeldSession → Type 0
+StepsAfter (Start name n) before after = IsSomeAnd before (λ held. after ≡ with_start n held)
+StepsAfter (Forget name branch) before after = IsSomeAnd before (λ held. SameSteps held after)
+StepsAfter (ListBranches name) before after = IsSomeAnd before (λ held. SameSteps held after)
+StepsAfter command before after = IsIdle after ⊎ IsSomeAnd before (λ held. SameSteps held after)
+
+-- So are the steps of the session that an answered command is of, if it is there.
+abbrev pub StepsFollow : Command → UserState → UserState → Type 0
+StepsFollow command old new = (name : List ℕ) (after : HeldSession) → session_named command ≡ Some name → held_session new name ≡ Some after
+    → StepsAfter command (held_session old name) after
+
+-- the session of a name, if there is one, has no step owed or open
+abbrev pub IsIdleIn : UserState → List ℕ → Type 0
+IsIdleIn owned name = (held : HeldSession) → held_session owned name ≡ Some held → IsIdle held
+
+-- A command is performed as the definition says, under some mark, which is set only for the memory refusal.
+pub record Performs (old : UserState) (command : Command) (result : Result Reply Refusal) (new : UserState) : Type 0 where
+  pub mark : Bool
+  pub performs : command_result (user_of old) command mark ≡ outcome result (user_of new)
+  pub only_memory : mark ≡ true → result ≡ Err Memory
+  pub others : OnOk result (OthersKept command old new)
+  pub steps : OnOk result (StepsFollow command old new)
+
+-- the user after commands with marks, where a missing mark is not set
+abbrev pub user_after : User → List Command → List Bool → User
+user_after user [] marks = user
+user_after user (command ∷ commands) [] = user_after (answer user command false).1 commands []
+user_after user (command ∷ commands) (mark ∷ marks) = user_after (answer user command mark).1 commands marks
+
+-- the user is the last one of some commands with marks, from no sessions
+pub record Reached (owned : UserState) : Type 0 where
+  pub commands : List Command
+  pub marks : List Bool
+  pub leads : user_of owned ≡ user_after (fresh_user owned.quota) commands marks

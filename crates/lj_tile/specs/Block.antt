@@ -1,0 +1,18 @@
+-- Blocks of places, and when two lists of places are equal.
+use Rattle.std.specs.Prelude.{ℕ, Bool, ◌==◌, List}
+use Rattle.std.specs.Ordering.{on, eq_of_both}
+use Rattle.std.specs.Cmp.Lexicographic.{pointwise}
+use Rattle.lj_ring.specs.declared.coordinates.Place.{Place}
+
+-- two places have equal coordinates
+abbrev pub is_same_place : Place → Place → Bool
+is_same_place = eq_of_both (eq_of_both (on (λ p. p.x) ◌==◌) (on (λ p. p.y) ◌==◌)) (on (λ p. p.z) ◌==◌)
+
+-- two lists have equal places, one by one
+abbrev pub are_same_places : List Place → List Place → Bool
+are_same_places = pointwise is_same_place
+
+-- the value of a block: its places, and which of them are of atoms of the second species
+pub record Block : Type 0 where
+  pub places : List Place
+  pub seconds : ℕ

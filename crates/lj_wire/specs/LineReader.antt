@@ -1,0 +1,112 @@
+-- How a reader of lines stands, and what each call for the next item does to that.
+use Rattle.std.specs.Prelude.{◌≡◌, ℕ, ◌+◌, ◌≤◌, Bool, true, List, [], ◌∷◌, ◌++◌, length, Option, Some, ◌⊎◌}
+use Rattle.std.specs.Prelude.{if◌then◌else◌}
+use Rattle.std.specs.Io.KnownBytes.{Consumes, IsAtEnd}
+use Rattle.lj_session.specs.declared.body.LoadBody.TheVariants.{Lost, Read}
+use Rattle.lj_session.specs.declared.command.Load.{Load as LoadParts}
+use Rattle.lj_session.specs.declared.command.Command.TheVariants.{Load}
+use Rattle.lj_wire.specs.declared.item.Item.{Item}
+use Rattle.lj_wire.specs.declared.item.Item.TheVariants.{Command}
+use Rattle.lj_wire.specs.declared.reader.phase.Phase.{Phase}
+use Rattle.lj_wire.specs.declared.reader.phase.Phase.TheVariants.{Open, Over, Failed}
+use Rattle.lj_wire.specs.Ends.{Rises}
+use Rattle.lj_wire.specs.Items.{is_ending}
+use Rattle.lj_session.specs.Users.{User}
+use Rattle.lj_wire.specs.Streams.{IsItem, IsPart, Splits}
+use Rattle.lj_wire.specs.Told.{item_reply}
+
+-- How a reader stands. `left` has the bytes that are in no item yet, where the source tells them: `held`, which were
+-- read ahead, and then `unread`, which the source still has. `errors` is the source's count of errors.
+pub record LineReader : Type 0 where
+  pub left : Option (List ℕ)
+  pub held : List ℕ
+  pub unread : Option (List ℕ)
+  pub errors : Option ℕ
+  pub items : ℕ
+  pub phase : Phase
+
+-- a load, and the same with the mark of lost memory in place of its body
+pub record IsLost (found item : Item) : Type 0 where
+  pub load : LoadParts
+  pub body : List ℕ
+  pub found_is : found ≡ Command (Load (record load { body = Read body }))
+  pub item_is : item ≡ Command (Load (record load { body = Lost }))
+
+-- what is handed out for an item of the stream: that item, or where no memory was found for its body its load with the
+-- mark
+abbrev pub IsHandedOut : Item → Item → Type 0
+IsHandedOut found item = (item ≡ found) ⊎ IsLost found item
+
+-- The next item of the stream was handed out, and the reader is over where it ends the connection. Nothing is read for
+-- an item that is held already, nor for the last fault after a million items, which has no bytes.
+pub record HandsOut (old new : LineReader) (item : Item) : Type 0 where
+  pub was_open : old.phase ≡ Open
+  pub front : List ℕ
+  pub found : Item
+  pub taken : Consumes old.left new.left front
+  pub is_item : IsItem old.items front found
+  pub is_found : IsHandedOut found item
+  pub items_is : new.items ≡ old.items + 1
+  pub errors_is : new.errors ≡ old.errors
+  pub unread_is : length front ≤ length old.held → new.unread ≡ old.unread
+  pub phase_is : new.phase ≡ (if is_ending item then Over else Open)
+
+-- the input has ended in less than an item, which was taken
+pub record Ceases (old new : LineReader) : Type 0 where
+  pub was_open : old.phase ≡ Open
+  pub part : List ℕ
+  pub taken : Consumes old.left new.left part
+  pub is_part : IsPart old.items part
+  pub at_end : IsAtEnd new.left
+  pub items_is : new.items ≡ old.items
+  pub errors_is : new.errors ≡ old.errors
+  pub phase_is : new.phase ≡ Over
+
+-- a read has failed in less than an item, which was taken: of the bytes read none is left
+pub record Fails (old new : LineReader) : Type 0 where
+  pub was_open : old.phase ≡ Open
+  pub part : List ℕ
+  pub taken : Consumes old.left new.left part
+  pub is_part : IsPart old.items part
+  pub all_taken : new.held ≡ []
+  pub items_is : new.items ≡ old.items
+  pub errors_rise : Rises old.errors new.errors
+  pub phase_is : new.phase ≡ Failed
+
+-- none comes: the reader was over already and nothing has changed, or the input has ended
+abbrev pub HandsNone : LineReader → LineReader → Type 0
+HandsNone old new = (old.phase ≡ Over) × (new ≡ old) ⊎ Ceases old new
+
+-- a fault: the reader had failed already and nothing has changed, or a read has failed
+abbrev pub HasFailed : LineReader → LineReader → Type 0
+HasFailed old new = (old.phase ≡ Failed) × (new ≡ old) ⊎ Fails old new
+
+-- items that were handed out one after the other
+abbrev pub HandsAll : LineReader → List Item → LineReader → Type 0
+HandsAll old [] new = new ≡ old
+HandsAll old (item ∷ items) new = (next : LineReader) × HandsOut old next item × HandsAll next items new
+
+-- what was handed out for items of the stream, one for one
+abbrev pub AreHandedOut : List Item → List Item → Type 0
+AreHandedOut [] [] = Unit {0}
+AreHandedOut (found ∷ founds) (item ∷ items) = IsHandedOut found item × AreHandedOut founds items
+AreHandedOut [] (item ∷ items) = ⊥
+AreHandedOut (found ∷ founds) [] = ⊥
+
+-- The items that are handed out one after the other are the first items of the bytes that are left, but that loads for
+-- whose bodies no memory was found are marked.
+abbrev pub HandedComeFirst : Type 0
+HandedComeFirst = (old new : LineReader) (bytes rest : List ℕ) (handed items : List Item)
+    → old.left ≡ Some bytes → HandsAll old handed new → Splits old.items bytes items rest
+    → (founds : List Item) × (others : List Item) × (items ≡ founds ++ others) × AreHandedOut founds handed
+
+-- At the end of the input the items that were handed out are all items of the bytes that were left.
+abbrev pub HandedAreAll : Type 0
+HandedAreAll = (old last new : LineReader) (bytes rest : List ℕ) (handed items : List Item)
+    → old.left ≡ Some bytes → HandsAll old handed last → Ceases last new → Splits old.items bytes items rest
+    → AreHandedOut items handed
+
+-- What is answered to a load whose body is lost is what is answered where memory is refused to the load.
+abbrev pub LostIsMarked : Type 0
+LostIsMarked = (user : User) (found item : Item) (mark : Bool) → IsLost found item
+    → item_reply user item mark ≡ item_reply user found true

@@ -1,0 +1,97 @@
+//! Bytes that are read by their count, and bodies.
+ghost use Rattle.std.specs.Prelude.{◌≡◌, ℕ, ◌≤◌, ◌<◌, [], length, take, drop, min, IfOk, OnOk, OnErr};
+ghost use Rattle.std.specs.Io.KnownBytes.{Keeps, IsAtEnd};
+ghost use Rattle.lj_wire.specs.Input.{bytes_untaken, Takes, ReadsFor};
+ghost use Rattle.lj_wire.specs.Ends.{Rises};
+ghost use Rattle.lj_wire.specs.Steps.{Fills, TakesFewer, PassesCount, ReadsBody};
+
+use super::source_input::Input;
+use crate::ends::{ReadFault, Source};
+use lj_session::{Body, LoadBody};
+use std::alloc::Global;
+
+/// Reads a body of `count` bytes. Where no memory is found for it it is passed over, and lost. `None`
+/// where the input ends before.
+pub(crate) fn read_body<S: Source>(
+    alloc: Global,
+    input: &mut Input<S>,
+    count: usize,
+) -> Result<Option<LoadBody>, ReadFault>
+    ensures body { IfOk result (λ body. ReadsBody input.old body count input.new) }
+    ensures counted { OnOk result (input.new.errors ≡ input.old.errors) }
+    ensures part { OnErr result (TakesFewer input.old input.new count) }
+    ensures emptied { OnErr result (input.new.held ≡ []) }
+    ensures risen { OnErr result (Rises input.old.errors input.new.errors) }
+    ensures reads_for { ReadsFor input.old input.new count }
+{
+    let mut bytes = Vec::new(alloc);
+    if bytes.resize(count, 0).is_err() {
+        return Ok(pass(input, count)?.then_some(LoadBody::Lost));
+    }
+    if !fill(input, bytes.as_mut_slice())? {
+        return Ok(None);
+    }
+    Ok(Some(LoadBody::Read(Body::new(bytes))))
+}
+
+/// Fills `room`. Answers false where the input ends before.
+pub(crate) fn fill<S: Source>(input: &mut Input<S>, room: &mut [u8]) -> Result<bool, ReadFault>
+    ensures filled { IfOk result (λ filled. Fills input.old filled room.new input.new) }
+    ensures counted { OnOk result (input.new.errors ≡ input.old.errors) }
+    ensures part { OnErr result (TakesFewer input.old input.new (length room.new)) }
+    ensures emptied { OnErr result (input.new.held ≡ []) }
+    ensures risen { OnErr result (Rises input.old.errors input.new.errors) }
+    ensures reads_for { ReadsFor input.old input.new (length room.new) }
+{
+    let mut at = copy_held(input, room);
+    while at < room.len() {
+        let count = input.read_into(&mut room[at..])?;
+        if count == 0 {
+            return Ok(false);
+        }
+        at += count;
+    }
+    Ok(true)
+}
+
+// Copies what is held, as far as there is room, and takes it.
+fn copy_held<S: Source>(input: &mut Input<S>, room: &mut [u8]) -> usize
+    ensures count { result ≡ min (length input.old.held) (length room.new) }
+    ensures copied { take result room.new ≡ take result input.old.held }
+    ensures taken { input.new ≡ record input.old { held = drop result input.old.held } }
+{
+    let count = input.held().len().min(room.len());
+    let (front, _) = input.held().split_at(count);
+    room[..count].copy_from_slice(front);
+    input.take(count);
+    count
+}
+
+/// Takes `count` bytes. Answers false where the input ends before.
+pub(crate) fn pass<S: Source>(input: &mut Input<S>, count: usize) -> Result<bool, ReadFault>
+    ensures passed { IfOk result (λ passed. PassesCount input.old passed count input.new) }
+    ensures counted { OnOk result (input.new.errors ≡ input.old.errors) }
+    ensures part { OnErr result (TakesFewer input.old input.new count) }
+    ensures emptied { OnErr result (input.new.held ≡ []) }
+    ensures risen { OnErr result (Rises input.old.errors input.new.errors) }
+    ensures reads_for { ReadsFor input.old input.new count }
+{
+    let mut left = count - take_held(input, count);
+    while left > 0 {
+        if input.read_more()? == 0 {
+            return Ok(false);
+        }
+        left -= take_held(input, left);
+    }
+    Ok(true)
+}
+
+// Takes what is held, but no more than `most` bytes, and answers how many.
+fn take_held<S: Source>(input: &mut Input<S>, most: usize) -> usize
+    ensures count { result ≡ min (length input.old.held) most }
+    ensures taken { input.new ≡ record input.old { held = drop result input.old.held } }
+{
+    let count = input.held().len().min(most);
+    input.take(count);
+    count
+}

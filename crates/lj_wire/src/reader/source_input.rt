@@ -1,0 +1,185 @@
+//! What is read, line by line.
+ghost use Rattle.std.specs.Prelude.{◌≡◌, ℕ, ◌≤◌, ◌<◌, [], length, take, drop, IfOk, OnOk, OnErr};
+ghost use Rattle.lj_wire.specs.Input.{bytes_untaken, Grows, Takes, HoldsNoFeed, TakesPart};
+ghost use Rattle.std.specs.Io.KnownBytes.{Keeps, IsAtEnd};
+ghost use Rattle.lj_wire.specs.Ends.{Rises};
+ghost use Rattle.lj_wire.specs.Steps.{Finds, Passes, SearchesFor};
+
+use super::buffer::{Buffer, MAX_HELD_BYTES};
+use crate::ends::{ReadFault, Source};
+use crate::limits::{LONG_LINE_BYTES, MAX_LINE_BYTES};
+use crate::line::split_line;
+use std::marker::Model;
+
+/// A source, and the bytes that were read from it and are not yet taken.
+#[derive(Drop)]
+pub(crate) struct Input<S: Source> {
+    buffer: Buffer,
+    source: S,
+}
+
+/// What stands first in the input.
+pub(crate) enum Front {
+    /// A line of so many bytes, and its line feed: they are held.
+    Line(usize),
+    /// More bytes than a command has.
+    Long,
+    /// Less than a line, and the input ends.
+    End,
+}
+
+/// What was passed over.
+pub(crate) enum Passed {
+    /// A line of more than 256 bytes.
+    Line,
+    /// 65,536 bytes without a line feed.
+    Long,
+    /// Less than a line, and the input ends.
+    End,
+}
+
+impl<S: Source> Model for Input<S> {
+    ghost use Rattle.lj_wire.specs.Input.{Input};
+
+    ghost Value = { Input };
+
+    ghost view = { λ input. record {
+      held = input.buffer;
+      unread = S.remaining input.source;
+      errors = S.errors input.source;
+    } };
+}
+
+impl<S: Source> Input<S> {
+    /// Reads nothing.
+    pub(crate) fn new(source: S) -> Self
+        ensures held { result.held ≡ [] }
+        ensures unread { result.unread ≡ S.remaining source }
+        ensures errors { result.errors ≡ S.errors source }
+    {
+        Input {
+            buffer: Buffer::new(),
+            source,
+        }
+    }
+
+    pub(crate) fn into_source(self) -> S
+        ensures unread { S.remaining result ≡ self.unread }
+        ensures errors { S.errors result ≡ self.errors }
+    {
+        let Input { buffer: _, source } = self;
+        source
+    }
+
+    /// The bytes that are held.
+    pub(crate) fn held(&self) -> &[u8]
+        ensures value { result.now ≡ self.now.held }
+        ensures bounded { length result.now ≤ MAX_HELD_BYTES }
+    {
+        self.buffer.as_slice()
+    }
+
+    /// Takes the first `count` bytes of those that are held.
+    pub(crate) fn take(&mut self, count: usize)
+        requires { count ≤ length self.old.held }
+        ensures { self.new ≡ record self.old { held = drop count self.old.held } }
+    {
+        self.buffer.take(count);
+    }
+
+    /// Takes all bytes that are held.
+    pub(crate) fn clear(&mut self)
+        ensures { self.new ≡ record self.old { held = [] } }
+    {
+        self.buffer.clear();
+    }
+
+    /// Reads some bytes after those that are held, and answers how many: 0 only at the end of the
+    /// input.
+    pub(crate) fn read_more(&mut self) -> Result<usize, ReadFault>
+        requires { length self.old.held < MAX_HELD_BYTES }
+        ensures grown { IfOk result (Grows self.old self.new) }
+        ensures counted { OnOk result (self.new.errors ≡ self.old.errors) }
+        ensures held { OnErr result (self.new.held ≡ self.old.held) }
+        ensures kept { OnErr result (Keeps (bytes_untaken self.old) (bytes_untaken self.new)) }
+        ensures risen { OnErr result (Rises self.old.errors self.new.errors) }
+    {
+        self.buffer.read_from(&mut self.source)
+    }
+
+    /// Reads some bytes into `room` and takes them, where none are held. Answers how many: 0 only at
+    /// the end of the input, or where there is no room.
+    pub(crate) fn read_into(&mut self, room: &mut [u8]) -> Result<usize, ReadFault>
+        requires { self.old.held ≡ [] }
+        ensures held { self.new.held ≡ [] }
+        ensures bound { IfOk result (λ n. n ≤ length room.new) }
+        ensures taken { IfOk result (λ n. Takes self.old self.new (take n room.new)) }
+        ensures ended { IfOk result (λ n. n ≡ 0 → 0 < length room.new → IsAtEnd (bytes_untaken self.new)) }
+        ensures counted { OnOk result (self.new.errors ≡ self.old.errors) }
+        ensures kept { OnErr result (Keeps (bytes_untaken self.old) (bytes_untaken self.new)) }
+        ensures risen { OnErr result (Rises self.old.errors self.new.errors) }
+    {
+        self.source.read(room)
+    }
+
+    #[tactic(auto, using(crate::proofs::Passing::searched_more, crate::proofs::Passing::searched_long))]
+    /// Reads until the first line is held, or more bytes than a command has, or the input ends.
+    /// What is held when it ends, or at a fault, is taken.
+    pub(crate) fn find_line(&mut self) -> Result<Front, ReadFault>
+        ensures found { IfOk result (λ front. Finds self.old front self.new) }
+        ensures searched { IfOk result (λ front. SearchesFor self.old front self.new) }
+        ensures counted { OnOk result (self.new.errors ≡ self.old.errors) }
+        ensures part { OnErr result (TakesPart self.old self.new) }
+        ensures emptied { OnErr result (self.new.held ≡ []) }
+        ensures risen { OnErr result (Rises self.old.errors self.new.errors) }
+    {
+        'reads: loop {
+            if let Some((line, _)) = split_line(self.held()) {
+                return Ok(Front::Line(line.len()));
+            }
+            if self.held().len() > MAX_LINE_BYTES {
+                return Ok(Front::Long);
+            }
+            match self.read_more() {
+                Ok(0) => {
+                    self.clear();
+                    return Ok(Front::End);
+                }
+                Ok(_) => {}
+                Err(fault) => {
+                    self.clear();
+                    return Err(fault);
+                }
+            }
+        }
+    }
+
+    /// Takes a line of which more bytes than a command has are held, with its line feed. Its bytes
+    /// are only counted.
+    pub(crate) fn pass_line(&mut self) -> Result<Passed, ReadFault>
+        requires { HoldsNoFeed self.old }
+        ensures passed { IfOk result (λ passed. Passes self.old passed self.new) }
+        ensures counted { OnOk result (self.new.errors ≡ self.old.errors) }
+        ensures part { OnErr result (TakesPart self.old self.new) }
+        ensures emptied { OnErr result (self.new.held ≡ []) }
+        ensures risen { OnErr result (Rises self.old.errors self.new.errors) }
+    {
+        let mut seen = self.held().len();
+        self.clear();
+        while seen < LONG_LINE_BYTES {
+            if self.read_more()? == 0 {
+                return Ok(Passed::End);
+            }
+            let wanted = (LONG_LINE_BYTES - seen).min(self.held().len());
+            let (front, _) = self.held().split_at(wanted);
+            if let Some((line, _)) = split_line(front) {
+                let count = line.len() + 1;
+                self.take(count);
+                return Ok(Passed::Line);
+            }
+            self.take(wanted);
+            seen += wanted;
+        }
+        Ok(Passed::Long)
+    }
+}

@@ -1,0 +1,70 @@
+//! The atoms that are read.
+ghost use Rattle.std.specs.Prelude.{◌≡◌, ◌==◌, length};
+
+use crate::symbol::Symbol;
+use lj_fixed::Nano;
+use std::marker::Model;
+
+/// An atom of a frame: its symbol and its coordinates in nano.
+#[derive(Debug, Drop)]
+pub struct Row {
+    pub symbol: Symbol,
+    pub x: Nano,
+    pub y: Nano,
+    pub z: Nano,
+}
+
+/// The atoms of a frame, in the order of the file.
+#[derive(Debug, Drop)]
+pub struct Rows {
+    rows: Vec<Row>,
+}
+
+/// The first two frames of a file, of as many atoms.
+#[derive(Debug, Drop)]
+pub struct FramePair {
+    pub first: Rows,
+    pub second: Rows,
+}
+
+impl Model for Rows {
+    ghost use Rattle.std.specs.Prelude.{List};
+    ghost use Rattle.lj_xyz.specs.declared.atom_row.Row.{Row};
+
+    ghost Value = { List Row };
+
+    ghost view = { λ r. r.rows.items };
+}
+
+impl Rows {
+    pub(crate) fn new(rows: Vec<Row>) -> Rows
+        ensures { result ≡ rows.items }
+    {
+        Rows { rows }
+    }
+
+    pub fn len(&self) -> usize
+        ensures { result ≡ length self.now }
+    {
+        self.rows.len()
+    }
+
+    pub fn is_empty(&self) -> bool
+        ensures { result ≡ (length self.now == 0) }
+    {
+        self.rows.is_empty()
+    }
+
+    pub fn as_slice(&self) -> &[Row]
+        ensures { result.now ≡ self.now }
+    {
+        self.rows.as_slice()
+    }
+
+    pub fn into_vec(self) -> Vec<Row>
+        ensures { result.items ≡ self }
+    {
+        let Rows { rows } = self;
+        rows
+    }
+}

@@ -1,0 +1,312 @@
+//! The frames of a text, read from its first line to its last.
+ghost use Rattle.std.specs.Prelude.{◌≡◌, ◌≤◌, ◌↔◌, [], ◌∷◌, ◌++◌, length, Ok, Err, IfOk, IfSome, IsSomeAnd, IsTrue};
+ghost use Rattle.std.specs.Option.{option_copied};
+ghost use Rattle.lj_xyz.specs.declared.xyz_fault.XyzFault.{XyzFault};
+ghost use Rattle.lj_xyz.specs.Lines.{lines_of};
+ghost use Rattle.lj_xyz.specs.Symbols.{is_of_species};
+ghost use Rattle.lj_xyz.specs.Atoms.{is_count, count_of, symbol_or_kind, row_of, row_of_four};
+ghost use Rattle.lj_xyz.specs.Frames.{IsReading, HasFrames, admits, missing, rest, pair};
+ghost use Rattle.lj_xyz.specs.Reading.{Gives, Tells, count_or_fault, head_in, behind_comment, opening_in, next_row};
+ghost use Rattle.lj_xyz.specs.Reading.{rows_in, frame_in, reading};
+ghost use Rattle.lj_xyz.specs.Cursor.{left_of, Passes};
+
+use crate::atom_row::{FramePair, Row, Rows};
+use crate::lines::{Lines, split_word};
+use crate::symbol::Symbol;
+use crate::symbol_pair::SymbolPair;
+use crate::xyz_fault::{XyzError, XyzFault, XyzKind};
+use lj_fixed::{parse_nano, parse_number};
+use std::alloc::Global;
+
+/// The most atoms that a frame may have.
+pub const MAX_FRAME_ATOMS: usize = 4096;
+
+/// Which frame is read: the first, or the second, which has as many atoms as the first.
+#[derive(Clone, Copy)]
+pub enum Position {
+    First,
+    Second(usize),
+}
+
+/// The atoms of a frame that was read: how many, and their rows where there was memory to keep them.
+#[derive(Drop)]
+pub struct Passed {
+    atoms: usize,
+    rows: Option<Rows>,
+}
+
+impl Position {
+    fn admits(self, count: usize) -> bool
+        ensures { result ≡ admits self count }
+    {
+        match self {
+            Position::First => true,
+            Position::Second(atoms) => count == atoms,
+        }
+    }
+
+    fn missing(self) -> XyzKind
+        ensures { result ≡ missing self }
+    {
+        match self {
+            Position::First => XyzKind::Count,
+            Position::Second(_) => XyzKind::Pair,
+        }
+    }
+}
+
+fn is_count(number: u64) -> bool
+    ensures { result ≡ is_count number }
+{
+    1 <= number && number <= MAX_FRAME_ATOMS as u64
+}
+
+fn count_of(word: &[u8]) -> Option<usize>
+    ensures { result ≡ count_of word.now }
+{
+    let number = parse_number(word)?;
+    is_count(number).then_some(number as usize)
+}
+
+fn is_of_species(symbol: &Symbol, symbols: Option<&SymbolPair>) -> bool
+    ensures { result ≡ is_of_species (option_copied symbols.entry) symbol.now }
+{
+    match symbols {
+        Some(pair) => pair.has(symbol),
+        None => true,
+    }
+}
+
+// The symbol that a word is.
+fn symbol_of(word: &[u8], symbols: Option<&SymbolPair>) -> Result<Symbol, XyzKind>
+    ensures { result ≡ symbol_or_kind (option_copied symbols.entry) word.now }
+{
+    let symbol = Symbol::new(word).ok_or(XyzKind::Symbol)?;
+    if !is_of_species(&symbol, symbols) {
+        return Err(XyzKind::Species);
+    }
+    Ok(symbol)
+}
+
+// The atom that a line says.
+#[tactic(auto, unfolding(crate::specs::Atoms::row_of))]
+fn row_of(line: &[u8], symbols: Option<&SymbolPair>) -> Result<Row, XyzKind>
+    ensures { result ≡ row_of (option_copied symbols.entry) line.now }
+{
+    let (word, line) = split_word(line).ok_or(XyzKind::Short)?;
+    let (x, line) = split_word(line).ok_or(XyzKind::Short)?;
+    let (y, line) = split_word(line).ok_or(XyzKind::Short)?;
+    let (z, _others) = split_word(line).ok_or(XyzKind::Short)?;
+    row_of_four(word, x, y, z, symbols)
+}
+
+#[tactic(auto, unfolding(crate::specs::Atoms::row_of_four))]
+fn row_of_four(
+    word: &[u8],
+    x: &[u8],
+    y: &[u8],
+    z: &[u8],
+    symbols: Option<&SymbolPair>,
+) -> Result<Row, XyzKind>
+    ensures { result ≡ row_of_four (option_copied symbols.entry) word.now x.now y.now z.now }
+{
+    let symbol = symbol_of(word, symbols)?;
+    let x = parse_nano(x)?;
+    let y = parse_nano(y)?;
+    let z = parse_nano(z)?;
+    Ok(Row { symbol, x, y, z })
+}
+
+// The number of atoms that the first word of the count line says, the line of that number.
+fn count_or_fault(position: Position, line: u64, word: &[u8]) -> Result<usize, XyzFault>
+    ensures { result ≡ count_or_fault position line (count_of word.now) }
+{
+    let Some(count) = count_of(word) else {
+        return Err(XyzFault {
+            kind: XyzKind::Count,
+            line,
+        });
+    };
+    if !position.admits(count) {
+        return Err(XyzFault {
+            kind: XyzKind::Pair,
+            line,
+        });
+    }
+    Ok(count)
+}
+
+// Passes over the lines without a word, and reads the count line.
+fn read_head(lines: &mut Lines, position: Position) -> Result<usize, XyzFault>
+    ensures { Tells (λ count. (count, left_of lines.new)) result
+        (head_in position lines.old.taken (lines_of lines.old.rest.now)) }
+{
+    while let Some(line) = lines.next_line() {
+        if let Some((word, _others)) = split_word(line) {
+            return count_or_fault(position, lines.taken, word);
+        }
+    }
+    Err(XyzFault {
+        kind: position.missing(),
+        line: lines.taken + 1,
+    })
+}
+
+#[tactic(auto, unfolding(crate::specs::Reading::behind_comment))]
+fn pass_comment(lines: &mut Lines) -> Result<(), XyzFault>
+    ensures { Tells (λ _. left_of lines.new) result
+        (behind_comment lines.old.taken (lines_of lines.old.rest.now)) }
+{
+    match lines.next_line() {
+        Some(_comment) => Ok(()),
+        None => Err(XyzFault {
+            kind: XyzKind::Short,
+            line: lines.taken + 1,
+        }),
+    }
+}
+
+#[tactic(auto, unfolding(crate::specs::Reading::next_row))]
+fn read_row(lines: &mut Lines, symbols: Option<&SymbolPair>) -> Result<Row, XyzFault>
+    ensures { Tells (λ row. (row, left_of lines.new)) result
+        (next_row (option_copied symbols.entry) lines.old.taken (lines_of lines.old.rest.now)) }
+{
+    let Some(line) = lines.next_line() else {
+        return Err(XyzFault {
+            kind: XyzKind::Short,
+            line: lines.taken + 1,
+        });
+    };
+    match row_of(line, symbols) {
+        Ok(row) => Ok(row),
+        Err(kind) => Err(XyzFault {
+            kind,
+            line: lines.taken,
+        }),
+    }
+}
+
+// The head of a frame and its comment line: the number of its atoms.
+fn read_opening(lines: &mut Lines, position: Position) -> Result<usize, XyzFault>
+    ensures { Tells (λ atoms. (atoms, left_of lines.new)) result
+        (opening_in position (left_of lines.old)) }
+{
+    let atoms = read_head(lines, position)?;
+    pass_comment(lines)?;
+    Ok(atoms)
+}
+
+// The rows and one more, where these were kept and there is memory for it.
+fn kept_with(rows: Option<Vec<Row>>, row: Row) -> Option<Vec<Row>>
+    ensures { IfSome result (λ more. IsSomeAnd rows (λ rows. more.items ≡ rows.items ++ row ∷ [])) }
+{
+    let mut rows = rows?;
+    match rows.push(row) {
+        Ok(()) => Some(rows),
+        Err(_refused) => None,
+    }
+}
+
+// Reads on where there is no memory for the rows: a fault among them is answered all the same.
+fn read_rows(
+    alloc: Global,
+    lines: &mut Lines,
+    atoms: usize,
+    symbols: Option<&SymbolPair>,
+) -> Result<Passed, XyzFault>
+    ensures { Passes lines.new result (rows_in (option_copied symbols.entry) atoms (left_of lines.old)) }
+{
+    let mut rows = Vec::with_capacity(alloc, atoms).ok();
+    for _ in 0..atoms {
+        let row = read_row(lines, symbols)?;
+        rows = kept_with(rows, row);
+    }
+    Ok(Passed {
+        atoms,
+        rows: rows.map(Rows::new),
+    })
+}
+
+#[tactic(auto, unfolding(crate::specs::Reading::frame_in))]
+fn read_frame(
+    alloc: Global,
+    lines: &mut Lines,
+    position: Position,
+    symbols: Option<&SymbolPair>,
+) -> Result<Passed, XyzFault>
+    ensures { Passes lines.new result (frame_in (option_copied symbols.entry) position (left_of lines.old)) }
+{
+    let atoms = read_opening(lines, position)?;
+    read_rows(alloc, lines, atoms, symbols)
+}
+
+fn first_frame(alloc: Global, text: &[u8], symbols: Option<&SymbolPair>) -> Result<Rows, XyzError>
+    ensures { Gives (λ rows. rows ∷ []) result
+        (reading (option_copied symbols.entry) rest (lines_of text.now)) }
+{
+    let mut lines = Lines::new(text);
+    let frame = read_frame(alloc, &mut lines, Position::First, symbols)?;
+    frame.rows.ok_or(XyzError::Memory)
+}
+
+// The second frame is read for atoms of any species.
+fn first_two_frames(
+    alloc: Global,
+    text: &[u8],
+    symbols: Option<&SymbolPair>,
+) -> Result<FramePair, XyzError>
+    ensures { Gives (λ frames. frames.first ∷ frames.second ∷ []) result
+        (reading (option_copied symbols.entry) pair (lines_of text.now)) }
+{
+    let mut lines = Lines::new(text);
+    let first = read_frame(alloc, &mut lines, Position::First, symbols)?;
+    let second = read_frame(alloc, &mut lines, Position::Second(first.atoms), None)?;
+    match (first.rows, second.rows) {
+        (Some(first), Some(second)) => Ok(FramePair { first, second }),
+        _ => Err(XyzError::Memory),
+    }
+}
+
+/// Reads the first frame of a text. What follows it is not read. Each atom is to have one of the symbols, where two are
+/// given. A fault is answered as that fault even where there is no memory for the rows.
+pub fn read_rest(alloc: Global, text: &[u8], symbols: Option<&SymbolPair>) -> Result<Rows, XyzError>
+    ensures frame { IfOk result (λ rows.
+        IsReading (option_copied symbols.entry) rest (lines_of text.now) (Ok (rows ∷ []))) }
+    ensures fault { (fault : XyzFault) → (result ≡ Err (XyzError.Fault fault))
+        ↔ IsReading (option_copied symbols.entry) rest (lines_of text.now) (Err fault) }
+    ensures memory { result ≡ Err XyzError.Memory →
+        HasFrames (option_copied symbols.entry) rest (lines_of text.now) }
+    ensures count { IfOk result (λ rows. IsTrue (is_count (length rows))) }
+
+    // The same as an equation, where memory was found.
+    ensures exact { Gives (λ rows. rows ∷ []) result
+        (reading (option_copied symbols.entry) rest (lines_of text.now)) }
+{
+    first_frame(alloc, text, symbols)
+}
+
+/// Reads the first two frames of a text, which are to have as many atoms. What follows them is not read. Each atom of
+/// the first frame is to have one of the symbols, where two are given. Those of the second frame are to be symbols, and
+/// are compared neither with these nor with those of the first. A fault is answered as that fault even where there is
+/// no memory for the rows.
+pub fn read_pair(
+    alloc: Global,
+    text: &[u8],
+    symbols: Option<&SymbolPair>,
+) -> Result<FramePair, XyzError>
+    ensures frames { IfOk result (λ frames.
+        IsReading (option_copied symbols.entry) pair (lines_of text.now)
+        (Ok (frames.first ∷ frames.second ∷ []))) }
+    ensures fault { (fault : XyzFault) → (result ≡ Err (XyzError.Fault fault))
+        ↔ IsReading (option_copied symbols.entry) pair (lines_of text.now) (Err fault) }
+    ensures memory { result ≡ Err XyzError.Memory →
+        HasFrames (option_copied symbols.entry) pair (lines_of text.now) }
+    ensures count { IfOk result (λ frames. IsTrue (is_count (length frames.first))) }
+    ensures same_count { IfOk result (λ frames. length frames.second ≡ length frames.first) }
+
+    // The same as an equation, where memory was found.
+    ensures exact { Gives (λ frames. frames.first ∷ frames.second ∷ []) result
+        (reading (option_copied symbols.entry) pair (lines_of text.now)) }
+{
+    first_two_frames(alloc, text, symbols)
+}

@@ -1,0 +1,106 @@
+//! What is wrong with a body, and where.
+ghost use Rattle.std.specs.Prelude.{◌≡◌};
+ghost use Rattle.lj_fixed.specs.declared.numbers.NumberFault.{NumberFault};
+ghost use Rattle.lj_xyz.specs.declared.xyz_fault.XyzError.TheVariants.{Fault};
+ghost use Rattle.lj_xyz.specs.Kinds.{kind_of};
+
+use lj_fixed::NumberFault;
+use std::fmt;
+use thiserror::Error;
+
+/// What is wrong with a body.
+#[derive(Clone, Copy, Debug, PartialEq, Eq, Error)]
+pub enum XyzKind {
+    /// There is no count line, or its first word is no number of atoms from 1 to 4,096.
+    Count,
+    /// The comment line or an atom line is missing, or an atom line has fewer than four words.
+    Short,
+    /// The first word of an atom line is no symbol.
+    Symbol,
+    /// The symbol of an atom of the first frame is of neither species.
+    Species,
+    /// A coordinate is no decimal word.
+    Number,
+    /// A coordinate is beyond a million file units.
+    Range,
+    /// There is no second frame, or it has another number of atoms.
+    Pair,
+}
+
+impl fmt::Display for XyzKind {
+    ghost use Rattle.std.specs.Prelude.{Some};
+    ghost use Rattle.lj_xyz.specs.FaultTexts.{kind_text};
+
+    ghost output = { λ kind. Some (kind_text kind) };
+
+    fn fmt<W: fmt::Write>(&self, f: &mut fmt::Formatter<W>) -> fmt::Result {
+        f.write_str(match self {
+            XyzKind::Count => "no number of atoms",
+            XyzKind::Short => "a line is missing or too short",
+            XyzKind::Symbol => "not a symbol",
+            XyzKind::Species => "a symbol of neither species",
+            XyzKind::Number => "not a decimal number",
+            XyzKind::Range => "a coordinate out of range",
+            XyzKind::Pair => "no second frame of as many atoms",
+        })
+    }
+}
+
+impl From<NumberFault> for XyzKind {
+    ghost from_gives = { λ fault kind. kind ≡ kind_of fault };
+
+    fn from(fault: NumberFault) -> XyzKind {
+        match fault {
+            NumberFault::BadNumber => XyzKind::Number,
+            NumberFault::OutOfRange => XyzKind::Range,
+        }
+    }
+}
+
+/// The first fault of a body in reading order, and its line, counted from 1.
+#[derive(Clone, Copy, Debug, PartialEq, Eq, Error)]
+pub struct XyzFault {
+    pub kind: XyzKind,
+    pub line: u64,
+}
+
+impl fmt::Display for XyzFault {
+    ghost use Rattle.std.specs.Prelude.{Some};
+    ghost use Rattle.lj_xyz.specs.FaultTexts.{fault_text};
+
+    ghost output = { λ fault. Some (fault_text fault) };
+
+    fn fmt<W: fmt::Write>(&self, f: &mut fmt::Formatter<W>) -> fmt::Result {
+        write!(f, "line {}: {}", self.line, self.kind)
+    }
+}
+
+/// Why no frame was read.
+#[derive(Debug, Drop, Error)]
+pub enum XyzError {
+    Fault(XyzFault),
+    /// There was no memory for the rows of a text that has no fault.
+    Memory,
+}
+
+impl fmt::Display for XyzError {
+    ghost use Rattle.std.specs.Prelude.{Some};
+    ghost use Rattle.lj_xyz.specs.FaultTexts.{error_text};
+
+    ghost output = { λ error. Some (error_text error) };
+
+    fn fmt<W: fmt::Write>(&self, f: &mut fmt::Formatter<W>) -> fmt::Result {
+        match self {
+            XyzError::Fault(fault) => write!(f, "{fault}"),
+            XyzError::Memory => f.write_str("out of memory"),
+        }
+    }
+}
+
+impl From<XyzFault> for XyzError {
+    ghost from_gives = { λ fault error. error ≡ Fault fault };
+
+    fn from(fault: XyzFault) -> XyzError {
+        XyzError::Fault(fault)
+    }
+}
