@@ -6,7 +6,7 @@ import tempfile
 import unittest
 from unittest import mock
 
-from ljclient import BadReply, CannotStart, TimedOut, run, user
+from ljclient import BadReply, CannotStart, TimedOut, finding, run
 from support import PROGRAM, TOP
 
 
@@ -68,23 +68,23 @@ class Starts(unittest.TestCase):
 
     def test_where_the_program_is_looked_for(self):
         with mock.patch.dict(os.environ, {"LJSERVE": "/some/where"}):
-            self.assertEqual(user.find_program(), "/some/where")
-        with mock.patch.dict(os.environ, {"LJSERVE": ""}), mock.patch.object(user, "_build") as build:
-            self.assertEqual(user.find_program(), str(TOP / "bin" / "ljserve"))
+            self.assertEqual(finding.find_program(), "/some/where")
+        with mock.patch.dict(os.environ, {"LJSERVE": ""}), mock.patch.object(finding, "_build") as build:
+            self.assertEqual(finding.find_program(), str(TOP / "bin" / "ljserve"))
             build.assert_called_once_with(TOP / "bin" / "ljserve")
         with mock.patch.dict(os.environ, {"LJSERVE": "", "PATH": str(self.folder)}):
-            with mock.patch.object(user, "__file__", str(self.folder / "user.py")):
+            with mock.patch.object(finding, "__file__", str(self.folder / "finding.py")):
                 with self.assertRaisesRegex(CannotStart, "there is no ljserve"):
-                    user.find_program()
+                    finding.find_program()
                 path = self.program("")
-                self.assertEqual(user.find_program(), str(path))
+                self.assertEqual(finding.find_program(), str(path))
 
     def test_a_build_that_fails(self):
         with self.assertRaisesRegex(CannotStart, "has ended with status 70"):
-            user._build(self.program("exit 70\n"))
-        user._build(self.program("exit 0\n"))
+            finding._build(self.program("exit 70\n"))
+        finding._build(self.program("exit 0\n"))
         with self.assertRaisesRegex(CannotStart, "cannot be started"):
-            user._build(self.folder / "none")
+            finding._build(self.folder / "none")
 
 
 if __name__ == "__main__":

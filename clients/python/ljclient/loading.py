@@ -1,0 +1,164 @@
+"""How a user's atoms come to a server: sessions of one species and of two."""
+from __future__ import annotations
+
+import contextlib
+from typing import TYPE_CHECKING, Any, Dict, Iterable, List, Optional, Sequence, cast
+
+from . import units, xyz
+from .errors import ClientError
+from .mixture import Mixture, Pair, RawClass
+from .motion import Motion, motion_of
+from .session import Row, Session, checked_name
+from .wire import Reply
+
+if TYPE_CHECKING:
+    from .user import User
+
+
+class Loader:
+    """The part of a `User` that loads atoms, and what was said of the scale of each session."""
+
+    def __init__(self) -> None:
+        self._scales: Dict[str, units.Scale] = {}
+        self._mixtures: Dict[str, Mixture] = {}
+
+    def load(
+        self,
+        name: str,
+        source: Any,
+        *,
+        edge: Optional[units.Number] = None,
+        sigma: units.Number,
+        h: Optional[int] = None,
+        epsilon: Optional[float] = None,
+        mass: Optional[float] = None,
+        dt: Optional[float] = None,
+        before: Any = None,
+        symbols: xyz.Symbols = None,
+        replace: bool = False,
+    ) -> Session:
+        """Loads atoms into a new session, at step 0.
+
+        name     the name of the session: 1 to 16 letters, digits, `_` or `-`
+        source   the atoms: the path of an XYZ file, an open one, XYZ text, `Atoms` of ASE, a list of
+                 `(symbol, x, y, z)`, or positions with `symbols`
+        edge     the edge of the cubic box, in the unit of the file; of `Atoms` in a cubic cell it is known
+        sigma    the distance sigma, in the same unit, below a fifth of the edge
+        h        the step factor: `dt^2 epsilon / (m sigma^2)` in units of 2^-32, a whole number from 1 to 16777216
+
+        In place of h there may be physical units, and edge, sigma and positions are then in angstrom:
+
+        epsilon  the depth of the potential in electronvolt, such as `119.8 * units.kelvin`
+        mass     the mass of an atom in dalton
+        dt       the time step in femtoseconds. h is the nearest whole number, and `Session.dt` the time step that this h
+                 stands for, which is what the simulation has
+
+        epsilon and mass may be said beside h too: `Session.dt` and temperatures in kelvin are known then.
+
+        The atoms are at rest, or, where `before` has the atoms one step before (a source too), move as these two say.
+        `Atoms` of ASE without `before` move with their velocities, which need epsilon and mass. They are rounded, and
+        `print(session.motion)` tells to what; they are those of half a step ago, as kinetic energies are.
+
+        With `replace=True` a session of that name is dropped first.
+        """
+        checked_name(name)
+        edge = _edge_of(edge, source)
+        scale = units.Scale.of(edge, sigma, h, epsilon=epsilon, mass=mass, dt=dt)
+        motion = motion_of(source, scale) if before is None else None
+        words = f"{units.word(edge)} {units.word(sigma)} {units.word(scale.h)}"
+        self._send("LOAD", name, words, xyz.frames_of(source, before, symbols), replace, motion)
+        self._scales[name] = scale
+        return Session(cast("User", self), name, scale, motion=motion)
+
+    def load_mix(
+        self,
+        name: str,
+        source: Any,
+        *,
+        species: Sequence[str],
+        edge: Optional[units.Number] = None,
+        first: Optional[Pair] = None,
+        second: Optional[Pair] = None,
+        mixed: Optional[Pair] = None,
+        mass: Optional[float] = None,
+        dt: Optional[float] = None,
+        classes: Optional[Sequence[RawClass]] = None,
+        epsilon: Optional[float] = None,
+        before: Any = None,
+        symbols: xyz.Symbols = None,
+        replace: bool = False,
+    ) -> Session:
+        """Loads atoms of two species, all of one mass, into a new session at step 0.
+
+        name, source, edge, before, symbols, replace are as in `load`.
+
+        species  the two symbols, such as `("Ar", "Kr")`; each atom has one of them
+        first    sigma (angstrom) and epsilon (electronvolt) of two atoms of the first species
+        second   those of two atoms of the second species
+        mixed    those of one atom of each; where they are not said, the mean of the sigmas and the geometric mean of the
+                 epsilons (Lorentz and Berthelot)
+        mass     the mass of each atom in dalton
+        dt       the time step in femtoseconds
+
+        The step factor h and the weight of each of the three are the nearest whole numbers; `print(session.mixture)` tells
+        them. A weight is an epsilon in 256ths of the first one, which is the unit of energies.
+
+        In place of first, second, mixed and dt there may be the numbers of the protocol:
+
+        classes  three of `(sigma, h, weight)`: of two atoms of the first species, of one of each, of two of the second
+        epsilon  that of the first in electronvolt, and mass, where `Session.dt` and temperatures in kelvin are to be known
+        """
+        checked_name(name)
+        edge = _edge_of(edge, source)
+        mixture = Mixture.of(
+            edge, species, first=first, second=second, mixed=mixed, mass=mass, dt=dt, classes=classes, epsilon=epsilon
+        )
+        motion = motion_of(source, mixture.scale) if before is None else None
+        words = f"{units.word(edge)} {mixture.words}"
+        self._send("LOADMIX", name, words, xyz.frames_of(source, before, symbols), replace, motion)
+        self._scales[name] = mixture.scale
+        self._mixtures[name] = mixture
+        return Session(cast("User", self), name, mixture.scale, mixture=mixture, motion=motion)
+
+    def _send(
+        self, command: str, name: str, words: str, frames: xyz.Frames, replace: bool, motion: Optional[Motion]
+    ) -> None:
+        """Asks for a new session, in place of one of that name where it is to be replaced, and sets its atoms in motion.
+
+        Where an error or an interrupt comes between, the new session is given up.
+        """
+        mode, body = frames
+        if replace and any(row.name == name for row in self.sessions()):
+            self.ask(f"DROP {name}")
+        self.ask(f"{command} {name} {words} {mode} {len(body)}", body)
+        self.has_dropped(name)
+        try:
+            self.ask_all(motion.tugs(name) if motion else [])
+        except BaseException:
+            with contextlib.suppress(ClientError):
+                self.ask(f"DROP {name}")
+            raise
+
+    def has_dropped(self, name: str) -> None:
+        """Forgets what was said of a session that is gone."""
+        self._scales.pop(name, None)
+        self._mixtures.pop(name, None)
+
+    def ask(self, line: str, body: bytes = b"") -> Reply:
+        """As `User.ask`."""
+        raise NotImplementedError
+
+    def ask_all(self, lines: Iterable[str]) -> List[Reply]:
+        """As `User.ask_all`."""
+        raise NotImplementedError
+
+    def sessions(self) -> List[Row]:
+        """As `User.sessions`."""
+        raise NotImplementedError
+
+
+def _edge_of(edge: Optional[units.Number], source: Any) -> units.Number:
+    """The edge of the box that was said, or that the source says itself."""
+    if edge is None and (edge := xyz.edge_of(source)) is None:
+        raise ValueError("say the edge of the box: edge=..")
+    return edge
