@@ -18,9 +18,10 @@
 from . import refusals, units
 from .arrays import distance, least_images
 from .errors import BadReply, CannotStart, ClientError, Closed, ConnectionLost, Refused, TimedOut
+from .measurement import Measurement
 from .mixture import Mixture
 from .motion import Motion
-from .session import Measurement, Row, Saved, Session
+from .session import Row, Saved, Session
 from .units import Scale
 from .user import User, connect, run
 

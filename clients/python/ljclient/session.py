@@ -4,15 +4,15 @@ from __future__ import annotations
 import operator
 import os
 import re
-from dataclasses import dataclass, field
 from typing import TYPE_CHECKING, Any, List, NamedTuple, Optional, Sequence, Tuple, Union
 
 from . import arrays, ase_bridge, going, progress as bars
 from .errors import BadReply
+from .measurement import Measurement, known
 from .mixture import Mixture
 from .motion import Motion
 from .replies import fields, number_after, of_session, whole_number, whole_numbers
-from .units import POTENTIAL_UNIT, Scale, kelvin
+from .units import Scale
 
 if TYPE_CHECKING:
     from .user import User
@@ -25,62 +25,6 @@ class Saved(NamedTuple):
 
     name: str
     step: int
-
-
-@dataclass(frozen=True)
-class Measurement:
-    """What `measure` tells.
-
-    step, atoms  the step number, and how many atoms there are
-    momentum     along x, y and z: the sum of the displacements of the last step, in ring units (edge / 2^32) per step
-    kinetic      the kinetic number: the sum of the squares of these displacements, in square ring units
-    potential    the potential in units of 2^-24 epsilon
-
-    Of a mixture, epsilon is that of its first class. Displacements are those of the step before, so the kinetic energy is
-    that of half a step ago, and the potential energy that of now.
-    """
-
-    step: int
-    atoms: int
-    momentum: Tuple[int, int, int]
-    kinetic: int
-    potential: int
-    scale: Optional[Scale] = field(default=None, repr=False, compare=False)
-
-    @property
-    def potential_energy(self) -> float:
-        """In epsilon."""
-        return self.potential / POTENTIAL_UNIT if self.scale is None else self.scale.potential_energy(self.potential)
-
-    @property
-    def kinetic_energy(self) -> float:
-        """In epsilon, as the potential energy."""
-        return _known(self.scale).kinetic_energy(self.kinetic)
-
-    @property
-    def total_energy(self) -> float:
-        """Potential and kinetic energy together, in epsilon."""
-        return self.potential_energy + self.kinetic_energy
-
-    @property
-    def temperature(self) -> float:
-        """Two thirds of the kinetic energy of an atom: in kelvin where epsilon was said, else in epsilon / k_B."""
-        scale = _known(self.scale)
-        reduced = 2 * self.kinetic_energy / (3 * self.atoms)
-        return reduced if scale.epsilon is None else reduced * scale.epsilon / kelvin
-
-    def in_electronvolt(self, energy: float) -> float:
-        """An energy in epsilon, such as `potential_energy`, in electronvolt. Needs epsilon."""
-        epsilon = _known(self.scale).epsilon
-        if epsilon is None:
-            raise ValueError("epsilon is not known: say epsilon= (in electronvolt) where the session is loaded")
-        return energy * epsilon
-
-
-def _known(scale: Optional[Scale]) -> Scale:
-    if scale is None:
-        raise ValueError("the scale is not known: user.session(name, edge=.., sigma=.., h=..) says it")
-    return scale
 
 
 def checked_name(name: str) -> str:
@@ -129,7 +73,7 @@ class Session:
     @property
     def scale(self) -> Scale:
         """What its whole numbers mean; of a mixture, the scale of its first class. ValueError where nobody has said it."""
-        return _known(self._given)
+        return known(self._given)
 
     @property
     def step(self) -> int:
