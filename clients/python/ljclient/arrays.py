@@ -18,11 +18,11 @@ def of_places(places: List[Tuple[int, int, int]]) -> Any:
     return places if numpy is None else numpy.array(places, dtype=numpy.int64).reshape(-1, 3)
 
 
-def of_positions(places: List[Tuple[int, int, int]], edge: float) -> Any:
-    """Positions in the unit of the edge: an array of shape (atoms, 3), or a list of tuples."""
+def of_positions(places: Any, edge: float) -> Any:
+    """Positions in the unit of the edge, of what `of_places` gives: an array of shape (atoms, 3), or a list of tuples."""
     if numpy is None:
         return [tuple(coordinate * edge / RING for coordinate in place) for place in places]
-    return of_places(places) * edge / RING
+    return places * edge / RING
 
 
 def least_images(places: Sequence, others: Sequence) -> Any:

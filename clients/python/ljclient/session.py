@@ -6,8 +6,7 @@ import os
 import re
 from typing import TYPE_CHECKING, Any, List, NamedTuple, Optional, Sequence, Tuple, Union
 
-from . import arrays, ase_bridge, going, progress as bars
-from .errors import BadReply
+from . import arrays, ase_bridge, going, progress as bars, reading
 from .measurement import Measurement, known
 from .mixture import Mixture
 from .motion import Motion
@@ -151,7 +150,7 @@ class Session:
     def tug(self, atom: int, displacement: Sequence[int]) -> int:
         """Gives an atom a displacement of so many ring units (edge / 2^32) more for each step, along x, y and z."""
         x, y, z = (operator.index(part) for part in displacement)
-        return self._number(f"TUG {self.name} {count_of(atom, 'an atom number')} {x} {y} {z}", 3)
+        return self._number(f"TUG {self.name} {self._number_of(atom)} {x} {y} {z}", 3)
 
     def measure(self) -> Measurement:
         """Measures momentum, kinetic energy and potential energy."""
@@ -161,14 +160,15 @@ class Session:
 
     def place(self, atom: int) -> Tuple[int, int, int]:
         """The place of an atom, in ring units: whole numbers from 0 to 2^32 - 1."""
-        return self._places_of([count_of(atom, "an atom number")])[0]
+        number = self._number_of(atom)
+        return reading.place_of(self.name, number, self._user.ask_rows([f"SHOW {self.name} {number}"]))
 
     def places(self) -> Any:
         """The places of all atoms, in ring units: whole numbers from 0 to 2^32 - 1, which are the simulation itself.
 
         An array of numpy of shape (atoms, 3), or a list of tuples where numpy is not installed.
         """
-        return arrays.of_places(self._places_of(range(self.atoms)))
+        return self._frames_of_places()[0].places
 
     def positions(self) -> Any:
         """The positions of all atoms in the unit of the file, from 0 up to the edge: `place * edge / 2^32`.
@@ -176,21 +176,12 @@ class Session:
         An array of numpy of shape (atoms, 3), or a list of tuples where numpy is not installed.
         """
         edge = self.scale.edge
-        return arrays.of_positions(self._places_of(range(self.atoms)), edge)
-
-    def _places_of(self, numbers: Sequence[int]) -> List[Tuple[int, int, int]]:
-        replies = self._user.ask_all(f"SHOW {self.name} {number}" for number in numbers)
-        places = []
-        for number, reply in zip(numbers, replies):
-            _, atom, x, y, z = whole_numbers(reply.words[2:], 5)
-            if atom != number:
-                raise BadReply(f"atom {number} was asked for, and atom {atom} was shown")
-            places.append((x, y, z))
-        return places
+        return arrays.of_positions(self.places(), edge)
 
     def dump(self) -> str:
         """The frame as XYZ text: positions in the unit of the file, rounded down to six decimals."""
-        return "".join(line + "\n" for line in self._user.ask(f"DUMP {self.name}").lines)
+        frame = self._frame()
+        return frame.text(f"step {frame.step}")
 
     def write(self, path: Union[str, "os.PathLike[str]"]) -> None:
         """Writes the frame to a file, as `dump` gives it."""
@@ -201,7 +192,7 @@ class Session:
     def symbols(self) -> List[str]:
         """The symbol of each atom."""
         if self._symbols is None:
-            self._symbols = [line.split(" ")[0] for line in self._user.ask(f"DUMP {self.name}").lines[2:]]
+            self._symbols = self._frame().symbols()
         return list(self._symbols)
 
     def to_ase(self) -> Any:
@@ -217,6 +208,26 @@ class Session:
         """Gives up the session with all that is saved in it."""
         self._ask(f"DROP {self.name}")
         self._user.has_dropped(self.name)
+
+    def _number_of(self, atom: Any) -> int:
+        """The number by which the server knows an atom. Each number of an atom that goes out is of here."""
+        return count_of(atom, "an atom number")
+
+    def _frame(self) -> reading.Frame:
+        """The frame as the server dumps it. Each line of an atom that comes in is of here."""
+        return reading.frame_of(self.name, self._user.ask(f"DUMP {self.name}"))
+
+    def _frames_of_places(self, both: bool = False) -> Tuple[reading.Places, ...]:
+        """The places of all atoms, and if both frames are asked for, those of the step before. All places come in here.
+
+        For the step before the motion is turned back and turned again. These commands are sent together, so an interrupt
+        leaves none of them out.
+        """
+        count = self.atoms
+        lines, turn = reading.shows(self.name, count), f"REVERSE {self.name}"
+        if both:
+            return reading.both_of(self.name, count, self._user.ask_rows([*lines, turn, *lines, turn]))
+        return (reading.places_of(self.name, count, self._user.ask_rows(lines)),)
 
     def _row(self) -> "Row":
         return self._user.row(self.name)

@@ -119,6 +119,11 @@ class User(Loader):
         self._make_room(len(commands))
         return self._wire.ask_all(commands)
 
+    def ask_rows(self, lines: Sequence[str]) -> bytes:
+        """The lines that many command lines are answered by, one for each, as they came. The first refusal is raised."""
+        self._make_room(len(lines))
+        return self._wire.ask_rows(lines)
+
     def _make_room(self, count: int) -> None:
         """Begins a new connection where this one's million commands would be passed, if the sessions outlast it."""
         if self._reopen and not self._wire.closed and self._wire.asked + count >= MAX_ITEMS > count:

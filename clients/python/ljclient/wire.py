@@ -6,10 +6,11 @@ interrupt from the keyboard was quicker, are passed over before the next command
 """
 from __future__ import annotations
 
+import itertools
 import selectors
 import time
 from collections import deque
-from typing import Deque, Iterable, List, NamedTuple, Tuple, Union
+from typing import Deque, Iterable, List, NamedTuple, Sequence, Tuple, Union
 
 from .ends import Ends
 from .errors import BadReply, ClientError, Closed, ConnectionLost, Refused, TimedOut, refusal_of, shown
@@ -83,14 +84,27 @@ class Wire:
             if self.closed:
                 break
             self._post(line, body)
-        while self._owed and not self.closed:
-            answers.append(self._next_answer())
-        replies = []
-        for answer in answers:
-            if isinstance(answer, Refused):
-                raise answer
-            replies.append(answer)
-        return replies
+        return self._granted(answers)
+
+    def ask_rows(self, lines: Sequence[str]) -> bytes:
+        """The reply lines to many commands that are answered by one line each, for who reads them all at once.
+
+        Nothing of them was looked at but that each begins with `OK`. If some are refused, the first refusal is raised when
+        all are answered.
+        """
+        self._begin()
+        if not lines:
+            return b""
+        self._put("\n".join(lines).encode() + b"\n", lines)
+        self._gather(len(lines))
+        text = b"\n".join([*itertools.islice(self._lines, len(lines)), b""])
+        if text[:3] != b"OK " or text.count(b"\nOK ") < len(lines) - 1:
+            return "".join(" ".join(["OK", *reply.words]) + "\n" for reply in self._granted([])).encode()
+        self._torn = True
+        self._lines = deque(itertools.islice(self._lines, len(lines), None))
+        self._owed.clear()
+        self._torn = False
+        return text
 
     def close(self, why: str = "the connection was closed") -> None:
         """Gives up the stream. Nothing is asked and nothing is awaited."""
@@ -116,12 +130,26 @@ class Wire:
             raise ValueError("a command is one line")
         if body and len(line.encode()) > MAX_COMMAND:
             raise ValueError(f"a line with a body has {MAX_COMMAND} bytes at most: after a longer one it is read as commands")
-        data = line.encode() + b"\n" + body
+        self._put(line.encode() + b"\n" + body, [line])
+
+    def _put(self, data: bytes, lines: Sequence[str]) -> None:
+        """Puts the bytes of some commands among what is to be sent."""
         self._torn = True
         self._outgoing += data
-        self._owed.append(line)
-        self.asked += 1
+        self._owed.extend(lines)
+        self.asked += len(lines)
         self._torn = False
+
+    def _granted(self, answers: List[Union[Reply, Refused]]) -> List[Reply]:
+        """These answers, and those to all that still awaits its reply. The first refusal is raised when all are there."""
+        while self._owed and not self.closed:
+            answers.append(self._next_answer())
+        replies = []
+        for answer in answers:
+            if isinstance(answer, Refused):
+                raise answer
+            replies.append(answer)
+        return replies
 
     def _next_answer(self) -> Union[Reply, Refused]:
         """What the first command that awaits its reply is answered. It is taken whole, or not at all."""
@@ -131,7 +159,7 @@ class Wire:
         self._await_lines(1 + count)
         self._torn = True
         self._lines.popleft()
-        lines = [self._text(self._lines.popleft()) for _ in range(count)]
+        lines = self._texts([self._lines.popleft() for _ in range(count)])
         command = self._owed.popleft()
         self._torn = False
         if words[0] == "OK":
@@ -165,13 +193,21 @@ class Wire:
         except UnicodeDecodeError:
             raise self._given_up(BadReply(f"{line[:80]!r} is no text of the protocol")) from None
 
+    def _texts(self, lines: List[bytes]) -> List[str]:
+        """The texts of some lines, which are decoded together."""
+        return self._text(b"\n".join(lines)).split("\n") if lines else []
+
     def _await_lines(self, count: int) -> None:
         """Sends and receives until so many lines are there."""
+        self._gather(count)
+        if len(self._lines) < count:
+            why = self._ends.last_words() or self._at_end
+            raise self._given_up(ConnectionLost(f"{why}; `{shown(self._owed[0])}` was not answered"))
+
+    def _gather(self, count: int) -> None:
+        """Sends and receives until so many lines are there, or no more will come."""
         deadline = time.monotonic() + self.timeout
-        while len(self._lines) < count:
-            if self._at_end:
-                why = self._ends.last_words() or self._at_end
-                raise self._given_up(ConnectionLost(f"{why}; `{shown(self._owed[0])}` was not answered"))
+        while len(self._lines) < count and not self._at_end:
             if self._move(deadline - time.monotonic()):
                 deadline = time.monotonic() + self.timeout
 

@@ -24,6 +24,11 @@ def dimer(user, name="a", **words):
     return user.load(name, DIMER, **{**DIMER_SCALE, **words})
 
 
+def listed(places):
+    """Places as a list of tuples of whole numbers, whether they came as an array or not."""
+    return [tuple(int(part) for part in place) for place in places]
+
+
 def interruptible(case):
     """Has an interrupt raise KeyboardInterrupt in a test. Where tests run in the background it is ignored from the start."""
     case.addCleanup(signal.signal, signal.SIGINT, signal.signal(signal.SIGINT, signal.default_int_handler))

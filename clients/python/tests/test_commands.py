@@ -13,11 +13,7 @@ import time
 import unittest
 
 from ljclient import ConnectionLost, Measurement, Saved, distance, least_images, refusals, run
-from support import DIMER_SCALE, EXAMPLES, PROGRAM, dimer, interruptible, is_running
-
-
-def listed(places):
-    return [tuple(int(part) for part in place) for place in places]
+from support import DIMER_SCALE, EXAMPLES, PROGRAM, dimer, interruptible, is_running, listed
 
 
 class Alone(unittest.TestCase):

@@ -6,7 +6,7 @@ import unittest
 from unittest import mock
 
 from ljclient import arrays, distance, least_images, run, units, xyz
-from support import DIMER, DIMER_SCALE, EXAMPLES, PROGRAM, dimer
+from support import DIMER, DIMER_SCALE, EXAMPLES, PROGRAM, dimer, listed
 
 try:
     import numpy
@@ -52,7 +52,7 @@ class Sources(unittest.TestCase):
 
     def loaded(self, source, **words):
         session = self.user.load("s", source, replace=True, **{**DIMER_SCALE, **words})
-        return [tuple(int(part) for part in place) for place in session.places()]
+        return listed(session.places())
 
     def test_each_source(self):
         with tempfile.TemporaryDirectory() as folder:

@@ -1,0 +1,118 @@
+"""Places and frames out of replies: the lines of all atoms are read at once."""
+from __future__ import annotations
+
+import functools
+import re
+from typing import Any, List, NamedTuple, Tuple
+
+from . import arrays, digits
+from .errors import BadReply
+from .replies import of_session, whole_number
+from .units import RING
+from .wire import Reply
+
+STEP = r"-?[0-9]{1,13}"
+PLACE = r"([0-9]{1,10}) ([0-9]{1,10}) ([0-9]{1,10})"
+COORDINATE = r" [0-9]{1,7}\.[0-9]{6}"
+ROWS = re.compile(rf"(?:[!-~]{{1,16}}{COORDINATE * 3}\n)*")
+
+
+class Places(NamedTuple):
+    """The places of all atoms at a step: an array, or a list of tuples."""
+
+    step: int
+    places: Any
+
+
+class Frame(NamedTuple):
+    """A frame of XYZ text: its step, and for each atom a line with its symbol and its position."""
+
+    step: int
+    rows: List[str]
+
+    def text(self, comment: str) -> str:
+        """The frame as XYZ text with this comment."""
+        return "\n".join([str(len(self.rows)), comment, *self.rows, ""])
+
+    def symbols(self) -> List[str]:
+        """The symbol of each atom."""
+        return [row.split(" ")[0] for row in self.rows]
+
+    def positions(self) -> Any:
+        """The position of each atom, with the six decimals that the server tells: an array, or a list of tuples."""
+        text = "\n".join([*self.rows, ""])
+        positions = _listed_positions(text) if arrays.numpy is None else digits.positions(text.encode())
+        if positions is None:
+            wrong = [row for row in self.rows if not ROWS.fullmatch(row + "\n")]
+            raise BadReply(f"{wrong[0][:80]!r} is no atom of a frame" if wrong else "a frame has no atoms")
+        return positions
+
+
+@functools.lru_cache(maxsize=8)
+def shows(name: str, count: int) -> Tuple[str, ...]:
+    """The commands that show the atoms of a session, which are so many."""
+    return tuple(f"SHOW {name} {atom}" for atom in range(count))
+
+
+def places_of(name: str, count: int, text: bytes) -> Places:
+    """What the replies to `shows` tell: the lines are read together, since that takes a tenth of the time."""
+    told = re.match(rf"OK SHOW {re.escape(name)} ({STEP}) ".encode(), text)
+    if told:
+        read = _listed_places if arrays.numpy is None else _arrayed_places
+        places = read(text, told.group(), count)
+        if places is not None:
+            return Places(int(told.group(1)), places)
+    for atom, row in enumerate(text.split(b"\n")[:count]):
+        place_of(name, atom, row)
+    raise BadReply(f"{count} atoms of session {name} were not shown at one step")
+
+
+def both_of(name: str, count: int, text: bytes) -> Tuple[Places, Places]:
+    """What the replies to `shows` tell, and after a REVERSE those to `shows` again, before another REVERSE."""
+    rows = text.split(b"\n")
+    now, before = rows[:count], rows[count + 1 : 2 * count + 1]
+    return places_of(name, count, b"\n".join([*now, b""])), places_of(name, count, b"\n".join([*before, b""]))
+
+
+def place_of(name: str, atom: int, row: bytes) -> Tuple[int, int, int]:
+    """The place that the reply to one SHOW tells."""
+    told = re.fullmatch(rf"OK SHOW {re.escape(name)} {STEP} {atom} {PLACE}\n?", row.decode("latin-1"))
+    x, y, z = map(int, told.groups()) if told else (RING, RING, RING)
+    if max(x, y, z) >= RING:
+        raise BadReply(f"`SHOW {name} {atom}` was answered {row[:80]!r}")
+    return x, y, z
+
+
+def frame_of(name: str, reply: Reply) -> Frame:
+    """The frame that the reply to `DUMP` tells."""
+    words = of_session(f"DUMP {name}", reply.words)
+    if len(words) != 4 or reply.lines[:2] != [str(len(reply.lines) - 2), f"step {words[2]}"]:
+        raise BadReply(f"{' '.join(words)[:80]!r} is followed by {reply.lines[:2]!r}")
+    return Frame(whole_number(words[2]), reply.lines[2:])
+
+
+def _arrayed_places(text: bytes, head: bytes, count: int) -> Any:
+    """The places of the first atoms as an array, of lines with this head. None if any line is something else."""
+    numbers = digits.places(text, head)
+    if numbers is None or numbers[:, 0].tolist() != list(range(count)) or numbers.max() >= RING:
+        return None
+    return numbers[:, 1:].copy()
+
+
+def _listed_places(text: bytes, head: bytes, count: int) -> Any:
+    """The same as a list of tuples."""
+    if not re.fullmatch(rf"(?:{re.escape(head.decode())}[0-9]{{1,4}} {PLACE}\n)*".encode(), text):
+        return None
+    numbers = list(map(int, text.replace(head, b"").decode().split()))
+    places = list(zip(numbers[1::4], numbers[2::4], numbers[3::4]))
+    return places if numbers[0::4] == list(range(count)) and max(map(max, places)) < RING else None
+
+
+def _listed_positions(text: str) -> Any:
+    """The positions of the lines of a frame as a list of tuples. None if any line is something else."""
+    if not ROWS.fullmatch(text):
+        return None
+    words = text.split()
+    del words[0::4]
+    numbers = list(map(float, words))
+    return list(zip(numbers[0::3], numbers[1::3], numbers[2::3]))

@@ -1,0 +1,168 @@
+"""Places and frames that are read all at once, with peers that show something else too, and with and without numpy."""
+import os
+import random
+import re
+import signal
+import threading
+import time
+import unittest
+from unittest import mock
+
+from ljclient import BadReply, Closed, ConnectionLost, arrays, connect, reading, refusals, run
+from ljclient.wire import Reply
+from support import PROGRAM, RING, SECONDS, TOKEN, dimer, interruptible, listed, peer, read_line, says, stays
+
+LISTED = b"OK LIST 1\na 7 2 0\n"
+SHOWN = [b"OK SHOW a 7 0 589 0 4294967295\n", b"OK SHOW a 7 1 25165235 1 2\n"]
+PLACES = [(589, 0, 4294967295), (25165235, 1, 2)]
+KINDS = [arrays.numpy, None] if arrays.numpy else [None]
+
+
+def joined(port):
+    return connect("127.0.0.1", port, "ann", TOKEN, timeout=SECONDS)
+
+
+def by(kind):
+    """Has the client read by numpy, or by lists alone."""
+    return mock.patch.object(arrays, "numpy", kind)
+
+
+class ByEither(unittest.TestCase):
+    """What is the same with numpy, if it is there, and without."""
+
+    def test_places(self):
+        rng = random.Random(5)
+        atoms = range(4096)
+        wanted = [tuple(rng.randrange(RING) for _ in range(3)) for _ in atoms]
+        text = b"".join(b"OK SHOW 5-7 -12 %d %d %d %d\n" % (atom, *place) for atom, place in enumerate(wanted))
+        for kind in KINDS:
+            with by(kind):
+                step, places = reading.places_of("5-7", 4096, text)
+            self.assertEqual((step, listed(places)), (-12, wanted))
+            self.assertEqual(isinstance(places, list), kind is None)
+
+    def test_positions(self):
+        rng = random.Random(6)
+        words = [f"{rng.uniform(0, 10 ** rng.randint(-6, 6)):.6f}" for _ in range(3000)]
+        symbols = ["Ar", "1.5", "-"] * 334
+        rows = [f"{symbol} {' '.join(words[at : at + 3])}" for at, symbol in zip(range(0, 3000, 3), symbols)]
+        for kind in KINDS:
+            with by(kind):
+                positions = reading.Frame(3, rows).positions()
+            self.assertEqual([float(part) for position in positions for part in position], [float(word) for word in words])
+            self.assertEqual(isinstance(positions, list), kind is None)
+
+    def test_a_peer_that_shows_what_was_asked_for(self):
+        for kind in KINDS:
+            with by(kind), peer(says(LISTED, *SHOWN)) as port, joined(port) as user:
+                self.assertEqual(listed(unasked(user).places()), PLACES)
+                user._wire.close()
+
+    def test_a_peer_that_shows_something_else(self):
+        first, second = SHOWN
+        for wrong, told in [
+            (b"OK SHOW b 7 1 0 0 0\n", "`SHOW a 1` was answered"),
+            (b"OK SHOW a 7 0 0 0 0\n", "`SHOW a 1` was answered"),
+            (b"OK SHOW a 7 1 4294967296 0 0\n", "`SHOW a 1` was answered"),
+            (b"OK SHOW a 7 1 -1 0 0\n", "`SHOW a 1` was answered"),
+            (b"OK SHOW a 7 1 0 0\n", "`SHOW a 1` was answered"),
+            (b"OK SHOW a 7 1 0 0 0 0\n", "`SHOW a 1` was answered"),
+            (b"OK SHOW a 7 1 0  0 0\n", "`SHOW a 1` was answered"),
+            (b"OK SHOW a 7 1 0 0 0x1\n", "`SHOW a 1` was answered"),
+            (b"OK SHOW a 7 1 0 0 \xb2\n", "`SHOW a 1` was answered"),
+            (b"OK SHOW a 8 1 0 0 0\n", "2 atoms of session a were not shown at one step"),
+            (b"HTTP/1.1 400\n", "is no reply to `SHOW a 1`"),
+            (b"OK STEP a 7\n", "`SHOW a 1` was answered"),
+        ]:
+            for kind in KINDS:
+                with self.subTest(wrong), by(kind), peer(says(LISTED, first, wrong)) as port, joined(port) as user:
+                    with self.assertRaisesRegex(BadReply, re.escape(told)):
+                        unasked(user).places()
+                    user._wire.close()
+
+    def test_frames_that_are_none(self):
+        words = ["DUMP", "a", "7", "3"]
+        for lines in [["2", "step 7", "Ar 0"], ["1", "step 8", "Ar 0"], ["1", "Step 7", "Ar 0"], [], ["-1", "step 7"]]:
+            with self.subTest(lines), self.assertRaises(BadReply):
+                reading.frame_of("a", Reply(words, lines))
+        one = "0.000000"
+        for parts in [(one, "0.0", "0.0"), (one, one), (one, "-" + one, one), (one, one, one, "1"), (".000000", one, one)]:
+            row = " ".join(["Ar", *parts])
+            for kind in KINDS:
+                with self.subTest(row), by(kind), self.assertRaisesRegex(BadReply, re.escape(repr(row))):
+                    reading.frame_of("a", Reply(words, ["1", "step 7", row])).positions()
+
+
+def unasked(user):
+    """The session a of a user, of which nothing was asked yet."""
+    with mock.patch.object(user, "ask"):
+        return user.session("a")
+
+
+class Refusals(unittest.TestCase):
+    def test_a_refusal_among_rows_is_raised_when_all_are_answered(self):
+        replies = [LISTED, SHOWN[0], b"ERR 14 NO_ATOM\n", b"OK LIST 0\n"]
+        with peer(says(*replies)) as port, joined(port) as user:
+            with self.assertRaises(refusals.NoAtom) as caught:
+                unasked(user).places()
+            self.assertEqual(caught.exception.command, "SHOW a 1")
+            self.assertEqual(user.sessions(), [])
+            user._wire.close()
+
+    def test_a_refusal_that_ends_the_connection(self):
+        with peer(says(LISTED, SHOWN[0], b"ERR 08 ENOUGH\n")) as port, joined(port) as user:
+            with self.assertRaises(refusals.Enough):
+                unasked(user).places()
+            with self.assertRaises(Closed):
+                user.sessions()
+
+    def test_gone_among_rows(self):
+        for last in (b"", b"OK SHOW a 7 1 2"):
+            with peer(says(LISTED, SHOWN[0] + last)) as port, joined(port) as user:
+                with self.assertRaisesRegex(ConnectionLost, "`SHOW a 1` was not answered"):
+                    unasked(user).places()
+
+    def test_no_rows(self):
+        with run(PROGRAM) as user:
+            self.assertEqual(user.ask_rows([]), b"")
+            self.assertEqual(user.sessions(), [])
+
+
+class Interrupts(unittest.TestCase):
+    def test_rows_that_nobody_came_for_are_passed_over(self):
+        interruptible(self)
+
+        def slowly(connection, stop):
+            read_line(connection)
+            connection.sendall(SHOWN[0])
+            time.sleep(0.6)
+            read_line(connection)
+            connection.sendall(SHOWN[1])
+            read_line(connection)
+            connection.sendall(b"OK LIST 0\n")
+            stays(connection, stop)
+
+        with peer(says(LISTED, then=slowly)) as port, joined(port) as user:
+            timer = threading.Timer(0.3, os.kill, (os.getpid(), signal.SIGINT))
+            timer.start()
+            with self.assertRaises(KeyboardInterrupt):
+                unasked(user).places()
+            timer.join()
+            self.assertEqual(user.sessions(), [])
+            user._wire.close()
+
+
+class Both(unittest.TestCase):
+    def test_the_frame_before_is_read_and_nothing_is_changed(self):
+        with run(PROGRAM) as user:
+            a = dimer(user)
+            a.advance(2)
+            seen = a.measure()
+            now, before = a._frames_of_places(both=True)
+            self.assertEqual((now.step, listed(now.places)), (2, [(1774, 0, 0), (25164050, 0, 0)]))
+            self.assertEqual((before.step, listed(before.places)), (1, [(589, 0, 0), (25165235, 0, 0)]))
+            self.assertEqual(a.measure(), seen)
+
+
+if __name__ == "__main__":
+    unittest.main()
