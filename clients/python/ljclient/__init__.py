@@ -21,7 +21,9 @@ from .errors import BadReply, CannotStart, ClientError, Closed, ConnectionLost, 
 from .measurement import Measurement
 from .mixture import Mixture
 from .motion import Motion
+from .sampling import Samples
 from .session import Row, Saved, Session
+from .thermo import Thermo
 from .units import Scale
 from .user import User, connect, run
 
@@ -38,9 +40,11 @@ __all__ = [
     "Motion",
     "Refused",
     "Row",
+    "Samples",
     "Saved",
     "Scale",
     "Session",
+    "Thermo",
     "TimedOut",
     "User",
     "connect",

@@ -25,6 +25,11 @@ def of_positions(places: Any, edge: float) -> Any:
     return places * edge / RING
 
 
+def stacked(frames: List[Any]) -> Any:
+    """Frames of coordinates as one array of shape (frames, atoms, 3), or the list itself."""
+    return frames if numpy is None else numpy.array(frames)
+
+
 def least_images(places: Sequence, others: Sequence) -> Any:
     """The differences `places - others` round the box the nearer way, in ring units: -2^31 to 2^31 - 1 along each axis."""
     if numpy is None:

@@ -1,12 +1,11 @@
 """Between sessions and `Atoms` of ASE, where ASE is installed."""
 from __future__ import annotations
 
-from typing import TYPE_CHECKING, Any, List, Optional
+from typing import Any, List, Optional, Sequence
 
-from .units import time_unit
-
-if TYPE_CHECKING:
-    from .session import Session
+from . import arrays
+from .reading import Places
+from .units import RING, Scale, time_unit
 
 TIME_UNIT = time_unit(1.0, 1.0, 1.0)
 """The unit of time of ASE in femtoseconds: `angstrom sqrt(dalton / electronvolt)`."""
@@ -34,14 +33,22 @@ def velocities_of(atoms: Any) -> Optional[List[List[float]]]:
     return velocities if any(map(any, velocities)) else None
 
 
-def atoms_of(session: "Session") -> Any:
-    """The present frame as an `Atoms`: positions in the unit of the file, in a periodic cubic cell, without velocities.
+def atoms_of(symbols: Sequence[str], now: Places, before: Places, scale: Scale) -> Any:
+    """A frame as an `Atoms`: positions in the unit of the file, in a periodic cubic cell.
 
-    Symbols that ASE does not know become X.
+    Its step and time are in `info`. With epsilon and mass it has the mass of each atom, and the momenta by which it came here
+    from the frame before. Symbols that ASE does not know become X.
     """
     from ase import Atoms
     from ase.data import atomic_numbers
 
-    symbols = [symbol if symbol in atomic_numbers else "X" for symbol in session.symbols()]
-    edge = session.scale.edge
-    return Atoms(symbols=symbols, positions=session.positions(), cell=[edge, edge, edge], pbc=True)
+    known = [symbol if symbol in atomic_numbers else "X" for symbol in symbols]
+    positions = arrays.of_positions(now.places, scale.edge)
+    info = {"step": now.step, "time": scale.time(now.step)}
+    atoms = Atoms(symbols=known, positions=positions, cell=[scale.edge] * 3, pbc=True, info=info)
+    if scale.dt is not None and scale.mass is not None:
+        unit = scale.edge / (RING * scale.dt) * TIME_UNIT
+        moved = arrays.least_images(now.places, before.places)
+        atoms.set_masses([scale.mass] * len(known))
+        atoms.set_velocities([[part * unit for part in parts] for parts in moved])
+    return atoms

@@ -2,9 +2,10 @@
 from __future__ import annotations
 
 from dataclasses import dataclass, field
-from typing import Optional, Tuple
+from typing import Optional, Sequence, Tuple
 
-from .units import POTENTIAL_UNIT, Scale, kelvin
+from .replies import whole_numbers
+from .units import POTENTIAL_UNIT, Scale
 
 
 @dataclass(frozen=True)
@@ -27,6 +28,12 @@ class Measurement:
     potential: int
     scale: Optional[Scale] = field(default=None, repr=False, compare=False)
 
+    @staticmethod
+    def of(words: Sequence[str], scale: Optional[Scale]) -> "Measurement":
+        """The measurement that the words of a reply tell, those after the name of the session."""
+        step, atoms, x, y, z, kinetic, potential = whole_numbers(words, 7)
+        return Measurement(step, atoms, (x, y, z), kinetic, potential, scale)
+
     @property
     def potential_energy(self) -> float:
         """In epsilon."""
@@ -45,9 +52,11 @@ class Measurement:
     @property
     def temperature(self) -> float:
         """Two thirds of the kinetic energy of an atom: in kelvin where epsilon was said, else in epsilon / k_B."""
-        scale = known(self.scale)
-        reduced = 2 * self.kinetic_energy / (3 * self.atoms)
-        return reduced if scale.epsilon is None else reduced * scale.epsilon / kelvin
+        return self.temperature_at(self.kinetic_energy)
+
+    def temperature_at(self, kinetic_energy: float) -> float:
+        """The temperature that these atoms would have at another kinetic energy, in epsilon."""
+        return known(self.scale).temperature_unit * 2 * kinetic_energy / (3 * self.atoms)
 
     def in_electronvolt(self, energy: float) -> float:
         """An energy in epsilon, such as `potential_energy`, in electronvolt. Needs epsilon."""

@@ -4,13 +4,14 @@ from __future__ import annotations
 import operator
 import os
 import re
-from typing import TYPE_CHECKING, Any, List, NamedTuple, Optional, Sequence, Tuple, Union
+from typing import TYPE_CHECKING, Any, Iterator, List, NamedTuple, Optional, Sequence, Tuple, Union
 
-from . import arrays, ase_bridge, going, progress as bars, reading
+from . import arrays, ase_bridge, going, progress as bars, reading, sampling
 from .measurement import Measurement, known
 from .mixture import Mixture
 from .motion import Motion
-from .replies import fields, number_after, of_session, whole_number, whole_numbers
+from .replies import fields, number_after, of_session, whole_number
+from .thermo import Thermo, thermo
 from .units import Scale
 
 if TYPE_CHECKING:
@@ -154,9 +155,7 @@ class Session:
 
     def measure(self) -> Measurement:
         """Measures momentum, kinetic energy and potential energy."""
-        words = self._ask(f"MEASURE {self.name}")
-        step, atoms, x, y, z, kinetic, potential = whole_numbers(words[2:], 7)
-        return Measurement(step, atoms, (x, y, z), kinetic, potential, self._given)
+        return Measurement.of(self._ask(f"MEASURE {self.name}")[2:], self._given)
 
     def place(self, atom: int) -> Tuple[int, int, int]:
         """The place of an atom, in ring units: whole numbers from 0 to 2^32 - 1."""
@@ -196,8 +195,51 @@ class Session:
         return list(self._symbols)
 
     def to_ase(self) -> Any:
-        """The frame as an `Atoms` of ASE, which has to be installed. It has positions, and no velocities."""
-        return ase_bridge.atoms_of(self)
+        """The frame as an `Atoms` of ASE, which has to be installed: positions in the periodic cell, step and time in `info`.
+
+        If epsilon and mass are known it has masses and momenta too, those of half a step ago, as kinetic energies are.
+        """
+        scale = self.scale
+        now, before = self._frames_of_places(both=True)
+        return ase_bridge.atoms_of(self.symbols(), now, before, scale)
+
+    def sample(self, every: int, frames: int, exact: bool = False, progress: sampling.Progress = False) -> sampling.Samples:
+        """Goes on, and returns frames on the way: `steps`, and `frames` as one array of shape (frames, atoms, 3).
+
+        every     how many steps there are from one frame to the next
+        frames    how many frames. The first is the present one, so the session goes on by `every * (frames - 1)` steps
+        exact     places in ring units, which take a command for each atom. Else frames are positions in the unit of the file,
+                  rounded down to six decimals, which take one command
+        progress  as in `advance`
+        """
+
+        def positions() -> Tuple[int, Any]:
+            frame = self._frame()
+            return frame.step, frame.positions()
+
+        return sampling.sample(self, (lambda: self._frames_of_places()[0]) if exact else positions, every, frames, progress)
+
+    def thermo(self, every: int, rows: int, progress: sampling.Progress = False) -> Iterator[Thermo]:
+        """Goes on, and gives rows of step, temperature, kinetic, potential and total energy (`Thermo`), each when it is there.
+
+        every, rows, progress  are as `every`, `frames` and `progress` of `sample`
+
+        The kinetic energy is the mean of those half a step before and after, so a row is known when the session is a step
+        further. After the last row it stands at that row's step again.
+        """
+        sampling.checked_stops(every, rows, "rows")
+        known(self._given)
+        return thermo(self, self._user.ask_all, every, rows, progress)
+
+    def write_trajectory(self, path: sampling.Path, every: int, frames: int, progress: sampling.Progress = False) -> None:
+        """Goes on, and writes frames to a file on the way, as extended XYZ: with Lattice, step and time.
+
+        every, frames, progress  are as in `sample`
+
+        The file has each frame as soon as it is there. Times are in femtoseconds if epsilon and mass are known, else in units
+        of `sigma sqrt(m / epsilon)`.
+        """
+        sampling.write_trajectory(self, self._frame, path, every, frames, progress)
 
     def saved(self) -> List[Saved]:
         """What is saved in it, in order of saving."""

@@ -142,6 +142,15 @@ class Scale:
             return None
         return self.reduced_dt * time_unit(self.sigma, self.epsilon, self.mass)
 
+    @property
+    def temperature_unit(self) -> float:
+        """`epsilon / k_B` in kelvin, the unit of temperatures; 1 without epsilon, since temperatures are in it then."""
+        return 1.0 if self.epsilon is None else self.epsilon / kelvin
+
+    def time(self, step: int) -> float:
+        """The time of a step: in femtoseconds with epsilon and mass, else in units of `sigma sqrt(m / epsilon)`."""
+        return step * (self.reduced_dt if self.dt is None else self.dt)
+
     def potential_energy(self, potential: int) -> float:
         """The potential energy in epsilon, of the number that `measure` tells."""
         return potential * FULL_WEIGHT / (POTENTIAL_UNIT * self.weight)

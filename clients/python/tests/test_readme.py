@@ -2,8 +2,10 @@
 import contextlib
 import io
 import os
+import pathlib
 import re
 import subprocess
+import tempfile
 import unittest
 from unittest import mock
 
@@ -43,9 +45,17 @@ class Examples(unittest.TestCase):
         with mock.patch.dict(os.environ, {"LJSERVE": PROGRAM}):
             self.assertEqual(self.printed(examples()[2]), ["[200, 100]", "300", "300 300"])
 
+    def test_on_the_way(self):
+        with tempfile.TemporaryDirectory() as folder, mock.patch.dict(os.environ, {"LJSERVE": PROGRAM}):
+            path = pathlib.Path(folder) / "way.xyz"
+            *rows, steps = self.printed(examples()[3].replace("argon_way.xyz", str(path)))
+            self.assertEqual([row.split()[0] for row in rows], ["0", "100", "200"])
+            self.assertEqual(steps, "[200, 210, 220, 230, 240] 5")
+            self.assertEqual(path.read_text().count("step="), 5)
+
     def test_two_species(self):
         with mock.patch.dict(os.environ, {"LJSERVE": PROGRAM}):
-            *told, energy = self.printed(examples()[3])
+            *told, energy = self.printed(examples()[4])
         self.assertIn("\n".join(["```", *told, "```"]), README.read_text())
         self.assertLess(float(energy), -1)
 
@@ -66,7 +76,7 @@ class Examples(unittest.TestCase):
         self.assertEqual(told, (stored / "stdout").read_bytes())
 
     def test_each_example_is_run(self):
-        self.assertEqual(len(examples()), 4)
+        self.assertEqual(len(examples()), 5)
 
 
 if __name__ == "__main__":

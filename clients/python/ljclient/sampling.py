@@ -1,0 +1,79 @@
+"""What a session tells on its way: its positions at every so many steps, in arrays or in a file."""
+from __future__ import annotations
+
+import operator
+import os
+from typing import TYPE_CHECKING, Any, Callable, Iterator, List, NamedTuple, Tuple, Union
+
+from . import arrays, progress as bars
+from .reading import Frame
+from .units import Scale
+
+if TYPE_CHECKING:
+    from .session import Session
+
+Progress = Union[bool, bars.Report]
+Path = Union[str, "os.PathLike[str]"]
+
+
+class Samples(NamedTuple):
+    """Frames of a session on its way.
+
+    steps   the step number of each
+    frames  positions in the unit of the file, or places in ring units: an array of shape (frames, atoms, 3), or a list of
+            lists of tuples if numpy is not installed
+    """
+
+    steps: List[int]
+    frames: Any
+
+
+def checked_stops(every: Any, count: Any, what: str) -> None:
+    """Raises ValueError unless both are whole numbers above 0."""
+    for number, name in ((every, "every"), (count, what)):
+        if operator.index(number) < 1:
+            raise ValueError(f"{name} is 1 at least, not {number}")
+
+
+def stops(session: "Session", every: int, count: int, progress: Progress, ahead: int = 0) -> Iterator[int]:
+    """The numbers of so many stops, of which the first is where the session stands; between two it goes on by `every` steps.
+
+    At each stop but the last, who uses this may have gone ahead by some steps already.
+    """
+    report = bars.reporter(progress, session.name)
+    total = every * (count - 1)
+    if report:
+        report(0, total)
+    for number in range(count):
+        yield number
+        if number + 1 < count:
+            session.advance(every - ahead)
+            if report:
+                report(every * (number + 1), total)
+
+
+def sample(session: "Session", take: Callable[[], Tuple[int, Any]], every: int, frames: int, progress: Progress) -> Samples:
+    """The frames of a session on its way, each as it is taken: with its step."""
+    checked_stops(every, frames, "frames")
+    taken = [take() for _ in stops(session, every, frames, progress)]
+    return Samples([step for step, _ in taken], arrays.stacked([frame for _, frame in taken]))
+
+
+def write_trajectory(
+    session: "Session", take: Callable[[], Frame], path: Path, every: int, frames: int, progress: Progress
+) -> None:
+    """Writes the frames of a session on its way, each when it is there, as extended XYZ."""
+    checked_stops(every, frames, "frames")
+    scale = session.scale
+    with open(path, "w", encoding="ascii", newline="\n") as file:
+        for _ in stops(session, every, frames, progress):
+            frame = take()
+            file.write(frame.text(comment_of(scale, frame.step)))
+            file.flush()
+
+
+def comment_of(scale: Scale, step: int) -> str:
+    """The second line of a frame in extended XYZ: the box, what the columns are, the step and the time."""
+    edge = repr(scale.edge)
+    lattice = f"{edge} 0 0 0 {edge} 0 0 0 {edge}"
+    return f'Lattice="{lattice}" Properties=species:S:1:pos:R:3 pbc="T T T" step={step} time={scale.time(step)!r}'

@@ -1,0 +1,50 @@
+"""Energies and temperature of a session on its way, in rows."""
+from __future__ import annotations
+
+from typing import TYPE_CHECKING, Iterator, List, NamedTuple
+
+from .going import Ask
+from .measurement import Measurement
+from .replies import of_session
+from .sampling import Progress, checked_stops, stops
+
+if TYPE_CHECKING:
+    from .session import Session
+
+
+class Thermo(NamedTuple):
+    """What a session is like at a step.
+
+    temperature  two thirds of the kinetic energy of an atom: in kelvin if epsilon was said, else in epsilon / k_B
+    kinetic      the kinetic energy in epsilon: the mean of those half a step before and half a step after
+    potential    the potential energy in epsilon
+    total        both together
+    """
+
+    step: int
+    temperature: float
+    kinetic: float
+    potential: float
+    total: float
+
+    @staticmethod
+    def of(here: Measurement, after: Measurement) -> "Thermo":
+        """The row of a step, by what was measured there and a step later."""
+        kinetic = (here.kinetic_energy + after.kinetic_energy) / 2
+        potential = here.potential_energy
+        return Thermo(here.step, here.temperature_at(kinetic), kinetic, potential, potential + kinetic)
+
+
+def thermo(session: "Session", ask: Ask, every: int, rows: int, progress: Progress) -> Iterator[Thermo]:
+    """The rows of a session on its way, each when it is there."""
+    for number in stops(session, every, rows, progress, ahead=1):
+        here, after = _measured(session, ask, is_last=number + 1 == rows)
+        yield Thermo.of(here, after)
+
+
+def _measured(session: "Session", ask: Ask, is_last: bool) -> List[Measurement]:
+    """What is measured here and a step ahead. At the last stop that step is undone."""
+    measure, advance, reverse = (f"{verb} {session.name}" for verb in ("MEASURE", "ADVANCE", "REVERSE"))
+    lines = [measure, f"{advance} 1", measure, *([reverse, f"{advance} 1", reverse] if is_last else [])]
+    replies = ask(lines)
+    return [Measurement.of(of_session(measure, replies[at].words)[2:], session.scale) for at in (0, 2)]
