@@ -6,7 +6,7 @@ import os
 import re
 from typing import TYPE_CHECKING, Any, Iterator, List, NamedTuple, Optional, Sequence, Tuple, Union
 
-from . import arrays, ase_bridge, going, progress as bars, reading, sampling
+from . import arrays, ase_bridge, going, heating, progress as bars, reading, sampling
 from .measurement import Measurement, known
 from .mixture import Mixture
 from .motion import Motion
@@ -150,8 +150,23 @@ class Session:
 
     def tug(self, atom: int, displacement: Sequence[int]) -> int:
         """Gives an atom a displacement of so many ring units (edge / 2^32) more for each step, along x, y and z."""
-        x, y, z = (operator.index(part) for part in displacement)
-        return self._number(f"TUG {self.name} {self._number_of(atom)} {x} {y} {z}", 3)
+        return self._number(self._tug(atom, displacement), 3)
+
+    def heat(self, temperature: float, seed: int = 0) -> float:
+        """Gives the atoms velocities in place of those that they have, and returns the temperature that these are rounded to.
+
+        temperature  in kelvin if epsilon is known, else in epsilon / k_B
+        seed         velocities are drawn at random; the same seed gives the same ones
+
+        They have no net momentum. As kinetic energies are, they are those of half a step ago. A crystal at rest keeps about
+        half of this temperature, since the other half becomes potential energy.
+        """
+        scale = self.scale
+        now, before = self._frames_of_places(both=True)
+        wanted = heating.displacements(len(now.places), temperature, scale, seed)
+        changes = arrays.least_images(wanted, arrays.least_images(now.places, before.places))
+        self._user.ask_rows([self._tug(atom, change) for atom, change in enumerate(changes) if any(change)])
+        return self.measure().temperature
 
     def measure(self) -> Measurement:
         """Measures momentum, kinetic energy and potential energy."""
@@ -254,6 +269,11 @@ class Session:
     def _number_of(self, atom: Any) -> int:
         """The number by which the server knows an atom. Each number of an atom that goes out is of here."""
         return count_of(atom, "an atom number")
+
+    def _tug(self, atom: Any, displacement: Sequence[int]) -> str:
+        """The command for a tug."""
+        x, y, z = (operator.index(part) for part in displacement)
+        return f"TUG {self.name} {self._number_of(atom)} {x} {y} {z}"
 
     def _frame(self) -> reading.Frame:
         """The frame as the server dumps it. Each line of an atom that comes in is of here."""

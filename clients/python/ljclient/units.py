@@ -159,6 +159,10 @@ class Scale:
         """The kinetic energy in epsilon, of the sum of the squares of all displacements in ring units per step."""
         return kinetic_number * RING / (2 * self.sigma_on_ring**2 * self.h)
 
+    def kinetic_number(self, kinetic_energy: float) -> float:
+        """The number whose kinetic energy, in epsilon, this is."""
+        return kinetic_energy * 2 * self.sigma_on_ring**2 * self.h / RING
+
 
 def plain_float(number: Number) -> float:
     """A number that is read back; nan where the server will refuse it."""
