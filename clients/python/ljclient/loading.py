@@ -5,6 +5,7 @@ import contextlib
 from typing import TYPE_CHECKING, Any, Dict, Iterable, List, Optional, Sequence, cast
 
 from . import units, xyz
+from .closeness import warn_of_close_atoms
 from .errors import ClientError
 from .mixture import Mixture, Pair, RawClass
 from .motion import Motion, motion_of
@@ -34,6 +35,7 @@ class Loader:
         mass: Optional[float] = None,
         dt: Optional[float] = None,
         before: Any = None,
+        pair: bool = False,
         symbols: xyz.Symbols = None,
         replace: bool = False,
     ) -> Session:
@@ -55,18 +57,21 @@ class Loader:
 
         epsilon and mass may be said beside h too: `Session.dt` and temperatures in kelvin are known then.
 
-        The atoms are at rest, or, where `before` has the atoms one step before (a source too), move as these two say.
+        The atoms are at rest, or, where `before` has the atoms one step before (a source too), move as these two say. With
+        `pair=True` the source has two frames itself, that of one step before first, such as a file of two frames.
         `Atoms` of ASE without `before` move with their velocities, which need epsilon and mass. They are rounded, and
         `print(session.motion)` tells to what; they are those of half a step ago, as kinetic energies are.
 
-        With `replace=True` a session of that name is dropped first.
+        With `replace=True` a session of that name is dropped first. If two atoms are closer than 0.8 sigma there is a warning.
         """
         checked_name(name)
         edge = _edge_of(edge, source)
         scale = units.Scale.of(edge, sigma, h, epsilon=epsilon, mass=mass, dt=dt)
-        motion = motion_of(source, scale) if before is None else None
+        motion = motion_of(source, scale) if before is None and not pair else None
         words = f"{units.word(edge)} {units.word(sigma)} {units.word(scale.h)}"
-        self._send("LOAD", name, words, xyz.frames_of(source, before, symbols), replace, motion)
+        frames = xyz.frames_of(source, before, symbols, pair)
+        warn_of_close_atoms(frames, scale)
+        self._send("LOAD", name, words, frames, replace, motion)
         self._scales[name] = scale
         return Session(cast("User", self), name, scale, motion=motion)
 
@@ -85,12 +90,13 @@ class Loader:
         classes: Optional[Sequence[RawClass]] = None,
         epsilon: Optional[float] = None,
         before: Any = None,
+        pair: bool = False,
         symbols: xyz.Symbols = None,
         replace: bool = False,
     ) -> Session:
         """Loads atoms of two species, all of one mass, into a new session at step 0.
 
-        name, source, edge, before, symbols, replace are as in `load`.
+        name, source, edge, before, pair, symbols, replace are as in `load`.
 
         species  the two symbols, such as `("Ar", "Kr")`; each atom has one of them
         first    sigma (angstrom) and epsilon (electronvolt) of two atoms of the first species
@@ -113,9 +119,11 @@ class Loader:
         mixture = Mixture.of(
             edge, species, first=first, second=second, mixed=mixed, mass=mass, dt=dt, classes=classes, epsilon=epsilon
         )
-        motion = motion_of(source, mixture.scale) if before is None else None
+        motion = motion_of(source, mixture.scale) if before is None and not pair else None
         words = f"{units.word(edge)} {mixture.words}"
-        self._send("LOADMIX", name, words, xyz.frames_of(source, before, symbols), replace, motion)
+        frames = xyz.frames_of(source, before, symbols, pair)
+        warn_of_close_atoms(frames, mixture.scale, mixture)
+        self._send("LOADMIX", name, words, frames, replace, motion)
         self._scales[name] = mixture.scale
         self._mixtures[name] = mixture
         return Session(cast("User", self), name, mixture.scale, mixture=mixture, motion=motion)

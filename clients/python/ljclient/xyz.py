@@ -1,8 +1,10 @@
 """What a session can be loaded from, as the XYZ text that the server reads."""
 from __future__ import annotations
 
+import itertools
+import math
 import os
-from typing import Any, Iterable, List, Optional, Sequence, Tuple, Union
+from typing import Any, Iterable, Iterator, List, Optional, Sequence, Tuple, Union
 
 from . import ase_bridge
 
@@ -62,10 +64,17 @@ def text_of(atoms: Iterable[Tuple[str, Sequence[float]]], comment: str = "ljclie
     return f"{len(lines)}\n{comment}\n{''.join(lines)}".encode()
 
 
-def frames_of(source: Any, before: Any, symbols: Symbols) -> Frames:
-    """The mode and the body of a command that loads a source: at rest, or in motion from the atoms one step before."""
+def frames_of(source: Any, before: Any, symbols: Symbols, pair: bool = False) -> Frames:
+    """The mode and the body of a command that loads a source: at rest, or in motion from the atoms one step before.
+
+    With `pair` the source has both frames itself, that of one step before first.
+    """
+    if pair and before is not None:
+        raise ValueError("say before= or pair=True: with pair=True the source has both frames")
     body = body_of(source, symbols)
-    return ("rest", body) if before is None else ("pair", pair_of(body_of(before, symbols), body))
+    if pair or before is None:
+        return ("pair" if pair else "rest"), body
+    return "pair", pair_of(body_of(before, symbols), body)
 
 
 def pair_of(before: bytes, present: bytes) -> bytes:
@@ -74,6 +83,36 @@ def pair_of(before: bytes, present: bytes) -> bytes:
     if len(body) > MAX_BYTES:
         raise ValueError(f"the two frames have {len(body)} bytes; the server takes {MAX_BYTES} at most")
     return body
+
+
+def present_atoms(frames: Frames) -> List[Row]:
+    """The atoms of the present frame of a text, each with its symbol and position. None of them if the text is no such frame."""
+    mode, body = frames
+    lines = iter(body.split(b"\n"))
+    try:
+        atoms = _next_frame(lines)
+        return atoms if mode == "rest" else _next_frame(lines)
+    except (StopIteration, ValueError):
+        return []
+
+
+def _next_frame(lines: Iterator[bytes]) -> List[Row]:
+    """The next frame of some lines. Raises StopIteration or ValueError if there is none."""
+    count = int(next(filter(None, map(bytes.split, lines)))[0])
+    next(lines)
+    rows = [line.split()[:4] for line in itertools.islice(lines, count)]
+    atoms = [(symbol.decode(), _number(x), _number(y), _number(z)) for symbol, x, y, z in rows]
+    if len(atoms) < count:
+        raise ValueError("atoms are missing")
+    return atoms
+
+
+def _number(word: bytes) -> float:
+    """A coordinate. Raises ValueError for what is no finite number."""
+    number = float(word.lower().replace(b"d", b"e"))
+    if not math.isfinite(number):
+        raise ValueError("a coordinate is a number")
+    return number
 
 
 def edge_of(source: Any) -> Optional[float]:
