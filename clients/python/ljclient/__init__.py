@@ -21,6 +21,7 @@ from .errors import BadReply, CannotStart, ClientError, Closed, ConnectionLost, 
 from .measurement import Measurement
 from .mixture import Mixture
 from .motion import Motion
+from .order import Order
 from .sampling import Samples
 from .session import Row, Saved, Session
 from .thermo import Thermo
@@ -38,6 +39,7 @@ __all__ = [
     "Measurement",
     "Mixture",
     "Motion",
+    "Order",
     "Refused",
     "Row",
     "Samples",

@@ -25,6 +25,28 @@ def of_positions(places: Any, edge: float) -> Any:
     return places * edge / RING
 
 
+def millionths(positions: Any) -> Any:
+    """How many millionths each position is, of numbers of six decimals: whole numbers, as of places."""
+    if numpy is None:
+        return [tuple(round(part * 10**6) for part in position) for position in positions]
+    return numpy.rint(positions * 10**6).astype(numpy.int64)
+
+
+def listed(places: Any) -> List[Any]:
+    """Places as a list, whose numbers are those of Python."""
+    return places.tolist() if hasattr(places, "tolist") else list(places)
+
+
+def greatest(places: Any) -> int:
+    """The greatest coordinate of places."""
+    return int(places.max()) if hasattr(places, "max") else max(part for place in places for part in place)
+
+
+def picked(places: Any, numbers: Sequence[int]) -> Any:
+    """The places of these numbers, in their order."""
+    return places[list(numbers)] if hasattr(places, "tolist") else [places[number] for number in numbers]
+
+
 def stacked(frames: List[Any]) -> Any:
     """Frames of coordinates as one array of shape (frames, atoms, 3), or the list itself."""
     return frames if numpy is None else numpy.array(frames)

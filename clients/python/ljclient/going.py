@@ -3,7 +3,7 @@ from __future__ import annotations
 
 import operator
 import time
-from typing import Callable, Iterable, List, Optional, Sequence, cast
+from typing import Callable, Iterable, List, Optional, Protocol, Sequence, cast
 
 from .progress import Report
 from .replies import number_after
@@ -32,26 +32,42 @@ class Pace:
             self._seconds_per_step = max(seconds / steps, 1e-9)
 
 
+class Road(Protocol):
+    """What a session meets as it goes on."""
+
+    def ready(self) -> int:
+        """Makes it ready to go on, and returns by how many steps it may until this is asked again."""
+
+    def made(self, steps: int, step: int) -> int:
+        """Hears of steps that were made, and returns the user's number of the server's step."""
+
+
 class Course:
     """A session on its way, by so many steps in all."""
 
-    def __init__(self, name: str, total: int, report: Optional[Report]):
+    def __init__(self, name: str, total: int, report: Optional[Report], road: Road):
         self.name = name
         self.total = total
         self.done = 0
         self.step: Optional[int] = None
         self._report = report
+        self._road = road
+        self._room = MAX_STEPS
 
     @property
     def is_over(self) -> bool:
         return self.step is not None and self.done >= self.total
 
+    def make_ready(self) -> None:
+        if self.done < self.total:
+            self._room = self._road.ready()
+
     def next_piece(self, most: int) -> int:
-        return min(self.total - self.done, most)
+        return min(self.total - self.done, self._room, most)
 
     def has_made(self, steps: int, step: int) -> None:
         self.done += steps
-        self.step = step
+        self.step = self._road.made(steps, step)
 
     def tell(self) -> None:
         """Tells who looks how far the session is."""
@@ -66,6 +82,8 @@ def go(courses: Sequence[Course], ask: Ask, pace: Pace, piece: Optional[int]) ->
     for course in courses:
         course.tell()
     while under_way := [course for course in courses if not course.is_over]:
+        for course in under_way:
+            course.make_ready()
         start = time.monotonic()
         steps = go_by(under_way, ask, piece or pace.steps())
         pace.took(steps, time.monotonic() - start)

@@ -7,9 +7,13 @@ from typing import TYPE_CHECKING, Any, Dict, Iterable, List, Optional, Sequence,
 from . import units, xyz
 from .closeness import warn_of_close_atoms
 from .errors import ClientError
+from .interrupts import held
 from .mixture import Mixture, Pair, RawClass
 from .motion import Motion, motion_of
-from .session import Row, Session, checked_name
+from .names import checked_name
+from .order import Order, by_halves, is_in_space
+from .session import Row, Session
+from .state import Command, Known, State, state_of
 from .wire import Reply
 
 if TYPE_CHECKING:
@@ -17,11 +21,10 @@ if TYPE_CHECKING:
 
 
 class Loader:
-    """The part of a `User` that loads atoms, and what was said of the scale of each session."""
+    """The part of a `User` that loads atoms, and knows what was said of each session."""
 
     def __init__(self) -> None:
-        self._scales: Dict[str, units.Scale] = {}
-        self._mixtures: Dict[str, Mixture] = {}
+        self._known: Dict[str, Known] = {}
 
     def load(
         self,
@@ -38,6 +41,7 @@ class Loader:
         pair: bool = False,
         symbols: xyz.Symbols = None,
         replace: bool = False,
+        order: Optional[str] = None,
     ) -> Session:
         """Loads atoms into a new session, at step 0.
 
@@ -63,6 +67,9 @@ class Loader:
         `print(session.motion)` tells to what; they are those of half a step ago, as kinetic energies are.
 
         With `replace=True` a session of that name is dropped first. If two atoms are closer than 0.8 sigma there is a warning.
+
+        With `order="space"` the server has the atoms in the order of space, where a step of many is faster, and `advance`
+        sorts them anew each 250 steps. Everything here keeps the numbers of the source; `Session.order` tells the server's.
         """
         checked_name(name)
         edge = _edge_of(edge, source)
@@ -70,9 +77,9 @@ class Loader:
         motion = motion_of(source, scale) if before is None and not pair else None
         words = f"{units.word(edge)} {units.word(sigma)} {units.word(scale.h)}"
         frames = xyz.frames_of(source, before, symbols, pair)
+        known = Known(scale, is_sorted=is_in_space(order))
         warn_of_close_atoms(frames, scale)
-        self._send("LOAD", name, words, frames, replace, motion)
-        self._scales[name] = scale
+        self._send("LOAD", name, words, frames, replace, motion, known)
         return Session(cast("User", self), name, scale, motion=motion)
 
     def load_mix(
@@ -93,10 +100,11 @@ class Loader:
         pair: bool = False,
         symbols: xyz.Symbols = None,
         replace: bool = False,
+        order: Optional[str] = None,
     ) -> Session:
         """Loads atoms of two species, all of one mass, into a new session at step 0.
 
-        name, source, edge, before, pair, symbols, replace are as in `load`.
+        name, source, edge, before, pair, symbols, replace, order are as in `load`.
 
         species  the two symbols, such as `("Ar", "Kr")`; each atom has one of them
         first    sigma (angstrom) and epsilon (electronvolt) of two atoms of the first species
@@ -122,35 +130,72 @@ class Loader:
         motion = motion_of(source, mixture.scale) if before is None and not pair else None
         words = f"{units.word(edge)} {mixture.words}"
         frames = xyz.frames_of(source, before, symbols, pair)
+        known = Known(mixture.scale, mixture, is_sorted=is_in_space(order))
         warn_of_close_atoms(frames, mixture.scale, mixture)
-        self._send("LOADMIX", name, words, frames, replace, motion)
-        self._scales[name] = mixture.scale
-        self._mixtures[name] = mixture
+        self._send("LOADMIX", name, words, frames, replace, motion, known)
         return Session(cast("User", self), name, mixture.scale, mixture=mixture, motion=motion)
 
     def _send(
-        self, command: str, name: str, words: str, frames: xyz.Frames, replace: bool, motion: Optional[Motion]
+        self,
+        command: str,
+        name: str,
+        words: str,
+        frames: xyz.Frames,
+        replace: bool,
+        motion: Optional[Motion],
+        known: Known,
     ) -> None:
         """Asks for a new session, in place of one of that name where it is to be replaced, and sets its atoms in motion.
 
         Where an error or an interrupt comes between, the new session is given up.
         """
         mode, body = frames
-        if replace and any(row.name == name for row in self.sessions()):
-            self.ask(f"DROP {name}")
+        self.ask_commands(self._drops(name, replace))
         self.ask(f"{command} {name} {words} {mode} {len(body)}", body)
-        self.has_dropped(name)
+        self._known[name] = known
         try:
             self.ask_all(motion.tugs(name) if motion else [])
+            if known.is_sorted:
+                self.resort(name)
         except BaseException:
             with contextlib.suppress(ClientError):
                 self.ask(f"DROP {name}")
             raise
 
+    def resort(self, name: str) -> None:
+        """As `Session.resort`."""
+        if saved := self.ask(f"LIST {name}").lines:
+            told = ", ".join(line.split(" ")[0] for line in saved)
+            raise ValueError(f"{name} cannot be sorted anew, since what is saved by branch would be lost: {told}")
+        state = self.state_of(name)
+        self._put(state, Order(by_halves(state.places)), [(f"DROP {name}", b"")])
+
+    def state_of(self, name: str) -> State:
+        """The whole state of a session, which is as it was then. What is owed to it is done first."""
+        return state_of(self, name)
+
+    def _put(self, state: State, order: Order, before: Sequence[Command]) -> None:
+        """Has a state be a session in this order, after these commands. An interrupt waits until this is done."""
+        with held():
+            try:
+                self.ask_commands([*before, state.command(order)])
+            except ClientError:
+                self.has_dropped(state.name)
+                raise
+            self._known[state.name] = state.known(order)
+
+    def _drops(self, name: str, replace: bool) -> List[Command]:
+        """The command that gives up a session which is to be replaced, where it is there."""
+        is_there = replace and any(row.name == name for row in self.sessions())
+        return [(f"DROP {name}", b"")] if is_there else []
+
+    def known(self, name: str) -> Known:
+        """What is known of a session."""
+        return self._known.setdefault(name, Known())
+
     def has_dropped(self, name: str) -> None:
         """Forgets what was said of a session that is gone."""
-        self._scales.pop(name, None)
-        self._mixtures.pop(name, None)
+        self._known.pop(name, None)
 
     def ask(self, line: str, body: bytes = b"") -> Reply:
         """As `User.ask`."""
@@ -158,6 +203,14 @@ class Loader:
 
     def ask_all(self, lines: Iterable[str]) -> List[Reply]:
         """As `User.ask_all`."""
+        raise NotImplementedError
+
+    def ask_commands(self, commands: Sequence[Command]) -> List[Reply]:
+        """As `User.ask_commands`."""
+        raise NotImplementedError
+
+    def ask_rows(self, lines: Sequence[str]) -> bytes:
+        """As `User.ask_rows`."""
         raise NotImplementedError
 
     def sessions(self) -> List[Row]:

@@ -1,23 +1,25 @@
 """A session: one simulation that the server holds, and what can be done with it."""
 from __future__ import annotations
 
+import dataclasses
 import operator
 import os
-import re
 from typing import TYPE_CHECKING, Any, Iterator, List, NamedTuple, Optional, Sequence, Tuple, Union
 
-from . import arrays, ase_bridge, going, heating, progress as bars, reading, sampling
+from . import arrays, ase_bridge, frames, going, heating, progress as bars, reading, sampling
 from .measurement import Measurement, known
 from .mixture import Mixture
 from .motion import Motion
+from .names import checked_name, count_of
+from .order import Order
+from .renewal import Renewal
 from .replies import fields, number_after, of_session, whole_number
+from .state import symbols_of
 from .thermo import Thermo, thermo
 from .units import Scale
 
 if TYPE_CHECKING:
     from .user import User
-
-NAME = re.compile(r"[A-Za-z0-9_-]{1,16}\Z")
 
 
 class Saved(NamedTuple):
@@ -25,21 +27,6 @@ class Saved(NamedTuple):
 
     name: str
     step: int
-
-
-def checked_name(name: str) -> str:
-    """A name of a session or of what is saved. Raises ValueError for what is none."""
-    if not (isinstance(name, str) and NAME.match(name)):
-        raise ValueError(f"a name is 1 to 16 letters, digits, `_` or `-`, not {name!r}")
-    return name
-
-
-def count_of(number: Any, what: str) -> int:
-    """A whole number that is not below zero."""
-    count = operator.index(number)
-    if count < 0:
-        raise ValueError(f"{what} is not below 0, but {count} is")
-    return count
 
 
 class Session:
@@ -65,7 +52,6 @@ class Session:
         self._user = user
         self._given = scale
         self._pace = going.Pace()
-        self._symbols: Optional[List[str]] = None
 
     def __repr__(self) -> str:
         return f"Session({self.name!r})"
@@ -74,6 +60,11 @@ class Session:
     def scale(self) -> Scale:
         """What its whole numbers mean; of a mixture, the scale of its first class. ValueError where nobody has said it."""
         return known(self._given)
+
+    @property
+    def order(self) -> Order:
+        """How the server's numbers of atoms and steps stand to those here: `ask` and other connections see the server's."""
+        return self._user.known(self.name).order
 
     @property
     def step(self) -> int:
@@ -118,7 +109,8 @@ class Session:
 
         `User.advance` has several sessions go on at the same time.
         """
-        course = going.Course(self.name, count_of(n, "a number of steps"), bars.reporter(progress, self.name))
+        road, report = Renewal(self._user, self.name), bars.reporter(progress, self.name)
+        course = going.Course(self.name, count_of(n, "a number of steps"), report, road)
         return going.go([course], self._user.ask_all, self._pace, piece)[0]
 
     def start(self, n: int) -> int:
@@ -130,7 +122,8 @@ class Session:
         """
         total, most = count_of(n, "a number of steps"), going.MAX_STEPS
         lines = [f"START {self.name} {min(most, total - made)}" for made in range(0, max(total, 1), most)]
-        return number_after(lines[-1], self._user.ask_all(lines)[-1].words, 2)
+        target = number_after(lines[-1], self._user.ask_all(lines)[-1].words, 2)
+        return Renewal(self._user, self.name).made(total, target)
 
     def reverse(self) -> int:
         """Turns the motion back, and answers the new step number: the two frames are exchanged."""
@@ -170,7 +163,12 @@ class Session:
 
     def measure(self) -> Measurement:
         """Measures momentum, kinetic energy and potential energy."""
-        return Measurement.of(self._ask(f"MEASURE {self.name}")[2:], self._given)
+        return self.measured(self._user.ask(f"MEASURE {self.name}").words)
+
+    def measured(self, words: List[str]) -> Measurement:
+        """The measurement that the words of a reply to MEASURE tell."""
+        told = Measurement.of(of_session(f"MEASURE {self.name}", words)[2:], self._given)
+        return dataclasses.replace(told, step=self.order.step_of(told.step))
 
     def place(self, atom: int) -> Tuple[int, int, int]:
         """The place of an atom, in ring units: whole numbers from 0 to 2^32 - 1."""
@@ -205,9 +203,7 @@ class Session:
 
     def symbols(self) -> List[str]:
         """The symbol of each atom."""
-        if self._symbols is None:
-            self._symbols = self._frame().symbols()
-        return list(self._symbols)
+        return list(symbols_of(self._user, self.name))
 
     def to_ase(self) -> Any:
         """The frame as an `Atoms` of ASE, which has to be installed: positions in the periodic cell, step and time in `info`.
@@ -259,16 +255,24 @@ class Session:
     def saved(self) -> List[Saved]:
         """What is saved in it, in order of saving."""
         lines = self._user.ask(f"LIST {self.name}").lines
-        return [Saved(name, whole_number(step)) for name, step in (fields(line, 2) for line in lines)]
+        rows = (fields(line, 2) for line in lines)
+        return [Saved(name, self.order.step_of(whole_number(step))) for name, step in rows]
+
+    def resort(self) -> None:
+        """Sorts the atoms in space at the server, where a step of many is faster then. Their numbers here stay.
+
+        With `load(.., order="space")` it is done each 250 steps of `advance`. ValueError where something is saved by
+        `branch`, which would be lost.
+        """
+        self._user.resort(self.name)
 
     def drop(self) -> None:
         """Gives up the session with all that is saved in it."""
         self._ask(f"DROP {self.name}")
-        self._user.has_dropped(self.name)
 
     def _number_of(self, atom: Any) -> int:
         """The number by which the server knows an atom. Each number of an atom that goes out is of here."""
-        return count_of(atom, "an atom number")
+        return self.order.number_of(count_of(atom, "an atom number"))
 
     def _tug(self, atom: Any, displacement: Sequence[int]) -> str:
         """The command for a tug."""
@@ -276,20 +280,21 @@ class Session:
         return f"TUG {self.name} {self._number_of(atom)} {x} {y} {z}"
 
     def _frame(self) -> reading.Frame:
-        """The frame as the server dumps it. Each line of an atom that comes in is of here."""
-        return reading.frame_of(self.name, self._user.ask(f"DUMP {self.name}"))
+        """The frame as the server dumps it, with atoms, step and positions as they are here. Each line of an atom that comes
+        in is of here."""
+        frame = frames.dumped(self._user, self.name)
+        order = self.order
+        frame = reading.Frame(order.step_of(frame.step), order.for_user(frame.rows))
+        return frames.in_box(frame, self.scale.edge) if order.on_ring else frame
 
     def _frames_of_places(self, both: bool = False) -> Tuple[reading.Places, ...]:
-        """The places of all atoms, and if both frames are asked for, those of the step before. All places come in here.
-
-        For the step before the motion is turned back and turned again. These commands are sent together, so an interrupt
-        leaves none of them out.
-        """
-        count = self.atoms
-        lines, turn = reading.shows(self.name, count), f"REVERSE {self.name}"
-        if both:
-            return reading.both_of(self.name, count, self._user.ask_rows([*lines, turn, *lines, turn]))
-        return (reading.places_of(self.name, count, self._user.ask_rows(lines)),)
+        """The places of all atoms, and if both frames are asked for, those of the step before. All places come in here."""
+        if self.order.on_ring:
+            told = (frames.both_dumped if both else frames.dumped_places)(self._user, self.name)
+        else:
+            told = (frames.both_shown if both else frames.shown)(self._user, self.name, self.atoms)
+        order = self.order
+        return tuple(reading.Places(order.step_of(step), order.for_user(places)) for step, places in told)
 
     def _row(self) -> "Row":
         return self._user.row(self.name)
@@ -298,8 +303,9 @@ class Session:
         return of_session(line, self._user.ask(line).words)
 
     def _number(self, line: str, index: int) -> int:
-        """The number that stands last in the reply, at this index of its words."""
-        return number_after(line, self._user.ask(line).words, index)
+        """The step number that stands last in the reply, at this index of its words."""
+        step = number_after(line, self._user.ask(line).words, index)
+        return self.order.step_of(step)
 
 
 class Row(NamedTuple):

@@ -5,7 +5,6 @@ from typing import TYPE_CHECKING, Iterator, List, NamedTuple
 
 from .going import Ask
 from .measurement import Measurement
-from .replies import of_session
 from .sampling import Progress, checked_stops, stops
 
 if TYPE_CHECKING:
@@ -47,4 +46,4 @@ def _measured(session: "Session", ask: Ask, is_last: bool) -> List[Measurement]:
     measure, advance, reverse = (f"{verb} {session.name}" for verb in ("MEASURE", "ADVANCE", "REVERSE"))
     lines = [measure, f"{advance} 1", measure, *([reverse, f"{advance} 1", reverse] if is_last else [])]
     replies = ask(lines)
-    return [Measurement.of(of_session(measure, replies[at].words)[2:], session.scale) for at in (0, 2)]
+    return [session.measured(replies[at].words) for at in (0, 2)]

@@ -10,12 +10,18 @@ from .ends import ChildEnds, SocketEnds
 from .errors import BadReply, CannotStart, ClientError, ConnectionLost, TimedOut
 from .finding import find_program
 from .loading import Loader
+from .names import checked_name, count_of
+from .order import Order
+from .renewal import Renewal
 from .replies import fields, whole_number
-from .session import Row, Session, checked_name, count_of
+from .session import Row, Session
+from .state import Command
 from .wire import Reply, Wire, checked_timeout
 
 MAX_ITEMS = 1_000_000
 FAREWELL_SECONDS = 2.0
+# What was known of a session before these commands is no longer true.
+NEW_OR_GONE = ("LOAD", "LOADMIX", "DROP")
 Program = Union[str, "os.PathLike[str]"]
 
 
@@ -51,20 +57,27 @@ class User(Loader):
         mass: Optional[float] = None,
         dt: Optional[float] = None,
         weight: int = units.FULL_WEIGHT,
+        order: Union[Order, Sequence[int], None] = None,
     ) -> Session:
         """A session that is at the server. Raises `refusals.NoSession` where there is none of that name.
 
         The server does not tell a session's scale. Where another connection has loaded it, say it again, in the words of
         `load`, for `positions`, energies and temperatures; places need none. Of a mixture say that of its first class,
         with its weight where that is not 256.
+
+        Neither does it tell how another connection numbers atoms and steps: `order` is what `Session.order` told there, or
+        a list of the server's number of each atom.
         """
         self.ask(f"LIST {checked_name(name)}")
+        known = self.known(name)
         if edge is not None and sigma is not None:
-            self._scales[name] = units.Scale.of(edge, sigma, h, epsilon=epsilon, mass=mass, dt=dt, weight=weight)
-            self._mixtures.pop(name, None)
+            known.scale = units.Scale.of(edge, sigma, h, epsilon=epsilon, mass=mass, dt=dt, weight=weight)
+            known.mixture = None
         elif (edge, sigma, h, epsilon, mass, dt) != (None,) * 6:
             raise ValueError("a scale is edge and sigma, with h or with epsilon, mass and dt")
-        return Session(self, name, self._scales.get(name), mixture=self._mixtures.get(name))
+        if order is not None:
+            known.order = Order.of(order)
+        return Session(self, name, known.scale, mixture=known.mixture)
 
     def advance(
         self,
@@ -85,7 +98,8 @@ class User(Loader):
             raise ValueError(f"{len(totals)} numbers of steps for {len(sessions)} sessions")
         names = [session.name for session in sessions]
         counts = [count_of(total, "a number of steps") for total in totals]
-        courses = [going.Course(*parts) for parts in zip(names, counts, bars.reporters(progress, names))]
+        roads = [Renewal(self, name) for name in names]
+        courses = [going.Course(*parts) for parts in zip(names, counts, bars.reporters(progress, names), roads)]
         return going.go(courses, self.ask_all, going.Pace(), piece)
 
     def sessions(self) -> List[Row]:
@@ -97,7 +111,7 @@ class User(Loader):
         for line in self.ask("LIST").lines:
             name, *numbers = fields(line, 4)
             step, atoms, branches = map(whole_number, numbers)
-            rows.append(Row(name, step, atoms, branches))
+            rows.append(Row(name, self.known(name).order.step_of(step), atoms, branches))
         return rows
 
     def row(self, name: str) -> Row:
@@ -110,14 +124,20 @@ class User(Loader):
 
     def ask(self, line: str, body: bytes = b"") -> Reply:
         """The reply to a command line of the protocol, with the body that it announces. A refusal is raised."""
-        self._make_room(1)
-        return self._wire.ask(line, body)
+        return self.ask_commands([(line, body)])[0]
 
     def ask_all(self, lines: Iterable[str]) -> List[Reply]:
         """The replies to many command lines, of which many are under way at once. The first refusal is raised."""
-        commands = [(line, b"") for line in lines]
+        return self.ask_commands([(line, b"") for line in lines])
+
+    def ask_commands(self, commands: Sequence[Command]) -> List[Reply]:
+        """As `ask_all`, of commands with the bodies that they announce."""
         self._make_room(len(commands))
-        return self._wire.ask_all(commands)
+        replies = self._wire.ask_all(commands)
+        for reply in replies:
+            if reply.words[0] in NEW_OR_GONE:
+                self.has_dropped(reply.words[1])
+        return replies
 
     def ask_rows(self, lines: Sequence[str]) -> bytes:
         """The lines that many command lines are answered by, one for each, as they came. The first refusal is raised."""

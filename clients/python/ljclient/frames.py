@@ -1,0 +1,73 @@
+"""The frames of a session, in the server's numbers.
+
+In a box whose edge is 4294.967296 a ring unit is a millionth of the file's unit. So six decimals are a place to the bit, in
+what DUMP tells and in what LOAD takes. In any other box each place takes a SHOW.
+"""
+from __future__ import annotations
+
+from typing import TYPE_CHECKING, Sequence, Tuple
+
+from . import arrays, reading
+from .errors import BadReply
+from .interrupts import held
+from .order import Place
+from .reading import Frame, Places
+from .units import RING, nano
+
+if TYPE_CHECKING:
+    from .loading import Loader
+
+RING_EDGE = "4294.967296"
+MILLION = 10**6
+
+
+def dumped(user: "Loader", name: str) -> Frame:
+    """The frame as the server dumps it."""
+    return reading.frame_of(name, user.ask(f"DUMP {name}"))
+
+
+def shown(user: "Loader", name: str, count: int) -> Tuple[Places, ...]:
+    """The places of so many atoms, of a session with any box."""
+    return (reading.places_of(name, count, user.ask_rows(reading.shows(name, count))),)
+
+
+def both_shown(user: "Loader", name: str, count: int) -> Tuple[Places, ...]:
+    """The places now and one step before, for which the motion is turned back and turned again."""
+    shows, turn = reading.shows(name, count), f"REVERSE {name}"
+    with held():
+        return reading.both_of(name, count, user.ask_rows([*shows, turn, *shows, turn]))
+
+
+def dumped_places(user: "Loader", name: str) -> Tuple[Places, ...]:
+    """The places of all atoms, of a session whose box shows each ring unit."""
+    return (on_ring(dumped(user, name)),)
+
+
+def both_dumped(user: "Loader", name: str) -> Tuple[Places, ...]:
+    """The places now and one step before, of a session whose box shows each ring unit."""
+    with held():
+        replies = user.ask_all([f"DUMP {name}", f"REVERSE {name}"] * 2)
+    return tuple(on_ring(reading.frame_of(name, reply)) for reply in replies[::2])
+
+
+def on_ring(frame: Frame) -> Places:
+    """The places that a frame tells whose box shows each ring unit."""
+    places = arrays.millionths(frame.positions())
+    if arrays.greatest(places) >= RING:
+        raise BadReply("a frame has a place that is not below the edge of the box")
+    return Places(frame.step, places)
+
+
+def in_box(frame: Frame, edge: float) -> Frame:
+    """A frame whose box shows each ring unit as the server would dump it in a box of this edge: rounded down to six decimals."""
+    nanos, rows = nano(edge), []
+    for row, place in zip(frame.rows, arrays.listed(on_ring(frame).places)):
+        parts = (divmod(part * nanos // (RING * 1000), MILLION) for part in place)
+        rows.append(" ".join([row.split(" ")[0], *[f"{whole}.{rest:06}" for whole, rest in parts]]))
+    return Frame(frame.step, rows)
+
+
+def text_on_ring(comment: str, symbols: Sequence[str], places: Sequence[Place]) -> bytes:
+    """A frame of XYZ text, in the box that shows each ring unit."""
+    lines = [f"{symbol} {x}e-6 {y}e-6 {z}e-6\n" for symbol, (x, y, z) in zip(symbols, places)]
+    return f"{len(lines)}\n{comment}\n{''.join(lines)}".encode()

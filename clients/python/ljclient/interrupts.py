@@ -1,0 +1,24 @@
+"""Interrupts from the keyboard, which wait while something is half done."""
+from __future__ import annotations
+
+import contextlib
+import signal
+import threading
+from typing import Any, Iterator, List
+
+
+@contextlib.contextmanager
+def held() -> Iterator[None]:
+    """Has an interrupt from the keyboard wait until the end. Other threads than the main one get none."""
+    before = signal.getsignal(signal.SIGINT)
+    if before is None or threading.current_thread() is not threading.main_thread():
+        yield
+        return
+    came: List[Any] = []
+    signal.signal(signal.SIGINT, lambda *frame: came.append(frame))
+    try:
+        yield
+    finally:
+        signal.signal(signal.SIGINT, before)
+        if came:
+            signal.raise_signal(signal.SIGINT)

@@ -1,0 +1,23 @@
+"""Names of sessions and of what is saved, and numbers that count something."""
+from __future__ import annotations
+
+import operator
+import re
+from typing import Any
+
+NAME = re.compile(r"[A-Za-z0-9_-]{1,16}\Z")
+
+
+def checked_name(name: str) -> str:
+    """A name of a session or of what is saved. Raises ValueError for what is none."""
+    if not (isinstance(name, str) and NAME.match(name)):
+        raise ValueError(f"a name is 1 to 16 letters, digits, `_` or `-`, not {name!r}")
+    return name
+
+
+def count_of(number: Any, what: str) -> int:
+    """A whole number that is not below zero."""
+    count = operator.index(number)
+    if count < 0:
+        raise ValueError(f"{what} is not below 0, but {count} is")
+    return count

@@ -1,0 +1,105 @@
+"""The user's numbers of atoms and steps beside those of the server, and atoms in the order of space.
+
+A step looks at blocks of 64 atoms, and leaves out pairs of blocks that lie out of reach of each other. So atoms that are
+near each other in space are to be near each other in number too. Their order changes nothing in their motion.
+"""
+from __future__ import annotations
+
+from dataclasses import dataclass
+from typing import Any, List, Optional, Sequence, Tuple, TypeVar
+
+from . import arrays
+
+BLOCK = 64
+IN_SPACE = "space"
+Place = Tuple[int, int, int]
+Thing = TypeVar("Thing")
+
+
+@dataclass(frozen=True)
+class Order:
+    """How the numbers of the server stand to those of the user, for a session.
+
+    numbers    the server's number of each of the user's atoms; None where both have the same
+    step       the user's step number at step 0 of the server
+    direction  1 where both count alike, -1 where the server's steps go up as the user's go down
+    on_ring    whether the server has the atoms in a box whose edge is 4294.967296, so that its sixth decimal is a ring unit
+
+    `User.session(name, order=session.order)` hands it on to another connection. It holds until the session is sorted anew.
+    """
+
+    numbers: Optional[Tuple[int, ...]] = None
+    step: int = 0
+    direction: int = 1
+    on_ring: bool = False
+
+    def __post_init__(self) -> None:
+        if self.numbers is not None:
+            object.__setattr__(self, "numbers", tuple(map(int, self.numbers)))
+            if sorted(self.numbers) != list(range(len(self.numbers))):
+                raise ValueError("an order has each number from 0 up to the number of atoms once")
+        if self.direction not in (1, -1):
+            raise ValueError(f"a direction is 1 or -1, not {self.direction!r}")
+
+    @staticmethod
+    def of(order: "Order | Sequence[int] | None") -> "Order":
+        """An order as it may be said: itself, or the server's number of each atom alone."""
+        return order if isinstance(order, Order) else Order(None if order is None else tuple(order))
+
+    def number_of(self, atom: int) -> int:
+        """The server's number of an atom. One that is not there stays as it is, and the server refuses it."""
+        return atom if self.numbers is None or atom >= len(self.numbers) else self.numbers[atom]
+
+    def for_user(self, things: Any) -> Any:
+        """What the server tells of each atom, in the user's order: an array of an array, else a list."""
+        return things if self.numbers is None else arrays.picked(things, self._of_as_many(things))
+
+    def for_server(self, things: Sequence[Thing]) -> Sequence[Thing]:
+        """What the user tells of each atom, in the server's order."""
+        if self.numbers is None:
+            return things
+        placed = dict(zip(self._of_as_many(things), things))
+        return [placed[number] for number in range(len(placed))]
+
+    def step_of(self, step: int) -> int:
+        """The user's number of a step of the server."""
+        return self.step + self.direction * step
+
+    def _of_as_many(self, things: Sequence[Any]) -> Tuple[int, ...]:
+        if self.numbers is None or len(self.numbers) != len(things):
+            raise ValueError(f"the session has {len(things)} atoms, and its order is another one's")
+        return self.numbers
+
+
+def is_in_space(order: Optional[str]) -> bool:
+    """Whether atoms are to be kept in the order of space, as `order=` says."""
+    if order not in (None, IN_SPACE):
+        raise ValueError(f"an order is 'space', or None for that of the file, not {order!r}")
+    return order is not None
+
+
+def by_halves(places: Sequence[Place]) -> Tuple[int, ...]:
+    """The numbers that put atoms into the order of space: the new number of each.
+
+    They are split at the middle atom along x, y and z in turn, down to blocks. So a block is never spread out where the
+    atoms are dense, and each half but the last has whole blocks.
+    """
+    columns = list(zip(*places))
+    parts, axis = [list(range(len(places)))], 0
+    while any(len(part) > BLOCK for part in parts):
+        parts = [half for part in parts for half in _halves(part, columns[axis])]
+        axis = (axis + 1) % 3
+    numbers = [0] * len(places)
+    for number, atom in enumerate(atom for part in parts for atom in part):
+        numbers[atom] = number
+    return tuple(numbers)
+
+
+def _halves(part: List[int], column: Sequence[int]) -> List[List[int]]:
+    """Two halves of whole blocks, the first of the atoms with the smaller coordinates; or the part, where it is a block."""
+    if len(part) <= BLOCK:
+        return [part]
+    part.sort(key=column.__getitem__)
+    blocks = -(-len(part) // BLOCK)
+    middle = blocks // 2 * BLOCK
+    return [part[:middle], part[middle:]]

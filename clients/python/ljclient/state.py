@@ -1,0 +1,120 @@
+"""The whole state of a session: how it is read from the server, and the command that loads it again, exactly.
+
+Two frames that are one step apart are the simulation. A LOAD of both, in the box that shows each ring unit, gives it back.
+"""
+from __future__ import annotations
+
+from dataclasses import dataclass, replace
+from typing import TYPE_CHECKING, Optional, Sequence, Tuple
+
+from . import arrays, frames
+from .errors import BadReply
+from .mixture import Mixture
+from .order import Order, Place
+from .units import FULL_WEIGHT, RING, Scale
+
+if TYPE_CHECKING:
+    from .loading import Loader
+
+# A command line, and the body that it announces.
+Command = Tuple[str, bytes]
+
+
+@dataclass
+class Known:
+    """What a user knows of a session: its scale, and how its numbers stand to those of the server.
+
+    symbols    the symbol of each atom, once they were read
+    is_sorted  whether its atoms are kept in the order of space
+    gone       how many steps it has made since they were sorted
+    """
+
+    scale: Optional[Scale] = None
+    mixture: Optional[Mixture] = None
+    order: Order = Order()
+    symbols: Sequence[str] = ()
+    is_sorted: bool = False
+    gone: int = 0
+
+
+@dataclass(frozen=True)
+class State:
+    """A session as it is at a step, with its atoms in the user's order.
+
+    name, scale, mixture  of the session
+    step, direction       the step number, and 1 or -1: by how much the next step changes it
+    symbols               the symbol of each atom
+    places, before        of each atom now and one step before, in ring units
+    is_sorted             whether the atoms are kept in the order of space
+    """
+
+    name: str
+    scale: Scale
+    mixture: Optional[Mixture]
+    step: int
+    direction: int
+    symbols: Sequence[str]
+    places: Sequence[Place]
+    before: Sequence[Place]
+    is_sorted: bool = False
+
+    def command(self, order: Order) -> Command:
+        """The command that loads it, with the atoms in this order, and its body."""
+        symbols = order.for_server(self.symbols)
+        both = (("one step before", self.before), ("now", self.places))
+        body = b"".join(frames.text_on_ring(comment, symbols, order.for_server(places)) for comment, places in both)
+        return f"{self._words()} pair {len(body)}", body
+
+    def known(self, order: Order) -> Known:
+        """What is known of the session that this command loads."""
+        return Known(self.scale, self.mixture, self.order_of(order), self.symbols, self.is_sorted)
+
+    def order_of(self, order: Order) -> Order:
+        """How the numbers stand to the server's in that session."""
+        return replace(order, step=self.step, direction=self.direction, on_ring=True)
+
+    def _words(self) -> str:
+        if self.mixture is None:
+            return f"LOAD {self.name} {frames.RING_EDGE} {self.scale.sigma_on_ring}e-6 {self.scale.h}"
+        classes = (f"{each.sigma_on_ring}e-6 {each.h} {each.weight}" for each in self.mixture.classes)
+        return " ".join([f"LOADMIX {self.name} {frames.RING_EDGE}", *self.mixture.species, *classes])
+
+
+def checked(name: str, known: Known) -> Scale:
+    """The scale of a session that can be loaded again. Raises ValueError where too little was said of it."""
+    scale = known.scale
+    if scale is None:
+        raise ValueError(f"the scale of {name} is not known: user.session(name, edge=.., sigma=.., h=..) says it")
+    if known.mixture is None and scale.weight != FULL_WEIGHT:
+        raise ValueError(f"{name} has two species, and how they interact is known where load_mix has loaded it")
+    if not 0 < scale.sigma_on_ring < RING:
+        raise ValueError(f"sigma is below the edge of the box, not {scale.sigma:g} beside {scale.edge:g}")
+    return scale
+
+
+def state_of(user: "Loader", name: str) -> State:
+    """The state of a session. What is owed to it is done first. The session is then as it was."""
+    known = user.known(name)
+    scale = checked(name, known)
+    user.ask(f"ADVANCE {name} 0")
+    symbols = symbols_of(user, name)
+    if known.order.on_ring:
+        now, before = frames.both_dumped(user, name)
+    else:
+        now, before = frames.both_shown(user, name, len(symbols))
+    direction = now.step - before.step
+    if direction not in (1, -1):
+        raise BadReply(f"the two frames of {name} are at the steps {now.step} and {before.step}")
+    order = known.order
+    places, past = (order.for_user(arrays.listed(frame.places)) for frame in (now, before))
+    step, direction = order.step_of(now.step), order.direction * direction
+    return State(name, scale, known.mixture, step, direction, symbols, places, past, known.is_sorted)
+
+
+def symbols_of(user: "Loader", name: str) -> Sequence[str]:
+    """The symbols of a session's atoms, in the user's order."""
+    known = user.known(name)
+    if not known.symbols:
+        told = frames.dumped(user, name).symbols()
+        known.symbols = known.order.for_user(told)
+    return known.symbols

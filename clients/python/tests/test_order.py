@@ -1,0 +1,304 @@
+"""Atoms in the order of space: the server has other numbers than the user, and each atom moves as it would without.
+
+What is expected is what the same atoms do in the order of their file.
+"""
+import os
+import pathlib
+import random
+import signal
+import subprocess
+import sys
+import tempfile
+import threading
+import unittest
+from unittest import mock
+
+from ljclient import Order, connect, renewal, run, xyz
+from ljclient.order import by_halves
+from support import PROGRAM, TOKEN, TOP, Server, dimer, interruptible, listed
+
+SCALE = {"edge": 8.4, "sigma": 1, "h": 131072}
+CLASSES = [(1, 131072, 256), (0.9, 150000, 300), (0.95, 140000, 200)]
+MIX = {"edge": 8.4, "species": ("Ar", "Kr"), "classes": CLASSES}
+
+
+def liquid(count=500, seed=1):
+    """A jittered lattice, 8 wide in a box of 8.4, in a shuffled order: rows of a symbol and a position."""
+    drawn = random.Random(seed)
+    sites = drawn.sample(range(8**3), count)
+    rows = []
+    for number, site in enumerate(sites):
+        position = [(part + 0.3 + 0.1 * drawn.random()) * 1.05 for part in (site % 8, site // 8 % 8, site // 64)]
+        rows.append(("Kr" if number % 3 == 0 else "Ar", *position))
+    return rows
+
+
+class Halves(unittest.TestCase):
+    def test_a_line_of_atoms(self):
+        # 256 atoms along x, numbered from the other end: four blocks, split along x and then along y, where all are alike.
+        numbers = by_halves([(255 - atom, 0, 0) for atom in range(256)])
+        self.assertEqual(sorted(numbers), list(range(256)))
+        self.assertTrue(all(number // 128 == (255 - atom) // 128 for atom, number in enumerate(numbers)))
+
+    def test_blocks_lie_in_space(self):
+        # 4,096 atoms on a lattice of 16 x 16 x 16, shuffled: each block is a cube of 4 x 4 x 4.
+        sites = [(x, y, z) for x in range(16) for y in range(16) for z in range(16)]
+        random.Random(1).shuffle(sites)
+        placed = Order(by_halves(sites)).for_server(sites)
+        for first in range(0, 4096, 64):
+            block = set(placed[first : first + 64])
+            corner = tuple(map(min, zip(*block)))
+            self.assertEqual(block, {tuple(c + d for c, d in zip(corner, each)) for each in sites if max(each) < 4})
+
+    def test_halves_are_whole_blocks(self):
+        for count in (1, 2, 63, 64, 65, 127, 128, 129, 191, 500, 4095):
+            places = [(number * 7919 % 104729, number * 31 % 97, number % 11) for number in range(count)]
+            numbers = by_halves(places)
+            self.assertEqual(sorted(numbers), list(range(count)))
+            if count > 128:
+                # The first split is along x, at half of the blocks rounded down.
+                first = -(-count // 64) // 2 * 64
+                left = sorted(range(count), key=lambda atom: places[atom][0])[:first]
+                self.assertEqual({atom for atom in range(count) if numbers[atom] < first}, set(left))
+
+    def test_orders(self):
+        order = Order([2, 0, 1], step=10, direction=-1)
+        self.assertEqual((order.for_server("abc"), order.for_user("bca")), (["b", "c", "a"], ["a", "b", "c"]))
+        self.assertEqual([order.number_of(atom) for atom in range(4)], [2, 0, 1, 3])
+        self.assertEqual((order.step_of(3), Order().step_of(3), Order().for_user("abc")), (7, 3, "abc"))
+        for wrong in ([0, 0], [1, 2], [0, 2]):
+            with self.assertRaisesRegex(ValueError, "each number from 0"):
+                Order(wrong)
+        with self.assertRaisesRegex(ValueError, "direction"):
+            Order(direction=0)
+        with self.assertRaisesRegex(ValueError, "another one's"):
+            order.for_user("ab")
+
+
+class Sessions(unittest.TestCase):
+    def setUp(self):
+        self.user = run(PROGRAM)
+        self.addCleanup(self.user.close)
+        self.rows = liquid()
+        folder = tempfile.TemporaryDirectory()
+        self.addCleanup(folder.cleanup)
+        self.folder = pathlib.Path(folder.name)
+
+    def both(self):
+        """The same atoms in the order of their list, and in that of space."""
+        plain = self.user.load("plain", self.rows, **SCALE)
+        return plain, self.user.load("sorted", self.rows, order="space", **SCALE)
+
+    def same(self, one, other):
+        self.assertEqual(listed(one.places()), listed(other.places()))
+        self.assertEqual(one.measure(), other.measure())
+        self.assertEqual((one.step, one.target, one.atoms), (other.step, other.target, other.atoms))
+
+
+class Motion(Sessions):
+    def moves_alike(self, plain, ordered):
+        orders = [ordered.order.numbers]
+        self.same(plain, ordered)
+        for session in (plain, ordered):
+            session.tug(17, (40_000, -50_000, 60_000))
+            self.assertEqual(session.advance(1000), 1000)
+        self.same(plain, ordered)
+        orders.append(ordered.order.numbers)
+        for session in (plain, ordered):
+            self.assertEqual((session.reverse(), session.advance(600)), (999, 399))
+            session.tug(499, (1, 2, 3))
+            session.tug(0, (-3, -2, -1))
+            self.assertEqual((session.advance(700, piece=33), session.reverse()), (-301, -300))
+        self.same(plain, ordered)
+        orders.append(ordered.order.numbers)
+        self.assertEqual([sorted(order) for order in orders], [list(range(500))] * 3)
+        self.assertEqual(len({*orders, tuple(range(500))}), 4)
+
+    def test_atoms_of_one_species(self):
+        self.moves_alike(*self.both())
+
+    def test_atoms_of_two_species(self):
+        plain = self.user.load_mix("plain", self.rows, **MIX)
+        ordered = self.user.load_mix("sorted", self.rows, order="space", **MIX)
+        self.moves_alike(plain, ordered)
+        self.assertEqual((ordered.mixture, ordered.symbols()), (plain.mixture, plain.symbols()))
+
+    def test_they_go_back_to_their_start(self):
+        _, ordered = self.both()
+        start = listed(ordered.places())
+        for _ in range(2):
+            ordered.advance(600)
+            ordered.reverse()
+        self.assertEqual((ordered.step, listed(ordered.places())), (0, start))
+
+    def test_several_at_once(self):
+        plain, ordered = self.both()
+        told = []
+        self.assertEqual(self.user.advance([ordered, plain], [700, 300], progress=lambda *each: told.append(each)), [700, 300])
+        self.assertEqual((told[-1], plain.advance(400)), (("sorted", 700, 700), 700))
+        self.same(plain, ordered)
+        ordered.start(300)
+        plain.start(300)
+        self.assertEqual((ordered.target, plain.target), (1000, 1000))
+        self.assertEqual(self.user.advance([plain, ordered], 10), [1010, 1010])
+        self.same(plain, ordered)
+
+    def test_atoms_in_motion_from_the_start(self):
+        before = [(symbol, x - 0.001, y + 0.002, z) for symbol, x, y, z in self.rows]
+        plain = self.user.load("plain", self.rows, before=before, **SCALE)
+        ordered = self.user.load("sorted", self.rows, before=before, order="space", **SCALE)
+        self.same(plain, ordered)
+        self.assertEqual(plain.advance(300), ordered.advance(300))
+        self.same(plain, ordered)
+
+
+class Numbers(Sessions):
+    def test_everything_has_the_numbers_of_the_user(self):
+        plain, ordered = self.both()
+        for session in (plain, ordered):
+            session.advance(300)
+        self.assertEqual(ordered.dump(), plain.dump())
+        self.assertEqual(ordered.symbols(), [row[0] for row in self.rows])
+        self.assertEqual([ordered.place(atom) for atom in (0, 250, 499)], [plain.place(atom) for atom in (0, 250, 499)])
+        self.assertEqual([list(each) for each in ordered.positions()], [list(each) for each in plain.positions()])
+        self.assertEqual(list(self.user.sessions()), [("plain", 300, 500, 0), ("sorted", 300, 500, 0)])
+        for atom in (500, 10**18):
+            with self.assertRaisesRegex(Exception, "NO_ATOM"):
+                ordered.place(atom)
+
+    def test_the_server_has_its_own(self):
+        plain, ordered = self.both()
+        for session in (plain, ordered):
+            session.advance(260)
+        order = ordered.order
+        words = self.user.ask(f"SHOW sorted {order.numbers[123]}").words
+        self.assertEqual(tuple(map(int, words[4:])), plain.place(123))
+        self.assertEqual((order.step_of(int(words[2])), order.step, int(words[2])), (260, 250, 10))
+
+    def test_another_connection_takes_an_order(self):
+        with Server() as server:
+            with connect("127.0.0.1", server.port, "ann", TOKEN) as user:
+                ordered = user.load("s", self.rows, order="space", **SCALE)
+                ordered.advance(300)
+                order, places, dumped = ordered.order, listed(ordered.places()), ordered.dump()
+            with connect("127.0.0.1", server.port, "ann", TOKEN) as user:
+                self.assertEqual(listed(user.session("s").places()), list(order.for_server(places)))
+                other = user.session("s", order=order, **SCALE)
+                self.assertEqual((listed(other.places()), other.dump(), other.step), (places, dumped, 300))
+                numbers = user.session("s", order=list(order.numbers))
+                self.assertEqual((listed(numbers.places()), numbers.place(7)), (places, places[7]))
+                for wrong in (order.numbers[:-1], [0] * 500):
+                    with self.assertRaises(ValueError):
+                        user.session("s", order=wrong).places()
+
+class Renewals(Sessions):
+    def test_each_250_steps(self):
+        _, ordered = self.both()
+        with mock.patch.object(self.user, "resort", wraps=self.user.resort) as resort:
+            for n, done in [(249, 0), (1, 0), (1, 1), (600, 3), (0, 3), (148, 3), (2, 4)]:
+                ordered.advance(n)
+                self.assertEqual(resort.call_count, done, n)
+
+    def test_not_while_something_is_saved(self):
+        plain, ordered = self.both()
+        ordered.branch("k")
+        ordered.branch("l")
+        order = ordered.order
+        self.assertEqual((ordered.advance(600), ordered.order), (600, order))
+        with self.assertRaisesRegex(ValueError, "sorted cannot be sorted anew, .* would be lost: k, l"):
+            ordered.resort()
+        self.assertEqual((ordered.restore("k"), ordered.saved(), ordered.advance(600)), (0, [("k", 0), ("l", 0)], 600))
+        ordered.forget("k")
+        ordered.forget("l")
+        ordered.resort()
+        self.assertNotEqual(ordered.order, order)
+        self.assertEqual(plain.advance(600), 600)
+        self.same(plain, ordered)
+
+    def test_any_session_can_be_sorted(self):
+        plain, _ = self.both()
+        places = listed(plain.places())
+        plain.resort()
+        self.assertEqual((plain.order, listed(plain.places())), (Order(by_halves(places), 0, 1, True), places))
+        order = plain.order
+        self.assertEqual((plain.advance(600), plain.order), (600, order))
+        a = dimer(self.user)
+        a.resort()
+        self.assertEqual((a.advance(2), a.place(0)), (2, (1774, 0, 0)))
+
+    def test_what_is_no_order(self):
+        for wrong in ("time", "", [0, 1]):
+            with self.assertRaisesRegex(ValueError, "an order is 'space'"):
+                dimer(self.user, order=wrong)
+        self.assertEqual(self.user.sessions(), [])
+
+    def test_a_session_that_is_replaced(self):
+        self.both()
+        again = self.user.load("sorted", self.rows, replace=True, **SCALE)
+        self.assertEqual((again.order, listed(again.places())), (Order(), listed(self.user.session("plain").places())))
+
+    def test_a_load_that_is_refused(self):
+        _, ordered = self.both()
+        places = listed(ordered.places())
+        with self.assertRaisesRegex(Exception, "EXISTS"):
+            self.user.load("sorted", self.rows, order="space", **SCALE)
+        with self.assertRaisesRegex(Exception, "XYZ_NUMBER line 4"):
+            self.user.load("new", "2\n\nAr 0 0 0\nAr 0 0 x\n", order="space", **SCALE)
+        self.assertEqual((listed(ordered.places()), len(self.user.sessions())), (places, 2))
+
+    def test_interrupts_lose_nothing(self):
+        interruptible(self)
+        plain, ordered = self.both()
+        with mock.patch.object(renewal, "RENEWED_EACH", 1):
+            for delay in (0.1, 0.15, 0.2, 0.25, 0.3):
+                timer = threading.Timer(delay, os.kill, (os.getpid(), signal.SIGINT))
+                timer.start()
+                with self.assertRaises(KeyboardInterrupt):
+                    ordered.advance(10**7)
+                timer.join()
+        plain.advance(ordered.step)
+        self.same(plain, ordered)
+
+class Script(Sessions):
+    """`examples/load --sorted`, for those without the client."""
+
+    def printed(self, text, *words, status=0):
+        """What the script prints for a file with this text."""
+        (self.folder / "atoms.xyz").write_text(text)
+        command = [sys.executable, TOP / "examples" / "load", *words, self.folder / "atoms.xyz", "sorted", "8.4", "1", "131072"]
+        done = subprocess.run(command, capture_output=True, timeout=60)
+        self.assertEqual(done.returncode, status, done.stderr)
+        return done.stdout if status == 0 else done.stderr.decode()
+
+    def test_a_file_in_the_order_of_space(self):
+        text = xyz.text_of((row[0], row[1:]) for row in self.rows).decode()
+        plain = self.user.load("plain", text, **SCALE)
+        line, _, body = self.printed("\n" + text, f"--sorted={self.folder / 'order'}").partition(b"\n")
+        self.user.ask(line.decode(), body)
+        numbers = [int(word) for word in (self.folder / "order").read_text().splitlines()]
+        self.assertEqual(tuple(numbers), by_halves(listed(plain.places())))
+        ordered = self.user.session("sorted", order=numbers, **SCALE)
+        for session in (plain, ordered):
+            session.tug(400, (9, 9, 9))
+            session.advance(20)
+        self.same(plain, ordered)
+        self.assertEqual(ordered.dump(), plain.dump())
+
+    def test_two_frames(self):
+        frames = [xyz.text_of(((row[0], [part + moved for part in row[1:]]) for row in self.rows)) for moved in (0.1, 0)]
+        plain = self.user.load("plain", frames[1], before=frames[0], **SCALE)
+        (self.folder / "pair").write_bytes(b"".join(frames))
+        words = [sys.executable, TOP / "examples" / "load", "--sorted", self.folder / "pair", "sorted", "8.4", "1", "131072", "pair"]
+        line, _, body = subprocess.run(words, capture_output=True, check=True, timeout=60).stdout.partition(b"\n")
+        self.user.ask(line.decode(), body)
+        numbers = by_halves(listed(plain.places()))
+        self.same(plain, self.user.session("sorted", order=numbers, **SCALE))
+
+    def test_files_without_a_frame(self):
+        for text, line in [("", 0), ("2\n\nAr 0 0 0\n", 4), ("1\n\nAr 0 0\n", 3), ("1\n\nAr 0 0 x\n", 3), ("x\n", 1)]:
+            self.assertIn(f"atoms.xyz has no whole frame: line {line}", self.printed(text, "--sorted", status=1))
+        self.assertIn("usage: load", self.printed("", "--shuffled", status=1))
+
+
+if __name__ == "__main__":
+    unittest.main()
