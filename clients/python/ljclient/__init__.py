@@ -17,7 +17,7 @@
 """
 from . import refusals, units
 from .arrays import distance, least_images
-from .errors import BadReply, CannotStart, ClientError, Closed, ConnectionLost, Refused, TimedOut
+from .errors import BadReply, CannotStart, ClientError, Closed, ConnectionLost, Damaged, Refused, TimedOut
 from .measurement import Measurement
 from .mixture import Mixture
 from .motion import Motion
@@ -36,6 +36,7 @@ __all__ = [
     "ClientError",
     "Closed",
     "ConnectionLost",
+    "Damaged",
     "Measurement",
     "Mixture",
     "Motion",

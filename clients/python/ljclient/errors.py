@@ -5,7 +5,12 @@ from typing import Dict, Optional, Type
 
 
 class ClientError(Exception):
-    """Any fault of the connection, of the program, or of what was asked for."""
+    """Any fault of the connection, of the program, or of what was asked for.
+
+    rescued  where it came while a session was dropped to be loaded again: the text of a file that `User.load_saved` takes
+    """
+
+    rescued: Optional[str] = None
 
 
 class CannotStart(ClientError):
@@ -26,6 +31,22 @@ class BadReply(ClientError):
 
 class Closed(ClientError):
     """The connection was closed before this was asked for."""
+
+
+class Damaged(ClientError, ValueError):
+    """A file of a saved session is not as it was written.
+
+    path  the file
+    line  the first line that is at fault, counted from 1
+    """
+
+    def __init__(self, path: str, line: int, why: str):
+        super().__init__(path, line, why)
+        self.path = path
+        self.line = line
+
+    def __str__(self) -> str:
+        return "{}, line {}: {}".format(*self.args)
 
 
 class Refused(ClientError):

@@ -2,9 +2,10 @@
 from __future__ import annotations
 
 import contextlib
+import dataclasses
 from typing import TYPE_CHECKING, Any, Dict, Iterable, List, Optional, Sequence, cast
 
-from . import units, xyz
+from . import checkpoint, units, xyz
 from .closeness import warn_of_close_atoms
 from .errors import ClientError
 from .interrupts import held
@@ -162,6 +163,27 @@ class Loader:
                 self.ask(f"DROP {name}")
             raise
 
+    def load_saved(
+        self, path: checkpoint.Path, name: Optional[str] = None, *, replace: bool = False, order: Optional[str] = None
+    ) -> Session:
+        """Loads a session that `Session.save` has written, exactly as it was.
+
+        name, replace  as in `load`; without a name it has the one that it was saved under
+        order          "space" as in `load`; else as it was when it was saved
+
+        Steps are counted on from the saved one. Raises `Damaged`, which names the line, if the file is not as it was
+        written.
+        """
+        state = checkpoint.read(path)
+        state = dataclasses.replace(
+            state,
+            name=checked_name(state.name if name is None else name),
+            is_sorted=is_in_space(order) or state.is_sorted,
+        )
+        numbers = by_halves(state.places) if state.is_sorted else None
+        self._put(state, Order(numbers), self._drops(state.name, replace))
+        return Session(cast("User", self), state.name, state.scale, mixture=state.mixture)
+
     def resort(self, name: str) -> None:
         """As `Session.resort`."""
         if saved := self.ask(f"LIST {name}").lines:
@@ -179,8 +201,10 @@ class Loader:
         with held():
             try:
                 self.ask_commands([*before, state.command(order)])
-            except ClientError:
-                self.has_dropped(state.name)
+            except ClientError as error:
+                if before:
+                    error.rescued = checkpoint.text_of(state)
+                    self.has_dropped(state.name)
                 raise
             self._known[state.name] = state.known(order)
 

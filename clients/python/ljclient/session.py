@@ -6,7 +6,7 @@ import operator
 import os
 from typing import TYPE_CHECKING, Any, Iterator, List, NamedTuple, Optional, Sequence, Tuple, Union
 
-from . import arrays, ase_bridge, frames, going, heating, progress as bars, reading, sampling
+from . import arrays, ase_bridge, checkpoint, frames, going, heating, progress as bars, reading, sampling
 from .measurement import Measurement, known
 from .mixture import Mixture
 from .motion import Motion
@@ -257,6 +257,13 @@ class Session:
         lines = self._user.ask(f"LIST {self.name}").lines
         rows = (fields(line, 2) for line in lines)
         return [Saved(name, self.order.step_of(whole_number(step))) for name, step in rows]
+
+    def save(self, path: checkpoint.Path) -> None:
+        """Writes the whole simulation to a file, from which `User.load_saved` goes on exactly, in another program too.
+
+        What was started is waited for, and what is saved by `branch` is not written. The scale has to be known.
+        """
+        checkpoint.write(self._user.state_of(self.name), path)
 
     def resort(self) -> None:
         """Sorts the atoms in space at the server, where a step of many is faster then. Their numbers here stay.

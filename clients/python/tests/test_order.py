@@ -13,7 +13,7 @@ import threading
 import unittest
 from unittest import mock
 
-from ljclient import Order, connect, renewal, run, xyz
+from ljclient import ConnectionLost, Order, connect, renewal, run, xyz
 from ljclient.order import by_halves
 from support import PROGRAM, TOKEN, TOP, Server, dimer, interruptible, listed
 
@@ -191,6 +191,25 @@ class Numbers(Sessions):
                     with self.assertRaises(ValueError):
                         user.session("s", order=wrong).places()
 
+    def test_saved_files(self):
+        plain, ordered = self.both()
+        for session in (plain, ordered):
+            session.advance(300)
+            session.save(self.folder / session.name)
+        texts = [(self.folder / name).read_text() for name in ("plain", "sorted")]
+        rows = [[line.split(" ")[1:] for line in text.splitlines() if line.count(" ") == 7] for text in texts]
+        self.assertEqual((rows[0], len(rows[0])), (rows[1], 500))
+        back = self.user.load_saved(self.folder / "sorted", "back")
+        self.assertNotEqual(back.order.numbers, None)
+        self.same(plain, back)
+        plain.advance(300)
+        back.advance(300)
+        self.same(plain, back)
+        now = self.user.load_saved(self.folder / "plain", "now", order="space")
+        self.assertEqual((now.order, now.advance(300)), (Order(now.order.numbers, 300, 1, True), 600))
+        self.same(plain, now)
+
+
 class Renewals(Sessions):
     def test_each_250_steps(self):
         _, ordered = self.both()
@@ -258,6 +277,25 @@ class Renewals(Sessions):
                 timer.join()
         plain.advance(ordered.step)
         self.same(plain, ordered)
+
+    def test_a_connection_that_is_lost_on_the_way(self):
+        plain, ordered = self.both()
+        ordered.advance(300)
+        plain.advance(300)
+        ask = self.user.ask_commands
+
+        def lose(commands):
+            if any(body for _, body in commands):
+                os.kill(self.user._wire._ends.pid, signal.SIGKILL)
+            return ask(commands)
+
+        plain.save(self.folder / "plain")
+        with mock.patch.object(self.user, "ask_commands", side_effect=lose), self.assertRaises(ConnectionLost) as caught:
+            ordered.resort()
+        texts = [caught.exception.rescued, (self.folder / "plain").read_text()]
+        atoms = [[line.split(" ")[1:] for line in text.splitlines()[-501:]] for text in texts]
+        self.assertEqual(atoms[0], atoms[1])
+
 
 class Script(Sessions):
     """`examples/load --sorted`, for those without the client."""
