@@ -13,6 +13,7 @@ from .mixture import Mixture, Pair, RawClass
 from .motion import Motion, motion_of
 from .names import checked_name
 from .order import Order, by_halves, is_in_space
+from .replies import number_after
 from .session import Row, Session
 from .state import Command, Known, State, state_of
 from .wire import Reply
@@ -191,6 +192,13 @@ class Loader:
             raise ValueError(f"{name} cannot be sorted anew, since what is saved by branch would be lost: {told}")
         state = self.state_of(name)
         self._put(state, Order(by_halves(state.places)), [(f"DROP {name}", b"")])
+
+    def restore(self, name: str, branch: str) -> int:
+        """As `Session.restore`."""
+        line = f"RESTORE {name} {branch}"
+        step, known = number_after(line, self.ask(line).words, 3), self.known(name)
+        known.order = known.branch_order(branch)
+        return known.order.step_of(step)
 
     def state_of(self, name: str) -> State:
         """The whole state of a session, which is as it was then. What is owed to it is done first."""

@@ -36,4 +36,5 @@ class Renewal:
         """Counts steps that were made or begun, and returns the user's number of the server's step."""
         known = self._loader.known(self._name)
         known.gone += steps
+        known.is_started = False
         return known.order.step_of(step)

@@ -123,7 +123,9 @@ class Session:
         total, most = count_of(n, "a number of steps"), going.MAX_STEPS
         lines = [f"START {self.name} {min(most, total - made)}" for made in range(0, max(total, 1), most)]
         target = number_after(lines[-1], self._user.ask_all(lines)[-1].words, 2)
-        return Renewal(self._user, self.name).made(total, target)
+        step = Renewal(self._user, self.name).made(total, target)
+        self._user.known(self.name).is_started = True
+        return step
 
     def reverse(self) -> int:
         """Turns the motion back, and answers the new step number: the two frames are exchanged."""
@@ -131,15 +133,18 @@ class Session:
 
     def branch(self, name: str) -> int:
         """Saves the simulation under a name, and answers its step number."""
-        return self._number(f"BRANCH {self.name} {checked_name(name)}", 3)
+        step = self._number(f"BRANCH {self.name} {checked_name(name)}", 3)
+        self._user.known(self.name).branches[name] = self.order
+        return step
 
     def restore(self, name: str) -> int:
         """Goes back to what was saved, and answers its step number. It stays saved."""
-        return self._number(f"RESTORE {self.name} {checked_name(name)}", 3)
+        return self._user.restore(self.name, checked_name(name))
 
     def forget(self, name: str) -> None:
         """Gives up what was saved under a name."""
         self._ask(f"FORGET {self.name} {checked_name(name)}")
+        self._user.known(self.name).branches.pop(name, None)
 
     def tug(self, atom: int, displacement: Sequence[int]) -> int:
         """Gives an atom a displacement of so many ring units (edge / 2^32) more for each step, along x, y and z."""
@@ -255,8 +260,8 @@ class Session:
     def saved(self) -> List[Saved]:
         """What is saved in it, in order of saving."""
         lines = self._user.ask(f"LIST {self.name}").lines
-        rows = (fields(line, 2) for line in lines)
-        return [Saved(name, self.order.step_of(whole_number(step))) for name, step in rows]
+        rows, known_of = [fields(line, 2) for line in lines], self._user.known(self.name)
+        return [Saved(name, known_of.branch_order(name).step_of(whole_number(step))) for name, step in rows]
 
     def save(self, path: checkpoint.Path) -> None:
         """Writes the whole simulation to a file, from which `User.load_saved` goes on exactly, in another program too.
@@ -312,6 +317,7 @@ class Session:
     def _number(self, line: str, index: int) -> int:
         """The step number that stands last in the reply, at this index of its words."""
         step = number_after(line, self._user.ask(line).words, index)
+        self._user.known(self.name).is_started = False
         return self.order.step_of(step)
 
 

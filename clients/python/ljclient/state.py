@@ -4,8 +4,8 @@ Two frames that are one step apart are the simulation. A LOAD of both, in the bo
 """
 from __future__ import annotations
 
-from dataclasses import dataclass, replace
-from typing import TYPE_CHECKING, Optional, Sequence, Tuple
+from dataclasses import dataclass, field, replace
+from typing import TYPE_CHECKING, Dict, Optional, Sequence, Tuple
 
 from . import arrays, frames
 from .errors import BadReply
@@ -24,9 +24,11 @@ Command = Tuple[str, bytes]
 class Known:
     """What a user knows of a session: its scale, and how its numbers stand to those of the server.
 
-    symbols    the symbol of each atom, once they were read
-    is_sorted  whether its atoms are kept in the order of space
-    gone       how many steps it has made since they were sorted
+    symbols     the symbol of each atom, once they were read
+    is_sorted   whether its atoms are kept in the order of space
+    gone        how many steps it has made since they were sorted
+    is_started  whether steps were started that nobody has waited for
+    branches    how the numbers of what is saved in it stand to those of the server
     """
 
     scale: Optional[Scale] = None
@@ -35,6 +37,12 @@ class Known:
     symbols: Sequence[str] = ()
     is_sorted: bool = False
     gone: int = 0
+    is_started: bool = False
+    branches: Dict[str, Order] = field(default_factory=dict)
+
+    def branch_order(self, branch: str) -> Order:
+        """How the numbers of what is saved under a name stand to those of the server."""
+        return self.branches.get(branch, self.order)
 
 
 @dataclass(frozen=True)
@@ -90,6 +98,20 @@ def checked(name: str, known: Known) -> Scale:
     if not 0 < scale.sigma_on_ring < RING:
         raise ValueError(f"sigma is below the edge of the box, not {scale.sigma:g} beside {scale.edge:g}")
     return scale
+
+
+def can_be_loaded(name: str, known: Known) -> bool:
+    """Whether enough was said of a session to load it again."""
+    try:
+        checked(name, known)
+    except ValueError:
+        return False
+    return True
+
+
+def commands_of_state(atoms: int) -> int:
+    """How many commands `state_of` takes at most, for so many atoms."""
+    return 2 * atoms + 4
 
 
 def state_of(user: "Loader", name: str) -> State:

@@ -5,17 +5,18 @@ import os
 from types import TracebackType
 from typing import Callable, Dict, Iterable, List, Optional, Sequence, Type, Union
 
-from . import going, progress as bars, units
+from . import going, moving, progress as bars, units
 from .ends import ChildEnds, SocketEnds
 from .errors import BadReply, CannotStart, ClientError, ConnectionLost, TimedOut
 from .finding import find_program
+from .interrupts import held
 from .loading import Loader
 from .names import checked_name, count_of
 from .order import Order
 from .renewal import Renewal
 from .replies import fields, whole_number
 from .session import Row, Session
-from .state import Command
+from .state import Command, can_be_loaded
 from .wire import Reply, Wire, checked_timeout
 
 MAX_ITEMS = 1_000_000
@@ -32,11 +33,19 @@ class User(Loader):
     for the next connection; what was loaded over `run` is gone with the program. One thread at a time may use it.
     """
 
-    def __init__(self, wire: Wire, reopen: Optional[Callable[[], Wire]] = None, name: Optional[str] = None):
+    def __init__(
+        self,
+        wire: Wire,
+        reopen: Optional[Callable[[], Wire]] = None,
+        name: Optional[str] = None,
+        restart: Optional[Callable[[], Wire]] = None,
+    ):
         super().__init__()
         self.name = name
         self._wire = wire
         self._reopen = reopen
+        self._restart = restart
+        self._tried_at = 0
 
     def __enter__(self) -> "User":
         return self
@@ -145,10 +154,46 @@ class User(Loader):
         return self._wire.ask_rows(lines)
 
     def _make_room(self, count: int) -> None:
-        """Begins a new connection where this one's million commands would be passed, if the sessions outlast it."""
-        if self._reopen and not self._wire.closed and self._wire.asked + count >= MAX_ITEMS > count:
+        """Begins a new connection where this one's million commands would be passed, if the sessions outlast it.
+
+        Of `run` they don't, so there they move to a new program when half of the commands are used up: reading them takes
+        commands too. Where this cannot be, it is tried again later.
+        """
+        asked = self._wire.asked + count
+        if self._wire.closed or count >= MAX_ITEMS:
+            return
+        if self._reopen and asked >= MAX_ITEMS:
             self._say_bye()
             self._wire = self._reopen()
+        elif self._restart and asked >= max(MAX_ITEMS // 2, self._tried_at + MAX_ITEMS // 20):
+            self._tried_at = MAX_ITEMS
+            try:
+                self._move(self._restart, MAX_ITEMS - asked)
+            finally:
+                self._tried_at = self._wire.asked
+
+    def _move(self, restart: Callable[[], Wire], commands: int) -> None:
+        """Goes on in a new program with all sessions as they are, if this takes no more than so many commands.
+
+        While steps may be owed to a session, which have to be waited for, it does so only if few commands are left.
+        """
+        rows = self.sessions()
+        needed = sum(moving.most_commands(row.atoms, row.branches) for row in rows)
+        known = [(row.name, self.known(row.name)) for row in rows]
+        may_wait = commands < MAX_ITEMS // 10 or not any(each.is_started for _, each in known)
+        if needed >= min(commands, MAX_ITEMS // 2) or not may_wait or not all(can_be_loaded(*each) for each in known):
+            return
+        with held():
+            kept = [moving.kept_of(self, row.name) for row in rows]
+            wire = moving.program_with(restart, kept)
+            if wire is None:
+                for each in kept:
+                    each.put_back(self)
+                return
+            self._say_bye()
+            self._wire = wire
+            for each in kept:
+                each.tell(self)
 
     @property
     def closed(self) -> bool:
@@ -241,12 +286,16 @@ def run(
     words = [path, "run"]
     for option, number in (("--sessions", sessions), ("--atoms", atoms), ("--branches", branches)):
         words += [option, str(number)]
-    wire = Wire(ChildEnds(words, env), timeout)
-    try:
-        wire.ask("LIST")
-    except (ConnectionLost, BadReply) as error:
-        raise CannotStart(f"{path} does not answer: {error}") from error
-    except BaseException:
-        wire.close()
-        raise
-    return User(wire)
+
+    def start() -> Wire:
+        wire = Wire(ChildEnds(words, env), timeout)
+        try:
+            wire.ask("LIST")
+        except (ConnectionLost, BadReply) as error:
+            raise CannotStart(f"{path} does not answer: {error}") from error
+        except BaseException:
+            wire.close()
+            raise
+        return wire
+
+    return User(start(), restart=start)
