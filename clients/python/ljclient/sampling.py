@@ -41,15 +41,16 @@ def stops(session: "Session", every: int, count: int, progress: Progress, ahead:
     At each stop but the last, who uses this may have gone ahead by some steps already.
     """
     report = bars.reporter(progress, session.name)
-    total = every * (count - 1)
-    if report:
-        report(0, total)
-    for number in range(count):
+    for number in range(count - 1):
         yield number
-        if number + 1 < count:
-            session.advance(every - ahead)
-            if report:
-                report(every * (number + 1), total)
+        made = every * number + ahead
+        session.advance(every - ahead, _onward(report, made, every * (count - 1)) if report else False)
+    yield count - 1
+
+
+def _onward(report: bars.Report, made: int, total: int) -> bars.Report:
+    """A report of what is done after so many steps, of a total."""
+    return lambda done, _: report(made + done, total)
 
 
 def sample(session: "Session", take: Callable[[], Tuple[int, Any]], every: int, frames: int, progress: Progress) -> Samples:

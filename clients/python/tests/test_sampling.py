@@ -74,8 +74,12 @@ class Samples(Alone):
 
     def test_how_far_it_is(self):
         told = []
-        dimer(self.user).sample(every=2, frames=3, progress=lambda *numbers: told.append(numbers))
-        self.assertEqual(told, [(0, 4), (2, 4), (4, 4)])
+        a = dimer(self.user)
+        a.sample(every=2, frames=3, progress=lambda *numbers: told.append(numbers))
+        self.assertEqual(told, [(0, 4), (2, 4), (2, 4), (4, 4)])
+        told.clear()
+        list(a.thermo(every=2, rows=3, progress=lambda *numbers: told.append(numbers)))
+        self.assertEqual(told, [(1, 4), (2, 4), (3, 4), (4, 4)])
 
     def test_words_that_are_no_numbers(self):
         a = dimer(self.user)
