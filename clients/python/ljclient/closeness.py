@@ -46,8 +46,9 @@ def closest(atoms: Sequence[Row], edge: float, sigmas: Sequence[float], second: 
             for u, v, w, other_kind, other in others:
                 square = ((x - u + 1.5) % 1 - 0.5) ** 2 + ((y - v + 1.5) % 1 - 0.5) ** 2 + ((z - w + 1.5) % 1 - 0.5) ** 2
                 if square < limits[kind + other_kind] and atom != other:
-                    best = min(best, (square / limits[kind + other_kind], *sorted((atom, other))))
-    return (CLOSE * best[0] ** 0.5, *best[1:]) if best[0] < 1 else None
+                    best = min(best, (square / limits[kind + other_kind], min(atom, other), max(atom, other)))
+    part, first, last = best
+    return (CLOSE * part**0.5, first, last) if part < 1 else None
 
 
 def _near(atoms: Sequence[Row], edge: float, count: int, second: Optional[str]) -> Iterator[Tuple[List[Site], List[Site]]]:

@@ -104,8 +104,9 @@ def _listed_places(text: bytes, head: bytes, count: int) -> Any:
     if not re.fullmatch(rf"(?:{re.escape(head.decode())}[0-9]{{1,4}} {PLACE}\n)*".encode(), text):
         return None
     numbers = list(map(int, text.replace(head, b"").decode().split()))
-    places = list(zip(numbers[1::4], numbers[2::4], numbers[3::4]))
-    return places if numbers[0::4] == list(range(count)) and max(map(max, places)) < RING else None
+    if numbers[0::4] != list(range(count)) or max(numbers) >= RING:
+        return None
+    return list(zip(numbers[1::4], numbers[2::4], numbers[3::4]))
 
 
 def _listed_positions(text: str) -> Any:
