@@ -5,6 +5,7 @@ At the steps 0, 1 and 2 atom 0 stands at 0, 589 and 1774, and atom 1 as far belo
 """
 import math
 import pathlib
+import random
 import tempfile
 import unittest
 from unittest import mock
@@ -203,6 +204,50 @@ class Trajectories(Alone):
             self.assertEqual(set(frame.get_chemical_symbols()), {"Ar"})
         told = [line.split()[1:] for line in argon.dump().splitlines()[2:]]
         self.assertEqual(frames[2].positions.tolist(), [[float(word) for word in words] for words in told])
+
+
+class InTheOrderOfSpace(Alone):
+    """Atoms that the server has in another order, which is renewed on the way, are told as those that it has as they came."""
+
+    def setUp(self):
+        super().setUp()
+        rows = [("Ar", 1.2 * (at % 5), 1.2 * (at // 5 % 5), 1.2 * (at // 25)) for at in range(125)]
+        random.Random(7).shuffle(rows)
+        words = {"edge": 8, "sigma": 1, "h": 131072, "epsilon": 1, "mass": 1}
+        self.pair = self.user.load("a", rows, **words), self.user.load("b", rows, order="space", **words)
+        for session in self.pair:
+            session.heat(0.5 / units.kelvin, seed=2)
+
+    def told(self, ask):
+        return [ask(session) for session in self.pair]
+
+    def test_samples(self):
+        self.assertNotEqual(self.pair[0].order.numbers, self.pair[1].order.numbers)
+        for exact in (False, True):
+            (steps, frames), (others, beside) = self.told(lambda session: session.sample(every=130, frames=3, exact=exact))
+            self.assertEqual((steps, list(map(floats, frames))), (others, list(map(floats, beside))))
+        self.assertEqual(*self.told(lambda session: session.measure()))
+
+    def test_thermo(self):
+        rows, others = self.told(lambda session: list(session.thermo(every=130, rows=3)))
+        self.assertEqual(rows, others)
+        self.assertEqual(*self.told(lambda session: (session.step, listed(session.places()))))
+
+    def test_trajectories(self):
+        with tempfile.TemporaryDirectory() as folder:
+            paths = [pathlib.Path(folder) / session.name for session in self.pair]
+            for session, path in zip(self.pair, paths):
+                session.write_trajectory(path, every=130, frames=3)
+            self.assertEqual(*(path.read_text() for path in paths))
+
+    @unittest.skipIf(ase is None, "ASE is not installed")
+    def test_momenta(self):
+        for session in self.pair:
+            session.advance(260)
+        atoms, others = self.told(lambda session: session.to_ase())
+        self.assertEqual((atoms.positions.tolist(), atoms.info), (others.positions.tolist(), others.info))
+        self.assertTrue(atoms.get_momenta().any())
+        self.assertEqual(atoms.get_momenta().tolist(), others.get_momenta().tolist())
 
 
 @unittest.skipIf(ase is None, "ASE is not installed")
