@@ -17,16 +17,9 @@ PIECE = 100
 
 def energies(user, h, steps=STEPS, piece=PIECE):
     """The steps at which it was measured, and the total energy per atom there in epsilon."""
-    at, found = [], []
     with hot_crystal(user, "energy", h) as session:
-        for _ in range(0, steps, piece):
-            before = session.measure()
-            session.advance(1)
-            kinetic = (before.kinetic_energy + session.measure().kinetic_energy) / 2
-            at.append(before.step)
-            found.append((before.potential_energy + kinetic) / ATOMS)
-            session.advance(piece - 1)
-    return at, found
+        rows = list(session.thermo(every=piece, rows=steps // piece))
+    return [row.step for row in rows], [row.total / ATOMS for row in rows]
 
 
 def time_step(h):
