@@ -1,6 +1,7 @@
 """A user's connection to a server, or to a program of its own."""
 from __future__ import annotations
 
+import math
 import os
 from types import TracebackType
 from typing import Callable, Dict, Iterable, List, Optional, Sequence, Type, Union
@@ -45,7 +46,7 @@ class User(Loader):
         self._wire = wire
         self._reopen = reopen
         self._restart = restart
-        self._tried_at = 0
+        self._tried_at = 0.0
 
     def __enter__(self) -> "User":
         return self
@@ -166,7 +167,7 @@ class User(Loader):
             self._say_bye()
             self._wire = self._reopen()
         elif self._restart and asked >= max(MAX_ITEMS // 2, self._tried_at + MAX_ITEMS // 20):
-            self._tried_at = MAX_ITEMS
+            self._tried_at = math.inf
             try:
                 self._move(self._restart, MAX_ITEMS - asked)
             finally:

@@ -289,6 +289,7 @@ class Restarts(Saves):
                 b = other.load("b", EXAMPLES / "argon_256.xyz", **ARGON)
                 programs = set()
                 for _ in range(40):
+                    other.ask_all(["LIST"] * 500)
                     self.assertEqual(a.advance(1), direct.advance(1))
                     self.assertEqual([listed(each.places()) for each in (a, b)], [listed(direct.places()), listed(b.places())])
                     programs.add(other._wire)
