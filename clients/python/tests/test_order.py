@@ -9,11 +9,10 @@ import signal
 import subprocess
 import sys
 import tempfile
-import threading
 import unittest
 from unittest import mock
 
-from ljclient import ConnectionLost, Order, connect, renewal, run, xyz
+from ljclient import ConnectionLost, Order, connect, run, xyz
 from ljclient.order import by_halves
 from support import PROGRAM, TOKEN, TOP, Server, dimer, interruptible, listed
 
@@ -267,17 +266,22 @@ class Renewals(Sessions):
         self.assertEqual((listed(ordered.places()), len(self.user.sessions())), (places, 2))
 
     def test_interrupts_lose_nothing(self):
+        """An interrupt comes while the motion is turned back to be read, and while the session is gone to be loaded again."""
         interruptible(self)
         plain, ordered = self.both()
-        with mock.patch.object(renewal, "RENEWED_EACH", 1):
-            for delay in (0.1, 0.15, 0.2, 0.25, 0.3):
-                timer = threading.Timer(delay, os.kill, (os.getpid(), signal.SIGINT))
-                timer.start()
-                with self.assertRaises(KeyboardInterrupt):
-                    ordered.advance(10**7)
-                timer.join()
-        plain.advance(ordered.step)
-        self.same(plain, ordered)
+        ask = self.user.ask_commands
+        for word in ("REVERSE", "LOAD"):
+
+            def interrupted(commands):
+                if any(line.startswith(word) for line, _ in commands):
+                    signal.raise_signal(signal.SIGINT)
+                return ask(commands)
+
+            ordered.advance(250)
+            with mock.patch.object(self.user, "ask_commands", side_effect=interrupted), self.assertRaises(KeyboardInterrupt):
+                ordered.advance(10)
+            plain.advance(ordered.step - plain.step)
+            self.same(plain, ordered)
 
     def test_a_connection_that_is_lost_on_the_way(self):
         plain, ordered = self.both()
