@@ -47,9 +47,9 @@ def picked(places: Any, numbers: Sequence[int]) -> Any:
     return places[list(numbers)] if hasattr(places, "tolist") else [places[number] for number in numbers]
 
 
-def stacked(frames: List[Any]) -> Any:
-    """Frames of coordinates as one array of shape (frames, atoms, 3), or the list itself."""
-    return frames if numpy is None else numpy.array(frames)
+def stacked(things: List[Any]) -> Any:
+    """Positions, or frames of coordinates, as one array with an axis more, or the list itself."""
+    return things if numpy is None else numpy.array(things)
 
 
 def least_images(places: Sequence, others: Sequence) -> Any:

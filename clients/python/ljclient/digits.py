@@ -1,7 +1,7 @@
 """Whole numbers out of the bytes of many lines, which numpy reads all at once.
 
-A number is found by where it ends. Before each end as many bytes are taken as the longest number has, and those that stand
-before the number count for nothing. Sums are of floats, which are exact below 2^53.
+A place is found by where it ends: before each end as many bytes are taken as the longest has, and those that stand before
+the number count for nothing. A position is found by its point. Sums are of floats, which are exact below 2^53.
 """
 from __future__ import annotations
 
@@ -15,7 +15,9 @@ except ImportError:
 
 PLACE_DIGITS = 10
 DECIMALS = 6
-POSITION_BYTES = 7 + 1 + DECIMALS
+# The digits of an edge at most, and the blank before them.
+MOST_DIGITS = 8
+BLANK = (ord(" ") - ord("0")) % 256
 
 
 def places(text: bytes, head: bytes) -> Optional[Any]:
@@ -34,32 +36,41 @@ def places(text: bytes, head: bytes) -> Optional[Any]:
     numbers = _before(data, ends[:, -5:-1] + 1, ends[:, -4:], PLACE_DIGITS)
     if numbers is None or numbers.max() > 9 or not (heads == numpy.frombuffer(head, dtype=numpy.uint8)).all():
         return None
-    return _summed(numbers, range(PLACE_DIGITS - 1, -1, -1)).reshape(-1, 4).astype(numpy.int64)
+    return _summed(numbers).reshape(-1, 4).astype(numpy.int64)
 
 
 def positions(text: bytes) -> Optional[Any]:
     """The positions of lines of a symbol and three numbers of six decimals: an array of shape (atoms, 3).
 
-    None if any line is something else. They are what `float` gives, since a whole number below 2^53 is divided by 10^6.
+    None if any line is something else, or if a symbol has a point, since numbers are found by theirs. Symbols are not looked at
+    further. Numbers are what `float` gives, since a whole number below 2^53 is divided by 10^6.
     """
-    data = numpy.frombuffer(b"0" * POSITION_BYTES + text, dtype=numpy.uint8)
-    ends = _word_ends(data, 4)
-    if ends is None:
+    data = numpy.frombuffer(bytes(MOST_DIGITS) + text, dtype=numpy.uint8)
+    points = numpy.flatnonzero(data == ord("."))
+    blanks, lines = (numpy.count_nonzero(data == ord(letter)) for letter in " \n")
+    if not lines or not 3 * lines == blanks == points.size or points[-1] + DECIMALS + 2 != data.size:
         return None
-    numbers = _before(data, ends[:, :3] + 1, ends[:, 1:], POSITION_BYTES)
-    point = POSITION_BYTES - 1 - DECIMALS
-    if numbers is None or (ends[:, 1:] - ends[:, :3]).min() < 3 + DECIMALS or (numbers[:, point] != _digit(".")).any():
+    decimals = sliding_window_view(data, DECIMALS)[points + 1] - ord("0")
+    whole = _whole_before(data, points)
+    after = data[points + DECIMALS + 1].reshape(-1, 3)
+    if whole is None or decimals.max() > 9 or not (after == [ord(" "), ord(" "), ord("\n")]).all():
         return None
-    numbers[:, point] = 0
-    if numbers.max() > 9:
-        return None
-    powers = [*range(POSITION_BYTES - 2, DECIMALS - 1, -1), 0, *range(DECIMALS - 1, -1, -1)]
-    return _summed(numbers, powers).reshape(-1, 3) / 10**DECIMALS
+    return ((whole * 10**DECIMALS + _summed(decimals)) / 10**DECIMALS).reshape(-1, 3)
 
 
-def _digit(letter: str) -> int:
-    """What a byte is beside the digit 0, as a byte."""
-    return (ord(letter) - ord("0")) % 256
+def _whole_before(data: Any, ends: Any) -> Optional[Any]:
+    """The whole numbers that stand before these ends and after a blank. None if any is none, or is too long."""
+    sums, inside = numpy.zeros(ends.size), numpy.ones(ends.size, dtype=bool)
+    for power in range(MOST_DIGITS):
+        digits = data[ends - 1 - power] - ord("0")
+        is_digit = digits <= 9
+        if (inside & ~is_digit & (digits != BLANK)).any() or not (power or is_digit.all()):
+            return None
+        inside &= is_digit
+        if not inside.any():
+            return sums
+        sums += digits * inside * 10.0**power
+    return None
 
 
 def _word_ends(data: Any, words: int) -> Optional[Any]:
@@ -87,6 +98,6 @@ def _before(data: Any, starts: Any, ends: Any, width: int) -> Optional[Any]:
     return rows
 
 
-def _summed(digits: Any, powers: Any) -> Any:
-    """The sum of the digits of each row, times these powers of ten."""
-    return digits.astype(numpy.float64) @ numpy.array([10.0**power for power in powers])
+def _summed(digits: Any) -> Any:
+    """The numbers whose digits the rows are."""
+    return digits.astype(numpy.float64) @ 10.0 ** numpy.arange(digits.shape[1] - 1, -1, -1)

@@ -41,7 +41,9 @@ class Frame(NamedTuple):
     def positions(self) -> Any:
         """The position of each atom, with the six decimals that the server tells: an array, or a list of tuples."""
         text = "\n".join([*self.rows, ""])
-        positions = _listed_positions(text) if arrays.numpy is None else digits.positions(text.encode())
+        positions = None if arrays.numpy is None else digits.positions(text.encode())
+        if positions is None:
+            positions = _listed_positions(text)
         if positions is None:
             wrong = [row for row in self.rows if not ROWS.fullmatch(row + "\n")]
             raise BadReply(f"{wrong[0][:80]!r} is no atom of a frame" if wrong else "a frame has no atoms")
@@ -110,10 +112,10 @@ def _listed_places(text: bytes, head: bytes, count: int) -> Any:
 
 
 def _listed_positions(text: str) -> Any:
-    """The positions of the lines of a frame as a list of tuples. None if any line is something else."""
+    """The positions of the lines of a frame, read one by one: an array, or a list of tuples. None if any line is none."""
     if not ROWS.fullmatch(text):
         return None
     words = text.split()
     del words[0::4]
     numbers = list(map(float, words))
-    return list(zip(numbers[0::3], numbers[1::3], numbers[2::3]))
+    return arrays.stacked(list(zip(numbers[0::3], numbers[1::3], numbers[2::3])))
