@@ -39,15 +39,16 @@ def places(text: bytes, head: bytes) -> Optional[Any]:
     return _summed(numbers).reshape(-1, 4).astype(numpy.int64)
 
 
-def positions(text: bytes) -> Optional[Any]:
-    """The positions of lines of a symbol and three numbers of six decimals: an array of shape (atoms, 3).
+def positions(text: bytes, start: int) -> Optional[Any]:
+    """The positions of the lines of a text from a start on: of a symbol and three numbers of six decimals. An array of shape
+    (atoms, 3). Before the start there are 8 bytes at least.
 
     None if any line is something else, or if a symbol has a point, since numbers are found by theirs. Symbols are not looked at
     further. Numbers are what `float` gives, since a whole number below 2^53 is divided by 10^6.
     """
-    data = numpy.frombuffer(bytes(MOST_DIGITS) + text, dtype=numpy.uint8)
-    points = numpy.flatnonzero(data == ord("."))
-    blanks, lines = (numpy.count_nonzero(data == ord(letter)) for letter in " \n")
+    data = numpy.frombuffer(text, dtype=numpy.uint8)
+    points = numpy.flatnonzero(data[start:] == ord(".")) + start
+    blanks, lines = (numpy.count_nonzero(data[start:] == ord(letter)) for letter in " \n")
     if not lines or not 3 * lines == blanks == points.size or points[-1] + DECIMALS + 2 != data.size:
         return None
     decimals = sliding_window_view(data, DECIMALS)[points + 1] - ord("0")

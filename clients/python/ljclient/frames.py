@@ -5,7 +5,7 @@ what DUMP tells and in what LOAD takes. In any other box each place takes a SHOW
 """
 from __future__ import annotations
 
-from typing import TYPE_CHECKING, Sequence, Tuple
+from typing import TYPE_CHECKING, Any, Sequence, Tuple
 
 from . import arrays, reading
 from .errors import BadReply
@@ -24,6 +24,11 @@ MILLION = 10**6
 def dumped(user: "Loader", name: str) -> Frame:
     """The frame as the server dumps it."""
     return reading.frame_of(name, user.ask(f"DUMP {name}"))
+
+
+def dumped_positions(user: "Loader", name: str) -> Tuple[int, Any]:
+    """The step and the positions as the server dumps them, of a session whose box is that of the user."""
+    return reading.positions_of(name, *user.ask_text(f"DUMP {name}"))
 
 
 def shown(user: "Loader", name: str, count: int) -> Tuple[Places, ...]:

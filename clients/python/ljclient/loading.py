@@ -3,7 +3,7 @@ from __future__ import annotations
 
 import contextlib
 import dataclasses
-from typing import TYPE_CHECKING, Any, Dict, Iterable, List, Optional, Sequence, cast
+from typing import TYPE_CHECKING, Any, Dict, Iterable, List, Optional, Sequence, Tuple, cast
 
 from . import checkpoint, units, xyz
 from .closeness import warn_of_close_atoms
@@ -239,6 +239,10 @@ class Loader:
 
     def ask_commands(self, commands: Sequence[Command]) -> List[Reply]:
         """As `User.ask_commands`."""
+        raise NotImplementedError
+
+    def ask_text(self, line: str) -> Tuple[List[str], bytes]:
+        """As `User.ask_text`."""
         raise NotImplementedError
 
     def ask_rows(self, lines: Sequence[str]) -> bytes:

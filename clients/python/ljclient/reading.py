@@ -40,14 +40,8 @@ class Frame(NamedTuple):
 
     def positions(self) -> Any:
         """The position of each atom, with the six decimals that the server tells: an array, or a list of tuples."""
-        text = "\n".join([*self.rows, ""])
-        positions = None if arrays.numpy is None else digits.positions(text.encode())
-        if positions is None:
-            positions = _listed_positions(text)
-        if positions is None:
-            wrong = [row for row in self.rows if not ROWS.fullmatch(row + "\n")]
-            raise BadReply(f"{wrong[0][:80]!r} is no atom of a frame" if wrong else "a frame has no atoms")
-        return positions
+        comment = "positions"
+        return _positions_in(self.text(comment).encode(), len(str(len(self.rows))) + len(comment) + 2)
 
 
 @functools.lru_cache(maxsize=8)
@@ -87,10 +81,36 @@ def place_of(name: str, atom: int, row: bytes) -> Tuple[int, int, int]:
 
 def frame_of(name: str, reply: Reply) -> Frame:
     """The frame that the reply to `DUMP` tells."""
-    words = of_session(f"DUMP {name}", reply.words)
-    if len(words) != 4 or reply.lines[:2] != [str(len(reply.lines) - 2), f"step {words[2]}"]:
-        raise BadReply(f"{' '.join(words)[:80]!r} is followed by {reply.lines[:2]!r}")
-    return Frame(whole_number(words[2]), reply.lines[2:])
+    step, head = _head_of(name, reply.words, len(reply.lines))
+    if "\n".join([*reply.lines[:2], ""]) != head:
+        raise BadReply(f"{' '.join(reply.words)[:80]!r} is followed by {reply.lines[:2]!r}")
+    return Frame(step, reply.lines[2:])
+
+
+def positions_of(name: str, words: List[str], text: bytes) -> Tuple[int, Any]:
+    """The step and the positions that the reply to `DUMP` tells, by its words and the text of its lines."""
+    step, head = _head_of(name, words, text.count(b"\n"))
+    if not text.startswith(head.encode()):
+        raise BadReply(f"{' '.join(words)[:80]!r} is followed by {text[:40]!r}")
+    return step, _positions_in(text, len(head))
+
+
+def _head_of(name: str, words: List[str], count: int) -> Tuple[int, str]:
+    """The step that the words of a reply to `DUMP` tell, and the two lines that a frame of so many lines begins with."""
+    if len(of_session(f"DUMP {name}", words)) != 4 or words[3] != str(count):
+        raise BadReply(f"{' '.join(words)[:80]!r} is followed by {count} lines")
+    return whole_number(words[2]), f"{count - 2}\nstep {words[2]}\n"
+
+
+def _positions_in(text: bytes, start: int) -> Any:
+    """The positions of the atoms whose lines stand in a text from here on, by numpy if that can read them all at once."""
+    positions = None if arrays.numpy is None else digits.positions(text, start)
+    if positions is None:
+        positions = _listed_positions(text[start:].decode("latin-1"))
+    if positions is None:
+        wrong = [row for row in text[start:].decode("latin-1").split("\n")[:-1] if not ROWS.fullmatch(row + "\n")]
+        raise BadReply(f"{wrong[0][:80]!r} is no atom of a frame")
+    return positions
 
 
 def _arrayed_places(text: bytes, head: bytes, count: int) -> Any:

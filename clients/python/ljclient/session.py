@@ -228,12 +228,8 @@ class Session:
                   rounded down to six decimals, which take one command
         progress  as in `advance`
         """
-
-        def positions() -> Tuple[int, Any]:
-            frame = self._frame()
-            return frame.step, frame.positions()
-
-        return sampling.sample(self, (lambda: self._frames_of_places()[0]) if exact else positions, every, frames, progress)
+        take = (lambda: self._frames_of_places()[0]) if exact else self._positions_of_frame
+        return sampling.sample(self, take, every, frames, progress)
 
     def thermo(self, every: int, rows: int, progress: sampling.Progress = False) -> Iterator[Thermo]:
         """Goes on, and gives rows of step, temperature, kinetic, potential and total energy (`Thermo`), each when it is there.
@@ -298,6 +294,17 @@ class Session:
         order = self.order
         frame = reading.Frame(order.step_of(frame.step), order.for_user(frame.rows))
         return frames.in_box(frame, self.scale.edge) if order.on_ring else frame
+
+    def _positions_of_frame(self) -> Tuple[int, Any]:
+        """The step and the positions of the frame, with six decimals. They are read without its lines, if the box is the
+        user's; asking may move a session to another box."""
+        if not self.order.on_ring:
+            step, positions = frames.dumped_positions(self._user, self.name)
+            order = self.order
+            if not order.on_ring:
+                return order.step_of(step), order.for_user(positions)
+        frame = self._frame()
+        return frame.step, frame.positions()
 
     def _frames_of_places(self, both: bool = False) -> Tuple[reading.Places, ...]:
         """The places of all atoms, and if both frames are asked for, those of the step before. All places come in here."""

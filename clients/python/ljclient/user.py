@@ -4,7 +4,7 @@ from __future__ import annotations
 import math
 import os
 from types import TracebackType
-from typing import Callable, Dict, Iterable, List, Optional, Sequence, Type, Union
+from typing import Callable, Dict, Iterable, List, Optional, Sequence, Tuple, Type, Union
 
 from . import going, moving, progress as bars, units
 from .ends import ChildEnds, SocketEnds
@@ -148,6 +148,11 @@ class User(Loader):
             if reply.words[0] in NEW_OR_GONE:
                 self.has_dropped(reply.words[1])
         return replies
+
+    def ask_text(self, line: str) -> Tuple[List[str], bytes]:
+        """The words of the reply to a command line after `OK`, and the lines after them as they came. A refusal is raised."""
+        self._make_room(1)
+        return self._wire.ask_text(line)
 
     def ask_rows(self, lines: Sequence[str]) -> bytes:
         """The lines that many command lines are answered by, one for each, as they came. The first refusal is raised."""

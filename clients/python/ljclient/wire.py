@@ -86,6 +86,16 @@ class Wire:
             self._post(line, body)
         return self._granted(answers)
 
+    def ask_text(self, line: str) -> Tuple[List[str], bytes]:
+        """The words of the reply to a command after `OK`, and the lines after them as they came. A refusal is raised."""
+        self._begin()
+        self._post(line, b"")
+        taken = self._next_taken()
+        if isinstance(taken, Refused):
+            raise taken
+        words, lines = taken
+        return words, b"\n".join([*lines, b""])
+
     def ask_rows(self, lines: Sequence[str]) -> bytes:
         """The reply lines to many commands that are answered by one line each, for who reads them all at once.
 
@@ -152,18 +162,23 @@ class Wire:
         return replies
 
     def _next_answer(self) -> Union[Reply, Refused]:
-        """What the first command that awaits its reply is answered. It is taken whole, or not at all."""
+        """What the first command that awaits its reply is answered."""
+        taken = self._next_taken()
+        return taken if isinstance(taken, Refused) else Reply(taken[0], self._texts(taken[1]))
+
+    def _next_taken(self) -> Union[Tuple[List[str], List[bytes]], Refused]:
+        """The words of the first reply that is awaited, and its lines as they came. It is taken whole, or not at all."""
         self._await_lines(1)
         words = self._words(self._lines[0])
         count = self._lines_after(words)
         self._await_lines(1 + count)
         self._torn = True
         self._lines.popleft()
-        lines = self._texts([self._lines.popleft() for _ in range(count)])
+        lines = [self._lines.popleft() for _ in range(count)]
         command = self._owed.popleft()
         self._torn = False
         if words[0] == "OK":
-            return Reply(words[1:], lines)
+            return words[1:], lines
         refusal = refusal_of(words, command)
         if refusal.number in ENDS_THE_CONNECTION:
             self.close(f"the connection has ended with {refusal}")

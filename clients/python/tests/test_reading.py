@@ -85,12 +85,16 @@ class ByEither(unittest.TestCase):
         for lines in [["2", "step 7", "Ar 0"], ["1", "step 8", "Ar 0"], ["1", "Step 7", "Ar 0"], [], ["-1", "step 7"]]:
             with self.subTest(lines), self.assertRaises(BadReply):
                 reading.frame_of("a", Reply(words, lines))
+            with self.subTest(lines), self.assertRaises(BadReply):
+                reading.positions_of("a", words, "\n".join([*lines, ""]).encode())
         one = "0.000000"
         for parts in [(one, "0.0", "0.0"), (one, one), (one, "-" + one, one), (one, one, one, "1"), (".000000", one, one)]:
             row = " ".join(["Ar", *parts])
             for kind in KINDS:
                 with self.subTest(row), by(kind), self.assertRaisesRegex(BadReply, re.escape(repr(row))):
                     reading.frame_of("a", Reply(words, ["1", "step 7", row])).positions()
+                with self.subTest(row), by(kind), self.assertRaisesRegex(BadReply, re.escape(repr(row))):
+                    reading.positions_of("a", words, f"1\nstep 7\n{row}\n".encode())
 
 
 def unasked(user):
