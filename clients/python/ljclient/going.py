@@ -10,6 +10,7 @@ from .replies import number_after
 from .wire import Reply
 
 MAX_STEPS = 1_000_000
+UNBOUNDED = 1 << 62
 FIRST_PIECE = 16
 PIECE_SECONDS = 0.2
 # The replies to many commands of the protocol.
@@ -52,7 +53,7 @@ class Course:
         self.step: Optional[int] = None
         self._report = report
         self._road = road
-        self._room = MAX_STEPS
+        self._room = UNBOUNDED
 
     @property
     def is_over(self) -> bool:

@@ -3,7 +3,7 @@ from __future__ import annotations
 
 from typing import TYPE_CHECKING
 
-from .going import MAX_STEPS
+from .going import UNBOUNDED
 
 if TYPE_CHECKING:
     from .loading import Loader
@@ -25,7 +25,7 @@ class Renewal:
         """
         known = self._loader.known(self._name)
         if not known.is_sorted:
-            return MAX_STEPS
+            return UNBOUNDED
         if known.gone >= RENEWED_EACH:
             known.gone = 0
             if not self._loader.ask(f"LIST {self._name}").lines:

@@ -273,9 +273,12 @@ class Renewals(Sessions):
         for word in ("REVERSE", "LOAD"):
 
             def interrupted(commands):
-                if any(line.startswith(word) for line, _ in commands):
-                    signal.raise_signal(signal.SIGINT)
-                return ask(commands)
+                half = len(commands) // 2
+                if not any(line.startswith(word) for line, _ in commands):
+                    return ask(commands)
+                first = ask(commands[:half])
+                signal.raise_signal(signal.SIGINT)
+                return first + ask(commands[half:])
 
             ordered.advance(250)
             with mock.patch.object(self.user, "ask_commands", side_effect=interrupted), self.assertRaises(KeyboardInterrupt):

@@ -159,7 +159,8 @@ class Endings(unittest.TestCase):
 
 
 def spend(user):
-    """Asks until the connection's commands are spent."""
+    """Asks until the connection's commands are spent. With a session that `ask` has loaded there is no going on elsewhere."""
+    user.ask(f"LOAD a 256 1 131072 rest {len(DIMER)}", DIMER.encode())
     for _ in range(101):
         user.ask_all(["LIST"] * 10_000)
 
