@@ -1,0 +1,69 @@
+"""Refusals in words: what each means, and what there is in place of what was asked for."""
+from __future__ import annotations
+
+import difflib
+from typing import List
+
+from ..errors import ClientError, Refused
+from ..refusals import BranchExists, Command, NoAtom, NoBranch, NoSession, Syntax
+from ..user import User
+from .commands import names
+from .loading import usages, words_of
+
+MAX_NAMES = 12
+MAX_TEXT = 60
+
+
+def explained(refusal: Refused, user: User, path: str = "", body: bytes = b"") -> List[str]:
+    """The lines that explain a refusal; `path` and `body` are those of a file that was loaded."""
+    lines = [refusal.meaning or "a refusal that this client does not know"]
+    words = words_of(refusal.command)
+    if isinstance(refusal, Syntax) and words:
+        lines += [f"as it should be: {usage}" for usage in usages(words[0])]
+    if isinstance(refusal, Command) and words:
+        lines += meant(words[0])
+    if refusal.line is not None:
+        lines += [faulty_line(refusal.line, path, body)]
+    try:
+        return lines + there_is(refusal, user, words)
+    except ClientError:
+        return lines
+
+
+def meant(word: str) -> List[str]:
+    """The commands that are written nearly as this word."""
+    near = difflib.get_close_matches(word.upper(), names(), 2)
+    return [f"is {' or '.join(near)} meant? `help` lists the commands" if near else "`help` lists the commands"]
+
+
+def faulty_line(number: int, path: str, body: bytes) -> str:
+    """The line of an XYZ text that is at fault."""
+    texts = body.split(b"\n")
+    where = f"{path}, line {number}" if path else f"line {number} of the text"
+    if number > len(texts) or (number == len(texts) and not texts[-1]):
+        return f"{where}: the text has ended before"
+    return f"{where}: {shortened(texts[number - 1].decode('ascii', 'backslashreplace').strip())}"
+
+
+def there_is(refusal: Refused, user: User, words: List[str]) -> List[str]:
+    """What there is at the server in place of what was asked for."""
+    if user.closed:
+        return []
+    if isinstance(refusal, NoSession):
+        return [listed("sessions", [row.name for row in user.sessions()])]
+    if isinstance(refusal, (NoBranch, BranchExists)):
+        return [listed(f"saved in {words[1]}", [saved.name for saved in user.session(words[1]).saved()])]
+    if isinstance(refusal, NoAtom):
+        return [f"{words[1]} has the atoms 0 to {user.row(words[1]).atoms - 1}"]
+    return []
+
+
+def listed(what: str, found: List[str]) -> str:
+    """A line of names, the first of them where there are many."""
+    more = f" and {len(found) - MAX_NAMES} more" if len(found) > MAX_NAMES else ""
+    return f"{what}: {', '.join(found[:MAX_NAMES]) or 'none'}{more}"
+
+
+def shortened(text: str) -> str:
+    """A text without what is too long for a line."""
+    return text if len(text) <= MAX_TEXT else f"{text[:MAX_TEXT]}.."

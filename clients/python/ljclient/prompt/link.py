@@ -1,0 +1,30 @@
+"""The connection of a prompt, which is made anew where it has ended."""
+from __future__ import annotations
+
+from typing import Callable, Optional
+
+from ..user import User
+
+
+class Link:
+    """A user's connection to a server, or to a program of its own."""
+
+    def __init__(self, open_user: Callable[[], User], after_end: str):
+        self._open = open_user
+        self.user = open_user()
+        self.after_end = after_end
+        self.is_settled = True
+
+    def ready(self) -> User:
+        """The user, over a new connection where the one before has ended."""
+        if self.user.closed:
+            self.user = self._open()
+        return self.user
+
+    def settled_user(self) -> Optional[User]:
+        """The user, where no reply is awaited that nobody came for: it can be asked without a wait."""
+        return self.user if self.is_settled and not self.user.closed else None
+
+    def close(self) -> None:
+        """Takes leave."""
+        self.user.close()

@@ -1,0 +1,101 @@
+"""LOAD and LOADMIX as they are typed: with a count and a body that follows, as the protocol has them, or with a file."""
+from __future__ import annotations
+
+import os
+import re
+import shlex
+from typing import List, NamedTuple, Optional
+
+from ..wire import MAX_COMMAND
+from ..xyz import MAX_BYTES
+from .commands import MODES, forms_of
+
+COUNT = re.compile(r"[0-9]{1,7}\Z")
+DECIMAL = re.compile(r"(?=.{1,40}\Z)[+-]?([0-9]+\.?[0-9]*|\.[0-9]+)([eEdD][+-]?[0-9]{1,3})?\Z")
+
+
+class Fault(Exception):
+    """Why a line is not sent."""
+
+
+class FromFile(NamedTuple):
+    """A command whose body is a file: its words but for the count, and the path."""
+
+    words: List[str]
+    path: str
+
+
+def words_of(line: str) -> List[str]:
+    """The words of a line as the server reads them."""
+    return [word for word in re.split(r"[ \t]+", line[:-1] if line.endswith("\r") else line) if word]
+
+
+def is_load(line: str) -> bool:
+    """Whether a line is a command that has a body."""
+    return words_of(line)[:1] in (["LOAD"], ["LOADMIX"])
+
+
+def is_whole(line: str) -> bool:
+    """Whether a LOAD has as many words as the protocol wants, the last of which are a mode and a count."""
+    words = words_of(line)
+    return len(words) == count_of_words(words[0]) and words[-2] in MODES and is_count(words[-1])
+
+
+def count_of_words(name: str) -> int:
+    """How many words a command has."""
+    return len(forms_of(name)[0].usage.split())
+
+
+def is_count(word: str) -> bool:
+    """Whether a word is a count of bytes that the server takes."""
+    return bool(COUNT.match(word)) and int(word) <= MAX_BYTES
+
+
+def size_of_body(line: str) -> int:
+    """How many bytes the server reads after a line as its body: none where the line says no count, or is too long."""
+    words = words_of(line)
+    has_body = is_load(line) and len(words) > 1 and is_count(words[-1]) and len(line.encode()) <= MAX_COMMAND
+    return int(words[-1]) if has_body else 0
+
+
+def from_file(line: str) -> Optional[FromFile]:
+    """What a LOAD says that has a file, after the name of the session or in place of the count. None of any other line."""
+    if not is_load(line) or is_whole(line):
+        return None
+    words = quoted_words(line)
+    wanted, mode = count_of_words(words[0]), [] if words[-1] in MODES else ["rest"]
+    if len(words) + len(mode) == wanted and not DECIMAL.match(words[2]):
+        return FromFile([*words[:2], *words[3:], *mode], words[2])
+    if len(words) == wanted and words[-2] in MODES and not (words[-1].isdecimal() or words[-1] in MODES):
+        return FromFile(words[:-1], words[-1])
+    return None
+
+
+def quoted_words(line: str) -> List[str]:
+    """The words of a line in which a file may stand in quotes."""
+    try:
+        return shlex.split(line)
+    except ValueError:
+        return words_of(line)
+
+
+def read_body(path: str) -> bytes:
+    """The bytes of an XYZ file. Raises Fault where it cannot be read, or has more than the server takes."""
+    try:
+        with open(os.path.expanduser(path), "rb") as file:
+            body = file.read(MAX_BYTES + 1)
+    except OSError as error:
+        raise Fault(f"cannot read {path}: {error.strerror or error}") from error
+    if len(body) > MAX_BYTES:
+        raise Fault(f"{path} has more than {MAX_BYTES} bytes, which is the most that the server takes")
+    return body
+
+
+def line_of(load: FromFile, body: bytes) -> str:
+    """The command of the protocol for a load from a file."""
+    return " ".join([*load.words, str(len(body))])
+
+
+def usages(name: str) -> List[str]:
+    """The ways in which a command may be said, with a file first."""
+    return [usage for form in forms_of(name) for usage in (form.with_file, form.usage) if usage]

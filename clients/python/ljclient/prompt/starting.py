@@ -1,0 +1,162 @@
+"""How a prompt begins: the words of the command line, the token, and the connection."""
+from __future__ import annotations
+
+import argparse
+import contextlib
+import getpass
+import os
+import sys
+import threading
+from typing import Iterator, List, NoReturn, Optional
+
+from ..errors import ClientError
+from ..user import User, connect, run
+from .dialogue import PipeTalk, TerminalTalk
+from .link import Link
+from .loading import Fault
+from .reading import PipeInput, TerminalInput, line_editing
+
+SECONDS = 600.0
+SECONDS_OF_A_PROGRAM = 1_000_000.0
+SECONDS_UNTIL_WORD = 2.0
+MAX_BYTES = 65_536
+ABOUT = """\
+A prompt for the commands of the protocol. Without HOST:PORT it starts a program of its own, and what is loaded is gone when it
+ends. `help` lists the commands. With an input that is no terminal it writes the replies alone.
+
+The token is read from the file that --token-file names (the token alone, or a file of users), from the environment variable
+LJSERVE_TOKEN, or is asked for. `python3 -m ljclient view [FILE.xyz ..]` shows atoms in a browser.
+"""
+
+
+class Parser(argparse.ArgumentParser):
+    """Words of the command line. What is wrong with them is told without them, since one may be a token."""
+
+    def error(self, message: str) -> NoReturn:
+        self.print_usage(sys.stderr)
+        print(f"ljclient: {message}", file=sys.stderr)
+        sys.exit(2)
+
+
+def options_of(words: List[str]) -> argparse.Namespace:
+    """The options that the command line says."""
+    usage = "python3 -m ljclient [HOST:PORT NAME] [--token-file FILE] [--timeout SECONDS]"
+    formatter = argparse.RawDescriptionHelpFormatter
+    parser = Parser("ljclient", usage, ABOUT, formatter_class=formatter, allow_abbrev=False)
+    parser.add_argument("server", nargs="*", metavar="HOST:PORT NAME", help="where `ljserve serve` listens, and who asks")
+    parser.add_argument("--token-file", metavar="FILE", help="a file with the token")
+    parser.add_argument("--timeout", metavar="SECONDS", type=float, help=f"how long a reply of a server may take: {SECONDS:g}")
+    options, unknown = parser.parse_known_args(words)
+    if unknown:
+        parser.error(f"there is no option {unknown[0].partition('=')[0]}")
+    if len(options.server) > 2:
+        parser.error("a token is never said on the command line, where others see it: use --token-file or LJSERVE_TOKEN")
+    if len(options.server) == 1:
+        parser.error("NAME is missing: who asks, as in the server's file of users")
+    if options.timeout is not None and not 0 < options.timeout < float("inf"):
+        parser.error("SECONDS is a number above 0")
+    if options.server and not is_address(options.server[0]):
+        parser.error("the first word is no HOST:PORT")
+    return options
+
+
+def is_address(word: str) -> bool:
+    """Whether a word is a host and a port."""
+    host, _, port = word.rpartition(":")
+    return bool(host) and port.isascii() and port.isdecimal() and 0 < int(port) < 65536
+
+
+def token_of(name: str, path: Optional[str], is_terminal: bool) -> str:
+    """The token of a user: of a file, of the environment, or of whoever sits at the terminal."""
+    if path is not None:
+        return token_in(path, name)
+    if token := os.environ.get("LJSERVE_TOKEN", "").strip():
+        return token
+    if is_terminal:
+        return getpass.getpass(f"token of {name}: ").strip()
+    raise Fault("there is no token: say --token-file FILE, or set LJSERVE_TOKEN")
+
+
+def token_in(path: str, name: str) -> str:
+    """The token that a file has: its only word, or the second of the line that begins with this name."""
+    try:
+        with open(os.path.expanduser(path), encoding="utf-8", errors="replace") as file:
+            lines = [line.split() for line in file.read(MAX_BYTES).splitlines() if not line.startswith("#")]
+    except OSError as error:
+        raise Fault(f"cannot read {path}: {error.strerror or error}") from error
+    found = [words[1] for words in lines if len(words) > 1 and words[0] == name] or [words[0] for words in lines if len(words) == 1]
+    if not found:
+        raise Fault(f"{path} has no token of {name}")
+    return found[0]
+
+
+@contextlib.contextmanager
+def word_of_waiting(name: str) -> Iterator[None]:
+    """Tells somebody who waits what for, where it takes longer than a moment."""
+    text = f"waiting: another connection of {name} is open, or the server's --connections are used up (Ctrl-C gives up)"
+    timer = threading.Timer(SECONDS_UNTIL_WORD, lambda: print(text, file=sys.stderr, flush=True))
+    timer.daemon = True
+    timer.start()
+    try:
+        yield
+    finally:
+        timer.cancel()
+
+
+def link_of(options: argparse.Namespace, is_terminal: bool) -> Link:
+    """The connection that the command line says."""
+    if not options.server:
+        limit = options.timeout or SECONDS_OF_A_PROGRAM
+        after = "The next command begins a new program. What was loaded is gone."
+        return Link(lambda: run(timeout=limit), after)
+    address, name = options.server
+    host, _, port = address.rpartition(":")
+    token = token_of(name, options.token_file, is_terminal)
+
+    def open_user() -> User:
+        with word_of_waiting(name):
+            return connect(host.strip("[]"), int(port), name, token, timeout=options.timeout or SECONDS)
+
+    return Link(open_user, "The next command begins a new connection. The sessions are still at the server.")
+
+
+def welcome(link: Link, where: str) -> List[str]:
+    """The first lines at a terminal."""
+    names = ", ".join(row.name for row in link.user.sessions()) or "none"
+    about = f"Connected to {where}. Sessions: {names}." if where else "A program of its own: what is loaded is gone when it ends."
+    return [about, "`help` lists the commands, Tab completes, Ctrl-D ends."]
+
+
+def talk(options: argparse.Namespace) -> int:
+    """The whole dialogue. Returns the exit status."""
+    is_terminal = sys.stdin.isatty() and sys.stdout.isatty()
+    link = link_of(options, is_terminal)
+    try:
+        if not is_terminal:
+            return PipeTalk(link, sys.stdout).run(PipeInput(sys.stdin.buffer))
+        where = " as ".join(options.server)
+        terminal = TerminalTalk(link, sys.stdout)
+        terminal.tell(*welcome(link, where))
+        history = line_editing(link.settled_user)
+        prompt = f"{options.server[1]}> " if where else "ljserve> "
+        try:
+            return terminal.run(TerminalInput(prompt, history.add if history else lambda line: None))
+        finally:
+            if history:
+                history.save()
+    finally:
+        link.close()
+
+
+def main(words: List[str]) -> int:
+    """A prompt, or replies to what comes on standard input. Returns the exit status."""
+    options = options_of(words)
+    try:
+        return talk(options)
+    except (ClientError, Fault, ValueError) as error:
+        print(f"ljclient: {error}", file=sys.stderr)
+    except BrokenPipeError:
+        os.dup2(os.open(os.devnull, os.O_WRONLY), sys.stdout.fileno())
+    except KeyboardInterrupt:
+        print("ljclient: interrupted", file=sys.stderr)
+    return 1

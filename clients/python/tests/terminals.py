@@ -1,0 +1,78 @@
+"""The prompt, and a program at a terminal as somebody who types sees it."""
+import fcntl
+import os
+import pty
+import re
+import select
+import signal
+import subprocess
+import sys
+import termios
+import time
+
+from support import EXAMPLES, PROGRAM, SECONDS, TOP
+
+PROMPT = [sys.executable, "-m", "ljclient"]
+ARGON = EXAMPLES / "argon_256.xyz"
+
+
+def environment(**words):
+    """The environment of a prompt, which finds the client and the program, and no token and no history."""
+    kept = {name: value for name, value in os.environ.items() if name != "LJSERVE_TOKEN"}
+    client = str(TOP / "clients" / "python")
+    return {**kept, "PYTHONPATH": client, "LJSERVE": PROGRAM, "LJCLIENT_HISTORY": os.devnull, **words}
+
+
+class Terminal:
+    """A program whose standard streams are a terminal of its own."""
+
+    def __init__(self, words, env=None):
+        self.ours, theirs = pty.openpty()
+        env = {**os.environ, "TERM": "xterm", "COLUMNS": "120", "LINES": "40", "INPUTRC": "/dev/null", **(env or {})}
+        self.child = subprocess.Popen(
+            words, stdin=theirs, stdout=theirs, stderr=theirs, env=env, start_new_session=True,
+            preexec_fn=lambda: fcntl.ioctl(0, termios.TIOCSCTTY, 0),
+        )
+        os.close(theirs)
+        self.shown = ""
+
+    def type(self, text):
+        os.write(self.ours, text.encode())
+
+    def until(self, wanted):
+        """What is shown from the last time on until this stands there, without colours and the like."""
+        end = time.monotonic() + SECONDS
+        while not (found := re.search(wanted, self.shown, re.S)):
+            if time.monotonic() > end:
+                raise AssertionError(f"{wanted!r} is not in {self.shown!r}")
+            self.read(0.1)
+        shown, self.shown = self.shown[: found.end()], self.shown[found.end() :]
+        return shown
+
+    def read(self, seconds):
+        """Takes in what is shown within so many seconds. Returns whether more may come."""
+        if select.select([self.ours], [], [], seconds)[0]:
+            try:
+                data = os.read(self.ours, 1 << 16).decode()
+            except OSError:
+                return False
+            self.shown += re.sub(r"\033\[[?0-9;]*[a-zA-Z]|\r(?!\n)|\a", "", data).replace("\r\n", "\n")
+        return True
+
+    def ended(self):
+        """The exit status, and what is shown up to the end."""
+        end = time.monotonic() + SECONDS
+        while self.read(0.1) and time.monotonic() < end:
+            pass
+        return self.child.wait(SECONDS), self.shown
+
+    def interrupt(self):
+        """Presses Ctrl-C."""
+        self.type("\x03")
+
+    def close(self):
+        """Ends the program, if it has not ended, as a terminal does that is closed."""
+        if self.child.poll() is None:
+            self.child.send_signal(signal.SIGKILL)
+        self.child.wait(SECONDS)
+        os.close(self.ours)

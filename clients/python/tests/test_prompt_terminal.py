@@ -1,0 +1,182 @@
+"""The prompt at a terminal: lines that are edited and completed, explanations, bars, and interrupts."""
+import os
+import re
+import tempfile
+import unittest
+
+from support import EXAMPLES, TOKEN, Server
+from terminals import ARGON, PROMPT, Terminal, environment
+
+
+class AtATerminal(unittest.TestCase):
+    def begin(self, *words, **env):
+        terminal = Terminal([*PROMPT, *words], environment(**env))
+        self.addCleanup(terminal.close)
+        return terminal
+
+    def says(self, terminal, line, wanted):
+        """Types a line, and returns what is shown up to what is wanted, without the line itself."""
+        terminal.type(line + "\r")
+        terminal.until(re.escape(line) + "\n")
+        return terminal.until(wanted)
+
+    def test_a_dialogue(self):
+        terminal = self.begin()
+        terminal.until("A program of its own: what is loaded is gone when it ends.\n.*ljserve> ")
+        told = self.says(terminal, f"load a {ARGON} 21.04 3.4 131072", "ljserve> ")
+        self.assertEqual(told, "OK LOAD a 0 256\nljserve> ")
+        self.assertEqual(self.says(terminal, "LIST", "ljserve> "), "OK LIST 1\na 0 256 0\nljserve> ")
+        self.assertEqual(self.says(terminal, "", "ljserve> "), "ljserve> ")
+        self.assertIn("OK TUG s i step", self.says(terminal, "help tug", "ljserve> "))
+        terminal.type("BYE\r")
+        self.assertEqual(terminal.ended(), (0, "BYE\nOK BYE\n"))
+
+    def test_a_text_that_is_typed(self):
+        terminal = self.begin()
+        terminal.until("ljserve> ")
+        terminal.type("LOAD a 256 1 131072 rest 27\r")
+        for line in ("2", "dimer", "Ar 0 0 0", "Ar 1.5 0 0"):
+            terminal.until("bytes more> ")
+            terminal.type(line + "\r")
+        self.assertIn("OK LOAD a 0 2\n", terminal.until("ljserve> "))
+        self.assertEqual(self.says(terminal, "ADVANCE a 2", "ljserve> "), "OK ADVANCE a 2\nljserve> ")
+        self.assertEqual(self.says(terminal, "SHOW a 0", "ljserve> "), "OK SHOW a 2 0 1774 0 0\nljserve> ")
+
+    def test_a_text_that_is_pasted(self):
+        terminal = self.begin()
+        terminal.until("ljserve> ")
+        stream = (EXAMPLES / "dimer.txt").read_text().replace("\n", "\r")
+        terminal.type(f"\033[200~{stream}\033[201~\r")
+        for line in (EXAMPLES / "dimer.replies").read_text().splitlines():
+            terminal.until(re.escape(line) + "\n")
+
+    def test_a_load_that_is_not_as_it_should_be_is_not_sent(self):
+        terminal = self.begin()
+        terminal.until("ljserve> ")
+        for line in ("LOAD a", "LOAD a 256 1 131072", "LOADMIX m 256 A B 1 1 1 rest 28", "LOAD a 1 1 1 rest 1048577"):
+            told = self.says(terminal, line, "ljserve> ")
+            self.assertIn(f"not sent: a LOAD is said as `{line.split()[0]} s FILE edge", told)
+        self.assertIn("not sent: cannot read no.xyz", self.says(terminal, "LOAD a no.xyz 256 1 131072", "ljserve> "))
+        self.assertEqual(self.says(terminal, "LIST", "ljserve> "), "OK LIST 0\nljserve> ")
+
+    def test_refusals_in_words(self):
+        terminal = self.begin()
+        terminal.until("ljserve> ")
+        self.says(terminal, f"LOAD argon {ARGON} 21.04 3.4 131072", "ljserve> ")
+        self.says(terminal, "BRANCH argon k", "ljserve> ")
+        for line, reply, words in [
+            ("SHOW argn 0", "ERR 10 NO_SESSION", "sessions: argon"),
+            ("SHOW argon 256", "ERR 14 NO_ATOM", "argon has the atoms 0 to 255"),
+            ("RESTORE argon m", "ERR 12 NO_BRANCH", "saved in argon: k"),
+            ("ADVANCE argon", "ERR 03 SYNTAX", "as it should be: ADVANCE s n"),
+            ("ADVNCE argon 1", "ERR 06 COMMAND", "is ADVANCE meant?"),
+            ("ADVANCE argon 2000000", "ERR 23 STEP_RANGE", "more than 1,000,000 steps at once"),
+            (f"LOAD b {EXAMPLES / 'users'} 9 1 1", "ERR 30 XYZ_COUNT line 1", "users, line 1: # Two users of a server"),
+            ("LOAD b /dev/null 9 1 1", "ERR 30 XYZ_COUNT line 1", "/dev/null, line 1: the text has ended before"),
+        ]:
+            told = self.says(terminal, line, "ljserve> ")
+            self.assertTrue(told.startswith(f"{reply}\n  "), told)
+            self.assertIn(words, told)
+
+    def test_completion(self):
+        terminal = self.begin()
+        terminal.until("ljserve> ")
+        terminal.type(f"LOAD argon {str(ARGON)[:-9]}\t\t")
+        terminal.until("argon_256.xyz")
+        terminal.type("\x15")
+        self.says(terminal, f"LOAD argon {ARGON} 21.04 3.4 131072", "OK LOAD argon 0 256\nljserve> ")
+        terminal.type("MEA\targ\t\r")
+        self.assertIn("OK MEASURE argon 0 256 0 0 0 0 ", terminal.until("ljserve> "))
+        terminal.type("bran\targ\tfirst\r")
+        terminal.until("OK BRANCH argon first 0\nljserve> ")
+        terminal.type("REST\targ\tfi\t\r")
+        terminal.until("OK RESTORE argon first 0\nljserve> ")
+
+    def test_an_advance_that_is_long(self):
+        terminal = self.begin()
+        terminal.until("ljserve> ")
+        self.says(terminal, f"LOAD a {ARGON} 21.04 3.4 131072", "ljserve> ")
+        terminal.type("ADVANCE a 900000\r")
+        terminal.until(r"a \[#*\.+\] \d+ of 900000 steps, \d+ s left")
+        terminal.interrupt()
+        step = int(re.search(r"OK ADVANCE a (\d+)\n", terminal.until("ljserve> "))[1])
+        self.assertTrue(0 < step < 900000)
+        self.assertEqual(self.says(terminal, "LIST", "ljserve> "), f"OK LIST 1\na {step} 256 0\nljserve> ")
+        terminal.type("\x04")
+        self.assertEqual(terminal.ended()[0], 0)
+
+    def test_an_interrupt_at_the_prompt_and_in_a_text(self):
+        terminal = self.begin()
+        terminal.until("ljserve> ")
+        terminal.type("LIS")
+        terminal.interrupt()
+        terminal.until("\n.*ljserve> ")
+        terminal.type("LOAD a 256 1 131072 rest 28\r")
+        terminal.until("28 bytes more> ")
+        terminal.interrupt()
+        terminal.until("ljserve> ")
+        self.assertEqual(self.says(terminal, "LIST", "ljserve> "), "OK LIST 0\nljserve> ")
+
+    def test_an_interrupt_of_a_wait(self):
+        terminal = self.begin()
+        terminal.until("ljserve> ")
+        self.says(terminal, f"LOAD a {ARGON} 21.04 3.4 131072", "ljserve> ")
+        self.says(terminal, "START a 2000", "OK START a 2000\nljserve> ")
+        terminal.type("SHOW a 0\r")
+        terminal.until("SHOW a 0\n")
+        terminal.interrupt()
+        terminal.until("ljserve> ")
+        self.assertIn("OK LIST 1\na 2000 256 0\n", self.says(terminal, "LIST", "ljserve> "))
+
+    def test_a_server_and_a_token_that_is_typed(self):
+        with Server(users=("ann",)) as server:
+            terminal = self.begin(f"127.0.0.1:{server.port}", "ann")
+            terminal.until("token of ann: ")
+            terminal.type(TOKEN + "\r")
+            told = terminal.until("ann> ")
+            self.assertIn(f"Connected to 127.0.0.1:{server.port} as ann. Sessions: none.", told)
+            self.assertNotIn(TOKEN, told)
+            self.says(terminal, "LIST", "OK LIST 0\nann> ")
+
+    def test_a_connection_that_has_ended_begins_anew(self):
+        with Server(users=("ann",)) as server:
+            terminal = self.begin(f"127.0.0.1:{server.port}", "ann", LJSERVE_TOKEN=TOKEN)
+            terminal.until("ann> ")
+            self.says(terminal, f"LOAD a {ARGON} 21.04 3.4 131072", "ann> ")
+            server.child.kill()
+            told = self.says(terminal, "MEASURE a", "ann> ")
+            self.assertIn("The next command begins a new connection. The sessions are still at the server", told)
+            self.assertIn("cannot connect", self.says(terminal, "LIST", "ann> "))
+
+    def test_a_second_connection_is_told_what_it_waits_for(self):
+        with Server(users=("ann",)) as server:
+            words = [f"127.0.0.1:{server.port}", "ann"]
+            first = self.begin(*words, LJSERVE_TOKEN=TOKEN)
+            first.until("ann> ")
+            second = self.begin(*words, LJSERVE_TOKEN=TOKEN)
+            second.until("waiting: another connection of ann is open")
+            first.type("exit\r")
+            second.until("ann> ")
+
+    def test_history(self):
+        with tempfile.TemporaryDirectory() as folder:
+            path = os.path.join(folder, "history")
+            terminal = self.begin(LJCLIENT_HISTORY=path)
+            terminal.until("ljserve> ")
+            for line in (f"HELLO ann {TOKEN}", "LIST"):
+                self.says(terminal, line, "ljserve> ")
+            terminal.type("\x1b[A\r")
+            terminal.until("OK LIST 0\nljserve> ")
+            terminal.type("\x04")
+            self.assertEqual(terminal.ended()[0], 0)
+            with open(path) as file:
+                self.assertEqual(file.read().split(), ["LIST"])
+            self.assertEqual(os.stat(path).st_mode & 0o777, 0o600)
+            terminal = self.begin(LJCLIENT_HISTORY=path)
+            terminal.until("ljserve> ")
+            terminal.type("\x1b[A\r")
+            terminal.until("OK LIST 0\nljserve> ")
+
+
+if __name__ == "__main__":
+    unittest.main()
