@@ -41,12 +41,12 @@ def free_port():
 
 
 class Server:
-    """`ljserve serve` on a free port of 127.0.0.1, for users whose token is `TOKEN`."""
+    """`ljserve serve` on a free port of 127.0.0.1, for users whose token is `TOKEN`, or for those of a file's lines."""
 
-    def __init__(self, users=("ann",), connections=100, quota=(8, 16384, 16)):
+    def __init__(self, users=("ann",), connections=100, quota=(8, 16384, 16), lines=None):
         self.port = free_port()
         with tempfile.NamedTemporaryFile("w") as file:
-            file.write("".join("{} {} {} {} {}\n".format(name, TOKEN, *quota) for name in users))
+            file.write(lines or "".join("{} {} {} {} {}\n".format(name, TOKEN, *quota) for name in users))
             file.flush()
             words = ["--listen", f"127.0.0.1:{self.port}", "--users", file.name]
             words += ["--workers", "2", "--connections", str(connections)]

@@ -1,0 +1,160 @@
+"""Files of users: made with a slip for each, and looked through for faults."""
+import contextlib
+import io
+import os
+import re
+import socket
+import subprocess
+import tempfile
+import unittest
+
+from ljclient import connect, refusals
+from support import EXAMPLES, PROGRAM, SECONDS, TOKEN, TOP, Server, dimer
+
+USERS = TOP / "tools" / "users"
+TOOL = {"__name__": "users"}
+exec(compile(USERS.read_text(), str(USERS), "exec"), TOOL)
+GOOD = f"ann {TOKEN} 8 16384 16\n"
+
+
+def told(*words):
+    """The status of `users` with these words, and what it writes."""
+    out, err = io.StringIO(), io.StringIO()
+    with contextlib.redirect_stdout(out), contextlib.redirect_stderr(err):
+        try:
+            status = TOOL["main"](words)
+        except SystemExit as end:
+            status = end.code
+    return status, out.getvalue(), err.getvalue()
+
+
+@contextlib.contextmanager
+def file_of(text):
+    with tempfile.NamedTemporaryFile() as file:
+        file.write(text if isinstance(text, bytes) else text.encode())
+        file.flush()
+        yield file.name
+
+
+class Users(unittest.TestCase):
+    def test_so_many_students(self):
+        status, out, err = told("20", "--server", "10.0.0.5:4000")
+        lines = [line.split(" ") for line in out.splitlines() if not line.startswith("#")]
+        self.assertEqual((status, err, len(lines)), (0, "", 20))
+        self.assertEqual([name for name, *_ in lines], [f"student{number:02}" for number in range(1, 21)])
+        self.assertEqual({tuple(quota) for _, _, *quota in lines}, {("8", "16384", "16")})
+        tokens = [token for _, token, *_ in lines]
+        self.assertEqual(len(set(tokens)), 20)
+        for name, token, *_ in lines:
+            self.assertRegex(token, r"\A[A-Za-z0-9]{32}\Z")
+            self.assertNotRegex(token, "[0O1lI]")
+            self.assertIn(f"# {name} at 10.0.0.5:4000\n#\n#     token   {token}\n", out)
+            self.assertIn(f'connect("10.0.0.5", 4000, "{name}", "{token}")', out)
+
+    def test_another_time_there_are_other_tokens(self):
+        self.assertFalse(set(re.findall(r"\b\w{32}\b", told("3")[1])) & set(re.findall(r"\b\w{32}\b", told("3")[1])))
+
+    def test_names_quota_and_slips_in_a_file(self):
+        with tempfile.TemporaryDirectory() as folder:
+            slips = os.path.join(folder, "slips")
+            words = ["ann", "ben-2", "--quota", "2", "4096", "0", "--slips", slips]
+            status, out, _ = told(*words)
+            ann, ben = [line.split() for line in out.splitlines()[1:]]
+            self.assertEqual((status, ann[0], ben[0], ann[2:]), (0, "ann", "ben-2", ["2", "4096", "0"]))
+            with open(slips) as file:
+                self.assertEqual(re.findall("token   (.*)", file.read()), [ann[1], ben[1]])
+            self.assertEqual(os.stat(slips).st_mode & 0o777, 0o600)
+            status, out, err = told(*words)
+            self.assertEqual((status, out, err), (1, "", f"users: cannot write {slips}: File exists\n"))
+
+    def test_words_that_say_no_users(self):
+        for words, why in [
+            ([], "say how many"), (["0"], "1 to 64"), (["65"], "1 to 64"), (["a b"], "no name"), (["ann", "ann"], "twice"),
+            (["x" * 17], "no name"), (["3", "--quota", "65", "1", "1"], "0 to 64"), (["3", "--server", "x"], "HOST:PORT"),
+            (["3", "--check", "x"], "say how many"), (["--quota"], "expected 3"),
+        ]:
+            status, out, err = told(*words)
+            self.assertEqual((status, out), (2, ""), words)
+            self.assertIn(why, err)
+
+    def test_a_server_takes_them(self):
+        _, out, _ = told("3", "--quota", "1", "2", "0")
+        name, token = re.search(r"^(student03) (\w+) ", out, re.M).groups()
+        with Server(lines=out) as server, connect("127.0.0.1", server.port, name, token) as user:
+            dimer(user)
+            with self.assertRaises(refusals.QuotaSessions):
+                dimer(user, "b")
+
+
+class Checks(unittest.TestCase):
+    """Each fault is said with its line and its cause, and the first line is the one that the program refuses."""
+
+    CASES = [
+        (GOOD.replace("\n", "\r\n"), 1, "lines of Windows"),
+        ("# class\r\n\n" + GOOD + "\r\n", 4, "lines of Windows"),
+        (b"\xef\xbb\xbf# class\n" + GOOD.encode(), 1, "byte order mark"),
+        (GOOD + f"ben {TOKEN[1:]} 8 16384 16\n", 2, "too short: it has 31 characters"),
+        (GOOD + f"ben {TOKEN}a 8 16384 16\n", 2, "too long: it has 33 characters"),
+        (f"ann {TOKEN[1:]}! 8 16384 16\n", 1, "something else than letters and digits"),
+        (f"ann {TOKEN} 8 16384\n", 1, "it has 4 words, and not 5"),
+        (f"ann {TOKEN} 8 16384 16 # ann\n", 1, "it has 7 words"),
+        ("ann\n", 1, "it has 1 word, and not 5"),
+        (" # class\n", 1, "it has 2 words"),
+        (f"an.n {TOKEN} 8 16384 16\n", 1, "the name is not"),
+        (f"{'n' * 17} {TOKEN} 8 16384 16\n", 1, "the name is not"),
+        (GOOD + "\n" + GOOD, 3, "the name ann is that of line 1"),
+        (f"ann {TOKEN} 65 16384 16\n", 1, "65 sessions are more than 64"),
+        (f"ann {TOKEN} 8 65537 16\n", 1, "65537 atoms are more than 65536"),
+        (f"ann {TOKEN} 8 16384 257\n", 1, "257 branches are more than 256"),
+        (f"ann {TOKEN} -1 16384 16\n", 1, "the number of sessions is no whole number"),
+        (f"ann {TOKEN} 8 {'0' * 20} 16\n", 1, "the number of atoms is no whole number"),
+        ("".join(GOOD.replace("ann", f"u{number}") for number in range(65)), 65, "there are 64 users already"),
+        ("", 1, "there is no user"),
+        ("# class\n\n", 3, "there is no user"),
+        ("# class", 2, "there is no user"),
+    ]
+
+    def test_each_fault(self):
+        for text, line, cause in self.CASES:
+            with self.subTest(text), file_of(text) as path:
+                status, out, err = told("--check", path)
+                self.assertEqual((status, err), (1, ""))
+                self.assertTrue(out.startswith(f"{path}: line {line}: "), out)
+                self.assertIn(cause, out)
+                self.assertNotIn(TOKEN[1:], out)
+                self.assertEqual(self.begins(path), (2, f"ljserve: users line {line}\n"))
+
+    def test_several_faults(self):
+        with file_of(f"ann\n{GOOD}\nben {TOKEN} x 1 1\n") as path:
+            status, out, _ = told("--check", path)
+        self.assertEqual((status, re.findall(r"line (\d+)", out)), (1, ["1", "4"]))
+
+    def test_good_files(self):
+        for text, count in [
+            (GOOD, "1 user"), (GOOD.rstrip() + "\n\n# end", "1 user"), (f"\tann  {TOKEN}\t0 0 0 ", "1 user"),
+            ("".join(GOOD.replace("ann", f"u{number}") for number in range(64)), "64 users"), (told("9")[1], "9 users"),
+            ((EXAMPLES / "users").read_text(), "2 users"), (f"ann {TOKEN} 0000000000000000064 65536 256\n", "1 user"),
+        ]:
+            with self.subTest(text), file_of(text) as path:
+                self.assertEqual(told("--check", path), (0, f"{count}\n", ""))
+                self.assertEqual(self.begins(path), (1, "ljserve: cannot listen\n"))
+
+    def test_a_file_that_is_not_there(self):
+        self.assertEqual(told("--check", "/no/such"), (1, "", "users: cannot read /no/such: No such file or directory\n"))
+
+    def begins(self, path):
+        """How the program ends that should serve these users at a port that is taken."""
+        with socket.create_server(("127.0.0.1", 0)) as taken:
+            words = ["--listen", f"127.0.0.1:{taken.getsockname()[1]}", "--users", path, "--workers", "1", "--connections", "1"]
+            done = subprocess.run([PROGRAM, "serve", *words], capture_output=True, text=True, timeout=SECONDS)
+        return done.returncode, done.stderr
+
+    def test_a_run(self):
+        for word, status, part in (("--help", 0, "usage: users "), ("2", 0, "student02"), ("0", 2, "")):
+            done = subprocess.run([USERS, word], capture_output=True, text=True, timeout=SECONDS)
+            self.assertEqual((done.returncode, bool(done.stderr)), (status, status != 0))
+            self.assertIn(part, done.stdout)
+
+
+if __name__ == "__main__":
+    unittest.main()
