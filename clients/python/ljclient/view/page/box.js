@@ -1,0 +1,180 @@
+// The box: a thin slab of the atoms, their places round the box, and the pull that tugs one of them.
+
+export const RING = 2 ** 32;
+const RADIUS = 0.5; // of an atom, in sigma
+const SMALLEST = 3; // of a radius, in pixels
+const EDGE_OF_SLAB = 0.35; // over how many sigma an atom fades at the faces of the slab
+const STRONGEST_PULL = 5; // in sigma
+const STOPS = [[47, 98, 178], [66, 156, 171], [143, 178, 92], [231, 176, 70], [211, 92, 55]];
+
+export const leastImage = (difference) => difference - RING * Math.round(difference / RING);
+
+// The places of a frame in ring units. A coordinate is told in millionths of a unit that has a million of them.
+export function placesOf(lines) {
+  const rows = lines.split("\n");
+  const places = new Float64Array(3 * rows.length);
+  rows.forEach((row, atom) => {
+    const words = row.split(" ");
+    for (let axis = 0; axis < 3; axis++) places[3 * atom + axis] = Math.round(Number(words[1 + axis]) * 1e6);
+  });
+  return places;
+}
+
+// The root mean square distance of the atoms from other places, in ring units: 0 only if all are the same.
+export function distance(places, others) {
+  let sum = 0;
+  for (let k = 0; k < places.length; k++) sum += leastImage(places[k] - others[k]) ** 2;
+  return Math.sqrt(sum / (places.length / 3));
+}
+
+// A colour along the stops, for a share from 0 to 1.
+function colour(share) {
+  const at = Math.min(share, 0.9999) * (STOPS.length - 1);
+  const [low, high] = [STOPS[Math.floor(at)], STOPS[Math.floor(at) + 1]];
+  return `rgb(${low.map((part, k) => Math.round(part + (high[k] - part) * (at % 1))).join(" ")})`;
+}
+
+export class Box {
+  // `tug` is told an atom and the ring units along x and y by which it was pulled.
+  constructor(canvas, tug) {
+    this.canvas = canvas;
+    this.pen = canvas.getContext("2d");
+    this.tug = tug;
+    this.pull = null;
+    this.depth = 0.5;
+    this.thickness = 1.8;
+    this.hears();
+  }
+
+  // Begins with atoms that have these places at the start.
+  begin(places, edge, sigma) {
+    this.places = places;
+    this.edge = edge;
+    this.sigma = sigma;
+    this.colours = Array.from({ length: places.length / 3 }, (_, atom) => colour(places[3 * atom] / RING));
+    this.pull = null;
+  }
+
+  get held() {
+    return this.pull !== null;
+  }
+
+  // The atoms of the slab, the farthest first: number, centre on the canvas, and how far they have faded.
+  slab() {
+    const atoms = [];
+    const half = this.thickness / 2;
+    for (let atom = 0; 3 * atom < this.places.length; atom++) {
+      const z = (leastImage(this.places[3 * atom + 2] - this.depth * RING) / RING) * this.edge;
+      const alpha = Math.min(1, (half + EDGE_OF_SLAB - Math.abs(z)) / EDGE_OF_SLAB);
+      if (alpha > 0) atoms.push({ atom, z, alpha, x: (this.places[3 * atom] / RING) * this.size, y: (1 - this.places[3 * atom + 1] / RING) * this.size });
+    }
+    return atoms.sort((one, other) => one.z - other.z);
+  }
+
+  draw() {
+    if (!this.places) return;
+    const scale = window.devicePixelRatio || 1;
+    this.size = this.canvas.clientWidth;
+    const pixels = Math.round(this.size * scale);
+    if (this.canvas.width !== pixels) this.canvas.width = this.canvas.height = pixels;
+    this.pen.setTransform(scale, 0, 0, scale, 0, 0);
+    this.pen.clearRect(0, 0, this.size, this.size);
+    this.radius = Math.max(SMALLEST, (RADIUS / this.edge) * this.size);
+    this.paper = getComputedStyle(this.canvas).backgroundColor;
+    this.pen.lineWidth = 1;
+    this.pen.strokeStyle = "rgb(0 0 0 / 40%)";
+    for (const each of this.slab()) this.drawAtom(each);
+    if (this.pull) this.drawPull();
+    this.pen.globalAlpha = 1;
+  }
+
+  // An atom near a face of the box is drawn at the opposite face too, since the box goes on there. Far ones are paler.
+  drawAtom({ atom, z, alpha, x, y }) {
+    const pen = this.pen;
+    const near = Math.min(1, Math.max(0, 0.5 + z / this.thickness));
+    for (const [left, top] of this.images(x, y)) {
+      pen.beginPath();
+      pen.arc(left, top, this.radius, 0, 2 * Math.PI);
+      pen.globalAlpha = alpha;
+      pen.fillStyle = this.paper;
+      pen.fill();
+      pen.globalAlpha = alpha * (0.5 + 0.5 * near);
+      pen.fillStyle = this.colours[atom];
+      pen.fill();
+      pen.stroke();
+    }
+  }
+
+  images(x, y) {
+    const near = (place) => [place, place < this.radius ? place + this.size : place > this.size - this.radius ? place - this.size : null];
+    const all = near(x).flatMap((left) => near(y).map((top) => [left, top]));
+    return all.filter(([left, top]) => left !== null && top !== null);
+  }
+
+  drawPull() {
+    const { x, y, dx, dy } = this.pull;
+    const length = Math.hypot(dx, dy);
+    const pen = this.pen;
+    pen.globalAlpha = 1;
+    pen.strokeStyle = pen.fillStyle = getComputedStyle(this.canvas).color;
+    pen.lineWidth = 2.5;
+    pen.beginPath();
+    pen.arc(x, y, this.radius + 2, 0, 2 * Math.PI);
+    pen.moveTo(x, y);
+    pen.lineTo(x + dx, y + dy);
+    pen.stroke();
+    if (length < 8) return;
+    const [along, across] = [(10 * dx) / length, (10 * dy) / length];
+    pen.beginPath();
+    pen.moveTo(x + dx + along, y + dy + across);
+    pen.lineTo(x + dx - 0.6 * across, y + dy + 0.6 * along);
+    pen.lineTo(x + dx + 0.6 * across, y + dy - 0.6 * along);
+    pen.fill();
+  }
+
+  hears() {
+    this.canvas.addEventListener("pointerdown", (event) => this.take(event));
+    this.canvas.addEventListener("pointermove", (event) => this.move(event));
+    this.canvas.addEventListener("pointerup", () => this.letGo());
+    this.canvas.addEventListener("pointercancel", () => this.forget());
+  }
+
+  // The atom in front at a point of the canvas.
+  atomAt(left, top) {
+    const hits = this.slab().filter(({ x, y, alpha }) => alpha > 0.3 && this.images(x, y).some(([a, b]) => Math.hypot(a - left, b - top) <= this.radius + 2));
+    return hits.at(-1);
+  }
+
+  take(event) {
+    if (!this.places) return;
+    const hit = this.atomAt(event.offsetX, event.offsetY);
+    if (!hit) return;
+    this.canvas.setPointerCapture(event.pointerId);
+    this.canvas.classList.add("holding");
+    this.pull = { atom: hit.atom, x: event.offsetX, y: event.offsetY, dx: 0, dy: 0 };
+    this.draw();
+  }
+
+  move(event) {
+    if (!this.pull) return;
+    const { x, y } = this.pull;
+    const [dx, dy] = [event.offsetX - x, event.offsetY - y];
+    const most = (STRONGEST_PULL / this.edge) * this.size;
+    const share = Math.min(1, most / Math.max(1e-9, Math.hypot(dx, dy)));
+    Object.assign(this.pull, { dx: dx * share, dy: dy * share });
+    this.draw();
+  }
+
+  letGo() {
+    if (!this.pull) return;
+    const { atom, dx, dy } = this.pull;
+    this.forget();
+    if (dx || dy) this.tug(atom, (dx / this.size) * this.edge, (-dy / this.size) * this.edge);
+  }
+
+  forget() {
+    this.pull = null;
+    this.canvas.classList.remove("holding");
+    this.draw();
+  }
+}

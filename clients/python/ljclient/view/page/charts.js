@@ -1,0 +1,136 @@
+// Lines over the step number. The way back lies over the way there, if it is the same.
+
+const MOST_POINTS = 4000;
+const LEFT = 44, RIGHT = 10, TOP = 6, BOTTOM = 20;
+
+// What was seen: a row for each frame, with the step, the direction, whether it follows the row before, and the values.
+export class History {
+  constructor() {
+    this.rows = [];
+  }
+
+  add(row) {
+    this.rows.push(row);
+    if (this.rows.length > MOST_POINTS) this.thin();
+  }
+
+  // Leaves out every second row, but none at which a line begins or turns.
+  thin() {
+    const rows = this.rows;
+    const turns = (k) => !rows[k].follows || rows[k].direction !== rows[k - 1].direction || rows[k + 1]?.follows === false;
+    this.rows = rows.filter((_, k) => k % 2 === 0 || k === rows.length - 1 || turns(k));
+  }
+
+  get last() {
+    return this.rows.at(-1);
+  }
+}
+
+// Round numbers within a range, some three to five of them.
+export function ticks(low, high, wanted = 4) {
+  const rough = (high - low) / wanted || 1;
+  const power = 10 ** Math.floor(Math.log10(rough));
+  const step = power * [1, 2, 5, 10].find((factor) => factor * power >= rough * 0.999);
+  const found = [];
+  for (let k = Math.ceil(low / step - 1e-9); k * step <= high + step * 1e-9; k++) found.push(k * step);
+  return found.map((value) => Number(value.toPrecision(12)));
+}
+
+export class Chart {
+  // `lines` are names of values, each with the colour that it has: a custom property of the page, by direction.
+  constructor(canvas, lines, least) {
+    this.canvas = canvas;
+    this.pen = canvas.getContext("2d");
+    this.lines = lines;
+    this.least = least; // a range of values that is shown in any case
+  }
+
+  draw(history) {
+    if (!history.last) return;
+    this.fit(history.rows);
+    this.axes();
+    const style = getComputedStyle(this.canvas);
+    for (const { value, colour } of this.lines) {
+      this.line(history.rows, value, (direction) => style.getPropertyValue(colour(direction)));
+      this.dot(history.last.step, history.last[value], style.getPropertyValue(colour(history.last.direction)));
+    }
+  }
+
+  // Makes the canvas as fine as the screen, and finds the ranges of steps and of values.
+  fit(rows) {
+    const scale = window.devicePixelRatio || 1;
+    [this.width, this.height] = [this.canvas.clientWidth, this.canvas.clientHeight];
+    const [across, down] = [Math.round(this.width * scale), Math.round(this.height * scale)];
+    if (this.canvas.width !== across || this.canvas.height !== down) [this.canvas.width, this.canvas.height] = [across, down];
+    this.pen.setTransform(scale, 0, 0, scale, 0, 0);
+    this.pen.clearRect(0, 0, this.width, this.height);
+    this.steps = [0, 100];
+    this.values = [...this.least];
+    for (const row of rows) {
+      this.steps = [Math.min(this.steps[0], row.step), Math.max(this.steps[1], row.step)];
+      for (const { value } of this.lines) this.values = [Math.min(this.values[0], row[value]), Math.max(this.values[1], row[value])];
+    }
+    this.values[1] += 0.06 * (this.values[1] - this.values[0]);
+  }
+
+  x(step) {
+    return LEFT + ((step - this.steps[0]) / (this.steps[1] - this.steps[0])) * (this.width - LEFT - RIGHT);
+  }
+
+  y(value) {
+    return TOP + ((this.values[1] - value) / (this.values[1] - this.values[0])) * (this.height - TOP - BOTTOM);
+  }
+
+  axes() {
+    const pen = this.pen;
+    const style = getComputedStyle(this.canvas);
+    pen.font = `12px ${style.fontFamily}`;
+    pen.fillStyle = style.getPropertyValue("--soft");
+    pen.strokeStyle = style.getPropertyValue("--line");
+    pen.lineWidth = 1;
+    pen.textAlign = "right";
+    pen.textBaseline = "middle";
+    for (const value of ticks(...this.values, 3)) {
+      this.rule(LEFT, this.y(value), this.width - RIGHT, this.y(value));
+      pen.fillText(value.toLocaleString("en").replace("-", "−"), LEFT - 6, this.y(value));
+    }
+    pen.textAlign = "center";
+    pen.textBaseline = "top";
+    for (const step of ticks(...this.steps, 5)) pen.fillText(step.toLocaleString("en"), Math.min(this.x(step), this.width - 18), this.height - BOTTOM + 5);
+  }
+
+  rule(left, top, right, bottom) {
+    this.pen.beginPath();
+    this.pen.moveTo(left, Math.round(top) + 0.5);
+    this.pen.lineTo(right, Math.round(bottom) + 0.5);
+    this.pen.stroke();
+  }
+
+  // One stroke for each stretch in one direction. The way there is broad and pale, so that the way back lies within it.
+  line(rows, value, colour) {
+    const pen = this.pen;
+    pen.lineJoin = "round";
+    rows.forEach((row, k) => {
+      const before = rows[k - 1];
+      const begins = !before || !row.follows;
+      if (begins || row.direction !== before.direction) {
+        if (before) pen.stroke();
+        pen.beginPath();
+        pen.strokeStyle = colour(row.direction);
+        [pen.lineWidth, pen.globalAlpha] = row.direction > 0 ? [6, 0.45] : [1.8, 1];
+        const from = begins ? row : before;
+        pen.moveTo(this.x(from.step), this.y(from[value]));
+      }
+      pen.lineTo(this.x(row.step), this.y(row[value]));
+    });
+    pen.stroke();
+    pen.globalAlpha = 1;
+  }
+
+  dot(step, value, colour) {
+    this.pen.beginPath();
+    this.pen.fillStyle = colour;
+    this.pen.arc(this.x(step), this.y(value), 4, 0, 2 * Math.PI);
+    this.pen.fill();
+  }
+}

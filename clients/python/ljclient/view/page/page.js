@@ -1,0 +1,188 @@
+// The page: its buttons, what is shown of each frame, and the frames that are asked for while it plays.
+
+import { Box, RING, distance, placesOf } from "./box.js";
+import { Chart, History } from "./charts.js";
+import { Talk } from "./talk.js";
+
+const PULL = 2; // the velocity that a pull by one sigma gives, in sigma per unit of time
+const part = (name) => document.getElementById(name);
+const byDirection = (direction) => (direction > 0 ? "--forward" : "--backward");
+
+const box = new Box(part("box"), tug);
+const charts = [
+  new Chart(part("distances"), [{ value: "distance", colour: byDirection }], [0, 0.2]),
+  new Chart(part("energies"), ["kinetic", "potential", "total"].map((value) => ({ value, colour: () => `--${value}` })), [0, 0]),
+];
+let history = new History();
+let scene = null;
+let start = null;
+let playing = false;
+let fresh = false; // whether what is shown has changed since it was drawn
+let frames = []; // when the last frames were drawn
+const talk = new Talk(heard, ended);
+
+function say(text, kind = "") {
+  part("message").textContent = text;
+  part("message").className = `message ${kind}`;
+}
+
+function heard(answer) {
+  if (answer.error) {
+    play(false);
+    say(answer.error, "bad");
+  }
+  if (answer.scene) begin(answer);
+  if (answer.atoms && typeof answer.atoms === "string") show(answer);
+}
+
+function ended() {
+  play(false);
+  for (const button of document.querySelectorAll("button")) button.disabled = true;
+  say("The program has ended, or has no room for a page more. Start it again, or load this page anew.", "bad");
+}
+
+// A new scene, which the answer says beside its first frame.
+function begin(answer) {
+  scene = answer.scene;
+  start = placesOf(answer.atoms);
+  history = new History();
+  box.begin(start, scene.edge, scene.sigma);
+  cut();
+  part("choice").hidden = scene.titles.length < 2;
+  part("scene").replaceChildren(...scene.titles.map((title, number) => new Option(title, number, false, number === scene.number)));
+  const step = scene.dt === null ? `${scene.reduced_dt.toFixed(4)} of the unit of time` : `${scene.dt.toFixed(2)} fs`;
+  const title = scene.titles.length < 2 ? `${scene.titles[0]}: ` : "";
+  part("about").textContent = `${title}${start.length / 3} atoms, the box is ${scene.edge.toFixed(2)} σ wide, a step is ${step}`;
+}
+
+// Cuts a slab out of the middle that has some fifty atoms, or out of where there are any.
+function cut() {
+  const atoms = start.length / 3;
+  part("thickness").max = scene.edge.toFixed(1);
+  part("thickness").value = Math.max(1.8, (50 / atoms) * scene.edge).toFixed(1);
+  part("depth").value = 0.5;
+  slide();
+  if (!box.slab().length) part("depth").value = start[2] / RING;
+  slide();
+}
+
+// Takes in a frame. One that has jumped does not follow the one before, as after Restore.
+function show(frame) {
+  const places = placesOf(frame.atoms);
+  box.places = places;
+  const before = history.last;
+  const far = distance(places, start) / scene.sigma;
+  const row = { step: frame.step, direction: frame.direction, distance: far, kinetic: frame.kinetic, potential: frame.potential };
+  row.total = row.kinetic + row.potential;
+  row.follows = Boolean(before) && !frame.jumped;
+  history.add(row);
+  part("time").dataset.direction = part("direction").textContent = frame.direction > 0 ? "forward" : "backward";
+  part("step").textContent = frame.step.toLocaleString("en");
+  part("distance").textContent = far === 0 ? "0" : far < 0.001 ? far.toExponential(1) : far.toFixed(3);
+  for (const name of ["kinetic", "potential", "total"]) part(name).textContent = row[name].toFixed(2).replace("-", "−");
+  part("temperature").textContent = scene.in_kelvin ? `${frame.temperature.toFixed(1)} K` : `${frame.temperature.toFixed(2)} ε/k`;
+  part("restore").disabled = frame.saved === null;
+  part("restore").textContent = frame.saved === null ? "Restore" : `Restore step ${frame.saved.toLocaleString("en")}`;
+  fresh = true;
+}
+
+function play(on) {
+  playing = on;
+  frames = [];
+  part("play").textContent = on ? "Pause" : "Play";
+}
+
+// Asks for the next frame. On the way back it stops where the motion began, and not a step beyond.
+async function goOn(steps) {
+  const { step, direction } = history.last;
+  const left = -step * direction;
+  const frame = await talk.ask({ do: "frame", steps: left > 0 ? Math.min(steps, left) : steps });
+  if (frame.step === 0 && left > 0) {
+    play(false);
+    say("Back at step 0. Is each atom where it began? Press Exact?");
+  }
+}
+
+function draw() {
+  requestAnimationFrame(draw);
+  if (fresh) {
+    fresh = false;
+    box.draw();
+    charts.forEach((chart) => chart.draw(history));
+    if (playing) count();
+  }
+  if (playing && !box.held && talk.isIdle) goOn(Number(part("speed").value));
+}
+
+// Tells how many frames of the last second were drawn.
+function count() {
+  const now = performance.now();
+  frames = [...frames.filter((time) => now - time < 1000), now];
+  if (now - frames[0] > 500) part("rate").textContent = `${Math.round(((frames.length - 1) * 1000) / (now - frames[0]))} frames a second`;
+}
+
+async function reverse() {
+  const frame = await talk.ask({ do: "reverse" });
+  if (frame.direction) say(frame.direction < 0 ? "Time has turned: each step is undone." : "Time runs forward again.");
+}
+
+async function tug(atom, right, up) {
+  const unit = PULL * scene.reduced_dt * scene.sigma;
+  const by = [right, up, 0].map((pull) => Math.round(pull * unit));
+  const frame = await talk.ask({ do: "tug", atom, by });
+  if (frame.atoms) say(`Atom ${atom} was tugged, by ${(PULL * Math.hypot(right, up)).toFixed(1)} σ per unit of time. All atoms now move otherwise.`);
+}
+
+async function save() {
+  const { saved } = await talk.ask({ do: "save" });
+  if (saved !== undefined) say(`Saved at step ${saved.toLocaleString("en")}.`);
+}
+
+async function goBack(what, text) {
+  play(false);
+  const frame = await talk.ask({ do: what });
+  if (frame.step !== undefined) say(`${text} step ${frame.step.toLocaleString("en")}.`);
+}
+
+async function compare() {
+  const { same, atoms, step } = await talk.ask({ do: "exact" });
+  if (!same) return;
+  const [found, then] = same.kept > same.start ? [same.kept, "saved"] : [same.start, "at the start"];
+  if (found === atoms) say(`${found} of ${atoms}, to the bit: each atom is where it was ${then === "saved" ? "when it was saved" : then}.`, "good");
+  else say(`${found} of ${atoms} atoms have the place that they had at the start. This is step ${step.toLocaleString("en")}.`);
+}
+
+const acts = {
+  play: () => play(!playing),
+  one: () => (play(false), goOn(1)),
+  reverse,
+  exact: compare,
+  save,
+  restore: () => goBack("restore", "Restored, as saved at"),
+  restart: () => goBack("restart", "Back at the start:"),
+};
+const keys = { " ": "play", ".": "one", r: "reverse", e: "exact", s: "save", b: "restore", Home: "restart" };
+
+for (const [name, act] of Object.entries(acts)) part(name).addEventListener("click", act);
+document.addEventListener("keydown", (event) => {
+  const button = part(keys[event.key] ?? "");
+  const taken = event.target.matches("select, input") || (event.target.matches("button") && event.key === " ");
+  if (!button || taken || event.ctrlKey || event.metaKey || event.altKey) return;
+  event.preventDefault();
+  button.click();
+});
+for (const name of ["depth", "thickness", "speed"]) part(name).addEventListener("input", slide);
+part("scene").addEventListener("change", (event) => (play(false), talk.ask({ do: "load", scene: Number(event.target.value) })));
+matchMedia("(prefers-color-scheme: dark)").addEventListener("change", () => (fresh = true));
+addEventListener("resize", () => (fresh = true));
+
+function slide() {
+  box.depth = Number(part("depth").value);
+  box.thickness = Number(part("thickness").value);
+  part("thick").textContent = `${box.thickness.toFixed(1)} σ`;
+  part("pace").textContent = `${part("speed").value} a frame`;
+  fresh = true;
+}
+
+slide();
+draw();

@@ -1,0 +1,108 @@
+"""What a page can show: the atoms of a file, or a crystal, with the scale and the heat that they begin with."""
+from __future__ import annotations
+
+import itertools
+import math
+import os
+import random
+import re
+from dataclasses import dataclass
+from decimal import Decimal
+from typing import Callable, List, Optional, Sequence, Tuple
+
+from .. import Scale, Session, User, xyz
+from ..units import RING, kelvin
+
+NAME = "view"
+# With this edge a ring unit is a millionth, which is the last digit of what DUMP tells: a frame has the places themselves.
+EXACT_EDGE = "4294.967296"
+MILLION = 10**6
+DENSITY = 0.8442
+CELLS = 4
+FACES = ((0.0, 0.0, 0.0), (0.5, 0.5, 0.0), (0.5, 0.0, 0.5), (0.0, 0.5, 0.5))
+
+
+@dataclass(frozen=True)
+class Scene:
+    """Atoms and how they begin.
+
+    title        what a page calls it
+    body         the atoms as XYZ text
+    scale        what whole numbers mean
+    temperature  that of the first velocities: in kelvin if epsilon is known, else in epsilon / k_B. With 0 they are at rest
+    seed         of the random numbers that these velocities are drawn with
+    """
+
+    title: str
+    body: bytes
+    scale: Scale
+    temperature: float = 0.0
+    seed: int = 1
+
+    def begin(self, user: User) -> Session:
+        """Loads the atoms in place of those that are there, so that each coordinate of DUMP is a place to the bit.
+
+        They are loaded twice: with the scale of the file, which rounds them to places, and then these places as they are.
+        """
+        loaded = user.load(NAME, self.body, edge=self.scale.edge, sigma=self.scale.sigma, h=self.scale.h, replace=True)
+        places, symbols = loaded.places(), loaded.symbols()
+        rows = [(symbol, *(int(part) / MILLION for part in place)) for symbol, place in zip(symbols, places)]
+        sigma = Decimal(self.scale.sigma_on_ring) / MILLION
+        session = user.load(NAME, rows, edge=EXACT_EDGE, sigma=sigma, h=self.scale.h, replace=True)
+        user.ask_all(f"TUG {NAME} {atom} {x} {y} {z}" for atom, (x, y, z) in enumerate(self.displacements(len(rows))))
+        return session
+
+    def displacements(self, atoms: int) -> List[Tuple[int, ...]]:
+        """The first displacement of each atom for a step, in ring units: drawn as velocities of the temperature are, less
+        their mean. None for atoms that begin at rest."""
+        if not self.temperature:
+            return []
+        drawn = random.Random(self.seed)
+        reduced = self.temperature * (1.0 if self.scale.epsilon is None else kelvin / self.scale.epsilon)
+        width = math.sqrt(reduced) * self.scale.reduced_dt * self.scale.sigma_on_ring
+        velocities = [[drawn.gauss(0, width) for _ in range(3)] for _ in range(atoms)]
+        means = [sum(parts) / atoms for parts in zip(*velocities)]
+        return [tuple(round(part - mean) for part, mean in zip(parts, means)) for parts in velocities]
+
+
+def crystal(h: int, temperature: float, seed: int) -> Scene:
+    """A face-centred cubic crystal of 256 atoms, as dense as liquid argon, in reduced units."""
+    atoms = len(FACES) * CELLS**3
+    edge = round((atoms / DENSITY) ** (1 / 3), 6)
+    corners = itertools.product(range(CELLS), repeat=3)
+    sites = [[(i + part) * edge / CELLS for i, part in zip(corner, face)] for corner in corners for face in FACES]
+    body = xyz.text_of((("Ar", site) for site in sites), "face-centred cubic")
+    return Scene("A crystal that melts" if temperature else "A crystal", body, Scale.of(edge, 1, h), temperature, seed)
+
+
+def of_file(path: str, edge: Optional[float], scale_of: Callable[[float], Scale], temperature: float, seed: int) -> Scene:
+    """The atoms of an XYZ file. ValueError if nobody says the edge of the box."""
+    body = xyz.body_of(path)
+    found = edge if edge is not None else edge_in(body)
+    if found is None:
+        raise ValueError("the file says no cubic Lattice: say the edge of the box by --edge, in the unit of the file")
+    return Scene(os.path.basename(path), body, scale_of(found), temperature, seed)
+
+
+def edge_in(body: bytes) -> Optional[float]:
+    """The edge of the cubic box that the comment line of an extended XYZ text says, if it says one."""
+    head = body[:4096].decode("latin-1").lstrip().split("\n")[:2]
+    found = re.search(r'Lattice="([^"]*)"', head[-1])
+    if found is None:
+        return None
+    try:
+        cell = [float(word) for word in found[1].split()]
+    except ValueError:
+        return None
+    return cell[0] if len(cell) == 9 and is_cubic(cell) else None
+
+
+def is_cubic(cell: Sequence[float]) -> bool:
+    """Whether the nine numbers of a cell are those of a cube along the axes."""
+    edge = cell[0]
+    return edge > 0 and all(abs(part - edge * (place % 4 == 0)) <= 1e-9 * edge for place, part in enumerate(cell))
+
+
+def edge_in_sigma(scale: Scale) -> float:
+    """The edge of the box, in units of sigma."""
+    return RING / scale.sigma_on_ring

@@ -1,0 +1,189 @@
+"""The live view without a browser: who may ask, and what a page is told."""
+import http.client
+import json
+import re
+import unittest
+
+from ljclient import run, units
+from ljclient.view import server, websocket
+from support import DIMER, EXAMPLES, PROGRAM, RING, SECONDS
+from viewing import Page, View, file_of, places_of
+
+ARGON = [EXAMPLES / "argon_256.xyz", "--edge", "21.04"]
+SCALE = ["--edge", "256", "--sigma", "1", "--h", "131072"]
+
+
+class Asked(unittest.TestCase):
+    """Who may ask, and for what."""
+
+    @classmethod
+    def setUpClass(cls):
+        cls.view = View()
+        cls.addClassCleanup(cls.view.end)
+
+    def get(self, path, **headers):
+        connection = http.client.HTTPConnection("127.0.0.1", self.view.port, timeout=SECONDS)
+        self.addCleanup(connection.close)
+        connection.request("GET", path, headers={name.replace("_", "-"): value for name, value in headers.items()})
+        told = connection.getresponse()
+        return told.status, told.getheader("Content-Type"), told.read()
+
+    def test_the_files_of_the_page(self):
+        for path, (name, kind) in server.FILES.items():
+            status, told, body = self.get(path)
+            self.assertEqual((status, told), (200, f"{kind}; charset=utf-8"))
+            self.assertEqual(body, (server.FOLDER / name).read_bytes())
+
+    def test_the_page_names_no_other_file(self):
+        named = re.findall(r'(?:src|href)="([^"]+)"', (server.FOLDER / "page.html").read_text())
+        for script in server.FOLDER.glob("*.js"):
+            named += re.findall(r'from "\./([^"]+)"', script.read_text())
+        self.assertEqual({f"/{name}" for name in named} | {"/"}, set(server.FILES))
+
+    def test_no_other_file(self):
+        for path in ("/server.py", "/../server.py", "/%2e%2e/server.py", "//etc/passwd", "/page.html/"):
+            self.assertEqual(self.get(path)[0], 404)
+
+    def test_only_this_address_is_answered(self):
+        for host in ("example.org", f"example.org:{self.view.port}", "127.0.0.1", "127.0.0.1:1", ""):
+            self.assertEqual(self.get("/", Host=host)[::2], (403, b"Host is not the address of this page"))
+        for host in (self.view.url, f"localhost:{self.view.port}"):
+            self.assertEqual(self.get("/", Host=host)[0], 200)
+
+    def test_no_other_page_is_answered(self):
+        for origin in ("http://example.org", "null", f"https://{self.view.url}", "http://127.0.0.1:1"):
+            self.assertEqual(self.get("/", Origin=origin)[::2], (403, b"Origin is another page"))
+            with self.assertRaisesRegex(websocket.Broken, "403"):
+                self.view.page(Origin=origin)
+
+    def test_a_session_is_for_a_page(self):
+        with self.assertRaisesRegex(websocket.Broken, "403"):
+            Page(self.view.port, {})
+        with self.assertRaisesRegex(websocket.Broken, "403"):
+            self.view.page(Host="example.org")
+        self.assertEqual(self.get("/session", Origin=f"http://{self.view.url}")[0], 400)
+
+    def test_nothing_may_frame_the_page_or_be_asked_by_it(self):
+        connection = http.client.HTTPConnection("127.0.0.1", self.view.port, timeout=SECONDS)
+        self.addCleanup(connection.close)
+        connection.request("GET", "/")
+        policy = connection.getresponse().getheader("Content-Security-Policy")
+        self.assertIn("default-src 'none'", policy)
+        self.assertIn("frame-ancestors 'none'", policy)
+
+    def test_a_page_has_a_session_of_its_own(self):
+        with self.view.page() as one, self.view.page() as other:
+            self.assertEqual(one.first, other.first)
+            tugged = one.ask("tug", atom=0, by=[1000, 0, 0])
+            self.assertNotEqual(places_of(one.ask("frame", steps=1)), places_of(other.ask("frame", steps=1)))
+            self.assertEqual(places_of(tugged), places_of(other.ask("restart")))
+
+    def test_what_is_no_message(self):
+        for data in (b"\x81\x00", b"\x82\x80abcd", b"\x80\x80abcd", b"\x81\xff" + b"\xff" * 8, b"\x81\x81aaaa\x9e"):
+            page = self.view.page()
+            page.channel._connection.sendall(data)
+            self.assertIsNone(page.channel.receive())
+            page.close()
+        with self.view.page() as page:
+            self.assertEqual(page.ask("frame", steps=1)["step"], 1)
+
+
+class Told(unittest.TestCase):
+    """What a page is told, of two atoms whose motion is known by hand and of a crystal."""
+
+    def page(self, *words):
+        shown = View(*words)
+        self.addCleanup(shown.end)
+        page = shown.page()
+        self.addCleanup(page.close)
+        return page
+
+    def dimer(self):
+        return self.page(file_of(self, DIMER), *SCALE)
+
+    def test_two_atoms(self):
+        page = self.dimer()
+        self.assertEqual(places_of(page.first), [(0, 0, 0), (3 << 23, 0, 0)])
+        told = page.ask("frame", steps=1)
+        self.assertEqual(places_of(told), [(589, 0, 0), ((3 << 23) - 589, 0, 0)])
+        self.assertEqual((told["step"], told["direction"], told["saved"]), (1, 1, None))
+        self.assertEqual(told["kinetic"], 2 * 589**2 * RING / (2 * 2**48 * 131072) / 2)
+        self.assertEqual(told["potential"], -5399727 / 2**24 / 2)
+        self.assertAlmostEqual(told["temperature"], told["kinetic"] * 2 / 3)
+
+    def test_a_tug(self):
+        page = self.dimer()
+        page.ask("frame", steps=1)
+        page.ask("tug", atom=0, by=[5, 0, -7])
+        self.assertEqual(places_of(page.ask("frame", steps=1))[0], (2 * 589 + 5 + 596, 0, RING - 7))
+
+    def test_reverse(self):
+        page = self.dimer()
+        page.ask("frame", steps=2)
+        back = page.ask("reverse")
+        self.assertEqual((back["step"], back["direction"], places_of(back)[0]), (1, -1, (589, 0, 0)))
+        self.assertEqual(page.ask("frame", steps=1)["atoms"], page.first["atoms"])
+        self.assertEqual(page.ask("frame", steps=3)["step"], -3)
+        again = page.ask("reverse")
+        self.assertEqual((again["step"], again["direction"]), (-2, 1))
+
+    def test_there_and_back(self):
+        page = self.page()
+        away = page.ask("frame", steps=300)
+        self.assertEqual(page.ask("exact")["same"], {"start": 0})
+        self.assertNotEqual(away["atoms"], page.first["atoms"])
+        page.ask("reverse")
+        back = page.ask("frame", steps=299)
+        self.assertEqual((back["step"], back["atoms"]), (0, page.first["atoms"]))
+        told = page.ask("exact")
+        self.assertEqual((told["same"], told["atoms"]), ({"start": 256}, 256))
+
+    def test_save_and_restore(self):
+        page = self.page()
+        self.assertEqual(page.ask("restore"), {"error": "nothing is saved yet"})
+        for steps in (40, 20):
+            saved = page.ask("frame", steps=steps)
+            self.assertEqual(page.ask("save")["saved"], saved["step"])
+        page.ask("tug", atom=3, by=[0, 1, 0])
+        self.assertNotEqual(page.ask("frame", steps=200)["atoms"], saved["atoms"])
+        restored = page.ask("restore")
+        self.assertEqual((restored["atoms"], restored["step"], restored["jumped"]), (saved["atoms"], 60, True))
+        self.assertEqual(page.ask("exact")["same"], {"start": 0, "kept": 256})
+        page.ask("reverse")
+        self.assertEqual(page.ask("restart")["atoms"], page.first["atoms"])
+        self.assertEqual(page.ask("frame", steps=1)["step"], 1)
+
+    def test_it_is_the_trajectory_of_the_file(self):
+        page = self.page(*ARGON)
+        told = page.ask("frame", steps=150)
+        with run(PROGRAM) as user:
+            argon = user.load("argon", ARGON[0], edge=21.04, dt=10, **units.ARGON)
+            argon.advance(150)
+            self.assertEqual(places_of(told), [tuple(map(int, place)) for place in argon.places()])
+            measured = argon.measure()
+        self.assertAlmostEqual(told["temperature"], measured.temperature)
+        self.assertAlmostEqual(told["potential"], measured.potential_energy / 256)
+
+    def test_several_files(self):
+        page = self.page(*ARGON, EXAMPLES / "argon_4000.xyz")
+        self.assertEqual(page.first["scene"]["titles"], ["argon_256.xyz", "argon_4000.xyz"])
+        self.assertEqual(len(places_of(page.ask("load", scene=1))), 4000)
+        again = page.ask("load", scene=0)
+        self.assertEqual((again["atoms"], again["scene"]["number"]), (page.first["atoms"], 0))
+
+    def test_what_cannot_be_asked(self):
+        page = self.dimer()
+        for what, words in (
+            *(("frame", {"steps": steps}) for steps in (-1, 1001, True, 1.0, "1", None)),
+            *(("tug", {"atom": 0, "by": by}) for by in ([0, 0], "abc", [2**31, 0, 0], [0, 0, 0.5], None)),
+            ("tug", {"atom": 2, "by": [0, 0, 0]}), ("load", {"scene": 1}), ("frame", {}), ("exit", {}), (None, {}), ([], {}),
+        ):
+            self.assertEqual(list(page.ask(what, **words)), ["error"])
+        for message in ("", "{", "[]", "1", "[" * 60000):
+            page.channel.send(message)
+            self.assertEqual(list(json.loads(page.channel.receive())), ["error"])
+        self.assertEqual(page.ask("frame", steps=0)["step"], 0)
+
+
+if __name__ == "__main__":
+    unittest.main()

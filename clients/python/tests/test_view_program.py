@@ -1,0 +1,200 @@
+"""The program of the live view: its options, what it says of a file that is wrong, and when it ends."""
+import contextlib
+import pathlib
+import shutil
+import signal
+import subprocess
+import sys
+import tempfile
+import time
+import unittest
+import webbrowser
+from importlib import metadata
+from unittest import mock
+
+from ljclient import units
+from ljclient.view import command, scenes, server, websocket
+from support import DIMER, EXAMPLES, SECONDS, TOP, is_running
+from viewing import View, command as command_of, file_of
+
+REDUCED = units.Scale.of(10, 1, 131072)
+
+
+def packs():
+    """Whether packages can be built here as pyproject.toml says."""
+    with contextlib.suppress(metadata.PackageNotFoundError):
+        return int(metadata.version("setuptools").split(".")[0]) >= 61
+    return False
+
+
+def children_of(process):
+    """The numbers of the processes that this one has started."""
+    return [
+        int(path.parent.name)
+        for path in pathlib.Path("/proc").glob("[0-9]*/stat")
+        if path.read_text().rpartition(")")[2].split()[1] == str(process)
+    ]
+
+
+class Ends(unittest.TestCase):
+    def view(self):
+        shown = View()
+        self.addCleanup(shown.end)
+        return shown
+
+    def test_it_ends_when_the_page_is_gone(self):
+        shown = self.view()
+        with shown.page() as page:
+            page.ask("frame", steps=1)
+            (program,) = children_of(shown.child.pid)
+        self.assertEqual(shown.child.wait(SECONDS), 0)
+        self.assertFalse(is_running(program))
+
+    def test_a_page_may_be_loaded_anew(self):
+        shown = self.view()
+        shown.page().close()
+        with shown.page():
+            time.sleep(server.GRACE_SECONDS + 0.5)
+            self.assertIsNone(shown.child.poll())
+        self.assertEqual(shown.child.wait(SECONDS), 0)
+
+    def test_of_two_pages_one_may_go(self):
+        shown = self.view()
+        with shown.page() as one:
+            with shown.page():
+                self.assertEqual(len(children_of(shown.child.pid)), 2)
+            time.sleep(server.GRACE_SECONDS + 0.5)
+            self.assertEqual(one.ask("frame", steps=1)["step"], 1)
+            self.assertEqual(len(children_of(shown.child.pid)), 1)
+
+    def test_not_too_many_pages(self):
+        shown = self.view()
+        pages = [shown.page() for _ in range(server.MAX_PAGES)]
+        with self.assertRaisesRegex(websocket.Broken, "503"):
+            shown.page()
+        self.assertEqual(pages[0].ask("frame", steps=1)["step"], 1)
+        for page in pages:
+            page.close()
+        self.assertEqual(shown.child.wait(SECONDS), 0)
+
+    def test_it_waits_for_its_first_page(self):
+        shown = self.view()
+        time.sleep(server.GRACE_SECONDS + 0.5)
+        self.assertIsNone(shown.child.poll())
+
+    def test_an_interrupt_ends_it(self):
+        shown = self.view()
+        with shown.page() as page:
+            (program,) = children_of(shown.child.pid)
+            shown.child.send_signal(signal.SIGINT)
+            self.assertIsNone(page.channel.receive())
+            self.assertEqual(shown.child.wait(SECONDS), 0)
+        self.assertFalse(is_running(program))
+        self.assertEqual(shown.end(), (0, ""))
+
+    def test_a_program_that_dies_is_told(self):
+        shown = self.view()
+        with shown.page() as page:
+            (program,) = children_of(shown.child.pid)
+            subprocess.run(["kill", "-9", str(program)], check=True)
+            self.assertIn("has ended with status -9", page.ask("frame", steps=1)["error"])
+            self.assertEqual(list(page.ask("frame", steps=1)), ["error"])
+
+
+class Options(unittest.TestCase):
+    def refused(self, *words, status=1):
+        done = subprocess.run(**command_of(*words), capture_output=True, timeout=SECONDS)
+        self.assertEqual((done.returncode, done.stdout), (status, ""))
+        return done.stderr
+
+    def test_no_file(self):
+        self.assertIn("none.xyz", self.refused("none.xyz", "--edge", 10))
+
+    def test_no_edge(self):
+        told = self.refused(EXAMPLES / "argon_256.xyz")
+        self.assertRegex(told, r"^view: .*argon_256.xyz: the file says no cubic Lattice: say the edge of the box by --edge")
+
+    def test_a_file_that_the_program_refuses(self):
+        path = file_of(self, "2\n\nAr 0 0 0\nAr 1 2\n", "short.xyz")
+        self.assertIn("view: short.xyz: ERR 31 XYZ_SHORT line 4", self.refused(path, "--edge", 20))
+
+    def test_a_scale_that_does_not_fit(self):
+        argon = EXAMPLES / "argon_256.xyz"
+        self.assertIn("argon_256.xyz: ERR 37 SIGMA", self.refused(argon, "--edge", 21.04, "--sigma", 5))
+        self.assertIn("argon_256.xyz: dt is from", self.refused(argon, "--edge", 21.04, "--dt", 1000))
+        self.assertIn("ERR 38 STEP_FACTOR", self.refused("--h", 0))
+
+    def test_options_that_do_not_fit(self):
+        self.assertIn("--h stands in place of", self.refused("x.xyz", "--h", 1, "--dt", 10, status=2))
+        self.assertIn("are for the atoms of a file", self.refused("--edge", 10, status=2))
+        self.assertIn("--temperature is not below 0", self.refused("--temperature", -1, status=2))
+        self.assertIn("--port is from 0 to 65535", self.refused("--port", 65536, status=2))
+
+    def test_a_port_that_is_taken(self):
+        with View() as shown:
+            self.assertIn("Address already in use", self.refused("--port", shown.port))
+
+    def test_the_edge_of_a_file(self):
+        cubes = {"52.6 0 0 0 52.6 0 0 0 52.6": 52.6}
+        others = dict.fromkeys(["5 0 0 0 5 0 0 0 6", "5 0 0 1 5 0 0 0 5", "-5 0 0 0 -5 0 0 0 -5", "5 5 5", "a", ""])
+        for cell, edge in {**cubes, **others}.items():
+            body = f'1\nstep=3 Lattice="{cell}" pbc="T T T"\nAr 0 0 0\n'
+            self.assertEqual(scenes.edge_in(body.encode()), edge)
+        self.assertIsNone(scenes.edge_in(DIMER.encode()))
+
+    def test_only_a_browser_with_windows_is_opened(self):
+        for browser, times in ((webbrowser.GenericBrowser("w3m"), 0), (webbrowser.BackgroundBrowser("firefox"), 1)):
+            with mock.patch.object(webbrowser, "get", return_value=browser), mock.patch.object(type(browser), "open") as opens:
+                command.open_browser("http://127.0.0.1:1/")
+            self.assertEqual(opens.call_count, times)
+
+
+class Scenes(unittest.TestCase):
+    def test_velocities_are_those_of_a_temperature(self):
+        """The mean of the squares of 3 N drawn parts is off by sqrt(2 / 3N) of it, and here five times that is let through."""
+        atoms, heat = 500, 1.5
+        moved = scenes.Scene("", b"", REDUCED, heat, seed=7).displacements(atoms)
+        unit = REDUCED.sigma_on_ring * REDUCED.reduced_dt
+        mean = sum((part / unit) ** 2 for each in moved for part in each) / (3 * atoms)
+        self.assertAlmostEqual(mean / heat, 1, delta=5 * (2 / (3 * atoms)) ** 0.5)
+
+    def test_velocities_have_no_sum_but_for_rounding(self):
+        moved = scenes.Scene("", b"", REDUCED, 1.5).displacements(500)
+        for parts in zip(*moved):
+            self.assertLessEqual(abs(sum(parts)), 250)
+
+    def test_kelvin(self):
+        physical = units.Scale.of(34, dt=10, **units.ARGON)
+        reduced = units.Scale.of(34, 3.4, physical.h)
+        self.assertEqual(
+            scenes.Scene("", b"", physical, 119.8).displacements(5), scenes.Scene("", b"", reduced, 1.0).displacements(5)
+        )
+
+    def test_atoms_at_rest(self):
+        self.assertEqual(scenes.Scene("", b"", REDUCED).displacements(5), [])
+
+    def test_the_crystal(self):
+        """Each atom of a face-centred cubic crystal has twelve nearest neighbours, half the diagonal of a face away."""
+        scene = scenes.crystal(131072, 1.5, 1)
+        edge = (256 / 0.8442) ** (1 / 3)
+        sites = [[float(word) / edge for word in line.split()[1:]] for line in scene.body.decode().splitlines()[2:]]
+        self.assertEqual(len(sites), 256)
+        away = [sum(((a - b + 0.5) % 1 - 0.5) ** 2 for a, b in zip(sites[5], site)) ** 0.5 for site in sites]
+        self.assertEqual(sum(abs(far - 0.5**0.5 / 4) < 1e-6 for far in away), 12)
+
+
+class Packed(unittest.TestCase):
+    @unittest.skipUnless(packs(), "setuptools 61 is not installed")
+    def test_an_installation_has_the_page(self):
+        """The packages are built as `pip install` builds them, without a network."""
+        with tempfile.TemporaryDirectory() as folder:
+            shutil.copytree(TOP / "clients" / "python", f"{folder}/source")
+            words = ["-W", "ignore", "-c", "import setuptools; setuptools.setup()", "build_py", "-d", f"{folder}/built"]
+            subprocess.run([sys.executable, *words], cwd=f"{folder}/source", check=True, capture_output=True, timeout=SECONDS)
+            built = pathlib.Path(folder) / "built" / "ljclient" / "view"
+            self.assertEqual({path.name for path in (built / "page").iterdir()}, {name for name, _ in server.FILES.values()})
+            self.assertTrue((built / "__main__.py").exists())
+
+
+if __name__ == "__main__":
+    unittest.main()
