@@ -8,6 +8,8 @@ use Rattle.clap.specs.declared.error.kind.ErrorKind.TheVariants.{DisplayHelp, Di
 use Rattle.ljserve.specs.declared.input.text.TextFault.{TextFault}
 use Rattle.ljserve.specs.declared.input.text.TextFault.TheVariants as texts
 use Rattle.ljserve.specs.declared.program_fault.Fault.{Fault}
+use Rattle.ljserve.specs.declared.program_fault.ReplayFault.{ReplayFault}
+use Rattle.ljserve.specs.declared.program_fault.ReplayFault.TheVariants as replays
 use Rattle.ljserve.specs.declared.program_fault.Fault.TheVariants.{Read, Write, Listen, Memory}
 use Rattle.ljserve.specs.declared.program_fault.Fault.TheVariants.{Unreadable, ScheduleLine, UsersLine}
 
@@ -37,9 +39,15 @@ exit_of (Ok done) = 0
 exit_of (Err fault) = status_of fault
 
 -- why a schedule is not replayed that is not read
-abbrev pub schedule_fault_of : TextFault → Fault
-schedule_fault_of (texts.Line number) = ScheduleLine number
-schedule_fault_of texts.Memory = Memory
+abbrev pub replay_fault_of : TextFault → ReplayFault
+replay_fault_of (texts.Line number) = replays.Line number
+replay_fault_of texts.Memory = replays.Memory
+
+-- the fault of a program whose schedule is not replayed
+abbrev pub fault_of_replay : ReplayFault → Fault
+fault_of_replay (replays.Line number) = ScheduleLine number
+fault_of_replay replays.Memory = Memory
+fault_of_replay replays.Write = Write
 
 -- why a server does not serve whose users are not read
 abbrev pub users_fault_of : TextFault → Fault
@@ -52,13 +60,6 @@ IsOfRun Read = Unit {0}
 IsOfRun Write = Unit {0}
 IsOfRun Memory = Unit {0}
 IsOfRun _ = ⊥
-
--- of this a replay can fail whose file is read
-abbrev pub IsOfReplay : Fault → Type 0
-IsOfReplay (ScheduleLine number) = Unit {0}
-IsOfReplay Write = Unit {0}
-IsOfReplay Memory = Unit {0}
-IsOfReplay _ = ⊥
 
 -- of this a server can fail
 abbrev pub IsOfServer : Fault → Type 0

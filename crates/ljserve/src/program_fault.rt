@@ -1,7 +1,8 @@
 //! Why the program fails, what it tells then, and its exit status.
 ghost use Rattle.std.specs.Prelude.{◌≡◌};
-ghost use Rattle.ljserve.specs.Outcomes.{status_of, schedule_fault_of, users_fault_of};
+ghost use Rattle.ljserve.specs.Outcomes.{status_of, fault_of_replay, replay_fault_of, users_fault_of};
 ghost use Rattle.ljserve.specs.declared.program_fault.Fault.TheVariants.{Memory, Write};
+ghost use Rattle.ljserve.specs.declared.program_fault.ReplayFault.TheVariants.{Memory as NoMemory, Write as WriteFailed};
 
 use crate::input::TextFault;
 use lj_wire::WriteFault;
@@ -35,17 +36,18 @@ pub enum Fault<'a> {
     Memory,
 }
 
-impl Fault<'_> {
-    /// That of a schedule that is not read.
-    pub fn of_schedule(fault: TextFault) -> Self
-        ensures { result ≡ schedule_fault_of fault }
-    {
-        match fault {
-            TextFault::Line(number) => Fault::ScheduleLine(number),
-            TextFault::Memory => Fault::Memory,
-        }
-    }
+/// Why a schedule was not replayed.
+#[derive(Clone, Copy, Debug)]
+pub enum ReplayFault {
+    /// The first line that is bad, counted from 1 with the lines of bodies. Nothing was written.
+    Line(u64),
+    /// There was no memory. Nothing was written.
+    Memory,
+    /// The output could not be written.
+    Write,
+}
 
+impl Fault<'_> {
     /// That of users who are not read.
     pub fn of_users(fault: TextFault) -> Self
         ensures { result ≡ users_fault_of fault }
@@ -89,5 +91,52 @@ impl From<WriteFault> for Fault<'_> {
 
     fn from(_fault: WriteFault) -> Self {
         Fault::Write
+    }
+}
+
+impl From<ReplayFault> for Fault<'_> {
+    ghost from_gives = { λ fault result. result ≡ fault_of_replay fault };
+
+    fn from(fault: ReplayFault) -> Self {
+        match fault {
+            ReplayFault::Line(number) => Fault::ScheduleLine(number),
+            ReplayFault::Memory => Fault::Memory,
+            ReplayFault::Write => Fault::Write,
+        }
+    }
+}
+
+impl From<TextFault> for ReplayFault {
+    ghost from_gives = { λ fault result. result ≡ replay_fault_of fault };
+
+    fn from(fault: TextFault) -> ReplayFault {
+        match fault {
+            TextFault::Line(number) => ReplayFault::Line(number),
+            TextFault::Memory => ReplayFault::Memory,
+        }
+    }
+}
+
+impl From<AllocError> for ReplayFault {
+    ghost from_gives = { λ _ result. result ≡ NoMemory };
+
+    fn from(_error: AllocError) -> ReplayFault {
+        ReplayFault::Memory
+    }
+}
+
+impl From<OutOfMemory> for ReplayFault {
+    ghost from_gives = { λ _ result. result ≡ NoMemory };
+
+    fn from(_error: OutOfMemory) -> ReplayFault {
+        ReplayFault::Memory
+    }
+}
+
+impl From<WriteFault> for ReplayFault {
+    ghost from_gives = { λ _ result. result ≡ WriteFailed };
+
+    fn from(_fault: WriteFault) -> ReplayFault {
+        ReplayFault::Write
     }
 }

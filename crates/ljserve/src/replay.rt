@@ -2,15 +2,14 @@
 ghost use Rattle.std.specs.Prelude.{◌≡◌, ◌≢◌, ◌++◌, IfOk, IfErr, OnOk};
 ghost use Rattle.lj_access.specs.Users as listed;
 ghost use Rattle.lj_wire.specs.Ends.{Rises};
-ghost use Rattle.ljserve.specs.Outcomes.{IsOfReplay};
 ghost use Rattle.ljserve.specs.Printed.{printed, printed_among, printed_entry};
 ghost use Rattle.ljserve.specs.Printed.{IsPrintedRun, WritesRun, BeginsRun};
-ghost use Rattle.ljserve.specs.declared.program_fault.Fault.TheVariants.{Write};
+ghost use Rattle.ljserve.specs.declared.program_fault.ReplayFault.TheVariants.{Write};
 
 mod event_lines;
 mod schedule;
 
-use crate::program_fault::Fault;
+use crate::program_fault::ReplayFault;
 use crate::replay::schedule::{Schedule, read_schedule};
 use bstr::ByteSlice;
 use itoa::Buffer;
@@ -24,11 +23,10 @@ use std::alloc::{AllocError, Global};
 /// the number of its connection.
 ///
 /// # Errors
-/// `ScheduleLine` at the first bad line of the schedule, or `Memory`: nothing was written then. `Write` if a
+/// `Line` at the first bad line of the schedule, or `Memory`: nothing was written then. `Write` if a
 /// write fails: a front of what is printed may have been written.
-pub fn replay<W: Sink>(alloc: Global, bytes: &[u8], writer: &mut W) -> Result<(), Fault<'static>>
+pub fn replay<W: Sink>(alloc: Global, bytes: &[u8], writer: &mut W) -> Result<(), ReplayFault>
     ensures told { OnOk result (WritesRun (W.contents writer.old) (W.contents writer.new)) }
-    ensures kind { IfErr result IsOfReplay }
     ensures nothing { IfErr result (λ fault. fault ≢ Write → writer.new ≡ writer.old) }
     ensures begun { IfErr result (λ fault. fault ≡ Write →
         BeginsRun (W.contents writer.old) (W.contents writer.new)) }
@@ -41,12 +39,11 @@ pub fn replay<W: Sink>(alloc: Global, bytes: &[u8], writer: &mut W) -> Result<()
 }
 
 /// What a run of a schedule prints.
-fn printed_run(alloc: Global, bytes: &[u8]) -> Result<Vec<u8>, Fault<'static>>
+fn printed_run(alloc: Global, bytes: &[u8]) -> Result<Vec<u8>, ReplayFault>
     ensures run { IfOk result (λ printed. IsPrintedRun printed.items) }
-    ensures kind { IfErr result IsOfReplay }
     ensures fault { IfErr result (λ fault. fault ≢ Write) }
 {
-    let Schedule { users, events } = read_schedule(alloc, bytes).map_err(Fault::of_schedule)?;
+    let Schedule { users, events } = read_schedule(alloc, bytes)?;
     let names = names(alloc, users.as_slice())?;
     let transcript = World::run(alloc, users, events)?;
     Ok(told(alloc, names.as_slice(), transcript.entries())?)
