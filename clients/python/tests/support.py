@@ -9,6 +9,8 @@ import tempfile
 import threading
 import time
 
+from ljclient import units
+
 TOP = pathlib.Path(__file__).resolve().parents[3]
 EXAMPLES = TOP / "examples"
 PROGRAM = os.environ.get("LJSERVE") or str(TOP / "bin" / "ljserve")
@@ -16,6 +18,7 @@ SECONDS = 30
 TOKEN = "a" * 32
 DIMER = "2\ndimer\nAr 0 0 0\nAr 1.5 0 0\n"
 DIMER_SCALE = {"edge": 256, "sigma": 1, "h": 131072}
+ARGON = {"edge": 21.04, "dt": 10, **units.ARGON}
 RING = 2**32
 
 
@@ -27,6 +30,16 @@ def dimer(user, name="a", **words):
 def listed(places):
     """Places as a list of tuples of whole numbers, whether they came as an array or not."""
     return [tuple(int(part) for part in place) for place in places]
+
+
+def go_on_alike(case, one, other):
+    """Holds that two sessions are alike in all that can be seen of them, and go on alike, forth and back."""
+    for _ in range(2):
+        case.assertEqual(listed(one.places()), listed(other.places()))
+        case.assertEqual(one.measure(), other.measure())
+        case.assertEqual(one.dump(), other.dump())
+        case.assertEqual((one.advance(20), one.reverse()), (other.advance(20), other.reverse()))
+    case.assertEqual(listed(one.places()), listed(other.places()))
 
 
 def interruptible(case):

@@ -13,10 +13,9 @@ import unittest
 import zlib
 from unittest import mock
 
-from ljclient import Damaged, checkpoint, connect, refusals, run, units, user as users
-from support import DIMER, EXAMPLES, PROGRAM, RING, TOKEN, TOP, Server, dimer, listed
+from ljclient import Damaged, checkpoint, connect, refusals, run, units
+from support import ARGON, DIMER, EXAMPLES, PROGRAM, RING, TOKEN, TOP, Server, dimer, go_on_alike, listed
 
-ARGON = {"edge": 21.04, "dt": 10, **units.ARGON}
 MIX = {"species": ("Ar", "Kr"), "edge": 21.04, "first": (3.4, 119.8 * units.kelvin), "second": (3.65, 164 * units.kelvin)}
 # The dimer after one step, by hand: each atom has moved by the push of the other, 589 units.
 DIMER_FILE = """\
@@ -54,13 +53,7 @@ class Saves(unittest.TestCase):
         return self.user.load(name, EXAMPLES / "argon_256.xyz", **{**ARGON, **words})
 
     def same(self, one, other):
-        """Whether two sessions are alike in what can be seen of them, and go on alike."""
-        for _ in range(2):
-            self.assertEqual(listed(one.places()), listed(other.places()))
-            self.assertEqual(one.measure(), other.measure())
-            self.assertEqual(one.dump(), other.dump())
-            self.assertEqual((one.advance(20), one.reverse()), (other.advance(20), other.reverse()))
-        self.assertEqual(listed(one.places()), listed(other.places()))
+        go_on_alike(self, one, other)
 
 
 class Files(Saves):
@@ -280,101 +273,6 @@ class Restarts(Saves):
         direct.advance(100)
         with Server() as server, connect("127.0.0.1", server.port, "ann", TOKEN) as user:
             self.same(direct, user.load_saved(self.path))
-
-    def test_a_program_that_has_had_its_commands_is_followed_by_another(self):
-        with mock.patch.object(users, "MAX_ITEMS", 10_000):
-            direct = self.argon("direct")
-            with run(PROGRAM) as other:
-                a = other.load("a", EXAMPLES / "argon_256.xyz", **ARGON)
-                b = other.load("b", EXAMPLES / "argon_256.xyz", **ARGON)
-                programs = set()
-                for _ in range(40):
-                    other.ask_all(["LIST"] * 500)
-                    self.assertEqual(a.advance(1), direct.advance(1))
-                    self.assertEqual([listed(each.places()) for each in (a, b)], [listed(direct.places()), listed(b.places())])
-                    programs.add(other._wire)
-                self.assertGreater(len(programs), 2)
-                self.assertEqual(sum(wire.closed for wire in programs), len(programs) - 1)
-                self.assertEqual((b.step, b.measure().kinetic, b.advance(40)), (0, 0, 40))
-                self.same(a, b)
-                self.same(a, direct)
-
-
-class Moves(Saves):
-    """Programs that have had half of their commands. They have 10,000 of them in place of a million."""
-
-    def setUp(self):
-        super().setUp()
-        patch = mock.patch.object(users, "MAX_ITEMS", 10_000)
-        self.addCleanup(patch.stop)
-        self.direct = self.argon()
-        patch.start()
-        self.other = run(PROGRAM)
-        self.addCleanup(self.other.close)
-        self.moving = self.other.load("argon", EXAMPLES / "argon_256.xyz", **ARGON)
-        self.first = self.other._wire
-
-    def spend(self, number=5000):
-        self.other.ask_all(["LIST"] * number)
-
-    def test_what_is_saved_comes_along(self):
-        for each in (self.direct, self.moving):
-            each.advance(10)
-            each.branch("early")
-            each.tug(5, (1, 2, 3))
-            each.advance(20)
-            each.branch("late")
-            self.assertEqual((each.reverse(), each.advance(40)), (29, -11))
-        self.spend()
-        self.same(self.direct, self.moving)
-        self.assertIsNot(self.other._wire, self.first)
-        self.assertEqual(self.moving.order.on_ring, True)
-        self.assertEqual(self.moving.saved(), [("early", 10), ("late", 30)])
-        for name in ("early", "late", "early"):
-            self.assertEqual(self.moving.restore(name), self.direct.restore(name))
-            self.same(self.direct, self.moving)
-        self.assertEqual((self.moving.restore("late"), self.direct.restore("late")), (30, 30))
-        for each in (self.direct, self.moving):
-            each.forget("early")
-            self.assertEqual(each.branch("next"), 30)
-        self.spend()
-        self.assertEqual(self.moving.saved(), self.direct.saved())
-        self.assertEqual((self.moving.restore("next"), self.direct.restore("next")), (30, 30))
-        self.same(self.direct, self.moving)
-
-    def test_the_new_program_does_not_take_them(self):
-        for each in (self.direct, self.moving):
-            each.advance(10)
-            each.reverse()
-            each.branch("k")
-            each.advance(30)
-            each.reverse()
-        for restart in (lambda: run(PROGRAM, atoms=1)._wire, lambda: run(PROGRAM, branches=0)._wire, lambda: run("/none")):
-            with mock.patch.object(self.other, "_restart", restart):
-                self.spend()
-                self.assertIs(self.other._wire, self.first)
-                self.same(self.direct, self.moving)
-                self.assertEqual(self.moving.saved(), self.direct.saved())
-        self.assertEqual((self.moving.restore("k"), self.direct.restore("k")), (9, 9))
-        self.same(self.direct, self.moving)
-
-    def test_sessions_that_the_client_has_not_loaded_stay(self):
-        self.other.ask(f"LOAD a 256 1 131072 rest {len(DIMER)}", DIMER.encode())
-        self.spend(9000)
-        self.assertEqual((self.other.session("a").advance(2), self.other.session("a").place(0)), (2, (1774, 0, 0)))
-        self.assertIs(self.other._wire, self.first)
-        self.other.session("a").drop()
-        self.other.sessions()
-        self.same(self.direct, self.moving)
-
-    def test_what_was_started_is_not_waited_for(self):
-        self.moving.start(20_000)
-        self.spend()
-        self.assertEqual((self.moving.target, self.other._wire), (20_000, self.first))
-        self.assertEqual(self.moving.step, 20_000)
-        self.spend(1000)
-        self.assertIsNot(self.other._wire, self.first)
-        self.assertEqual((self.moving.target, self.moving.order.step), (20_000, 20_000))
 
 
 class Document(Saves):
