@@ -1,7 +1,8 @@
 """Whole numbers out of the bytes of many lines, which numpy reads all at once.
 
 A place is found by where it ends: before each end as many bytes are taken as the longest has, and those that stand before
-the number count for nothing. A position is found by its point. Sums are of floats, which are exact below 2^53.
+the number count for nothing. A position is found by its point. Sums are of floats, which are exact below 2^53, or below 2^24
+if they have 32 bits. Little memory is taken anew, since that costs as much as to compute.
 """
 from __future__ import annotations
 
@@ -39,39 +40,57 @@ def places(text: bytes, head: bytes) -> Optional[Any]:
     return _summed(numbers).reshape(-1, 4).astype(numpy.int64)
 
 
-def positions(text: bytes, start: int) -> Optional[Any]:
-    """The positions of the lines of a text from a start on: of a symbol and three numbers of six decimals. An array of shape
-    (atoms, 3). Before the start there are 8 bytes at least.
+def positions(text: bytes, start: int, count: int) -> Optional[Any]:
+    """The positions of the lines of a text from a start on, which are so many: of a symbol and three numbers of six decimals. An
+    array of shape (atoms, 3). Before the start there are 8 bytes at least.
 
     None if any line is something else, or if a symbol has a point, since numbers are found by theirs. Symbols are not looked at
     further. Numbers are what `float` gives, since a whole number below 2^53 is divided by 10^6.
     """
     data = numpy.frombuffer(text, dtype=numpy.uint8)
-    points = numpy.flatnonzero(data[start:] == ord(".")) + start
-    blanks, lines = (numpy.count_nonzero(data[start:] == ord(letter)) for letter in " \n")
-    if not lines or not 3 * lines == blanks == points.size or points[-1] + DECIMALS + 2 != data.size:
+    points = numpy.flatnonzero(data[start:] == ord("."))
+    blanks = numpy.count_nonzero(data[start:] == ord(" "))
+    points += start
+    if not count or not 3 * count == points.size == blanks or points[-1] + DECIMALS + 2 != data.size:
         return None
-    decimals = sliding_window_view(data, DECIMALS)[points + 1] - ord("0")
-    whole = _whole_before(data, points)
-    after = data[points + DECIMALS + 1].reshape(-1, 3)
-    if whole is None or decimals.max() > 9 or not (after == [ord(" "), ord(" "), ord("\n")]).all():
+    whole, decimals = _whole_before(data, points), _decimals_after(data, points)
+    if whole is None or decimals is None:
         return None
-    return ((whole * 10**DECIMALS + _summed(decimals)) / 10**DECIMALS).reshape(-1, 3)
+    millionths = whole.astype(numpy.float64)
+    millionths *= 10**DECIMALS
+    millionths += decimals
+    millionths /= 10**DECIMALS
+    return millionths.reshape(-1, 3)
 
 
-def _whole_before(data: Any, ends: Any) -> Optional[Any]:
-    """The whole numbers that stand before these ends and after a blank. None if any is none, or is too long."""
-    sums, inside = numpy.zeros(ends.size), numpy.ones(ends.size, dtype=bool)
+def _whole_before(data: Any, points: Any) -> Optional[Any]:
+    """The whole numbers that stand before these points and after a blank. None if any is none, or is too long."""
+    sums, inside = numpy.zeros(points.size, dtype=numpy.float32), numpy.ones(points.size, dtype=bool)
+    at = points.copy()
     for power in range(MOST_DIGITS):
-        digits = data[ends - 1 - power] - ord("0")
+        at -= 1
+        digits = data[at]
+        digits -= ord("0")
         is_digit = digits <= 9
         if (inside & ~is_digit & (digits != BLANK)).any() or not (power or is_digit.all()):
             return None
         inside &= is_digit
         if not inside.any():
             return sums
-        sums += digits * inside * 10.0**power
+        digits *= inside
+        sums += digits * numpy.float32(10**power)
     return None
+
+
+def _decimals_after(data: Any, points: Any) -> Optional[Any]:
+    """The six decimals after each point as a whole number. None if any has others, or if the lines do not end after three."""
+    rows = sliding_window_view(data, DECIMALS + 1)[points + 1]
+    after = rows[:, DECIMALS].reshape(-1, 3)
+    digits = rows[:, :DECIMALS] - ord("0")
+    if digits.max() > 9 or not (after == [ord(" "), ord(" "), ord("\n")]).all():
+        return None
+    pairs = digits[:, 0::2] * 10 + digits[:, 1::2]
+    return pairs.astype(numpy.float32) @ numpy.array([10**4, 10**2, 1], dtype=numpy.float32)
 
 
 def _word_ends(data: Any, words: int) -> Optional[Any]:

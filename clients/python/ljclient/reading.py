@@ -41,7 +41,8 @@ class Frame(NamedTuple):
     def positions(self) -> Any:
         """The position of each atom, with the six decimals that the server tells: an array, or a list of tuples."""
         comment = "positions"
-        return _positions_in(self.text(comment).encode(), len(str(len(self.rows))) + len(comment) + 2)
+        start = len(f"{len(self.rows)}\n{comment}\n")
+        return _positions_in(self.text(comment).encode(), start, len(self.rows))
 
 
 @functools.lru_cache(maxsize=8)
@@ -89,10 +90,11 @@ def frame_of(name: str, reply: Reply) -> Frame:
 
 def positions_of(name: str, words: List[str], text: bytes) -> Tuple[int, Any]:
     """The step and the positions that the reply to `DUMP` tells, by its words and the text of its lines."""
-    step, head = _head_of(name, words, text.count(b"\n"))
+    count = whole_number(words[-1])
+    step, head = _head_of(name, words, count)
     if not text.startswith(head.encode()):
         raise BadReply(f"{' '.join(words)[:80]!r} is followed by {text[:40]!r}")
-    return step, _positions_in(text, len(head))
+    return step, _positions_in(text, len(head), count - 2)
 
 
 def _head_of(name: str, words: List[str], count: int) -> Tuple[int, str]:
@@ -102,14 +104,16 @@ def _head_of(name: str, words: List[str], count: int) -> Tuple[int, str]:
     return whole_number(words[2]), f"{count - 2}\nstep {words[2]}\n"
 
 
-def _positions_in(text: bytes, start: int) -> Any:
-    """The positions of the atoms whose lines stand in a text from here on, by numpy if that can read them all at once."""
-    positions = None if arrays.numpy is None else digits.positions(text, start)
+def _positions_in(text: bytes, start: int, count: int) -> Any:
+    """The positions of so many atoms, whose lines stand in a text from here on, by numpy if that can read them all at once."""
+    positions = None if arrays.numpy is None else digits.positions(text, start, count)
     if positions is None:
         positions = _listed_positions(text[start:].decode("latin-1"))
     if positions is None:
         wrong = [row for row in text[start:].decode("latin-1").split("\n")[:-1] if not ROWS.fullmatch(row + "\n")]
         raise BadReply(f"{wrong[0][:80]!r} is no atom of a frame")
+    if len(positions) != count:
+        raise BadReply(f"a frame of {count} atoms has {len(positions)} lines")
     return positions
 
 
