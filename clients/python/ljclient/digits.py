@@ -58,7 +58,7 @@ def positions(text: bytes, start: int, count: int) -> Optional[Any]:
         return None
     millionths = whole.astype(numpy.float64)
     millionths *= 10**DECIMALS
-    millionths += decimals
+    millionths += decimals.astype(numpy.float64)
     millionths /= 10**DECIMALS
     return millionths.reshape(-1, 3)
 
@@ -83,14 +83,21 @@ def _whole_before(data: Any, points: Any) -> Optional[Any]:
 
 
 def _decimals_after(data: Any, points: Any) -> Optional[Any]:
-    """The six decimals after each point as a whole number. None if any has others, or if the lines do not end after three."""
-    rows = sliding_window_view(data, DECIMALS + 1)[points + 1]
-    after = rows[:, DECIMALS].reshape(-1, 3)
-    digits = rows[:, :DECIMALS] - ord("0")
-    if digits.max() > 9 or not (after == [ord(" "), ord(" "), ord("\n")]).all():
+    """The six decimals after each point as a whole number. None if any has others, or if the lines do not end after three.
+
+    Eight bytes are taken as one number: the point, six digits, and what is after them. Two digits are put together at once.
+    """
+    eights = numpy.ndarray((data.size - 7,), dtype="<u8", buffer=data, strides=(1,))[points]
+    after = (eights >> 56).reshape(-1, 3)
+    eights >>= 8
+    eights &= 0xFFFFFFFFFFFF
+    if ((eights & 0xF0F0F0F0F0F0) != 0x303030303030).any() or ((eights + 0x060606060606) & 0xF0F0F0F0F0F0 != 0x303030303030).any():
         return None
-    pairs = digits[:, 0::2] * 10 + digits[:, 1::2]
-    return pairs.astype(numpy.float32) @ numpy.array([10**4, 10**2, 1], dtype=numpy.float32)
+    if any((after[:, column] != ord(letter)).any() for column, letter in enumerate("  \n")):
+        return None
+    eights -= 0x303030303030
+    eights = eights * 10 + (eights >> 8)
+    return (eights & 0xFF) * 10000 + (eights >> 16 & 0xFF) * 100 + (eights >> 32 & 0xFF)
 
 
 def _word_ends(data: Any, words: int) -> Optional[Any]:
