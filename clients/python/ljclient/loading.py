@@ -217,7 +217,7 @@ class Loader:
             self._known[state.name] = state.known(order)
 
     def _drops(self, name: str, replace: bool) -> List[Command]:
-        """The command that gives up a session which is to be replaced, where it is there."""
+        """The command that gives up a session which is to be replaced, if it is there."""
         is_there = replace and any(row.name == name for row in self.sessions())
         return [(f"DROP {name}", b"")] if is_there else []
 

@@ -20,9 +20,9 @@ Thing = TypeVar("Thing")
 class Order:
     """How the numbers of the server stand to those of the user, for a session.
 
-    numbers    the server's number of each of the user's atoms; None where both have the same
+    numbers    the server's number of each of the user's atoms; None if both have the same
     step       the user's step number at step 0 of the server
-    direction  1 where both count alike, -1 where the server's steps go up as the user's go down
+    direction  1 if both count alike, -1 if the server's steps go up as the user's go down
     on_ring    whether the server has the atoms in a box whose edge is 4294.967296, so that its sixth decimal is a ring unit
 
     `User.session(name, order=session.order)` hands it on to another connection. It holds until the session is sorted anew.
@@ -96,7 +96,7 @@ def by_halves(places: Sequence[Place]) -> Tuple[int, ...]:
 
 
 def _halves(part: List[int], column: Sequence[int]) -> List[List[int]]:
-    """Two halves of whole blocks, the first of the atoms with the smaller coordinates; or the part, where it is a block."""
+    """Two halves of whole blocks, the first of the atoms with the smaller coordinates; or the part, if it is a block."""
     if len(part) <= BLOCK:
         return [part]
     part.sort(key=column.__getitem__)

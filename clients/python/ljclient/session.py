@@ -269,8 +269,8 @@ class Session:
     def resort(self) -> None:
         """Sorts the atoms in space at the server, where a step of many is faster then. Their numbers here stay.
 
-        With `load(.., order="space")` it is done each 250 steps of `advance`. ValueError where something is saved by
-        `branch`, which would be lost.
+        With `load(.., order="space")` it is done each 250 steps of `advance`. ValueError if something is saved by `branch`,
+        which would be lost.
         """
         self._user.resort(self.name)
 

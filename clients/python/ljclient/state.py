@@ -89,7 +89,7 @@ class State:
 
 
 def checked(name: str, known: Known) -> Scale:
-    """The scale of a session that can be loaded again. Raises ValueError where too little was said of it."""
+    """The scale of a session that can be loaded again. Raises ValueError if too little was said of it."""
     scale = known.scale
     if scale is None:
         raise ValueError(f"the scale of {name} is not known: user.session(name, edge=.., sigma=.., h=..) says it")

@@ -163,7 +163,7 @@ class User(Loader):
         """Begins a new connection where this one's million commands would be passed, if the sessions outlast it.
 
         Of `run` they don't, so there they move to a new program when half of the commands are used up: reading them takes
-        commands too. Where this cannot be, it is tried again later.
+        commands too. If this cannot be, it is tried again later.
         """
         asked = self._wire.asked + count
         if self._wire.closed or count >= MAX_ITEMS:
