@@ -64,7 +64,7 @@ def on_ring(frame: Frame) -> Places:
 
 
 def in_box(frame: Frame, edge: float) -> Frame:
-    """A frame whose box shows each ring unit as the server would dump it in a box of this edge: rounded down to six decimals."""
+    """A frame whose box shows each ring unit, as the server would dump it in a box of this edge, with six decimals."""
     nanos, rows = nano(edge), []
     for row, place in zip(frame.rows, arrays.listed(on_ring(frame).places)):
         parts = (divmod(part * nanos // (RING * 1000), MILLION) for part in place)

@@ -86,7 +86,7 @@ class User(Loader):
         elif (edge, sigma, h, epsilon, mass, dt) != (None,) * 6:
             raise ValueError("a scale is edge and sigma, with h or with epsilon, mass and dt")
         if order is not None:
-            known.order = Order.of(order)
+            known.order, known.symbols = Order.of(order), ()
         return Session(self, name, known.scale, mixture=known.mixture)
 
     def advance(

@@ -67,7 +67,8 @@ class Files(Saves):
     def test_a_file_from_elsewhere(self):
         self.path.write_text(with_checks(DIMER_FILE))
         a = self.user.load_saved(self.path)
-        self.assertEqual((a.step, a.atoms, a.symbols(), listed(a.places())), (1, 2, ["Ar"] * 2, [(589, 0, 0), (25165235, 0, 0)]))
+        self.assertEqual((a.step, a.atoms, a.symbols()), (1, 2, ["Ar", "Ar"]))
+        self.assertEqual(listed(a.places()), [(589, 0, 0), (25165235, 0, 0)])
         self.assertEqual((a.advance(1), a.place(0)), (2, (1774, 0, 0)))
         self.assertEqual((a.edge, a.h, a.scale.sigma, a.dt), (256, 131072, 1, None))
         # A place of 1774 units is 1774 * 256 / 2^32 = 0.000105.. in the unit of the file.

@@ -180,10 +180,13 @@ class Numbers(Sessions):
                 ordered = user.load("s", self.rows, order="space", **SCALE)
                 ordered.advance(300)
                 order, places, dumped = ordered.order, listed(ordered.places()), ordered.dump()
+                symbols = ordered.symbols()
             with connect("127.0.0.1", server.port, "ann", TOKEN) as user:
                 self.assertEqual(listed(user.session("s").places()), list(order.for_server(places)))
+                self.assertEqual(user.session("s").symbols(), order.for_server(symbols))
                 other = user.session("s", order=order, **SCALE)
                 self.assertEqual((listed(other.places()), other.dump(), other.step), (places, dumped, 300))
+                self.assertEqual(other.symbols(), symbols)
                 numbers = user.session("s", order=list(order.numbers))
                 self.assertEqual((listed(numbers.places()), numbers.place(7)), (places, places[7]))
                 for wrong in (order.numbers[:-1], [0] * 500):
@@ -334,7 +337,8 @@ class Script(Sessions):
         frames = [xyz.text_of(((row[0], [part + moved for part in row[1:]]) for row in self.rows)) for moved in (0.1, 0)]
         plain = self.user.load("plain", frames[1], before=frames[0], **SCALE)
         (self.folder / "pair").write_bytes(b"".join(frames))
-        words = [sys.executable, TOP / "examples" / "load", "--sorted", self.folder / "pair", "sorted", "8.4", "1", "131072", "pair"]
+        words = [sys.executable, TOP / "examples" / "load", "--sorted"]
+        words += [self.folder / "pair", "sorted", "8.4", "1", "131072", "pair"]
         line, _, body = subprocess.run(words, capture_output=True, check=True, timeout=60).stdout.partition(b"\n")
         self.user.ask(line.decode(), body)
         numbers = by_halves(listed(plain.places()))
