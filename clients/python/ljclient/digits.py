@@ -48,9 +48,10 @@ def positions(text: bytes, start: int, count: int) -> Optional[Any]:
     further. Numbers are what `float` gives, since a whole number below 2^53 is divided by 10^6.
     """
     data = numpy.frombuffer(text, dtype=numpy.uint8)
-    points = numpy.flatnonzero(data[start:] == ord("."))
-    blanks = numpy.count_nonzero(data[start:] == ord(" "))
+    found = data[start:] == ord(".")
+    points = numpy.flatnonzero(found)
     points += start
+    blanks = numpy.count_nonzero(numpy.equal(data[start:], ord(" "), out=found))
     if not count or not 3 * count == points.size == blanks or points[-1] + DECIMALS + 2 != data.size:
         return None
     whole, decimals = _whole_before(data, points), _decimals_after(data, points)
