@@ -46,7 +46,7 @@ def options_of(arguments: List[str]) -> argparse.Namespace:
     form = argparse.RawTextHelpFormatter
     reader = argparse.ArgumentParser("python3 -m ljclient view", description=TEXT, formatter_class=form)
     reader.add_argument("files", metavar="FILE.xyz", nargs="*", help="atoms as XYZ text, a choice of the page for each file")
-    reader.add_argument("--edge", type=float, help="edge of the cubic box, if the file says no Lattice")
+    reader.add_argument("--edge", type=float, help="edge of the cubic box, for files that say no Lattice")
     reader.add_argument("--temperature", type=float, help="of the first velocities, in kelvin (with --h in epsilon / k_B)")
     reader.add_argument("--seed", type=int, default=1, help="of the random numbers for them (1)")
     reader.add_argument("--sigma", type=float, help="the distance sigma (3.4; with --h it is 1)")
@@ -57,7 +57,7 @@ def options_of(arguments: List[str]) -> argparse.Namespace:
     reader.add_argument("--port", type=int, default=0, help="the port on 127.0.0.1 (one that is free)")
     reader.add_argument("--program", help="the program, as ljclient.run takes it")
     reader.add_argument("--no-browser", dest="browser", action="store_false", help="only say where the page is")
-    options = reader.parse_args(arguments)
+    options = reader.parse_intermixed_args(arguments)
     if options.temperature is not None and not 0 <= options.temperature < float("inf"):
         reader.error("--temperature is not below 0")
     if not 0 <= options.port <= 65535:

@@ -76,9 +76,9 @@ def crystal(h: int, temperature: float, seed: int) -> Scene:
 
 
 def of_file(path: str, edge: Optional[float], scale_of: Callable[[float], Scale], temperature: float, seed: int) -> Scene:
-    """The atoms of an XYZ file. ValueError if nobody says the edge of the box."""
+    """The atoms of an XYZ file. The edge is for a file that says no Lattice. ValueError if nobody says one."""
     body = xyz.body_of(path)
-    found = edge if edge is not None else edge_in(body)
+    found = edge_in(body) or edge
     if found is None:
         raise ValueError("the file says no cubic Lattice: say the edge of the box by --edge, in the unit of the file")
     return Scene(os.path.basename(path), body, scale_of(found), temperature, seed)

@@ -4,6 +4,8 @@ export const RING = 2 ** 32;
 const RADIUS = 0.5; // of an atom, in sigma
 const SMALLEST = 3; // of a radius, in pixels
 const EDGE_OF_SLAB = 0.35; // over how many sigma an atom fades at the faces of the slab
+const SHADES = 32; // colours of atoms, by where they were at the start
+const NEARNESSES = 6; // steps of paleness
 const STRONGEST_PULL = 5; // in sigma
 const STOPS = [[47, 98, 178], [66, 156, 171], [143, 178, 92], [231, 176, 70], [211, 92, 55]];
 
@@ -27,18 +29,52 @@ export function distance(places, others) {
   return Math.sqrt(sum / (places.length / 3));
 }
 
-// A colour along the stops, for a share from 0 to 1.
-function colour(share) {
-  const at = Math.min(share, 0.9999) * (STOPS.length - 1);
+// A colour along the stops.
+function colour(shade) {
+  const at = (shade / SHADES) * (STOPS.length - 1);
   const [low, high] = [STOPS[Math.floor(at)], STOPS[Math.floor(at) + 1]];
   return `rgb(${low.map((part, k) => Math.round(part + (high[k] - part) * (at % 1))).join(" ")})`;
+}
+
+// Pictures of atoms, each of which is drawn once and then copied.
+class Discs {
+  constructor(radius, scale, paper) {
+    Object.assign(this, { radius, scale, paper, half: radius + 1, drawn: new Map() });
+  }
+
+  fit(radius, scale, paper) {
+    return this.radius === radius && this.scale === scale && this.paper === paper;
+  }
+
+  of(shade, nearness) {
+    const key = shade * (NEARNESSES + 1) + nearness;
+    if (!this.drawn.has(key)) this.drawn.set(key, this.draw(colour(shade), 0.5 + nearness / NEARNESSES / 2));
+    return this.drawn.get(key);
+  }
+
+  draw(fill, strength) {
+    const canvas = document.createElement("canvas");
+    canvas.width = canvas.height = Math.ceil(2 * this.half * this.scale);
+    const pen = canvas.getContext("2d");
+    pen.scale(canvas.width / (2 * this.half), canvas.width / (2 * this.half));
+    pen.arc(this.half, this.half, this.radius, 0, 2 * Math.PI);
+    pen.strokeStyle = "rgb(0 0 0 / 40%)";
+    for (const [style, alpha] of [[this.paper, 1], [fill, strength]]) {
+      pen.globalAlpha = alpha;
+      pen.fillStyle = style;
+      pen.fill();
+    }
+    pen.stroke();
+    return canvas;
+  }
 }
 
 export class Box {
   // `tug` is told an atom and the ring units along x and y by which it was pulled.
   constructor(canvas, tug) {
     this.canvas = canvas;
-    this.pen = canvas.getContext("2d");
+    this.pen = canvas.getContext("2d", { alpha: false });
+    this.discs = new Discs(1, 1, "");
     this.tug = tug;
     this.pull = null;
     this.depth = 0.5;
@@ -51,7 +87,7 @@ export class Box {
     this.places = places;
     this.edge = edge;
     this.sigma = sigma;
-    this.colours = Array.from({ length: places.length / 3 }, (_, atom) => colour(places[3 * atom] / RING));
+    this.shades = Array.from({ length: places.length / 3 }, (_, atom) => Math.floor((places[3 * atom] / RING) * SHADES));
     this.pull = null;
   }
 
@@ -78,11 +114,12 @@ export class Box {
     const pixels = Math.round(this.size * scale);
     if (this.canvas.width !== pixels) this.canvas.width = this.canvas.height = pixels;
     this.pen.setTransform(scale, 0, 0, scale, 0, 0);
-    this.pen.clearRect(0, 0, this.size, this.size);
+    const paper = getComputedStyle(this.canvas).backgroundColor;
+    this.pen.globalAlpha = 1;
+    this.pen.fillStyle = paper;
+    this.pen.fillRect(0, 0, this.size, this.size);
     this.radius = Math.max(SMALLEST, (RADIUS / this.edge) * this.size);
-    this.paper = getComputedStyle(this.canvas).backgroundColor;
-    this.pen.lineWidth = 1;
-    this.pen.strokeStyle = "rgb(0 0 0 / 40%)";
+    if (!this.discs.fit(this.radius, scale, paper)) this.discs = new Discs(this.radius, scale, paper);
     for (const each of this.slab()) this.drawAtom(each);
     if (this.pull) this.drawPull();
     this.pen.globalAlpha = 1;
@@ -90,19 +127,10 @@ export class Box {
 
   // An atom near a face of the box is drawn at the opposite face too, since the box goes on there. Far ones are paler.
   drawAtom({ atom, z, alpha, x, y }) {
-    const pen = this.pen;
     const near = Math.min(1, Math.max(0, 0.5 + z / this.thickness));
-    for (const [left, top] of this.images(x, y)) {
-      pen.beginPath();
-      pen.arc(left, top, this.radius, 0, 2 * Math.PI);
-      pen.globalAlpha = alpha;
-      pen.fillStyle = this.paper;
-      pen.fill();
-      pen.globalAlpha = alpha * (0.5 + 0.5 * near);
-      pen.fillStyle = this.colours[atom];
-      pen.fill();
-      pen.stroke();
-    }
+    const disc = this.discs.of(this.shades[atom], Math.round(near * NEARNESSES));
+    this.pen.globalAlpha = alpha;
+    for (const [left, top] of this.images(x, y)) this.pen.drawImage(disc, left - this.discs.half, top - this.discs.half, 2 * this.discs.half, 2 * this.discs.half);
   }
 
   images(x, y) {
@@ -151,14 +179,15 @@ export class Box {
     if (!hit) return;
     this.canvas.setPointerCapture(event.pointerId);
     this.canvas.classList.add("holding");
-    this.pull = { atom: hit.atom, x: event.offsetX, y: event.offsetY, dx: 0, dy: 0 };
+    const away = ([x, y]) => Math.hypot(x - event.offsetX, y - event.offsetY);
+    const [x, y] = this.images(hit.x, hit.y).sort((one, other) => away(one) - away(other))[0];
+    this.pull = { atom: hit.atom, x, y, left: event.offsetX, top: event.offsetY, dx: 0, dy: 0 };
     this.draw();
   }
 
   move(event) {
     if (!this.pull) return;
-    const { x, y } = this.pull;
-    const [dx, dy] = [event.offsetX - x, event.offsetY - y];
+    const [dx, dy] = [event.offsetX - this.pull.left, event.offsetY - this.pull.top];
     const most = (STRONGEST_PULL / this.edge) * this.size;
     const share = Math.min(1, most / Math.max(1e-9, Math.hypot(dx, dy)));
     Object.assign(this.pull, { dx: dx * share, dy: dy * share });

@@ -1,28 +1,37 @@
 // Lines over the step number. The way back lies over the way there, if it is the same.
 
 const MOST_POINTS = 4000;
-const LEFT = 44, RIGHT = 10, TOP = 6, BOTTOM = 20;
+const LEFT = 3.6, RIGHT = 0.8, TOP = 0.5, BOTTOM = 1.7; // margins, in letters
 
 // What was seen: a row for each frame, with the step, the direction, whether it follows the row before, and the values.
+// Of a long history only some rows are kept, all equally many frames apart, and those at which a line begins, turns or ends.
 export class History {
   constructor() {
     this.rows = [];
-  }
-
-  add(row) {
-    this.rows.push(row);
-    if (this.rows.length > MOST_POINTS) this.thin();
-  }
-
-  // Leaves out every second row, but none at which a line begins or turns.
-  thin() {
-    const rows = this.rows;
-    const turns = (k) => !rows[k].follows || rows[k].direction !== rows[k - 1].direction || rows[k + 1]?.follows === false;
-    this.rows = rows.filter((_, k) => k % 2 === 0 || k === rows.length - 1 || turns(k));
+    this.added = 0;
+    this.apart = 1;
   }
 
   get last() {
     return this.rows.at(-1);
+  }
+
+  add(row) {
+    this.rows.push({ ...row, number: this.added++ });
+    if (!this.stays(this.rows.length - 2)) this.rows.splice(-2, 1);
+    if (this.rows.length <= MOST_POINTS) return;
+    this.apart *= 2;
+    this.rows = this.rows.filter((_, place) => this.stays(place));
+  }
+
+  stays(place) {
+    return this.rows[place]?.number % this.apart === 0 || !this.joins(place) || !this.joins(place + 1);
+  }
+
+  // Whether a row goes on from the one before in the same direction.
+  joins(place) {
+    const [before, row] = [this.rows[place - 1], this.rows[place]];
+    return Boolean(before && row && row.follows && row.direction === before.direction);
   }
 }
 
@@ -64,6 +73,9 @@ export class Chart {
     if (this.canvas.width !== across || this.canvas.height !== down) [this.canvas.width, this.canvas.height] = [across, down];
     this.pen.setTransform(scale, 0, 0, scale, 0, 0);
     this.pen.clearRect(0, 0, this.width, this.height);
+    this.letter = 0.78 * parseFloat(getComputedStyle(this.canvas).fontSize);
+    [this.left, this.right] = [LEFT * this.letter, this.width - RIGHT * this.letter];
+    [this.top, this.bottom] = [TOP * this.letter, this.height - BOTTOM * this.letter];
     this.steps = [0, 100];
     this.values = [...this.least];
     for (const row of rows) {
@@ -74,35 +86,37 @@ export class Chart {
   }
 
   x(step) {
-    return LEFT + ((step - this.steps[0]) / (this.steps[1] - this.steps[0])) * (this.width - LEFT - RIGHT);
+    return this.left + ((step - this.steps[0]) / (this.steps[1] - this.steps[0])) * (this.right - this.left);
   }
 
   y(value) {
-    return TOP + ((this.values[1] - value) / (this.values[1] - this.values[0])) * (this.height - TOP - BOTTOM);
+    return this.top + ((this.values[1] - value) / (this.values[1] - this.values[0])) * (this.bottom - this.top);
   }
 
   axes() {
     const pen = this.pen;
     const style = getComputedStyle(this.canvas);
-    pen.font = `12px ${style.fontFamily}`;
+    pen.font = `${this.letter}px ${style.fontFamily}`;
     pen.fillStyle = style.getPropertyValue("--soft");
     pen.strokeStyle = style.getPropertyValue("--line");
     pen.lineWidth = 1;
     pen.textAlign = "right";
     pen.textBaseline = "middle";
     for (const value of ticks(...this.values, 3)) {
-      this.rule(LEFT, this.y(value), this.width - RIGHT, this.y(value));
-      pen.fillText(value.toLocaleString("en").replace("-", "−"), LEFT - 6, this.y(value));
+      this.rule(this.y(value));
+      pen.fillText(value.toLocaleString("en").replace("-", "−"), this.left - 0.5 * this.letter, this.y(value));
     }
     pen.textAlign = "center";
     pen.textBaseline = "top";
-    for (const step of ticks(...this.steps, 5)) pen.fillText(step.toLocaleString("en"), Math.min(this.x(step), this.width - 18), this.height - BOTTOM + 5);
+    for (const step of ticks(...this.steps, 5)) {
+      pen.fillText(step.toLocaleString("en").replace("-", "−"), Math.min(this.x(step), this.width - 1.5 * this.letter), this.bottom + 0.4 * this.letter);
+    }
   }
 
-  rule(left, top, right, bottom) {
+  rule(height) {
     this.pen.beginPath();
-    this.pen.moveTo(left, Math.round(top) + 0.5);
-    this.pen.lineTo(right, Math.round(bottom) + 0.5);
+    this.pen.moveTo(this.left, Math.round(height) + 0.5);
+    this.pen.lineTo(this.right, Math.round(height) + 0.5);
     this.pen.stroke();
   }
 

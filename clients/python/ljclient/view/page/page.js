@@ -5,6 +5,7 @@ import { Chart, History } from "./charts.js";
 import { Talk } from "./talk.js";
 
 const PULL = 2; // the velocity that a pull by one sigma gives, in sigma per unit of time
+const READ_EACH = 100; // milliseconds
 const part = (name) => document.getElementById(name);
 const byDirection = (direction) => (direction > 0 ? "--forward" : "--backward");
 
@@ -16,8 +17,11 @@ const charts = [
 let history = new History();
 let scene = null;
 let start = null;
+let latest = null; // the frame that is shown
 let playing = false;
 let fresh = false; // whether what is shown has changed since it was drawn
+let stale = false; // whether numbers and lines have changed since they were shown
+let told = 0; // when they were
 let frames = []; // when the last frames were drawn
 const talk = new Talk(heard, ended);
 
@@ -76,6 +80,17 @@ function show(frame) {
   row.total = row.kinetic + row.potential;
   row.follows = Boolean(before) && !frame.jumped;
   history.add(row);
+  latest = frame;
+  fresh = true;
+  if (!playing) tell();
+}
+
+// Shows the numbers of the latest frame.
+function tell() {
+  if (!latest) return;
+  const frame = latest;
+  const row = history.last;
+  const far = row.distance;
   part("time").dataset.direction = part("direction").textContent = frame.direction > 0 ? "forward" : "backward";
   part("step").textContent = frame.step.toLocaleString("en");
   part("distance").textContent = far === 0 ? "0" : far < 0.001 ? far.toExponential(1) : far.toFixed(3);
@@ -83,7 +98,6 @@ function show(frame) {
   part("temperature").textContent = scene.in_kelvin ? `${frame.temperature.toFixed(1)} K` : `${frame.temperature.toFixed(2)} ε/k`;
   part("restore").disabled = frame.saved === null;
   part("restore").textContent = frame.saved === null ? "Restore" : `Restore step ${frame.saved.toLocaleString("en")}`;
-  fresh = true;
 }
 
 function play(on) {
@@ -103,13 +117,20 @@ async function goOn(steps) {
   }
 }
 
-function draw() {
+// Draws what has changed. While it plays, numbers and lines change no more often than they can be read.
+function draw(now) {
   requestAnimationFrame(draw);
   if (fresh) {
     fresh = false;
+    stale = true;
     box.draw();
-    charts.forEach((chart) => chart.draw(history));
     if (playing) count();
+  }
+  if (stale && (!playing || now - told >= READ_EACH)) {
+    stale = false;
+    told = now;
+    tell();
+    charts.forEach((chart) => chart.draw(history));
   }
   if (playing && !box.held && talk.isIdle) goOn(Number(part("speed").value));
 }

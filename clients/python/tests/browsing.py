@@ -1,0 +1,133 @@
+"""Chromium without a window, spoken to by its DevTools protocol: what the tests of a page and its bench need of it."""
+import base64
+import json
+import os
+import pathlib
+import shutil
+import subprocess
+import tempfile
+import time
+import urllib.request
+
+from ljclient.view import websocket
+from support import SECONDS
+
+CHROMIUM = shutil.which("chromium") or shutil.which("chromium-browser") or shutil.which("google-chrome")
+MOST = 1 << 26
+
+
+class Browser:
+    """A browser with one page, which is as large as said."""
+
+    def __init__(self, width=1320, height=860):
+        self._folder = pathlib.Path(tempfile.mkdtemp())
+        words = ["--headless", "--remote-debugging-port=0", f"--user-data-dir={self._folder}", "--disable-gpu"]
+        words += ["--no-first-run", "--hide-scrollbars", f"--window-size={width},{height}", "--force-device-scale-factor=1"]
+        words += ["--no-sandbox"] if os.geteuid() == 0 else []
+        self._child = subprocess.Popen(
+            [CHROMIUM, *words, "about:blank"],
+            env={**os.environ, "TMPDIR": str(self._folder)},
+            stdout=subprocess.DEVNULL,
+            stderr=subprocess.DEVNULL,
+        )
+        self._channel = None
+        self._number = 0
+        self.faults = []
+        try:
+            self._channel = self._page()
+            for domain in ("Page", "Runtime", "Log"):
+                self.ask(f"{domain}.enable")
+        except BaseException:
+            self.end()
+            raise
+
+    @property
+    def process(self):
+        """The number of its first process."""
+        return self._child.pid
+
+    def _page(self):
+        told = self._folder / "DevToolsActivePort"
+        end = time.monotonic() + SECONDS
+        while not (told.exists() and told.read_text().count("\n") >= 1):
+            if self._child.poll() is not None or time.monotonic() > end:
+                raise AssertionError("the browser does not begin")
+            time.sleep(0.02)
+        port = int(told.read_text().split("\n")[0])
+        with urllib.request.urlopen(f"http://127.0.0.1:{port}/json/list", timeout=SECONDS) as pages:
+            page = next(each for each in json.load(pages) if each["type"] == "page")
+        path = "/" + page["webSocketDebuggerUrl"].split("/", 3)[3]
+        return websocket.connect("127.0.0.1", port, path, {}, SECONDS, MOST)
+
+    def ask(self, method, **words):
+        """The result of a method of the protocol. What the page complains of meanwhile is kept in `faults`."""
+        self._number += 1
+        self._channel.send(json.dumps({"id": self._number, "method": method, "params": words}))
+        while True:
+            told = json.loads(self._channel.receive())
+            if told.get("id") == self._number:
+                if "error" in told:
+                    raise AssertionError(f"{method}: {told['error']}")
+                return told["result"]
+            if told["method"] == "Runtime.exceptionThrown" or told.get("params", {}).get("entry", {}).get("level") == "error":
+                self.faults.append(told["params"])
+
+    def value(self, text):
+        """The value of an expression in the page."""
+        told = self.ask("Runtime.evaluate", expression=text, returnByValue=True, awaitPromise=True)
+        if "exceptionDetails" in told:
+            raise AssertionError(f"{text}: {told['exceptionDetails']}")
+        return told["result"].get("value")
+
+    def text(self, name):
+        """The text of the element of this name."""
+        return self.value(f"document.getElementById({json.dumps(name)}).textContent")
+
+    def click(self, name):
+        """Presses a button with the mouse."""
+        box = self.value(f"document.getElementById({json.dumps(name)}).getBoundingClientRect().toJSON()")
+        where = {"x": box["x"] + box["width"] / 2, "y": box["y"] + box["height"] / 2}
+        self.mouse("mousePressed", **where)
+        self.mouse("mouseReleased", **where)
+
+    def mouse(self, what, x, y):
+        held = int(what != "mouseReleased")
+        self.ask("Input.dispatchMouseEvent", type=what, x=x, y=y, button="left", buttons=held, clickCount=1)
+
+    def wait_for(self, text, seconds=4 * SECONDS):
+        """Waits until an expression holds in the page."""
+        end = time.monotonic() + seconds
+        while not self.value(text):
+            if time.monotonic() > end:
+                shown = self.value("document.body.innerText")
+                raise AssertionError(f"this does not come to hold: {text}\n{shown}\n{self.faults}")
+            time.sleep(0.02)
+
+    def open(self, url):
+        self.ask("Page.navigate", url=url)
+
+    def in_scheme(self, scheme):
+        """Shows the page as a system in a light or a dark scheme does."""
+        self.ask("Emulation.setEmulatedMedia", features=[{"name": "prefers-color-scheme", "value": scheme}])
+
+    def picture(self):
+        """What the page looks like, as PNG."""
+        return base64.b64decode(self.ask("Page.captureScreenshot", format="png")["data"])
+
+    def end(self):
+        if self._channel is not None:
+            self._channel.close()
+        if self._child.poll() is None:
+            self._child.terminate()
+        try:
+            self._child.wait(SECONDS)
+        except subprocess.TimeoutExpired:
+            self._child.kill()
+            self._child.wait(SECONDS)
+        shutil.rmtree(self._folder, ignore_errors=True)
+
+    def __enter__(self):
+        return self
+
+    def __exit__(self, *_):
+        self.end()

@@ -1,0 +1,153 @@
+"""The live view in Chromium: play, turn back to distance 0, tug, save and restore, and what it looks like."""
+import os
+import pathlib
+import unittest
+
+from browsing import CHROMIUM, Browser
+from support import SECONDS
+from viewing import View
+
+PICTURES = os.environ.get("LJVIEW_PICTURES")  # a folder to put what the page looks like into, where somebody wants to look
+PNG = b"\x89PNG\r\n\x1a\n"
+
+
+@unittest.skipUnless(CHROMIUM, "Chromium is not installed")
+class InABrowser(unittest.TestCase):
+    @classmethod
+    def setUpClass(cls):
+        cls.browser = Browser()
+        cls.addClassCleanup(cls.browser.end)
+
+    def setUp(self):
+        self.view = View("--port", "0")
+        self.addCleanup(self.view.end)
+        self.browser.faults.clear()
+        self.browser.open(f"http://{self.view.url}/")
+        self.browser.wait_for("document.getElementById('about')?.textContent.includes('256 atoms')")
+
+    def tearDown(self):
+        self.assertEqual(self.browser.faults, [])
+
+    def step(self):
+        return int(self.browser.text("step").replace(",", ""))
+
+    def play_to(self, step, sign=">="):
+        """Plays until this step is reached or passed, and pauses."""
+        self.browser.click("play")
+        self.browser.wait_for(f"Number(document.getElementById('step').textContent.replaceAll(',', '')) {sign} {step}")
+        self.browser.click("play")
+        self.browser.wait_for("document.getElementById('play').textContent === 'Play'")
+
+    def picture(self, name):
+        shown = self.browser.picture()
+        self.assertTrue(shown.startswith(PNG))
+        self.assertGreater(len(shown), 20000)
+        if PICTURES:
+            (pathlib.Path(PICTURES) / f"{name}.png").write_bytes(shown)
+
+    def angle(self):
+        """By how far the arrow of time is turned."""
+        text = "new DOMMatrix(getComputedStyle(document.getElementById('arrow')).transform)"
+        return self.browser.value(f"(m => Math.round(Math.atan2(m.b, m.a) * 180 / Math.PI))({text})") % 360
+
+    def test_there_and_back(self):
+        self.play_to(400)
+        self.assertGreater(float(self.browser.text("distance")), 0.1)
+        self.assertEqual(self.angle(), 0)
+        self.browser.click("exact")
+        self.browser.wait_for("document.getElementById('message').textContent.startsWith('0 of 256 atoms')")
+        self.picture("there")
+        self.browser.click("reverse")
+        self.browser.wait_for("document.getElementById('direction').textContent === 'backward'")
+        self.play_to(300, "<=")
+        self.browser.wait_for("getComputedStyle(document.getElementById('arrow')).transform.startsWith('matrix(-1, ')")
+        self.assertEqual(self.angle(), 180)
+        self.picture("view")
+        self.browser.click("play")
+        self.browser.wait_for("document.getElementById('step').textContent === '0'")
+        self.browser.wait_for("document.getElementById('play').textContent === 'Play'")
+        self.assertEqual(self.browser.text("distance"), "0")
+        self.browser.click("exact")
+        self.browser.wait_for("document.getElementById('message').textContent.startsWith('256 of 256, to the bit')")
+        self.picture("back")
+
+    def test_one_step(self):
+        for step in (1, 2, 3):
+            self.browser.click("one")
+            self.browser.wait_for(f"document.getElementById('step').textContent === '{step}'")
+
+    def test_a_tug_by_the_mouse(self):
+        """Atom 0 stands at the corner of the box: it is pulled to the right. The same steps without a tug lead elsewhere."""
+        self.browser.click("one")
+        self.browser.wait_for("document.getElementById('step').textContent === '1'")
+        untugged = self.browser.text("kinetic")
+        slab = "document.getElementById('depth')"
+        self.browser.value(f"{slab}.value = 0; {slab}.dispatchEvent(new Event('input'))")
+        box = self.browser.value("document.getElementById('box').getBoundingClientRect().toJSON()")
+        left, bottom = box["x"] + 3, box["y"] + box["height"] - 3
+        self.browser.mouse("mousePressed", left, bottom)
+        self.browser.mouse("mouseMoved", left + 60, bottom - 40)
+        self.picture("tug")
+        self.browser.mouse("mouseReleased", left + 200, bottom - 40)
+        self.browser.wait_for("document.getElementById('message').textContent.startsWith('Atom 0 was tugged')")
+        self.assertNotEqual(self.browser.text("kinetic"), untugged)
+        self.assertEqual(self.step(), 1)
+
+    def test_save_and_restore(self):
+        self.assertTrue(self.browser.value("document.getElementById('restore').disabled"))
+        self.play_to(50)
+        self.browser.click("save")
+        self.browser.wait_for("document.getElementById('message').textContent.startsWith('Saved at step')")
+        saved, far = self.step(), self.browser.text("distance")
+        self.play_to(saved + 50)
+        self.assertNotEqual(self.browser.text("distance"), far)
+        self.browser.click("restore")
+        self.browser.wait_for(f"Number(document.getElementById('step').textContent) === {saved}")
+        self.assertEqual(self.browser.text("distance"), far)
+        self.browser.click("exact")
+        self.browser.wait_for("document.getElementById('message').textContent.startsWith('256 of 256, to the bit')")
+        self.browser.click("restart")
+        self.browser.wait_for("document.getElementById('step').textContent === '0'")
+        self.assertEqual(self.browser.text("distance"), "0")
+
+    def test_a_dark_scheme(self):
+        light = self.browser.value("getComputedStyle(document.body).backgroundColor")
+        self.browser.in_scheme("dark")
+        self.addCleanup(self.browser.in_scheme, "light")
+        self.play_to(200)
+        self.assertNotEqual(self.browser.value("getComputedStyle(document.body).backgroundColor"), light)
+        self.picture("dark")
+
+    def of_script(self, name, text):
+        """The value of an expression over what a script of the page exports."""
+        return self.browser.value(f"import('./{name}').then(script => {text})")
+
+    def test_distances_are_round_the_box(self):
+        places, others = "new Float64Array([0, 5, 2 ** 32 - 1, 7, 7, 7])", "new Float64Array([2 ** 32 - 3, 5, 1, 7, 7, 7])"
+        self.assertEqual(self.of_script("box.js", f"script.distance({places}, {others})"), ((9 + 4) / 2) ** 0.5)
+        self.assertEqual(self.of_script("box.js", f"script.distance({places}, {places})"), 0)
+
+    def test_places_are_read_to_the_unit(self):
+        read = self.of_script("box.js", "[...script.placesOf('Ar 0.000000 4294.967295 1234.567891\\nX 0.000001 0.1 2')]")
+        self.assertEqual(read, [0, 2**32 - 1, 1234567891, 1, 100000, 2000000])
+
+    def test_round_numbers_of_an_axis(self):
+        for low, high, wanted in ((0, 100, [0, 50, 100]), (-6.7, 2.1, [-5, 0]), (0, 0.2, [0, 0.1, 0.2]), (-3, 3, [-2, 0, 2])):
+            self.assertEqual(self.of_script("charts.js", f"script.ticks({low}, {high}, 3)"), wanted)
+
+    def test_a_long_history_keeps_its_turns(self):
+        """Ten thousand steps there and back: all rows may be left out but the first, those of the turn and the last."""
+        rows = "h = new script.History(); for (let k = 0; k < 20001; k++) h.add({step: k <= 10001 ? k : 20002 - k"
+        rows += ", direction: k <= 10001 ? 1 : -1, follows: k > 0})"
+        steps = self.of_script("charts.js", f"{{ let {rows}; return h.rows.map(row => row.step); }}")
+        self.assertLess(len(steps), 4001)
+        self.assertEqual((steps[0], max(steps), steps[-1]), (0, 10001, 2))
+        self.assertLess(max(abs(one - other) for one, other in zip(steps, steps[1:])), 20)
+
+    def test_the_program_ends_with_the_page(self):
+        self.browser.open("about:blank")
+        self.assertEqual(self.view.child.wait(SECONDS), 0)
+
+
+if __name__ == "__main__":
+    unittest.main()
