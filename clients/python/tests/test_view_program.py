@@ -14,7 +14,7 @@ from unittest import mock
 
 from ljclient import units
 from ljclient.view import command, scenes, server, websocket
-from support import DIMER, EXAMPLES, SECONDS, TOP, is_running
+from support import DIMER, EXAMPLES, SECONDS, TOP, interruptible, is_running
 from viewing import View, command as command_of, file_of
 
 REDUCED = units.Scale.of(10, 1, 131072)
@@ -83,6 +83,7 @@ class Ends(unittest.TestCase):
         self.assertIsNone(shown.child.poll())
 
     def test_an_interrupt_ends_it(self):
+        interruptible(self)
         shown = self.view()
         with shown.page() as page:
             (program,) = children_of(shown.child.pid)
