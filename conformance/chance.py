@@ -5,12 +5,13 @@ from typing import Callable, Dict, List, Tuple
 
 from playing import Quota, Stream, referred
 
-QUOTAS: List[Quota] = [(8, 16384, 16), (2, 20, 3), (3, 200, 4), (1, 1, 1), (2, 5, 0), (0, 0, 0)]
+QUOTAS: List[Quota] = [(8, 16384, 16), (2, 20, 3), (3, 200, 2), (1, 1, 1), (2, 5, 0), (0, 0, 0)]
 NAMES = ("a", "b", "c_-9")
 STRANGE_WORDS = (
-    "", "z", "a.b", "-1", "+1", "00000000000000000001", "0000000000000000001", "1e3", "1.", ".", "1000001", "9999999999999999999", "x" * 16,
-    "x" * 17, "2147483647", "2147483648", "-2147483648", "-2147483649", "-", "1\r", "\xe9", "rest", "256", "1d0", "1e999", "1e-999", "NaN",
-)
+    "", "z", "a.b", "-1", "+1", "00000000000000000001", "0000000000000000001", "1e3", "1.", ".", "1000001", "9999999999999999999",
+    "x" * 16, "x" * 17, "2147483647", "2147483648", "-2147483648", "-2147483649", "-", "1\r", "\xe9", "rest", "256", "1d0", "1e999",
+    "1e-999", "NaN",
+)  # fmt: skip
 # Beyond these a stream would take long.
 MOST_STEPS, MOST_OF_MANY = 25, 2
 
@@ -25,7 +26,7 @@ class Chance:
         self.most_atoms = self.rnd.choices((5, 12, 67, 130), (60, 30, 4, 1))[0]
         self.weights: Dict[Callable[[], str], float] = {
             self.load: 3, self.load_mix: 2, self.advance: 6, self.tug: 3, self.measure: 4, self.show: 3, self.dump: 2, self.reverse: 2,
-            self.branch: 2, self.restore: 3, self.forget: 1, self.list: 2, self.drop: 0.7, self.strange: 1,
+            self.branch: 3, self.restore: 3, self.forget: 1, self.list: 2, self.drop: 0.7, self.strange: 1,
         }  # fmt: skip
 
     def stream(self, name: str) -> Stream:
@@ -70,19 +71,24 @@ class Chance:
     def saved(self) -> str:
         return self.rnd.choice(("k", "k", "m"))
 
-    def atom(self) -> int:
-        return self.rnd.choice((0, 0, 1, 2, self.rnd.randrange(self.most_atoms + 1)))
+    def atom(self) -> str:
+        number = self.rnd.choice((0, 0, 1, 2, self.rnd.randrange(self.most_atoms + 1)))
+        return f"{number:0{self.rnd.choice((1, 1, 1, 4))}}"
 
     def number(self, size: float) -> str:
         """A decimal number of about this size, written in one of many ways."""
-        forms = (f"{size:.9f}", f"{size:.3f}", f"{size:+.12f}", f"{size:.6e}", f"{size:.7E}".replace("E", "D"), f"{size * 100:.2f}d-2", f"{size:.1f}")
+        in_fortran = f"{size:.7E}".replace("E", "D"), f"{size * 100:.2f}d-2"
+        forms = (f"{size:.9f}", f"{size:.3f}", f"{size:+.12f}", f"{size:.6e}", *in_fortran, f"{size:.1f}")
         text = self.rnd.choices(forms, (6, 2, 2, 2, 2, 1, 0.3))[0]
         return re.sub(r"\b0\.(?=\d)", ".", text) if self.rnd.random() < 0.2 else text
 
     def scale(self) -> Tuple[float, float]:
         """An edge and a sigma: mostly reduced units, and boxes from the least to the greatest."""
         sigma = self.rnd.choice((1.0, 1.0, 1.0, 3.4, 10 ** self.rnd.uniform(-2, 4)))
-        ratio = self.rnd.choice((5.001, 5.5, 6.0, 7.0, 12.0, 256.0, self.rnd.uniform(5.05, 9), self.rnd.choice((4.99, 65000, 66000))))
+        if self.rnd.random() < 0.03:
+            return 5.0, self.rnd.choice((1.0, 1.000000001, 1.000000002))
+        beyond, between = self.rnd.choice((4.99, 65000, 66000)), self.rnd.uniform(5.05, 9)
+        ratio = self.rnd.choice((5.001, 5.5, 6.0, 7.0, 12.0, 256.0, between, beyond))
         return sigma * ratio, sigma
 
     def strength(self) -> int:
@@ -97,7 +103,8 @@ class Chance:
         apart, end = rnd.choice((0.7, 1.0, 1.1, 1.3, 0)), rnd.choice(("\n", "\n", "\n", "\r\n"))
         texts = []
         for _ in range(frames):
-            lines = [rnd.choice(("", "", " \t", "\n")) + str(count), rnd.choice(("", "c", "\xff 1 2"))] if rnd.random() < 0.1 else [str(count), "c"]
+            heads = [rnd.choice(("", "", " \t", "\n")) + str(count), rnd.choice(("", "c", "\xff 1 2"))]
+            lines = heads if rnd.random() < 0.1 else [str(count), "c"]
             for spot in spots:
                 moved = [sigma * (apart * part + rnd.gauss(0, 0.1 if frames < 2 else 0.001)) for part in spot]
                 words = [rnd.choice(symbols), *(self.number(low + part) for low, part in zip(corner, moved))]
@@ -119,7 +126,7 @@ class Chance:
         mode = self.rnd.choice(("rest", "rest", "pair"))
         body = self.body(sigma, symbols, 2 if mode == "pair" else self.rnd.choice((1, 1, 2)))
         line = self.line(verb, self.new_name(), self.number(edge), *words, mode)
-        return f"{line.rstrip()} {len(body)}\n{body}"
+        return f"{line.rstrip()} {len(body):0{self.rnd.choices((1, 7, 8), (90, 5, 1))[0]}}\n{body}"
 
     def load(self) -> str:
         edge, sigma = self.scale()
@@ -131,15 +138,21 @@ class Chance:
         for _ in range(3):
             weight = self.rnd.choice((256, 256, 1, 65536, self.rnd.randrange(1, 1000)))
             classes += [self.number(sigma * self.rnd.choice((1, 0.9, 0.8, 0.5, 1.1))), self.strength(), weight]
-        return self.loaded("LOADMIX", [*self.rnd.choice((("X", "Y"), ("Y", "X"))), *classes], edge * 1.2, sigma, "XXXYY" + "Z" * (self.rnd.random() < 0.05))
+        if self.rnd.random() < 0.15:
+            for at in self.rnd.choices(range(9), k=self.rnd.randrange(1, 4)):
+                classes[at] = self.rnd.choice(("0", "-1", "16777217", "65537", "x"))
+        words = [*self.rnd.choice((("X", "Y"), ("Y", "X"))), *classes]
+        return self.loaded("LOADMIX", words, edge * 1.2, sigma, "XXXYY" + "Z" * (self.rnd.random() < 0.1))
 
     def advance(self) -> str:
         verb = self.rnd.choice(("ADVANCE", "ADVANCE", "START"))
         return self.line(verb, self.name(), self.rnd.choice((0, 1, 1, 2, self.rnd.randrange(MOST_STEPS))))
 
     def tug(self) -> str:
+        """A small one, a large one, or one at the limits, whose image is half the ring."""
         size = self.rnd.choice((5, 1000, 10**6, 2**31 - 1))
-        return self.line("TUG", self.name(), self.atom(), *(self.rnd.randint(-size, size) for _ in range(3)))
+        limits = (-(2**31), -(2**31), 2**31 - 1, 0, 0, 2**31) if self.rnd.random() < 0.2 else (self.rnd.randint(-size, size), 0)
+        return self.line("TUG", self.name(), self.atom(), *(self.rnd.choice(limits) for _ in range(3)))
 
     def measure(self) -> str:
         return self.line("MEASURE", self.name())
@@ -171,8 +184,9 @@ class Chance:
         return self.line("DROP", name)
 
     def strange(self) -> str:
-        words = ("", " ", "\r", "bye", "HELLO a b", "LIST a b", "x" * 257, " " * 252 + "LIST", " " * 253 + "LIST", "LOADX 5", "LOAD 3\nabc", "y" * 65_535)
-        return self.rnd.choice(words) + "\n"
+        words = ("", " ", "\r", "bye", "HELLO a b", "LIST a b", "LOADX 5", "LOAD 3\nabc", "y" * 65_535)
+        text = self.rnd.choice(words) if self.rnd.random() < 0.7 else "LIST".rjust(self.rnd.randrange(254, 259))
+        return text + self.rnd.choice(("\n", "\r\n"))
 
 
 def flip(rnd: random.Random, sent: bytes) -> bytes:
@@ -184,7 +198,8 @@ def flip(rnd: random.Random, sent: bytes) -> bytes:
 
 def put(rnd: random.Random, sent: bytes) -> bytes:
     at = rnd.randrange(len(sent))
-    return sent[:at] + rnd.choice((b"\n", b" ", b"\r", b"-", b"9", b".", b"\nBYE\n", b"\0", b"LOAD ", b"x" * 300, b"x" * 65_535)) + sent[at:]
+    more = (b"\n", b" ", b"\r", b"-", b"9", b".", b"\nBYE\n", b"\0", b"LOAD ", b"x" * 300, b"x" * 65_535)
+    return sent[:at] + rnd.choice(more) + sent[at:]
 
 
 def leave_out(rnd: random.Random, sent: bytes) -> bytes:

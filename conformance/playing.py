@@ -21,6 +21,10 @@ MANY = 16
 PLACES = re.compile(rb"(?:OK SHOW [^\n]*\n){%d,}" % MANY)
 
 
+class CannotStart(Exception):
+    """The command is that of no program."""
+
+
 @dataclass(frozen=True)
 class Stream:
     """What is sent to a program of a quota, and what it is to reply, in which places may be folded to hashes."""
@@ -68,11 +72,13 @@ def stored(word: str = "") -> Iterator[Stream]:
 
 
 def told_by(command: Sequence[str], stream: Stream, seconds: float) -> Tuple[bytes, str]:
-    """What a program replies to a stream, and how it ended if not with status 0."""
+    """What a program replies to a stream, and how it ended if not with status 0. Raises `CannotStart`."""
     try:
         done = subprocess.run([*command, *stream.words()], input=stream.sent, stdout=subprocess.PIPE, timeout=seconds)
     except subprocess.TimeoutExpired as late:
         return late.stdout or b"", f"did not end within {seconds:g} seconds"
+    except OSError as error:
+        raise CannotStart(f"{command[0]} cannot be started: {error.strerror}") from error
     return done.stdout, f"ended with status {done.returncode}" if done.returncode else ""
 
 
@@ -83,10 +89,10 @@ def difference(stream: Stream, told: bytes, ended: str = "") -> Optional[str]:
         return f"{stream.name}: the replies agree, but the program {ended}" if ended else None
     at = len(os.path.commonprefix([told, stream.replies]))
     line = stream.replies.count(b"\n", 0, at)
-    expected, seen = (text.split(b"\n")[line] if line < text.count(b"\n") + 1 else b"" for text in (stream.replies, told))
-    lines = [f"{stream.name}: the replies differ at byte {at}, in line {line + 1}" + (f"; the program {ended}" if ended else "")]
-    lines += [f"    {word}: {shown(text)}" for word, text in [("command ", command_of(stream, line)), ("expected", expected), ("told    ", seen)]]
-    return "\n".join(lines)
+    expected, seen = (dict(enumerate(text.split(b"\n"))).get(line, b"") for text in (stream.replies, told))
+    head = f"{stream.name}: the replies differ at byte {at}, in line {line + 1}" + (f"; the program {ended}" if ended else "")
+    parts = {"command ": command_of(stream, line), "expected": expected, "told    ": seen}
+    return "\n".join([head, *(f"    {word}: {shown(text)}" for word, text in parts.items())])
 
 
 def shown(text: bytes, most: int = 200) -> str:

@@ -65,7 +65,8 @@ def images() -> Iterator[str]:
     for size in (-(2**31), -(2**31) + 1, 2**31 - 1):
         yield lines(*(f"TUG a {number} {size} {size} {size}" for number in range(8)), "MEASURE a", "REVERSE a", "MEASURE a")
     for number, tug in enumerate(("5 0 0", "-5 7 -9", "0 0 2147483647", "-2147483648 0 0", "000000000000000005 -0 -00001")):
-        yield lines(f"TUG a {number} {tug}", "MEASURE a", "ADVANCE a 2", f"SHOW a {number}", "REVERSE a", f"TUG a {number} {tug}", "MEASURE a")
+        yield lines(f"TUG a {number} {tug}", "MEASURE a", "ADVANCE a 2", f"SHOW a {number}", "REVERSE a")
+        yield lines(f"TUG a {number} {tug}", "MEASURE a")
     yield lines("ADVANCE a 5", "DUMP a") + shows(8)
     yield load(frame([("X", 0, 0, 0)] * 65), "5 1 16777216", "b") + lines("MEASURE b", "ADVANCE b 1", "SHOW b 64", "MEASURE b")
 
@@ -85,7 +86,8 @@ def classes() -> Iterator[str]:
             words = " ".join(f"{sigma} {strength} {weight}" for sigma, strength, weight in zip(sigmas, (131_072, 5, 999_999), weights))
             yield load_mix(frame(rows), f"12 P Q {words}") + lines("MEASURE a", "ADVANCE a 4", "MEASURE a") + shows(6)
             yield lines("REVERSE a", "ADVANCE a 3", "DUMP a", "DROP a")
-            yield load_mix(frame(rows) + frame(rows[::-1]), f"12 Q P {words}", mode="pair") + lines("ADVANCE a 1", "MEASURE a", "DUMP a", "DROP a")
+            yield load_mix(frame(rows) + frame(rows[::-1]), f"12 Q P {words}", mode="pair")
+            yield lines("ADVANCE a 1", "MEASURE a", "DUMP a", "DROP a")
 
 
 def blocks() -> Iterator[str]:

@@ -1,6 +1,6 @@
 """Refusals in each order: commands with two or more faults at once, of which the first by docs/PROTOCOL.md is answered."""
 from itertools import combinations, product
-from typing import Dict, Iterator, List, Tuple
+from typing import Callable, Dict, Iterator, List, Tuple
 
 from writing.words import Written, frame, lines, load, load_mix, numbered, written
 
@@ -11,7 +11,7 @@ ONE = frame([("X", 0, 0, 0)])
 SIZES = (2, 4)
 
 # What is wrong with the text of a frame of so many atoms, by the number of its refusal; 0 is nothing.
-FAULTS = {
+FAULTS: Dict[int, Callable[[str], str]] = {
     0: lambda text: text,
     30: lambda text: text.replace("\nc\n", "0\nc\n", 1).replace("20", "-2", 1).replace("40", "-4", 1),
     31: lambda text: text[: text.rindex("\n", 0, -1) + 1],
