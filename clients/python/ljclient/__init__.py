@@ -17,6 +17,7 @@
 """
 from . import refusals, units
 from .arrays import distance, least_images
+from .ensemble import Job, ensemble
 from .errors import BadReply, CannotStart, ClientError, Closed, ConnectionLost, Damaged, Refused, TimedOut
 from .measurement import Measurement
 from .mixture import Mixture
@@ -37,6 +38,7 @@ __all__ = [
     "Closed",
     "ConnectionLost",
     "Damaged",
+    "Job",
     "Measurement",
     "Mixture",
     "Motion",
@@ -52,6 +54,7 @@ __all__ = [
     "User",
     "connect",
     "distance",
+    "ensemble",
     "least_images",
     "refusals",
     "run",

@@ -1,10 +1,12 @@
 """The examples in Python of both READMEs, run as they stand, and the comparison with stored replies."""
+import ast
 import contextlib
 import io
 import os
 import pathlib
 import re
 import subprocess
+import sys
 import tempfile
 import unittest
 from unittest import mock
@@ -59,6 +61,18 @@ class Examples(unittest.TestCase):
         self.assertIn("\n".join(["```", *told, "```"]), README.read_text())
         self.assertLess(float(energy), -1)
 
+    def test_many_runs(self):
+        """As a file, since its functions are sent to other processes."""
+        with tempfile.TemporaryDirectory() as folder:
+            script = pathlib.Path(folder) / "many.py"
+            script.write_text(examples()[-1])
+            environment = {**os.environ, "LJSERVE": PROGRAM, "PYTHONPATH": str(README.parent), "PYTHONDONTWRITEBYTECODE": "1"}
+            done = subprocess.run([sys.executable, script], env=environment, capture_output=True, text=True, timeout=120)
+        noted = [ast.literal_eval(line) for line in done.stdout.splitlines()]
+        # At first one atom alone moves, by its tug along x.
+        self.assertEqual([(len(each), each[0]) for each in noted], [(3, 1000000**2)] * 8, done.stderr)
+        self.assertEqual(len({each[-1] for each in noted}), 8)
+
     def test_the_example_of_the_repository(self):
         (text,) = examples(TOP / "README.md")
         with mock.patch.dict(os.environ, {"LJSERVE": PROGRAM}):
@@ -76,7 +90,7 @@ class Examples(unittest.TestCase):
         self.assertEqual(told, (stored / "stdout").read_bytes())
 
     def test_each_example_is_run(self):
-        self.assertEqual(len(examples()), 5)
+        self.assertEqual(len(examples()), 6)
 
 
 if __name__ == "__main__":

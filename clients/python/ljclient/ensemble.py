@@ -1,0 +1,241 @@
+"""Many independent runs over any executor of `concurrent.futures`: threads, processes, MPI, Dask.
+
+A run is a `Job`. Wherever it runs it has a program of its own, so its results are the same to the byte. What a worker that
+is lost had done is not lost: the job is begun again from its last checkpoint.
+"""
+from __future__ import annotations
+
+import contextlib
+import functools
+import hashlib
+import os
+import pathlib
+import pickle
+import tempfile
+import time
+from concurrent.futures import BrokenExecutor, CancelledError, Executor, Future
+from dataclasses import dataclass
+from typing import Any, Callable, ContextManager, Dict, Iterator, List, NamedTuple, Optional, Sequence, Tuple, Union
+
+from .errors import ConnectionLost, Damaged
+from .session import Session
+from .user import Program, User, run
+
+# What is told of a worker that is gone: a class, or the name of one of Dask, which need not be installed.
+LOST = (BrokenExecutor, CancelledError, ConnectionLost)
+LOST_NAMES = ("KilledWorker", "CommClosedError")
+Path = Union[str, "os.PathLike[str]"]
+# An executor, or what makes one, or none.
+Pool = Union[Executor, Callable[[], Executor], None]
+# What was noted of each job that is done, by its number.
+Results = Dict[int, List[Any]]
+
+
+@dataclass(frozen=True)
+class Job:
+    """A run: what it begins with, what is noted of it, and how far it goes.
+
+    `begin` is given a user of a program that is the job's own, and returns the session that it has loaded, or a list of
+    sessions, which go on side by side. `look` is given these sessions, and what it returns is noted: at the beginning and
+    after each `every` steps. Both are functions of a module (or a `functools.partial` of one), since they are sent to
+    other processes; so is what is noted. What is saved by `branch` is not in a checkpoint, so `look` needs none.
+    """
+
+    begin: Callable[[User], Union[Session, Sequence[Session]]]
+    look: Callable[..., Any]
+    steps: int
+    every: int
+
+    def __post_init__(self) -> None:
+        if self.steps < 0 or self.every < 1:
+            raise ValueError(f"a job goes on by 0 steps or more, in pieces of 1 or more, and not by {self.steps} in {self.every}")
+
+
+class Task(NamedTuple):
+    """A job with where its checkpoints are, how many seconds lie between two, and its program."""
+
+    job: Job
+    place: str
+    seconds: float
+    program: Optional[str]
+
+
+class Progress(NamedTuple):
+    """How many steps a job has made, what was noted, and the names of the files of its sessions."""
+
+    done: int
+    notes: List[Any]
+    files: List[str]
+
+
+def ensemble(
+    jobs: Sequence[Job],
+    executor: Pool = None,
+    *,
+    folder: Optional[Path] = None,
+    seconds: float = 10.0,
+    tries: int = 3,
+    program: Optional[Program] = None,
+    progress: Optional[Callable[[int, int], None]] = None,
+) -> List[List[Any]]:
+    """Runs jobs, and returns what was noted of each, in the order of the jobs.
+
+    `executor` is one of `concurrent.futures`, or what makes one, such as `ProcessPoolExecutor`: one that is made can be
+    made again when a lost worker has broken it. Without one the jobs run here, one after the other. A job whose worker is
+    lost begins again from its last checkpoint, `tries` times at most. An error of a job itself is raised at once.
+
+    Checkpoints are written into `folder`, at most one in so many `seconds` for each job, and a later call with the same
+    jobs goes on from there. Workers on other machines find them if the folder is shared. Without one a folder is made, and
+    removed at the end. `program` is as for `run`, and `progress` is called with how many jobs are done, and of how many.
+    """
+    named = None if program is None else os.fspath(program)
+    results: Results = {}
+    if tries < 1:
+        raise ValueError(f"{tries} tries: a job is tried at least once")
+    with _made(folder) as place:
+        names = [f"job_{number}" + (f"_{_key_of(job)}" if folder is not None else "") for number, job in enumerate(jobs)]
+        tasks = {number: Task(job, str(place / names[number]), seconds, named) for number, job in enumerate(jobs)}
+        for turn in range(tries):
+            lost = _round(executor, tasks, results, progress)
+            if lost is None:
+                break
+            if turn == tries - 1 or (isinstance(executor, Executor) and isinstance(lost, BrokenExecutor)):
+                raise lost
+    return [results[number] for number in range(len(tasks))]
+
+
+def _round(
+    executor: Pool, tasks: Dict[int, Task], results: Results, progress: Optional[Callable[[int, int], None]]
+) -> Optional[BaseException]:
+    """Runs the jobs that have no results yet. Returns the loss of a worker, if there was one."""
+    lost: Optional[BaseException] = None
+    with _opened(executor) as pool:
+        for number, told in _told_by(pool, {number: task for number, task in tasks.items() if number not in results}):
+            if isinstance(told, BaseException):
+                lost = told
+                continue
+            results[number] = told
+            if progress is not None:
+                progress(len(results), len(tasks))
+    return lost
+
+
+@contextlib.contextmanager
+def _made(folder: Optional[Path]) -> Iterator[pathlib.Path]:
+    """The folder of checkpoints. One without a name is removed at the end."""
+    if folder is None:
+        with tempfile.TemporaryDirectory() as temporary:
+            yield pathlib.Path(temporary)
+    else:
+        os.makedirs(folder, exist_ok=True)
+        yield pathlib.Path(folder).resolve()
+
+
+def perform(task: Task) -> List[Any]:
+    """Runs a job from its last checkpoint on, or from its beginning."""
+    job, kept = task.job, _kept_at(task.place)
+    if kept is not None and kept.done == job.steps:
+        return kept.notes
+    with run(task.program) as user:
+        done, notes, sessions = _resumed(user, kept) or _begun(user, job)
+        saved_at = time.monotonic()
+        while done < job.steps:
+            piece = min(job.every, job.steps - done)
+            user.advance(sessions, piece)
+            notes.append(job.look(*sessions))
+            done += piece
+            if done == job.steps or time.monotonic() - saved_at >= task.seconds:
+                _keep(task.place, done, notes, sessions if done < job.steps else [])
+                saved_at = time.monotonic()
+        return notes
+
+
+def _begun(user: User, job: Job) -> Tuple[int, List[Any], List[Session]]:
+    loaded = job.begin(user)
+    sessions = [loaded] if isinstance(loaded, Session) else list(loaded)
+    return 0, [job.look(*sessions)], sessions
+
+
+def _resumed(user: User, kept: Optional[Progress]) -> Optional[Tuple[int, List[Any], List[Session]]]:
+    """Goes on from a checkpoint. One whose files are damaged or gone is none: the same notes are computed once more."""
+    if kept is None:
+        return None
+    sessions = []
+    try:
+        for file in kept.files:
+            sessions.append(user.load_saved(file))
+    except (OSError, Damaged):
+        for session in sessions:
+            session.drop()
+        return None
+    return kept.done, kept.notes, sessions
+
+
+def _keep(place: str, done: int, notes: List[Any], sessions: Sequence[Session]) -> None:
+    """Writes a checkpoint. The one before stays until this one is whole."""
+    before = _kept_at(place)
+    files = [f"{place}.{done}.{number}.saved" for number in range(len(sessions))]
+    for session, file in zip(sessions, files):
+        session.save(file)
+    partial = f"{place}.{os.getpid()}.part"
+    with open(partial, "wb") as stream:
+        pickle.dump(Progress(done, notes, files), stream)
+        stream.flush()
+        os.fsync(stream.fileno())
+    os.replace(partial, f"{place}.notes")
+    for file in before.files if before is not None else []:
+        if file not in files:
+            pathlib.Path(file).unlink(missing_ok=True)
+
+
+def _kept_at(place: str) -> Optional[Progress]:
+    """The last checkpoint of a job, if there is one that can be read."""
+    try:
+        with open(f"{place}.notes", "rb") as stream:
+            kept = pickle.load(stream)
+    except (OSError, EOFError, pickle.UnpicklingError):
+        return None
+    return kept if isinstance(kept, Progress) else None
+
+
+def _key_of(job: Job) -> str:
+    """What tells the files of a job in a folder that is kept from those of another one of the same number."""
+    return hashlib.sha256(pickle.dumps(job)).hexdigest()[:16]
+
+
+def _told_by(pool: Optional[Executor], tasks: Dict[int, Task]) -> Iterator[Tuple[int, Union[List[Any], BaseException]]]:
+    """For each task its notes, or that its worker was lost."""
+    if pool is None:
+        for number, task in tasks.items():
+            yield number, _result_of(functools.partial(perform, task))
+        return
+    futures: Dict[int, "Future[List[Any]]"] = {}
+    try:
+        for number, task in tasks.items():
+            futures[number] = pool.submit(perform, task)
+        for number, future in futures.items():
+            yield number, _result_of(future.result)
+    except BrokenExecutor as error:
+        yield -1, error
+    finally:
+        for future in futures.values():
+            future.cancel()
+
+
+def _result_of(job: Callable[[], List[Any]]) -> Union[List[Any], BaseException]:
+    """What a job gives, or why its worker is lost. Any other error is raised."""
+    try:
+        return job()
+    except LOST as error:
+        return error
+    except Exception as error:
+        if type(error).__name__ in LOST_NAMES:
+            return error
+        raise
+
+
+def _opened(executor: Pool) -> ContextManager[Optional[Executor]]:
+    """An executor, which is shut down at the end only if it was made here."""
+    if executor is None or isinstance(executor, Executor):
+        return contextlib.nullcontext(executor)
+    return executor()
