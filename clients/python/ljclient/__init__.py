@@ -29,7 +29,7 @@ from .thermo import Thermo
 from .units import Scale
 from .user import User, connect, run
 
-__version__ = "1.0.0"
+__version__ = "1.1.0"
 
 __all__ = [
     "BadReply",

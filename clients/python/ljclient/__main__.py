@@ -8,7 +8,7 @@ from typing import List
 def main(words: List[str]) -> int:
     """Runs what the words of the command line say, and returns the exit status."""
     if words[:1] == ["view"]:
-        from . import view  # type: ignore[attr-defined]
+        from . import view
 
         return view.main(words[1:])
     from . import prompt
