@@ -21,9 +21,9 @@ LOAD_LINE = re.compile(rb"LOAD[^\n]*?(\d{1,7})[ \t]*\r?\n")
 class Ending(Enum):
     """What ends a dialogue, with the last lines that tell so."""
 
-    INPUT = ()
-    BYE = ("OK BYE",)
-    FAULT = ("ERR 04 BODY", "ERR 05 LONG", "ERR 08 ENOUGH")
+    INPUT = frozenset()
+    BYE = frozenset({"OK BYE"})
+    FAULT = frozenset({"ERR 04 BODY", "ERR 05 LONG", "ERR 08 ENOUGH"})
 
 
 LAST_LINES = {line for ending in Ending for line in ending.value}

@@ -23,6 +23,12 @@ def environment(**words):
     return {**kept, "PYTHONPATH": client, "LJSERVE": PROGRAM, "LJCLIENT_HISTORY": os.devnull, **words}
 
 
+def begin_at_terminal():
+    """Takes the terminal, and heeds interrupts, which a program that runs in the background ignores."""
+    fcntl.ioctl(0, termios.TIOCSCTTY, 0)
+    signal.signal(signal.SIGINT, signal.SIG_DFL)
+
+
 class Terminal:
     """A program whose standard streams are a terminal of its own."""
 
@@ -31,7 +37,7 @@ class Terminal:
         env = {**os.environ, "TERM": "xterm", "COLUMNS": "120", "LINES": "40", "INPUTRC": "/dev/null", **(env or {})}
         self.child = subprocess.Popen(
             words, stdin=theirs, stdout=theirs, stderr=theirs, env=env, start_new_session=True,
-            preexec_fn=lambda: fcntl.ioctl(0, termios.TIOCSCTTY, 0),
+            preexec_fn=begin_at_terminal,
         )
         os.close(theirs)
         self.shown = ""
