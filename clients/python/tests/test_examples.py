@@ -1,4 +1,4 @@
-"""What the examples, the notebook and these tests say of the Python that they run under."""
+"""The examples: what they say of the Python that they run under, and a file that is run on a server."""
 import json
 import os
 import pathlib
@@ -8,7 +8,7 @@ import sys
 import tempfile
 import unittest
 
-from support import EXAMPLES, PROGRAM, SECONDS, TOP
+from support import EXAMPLES, PROGRAM, SECONDS, TOKEN, TOP, Server
 
 MISSING = "raise ModuleNotFoundError(\"No module named '{0}'\", name='{0}')\n"
 NOTEBOOK = json.loads((EXAMPLES / "ljserve.ipynb").read_text())
@@ -61,6 +61,30 @@ class WithoutModules(unittest.TestCase):
         words = [sys.executable, TOP / "tests" / "client", PROGRAM, "--only", "no_test_has_this_name"]
         told = subprocess.run(words, capture_output=True, text=True, timeout=2 * SECONDS).stdout
         self.assertEqual(told, f"Python {platform.python_version()}: {sys.executable}\n0 passed, 0 failed\n")
+
+
+class OnAServer(unittest.TestCase):
+    def setUp(self):
+        self.server = Server()
+        self.addCleanup(self.server.end)
+
+    def ran(self, token):
+        """What `examples/session` does with 256 atoms in 100 steps."""
+        words = [f"127.0.0.1:{self.server.port}", "ann", token, str(EXAMPLES / "argon_256.xyz"), "21.04", "3.4", "131072", "100"]
+        command = [sys.executable, str(EXAMPLES / "session"), *words]
+        return subprocess.run(command, capture_output=True, text=True, timeout=2 * SECONDS)
+
+    def test_a_file_is_run(self):
+        done = self.ran(TOKEN)
+        self.assertEqual((done.returncode, done.stdout.splitlines()[:2]), (0, ["256", "step 100"]))
+        place = "100292 5391970 3675682"
+        self.assertIn(f"step 100: atom 0 at {place}\nmomentum 0 0 0, ", done.stderr)
+        self.assertIn(f"`OK SHOW a 100 0 {place}`", (TOP / "docs" / "EXAMPLES.md").read_text())
+
+    def test_a_wrong_token(self):
+        done = self.ran("w" * 32)
+        self.assertEqual((done.returncode, done.stdout), (1, ""))
+        self.assertIn("session: ERR 01 DENIED", done.stderr)
 
 
 if __name__ == "__main__":
