@@ -88,8 +88,13 @@ where
         kept,
     } = service;
     let bytes = read_file(rt, users)?;
-    let users = read_users(rt.alloc(), bytes.as_slice()).map_err(Fault::of_users)?;
-    let listener = TcpListener::bind(rt, address).map_err(|_| Fault::Listen)?;
+    let users = match read_users(rt.alloc(), bytes.as_slice()) {
+        Ok(users) => users,
+        Err(fault) => return Err(Fault::of_users(fault)),
+    };
+    let Ok(listener) = TcpListener::bind(rt, address) else {
+        return Err(Fault::Listen);
+    };
     let tiles = serve_on(
         rt,
         rt.alloc(),
@@ -99,8 +104,10 @@ where
         connections,
         kept,
     )?;
-    println!(rt; "served {connections} connections, {tiles} tiles").map_err(|_| Fault::Write)?;
-    Ok(())
+    match println!(rt; "served {connections} connections, {tiles} tiles") {
+        Ok(()) => Ok(()),
+        Err(_) => Err(Fault::Write),
+    }
 }
 
 /// The bytes of a file.
