@@ -6,26 +6,27 @@ mod closing;
 mod ends;
 mod filled;
 mod handed_back;
+mod over_lock;
+mod over_queue;
 mod polling;
 mod room;
+mod scene;
 mod side_by_side;
+mod stage;
 mod withdrawn;
 
 use crate::tasks::task;
-use lj_pool::{Gate, Pool, Share};
-use lj_queue::{PoolPass, QueueEnd, QueuePool, Room, work_queue};
-use lj_table::Table;
+use lj_pool::Pool;
 use lj_tile::Task;
+use stage::{Host, Stage};
 use std::io::Write;
 use std::process::Abort;
 use std::rt::Clock;
-use std::sync::Wait;
 use std::sync::atomic::{AtomicU64, Ordering};
-use std::thread::Threads;
 use std::time::Duration;
 use std::{io, thread};
 
-/// How many milliseconds a pool stays open.
+/// For how many milliseconds a thread sleeps before it does what another waits for.
 const LATE_MILLIS: u64 = 20;
 
 /// How often a gate looks at most before it lets a task pass.
@@ -61,23 +62,22 @@ fn post_some<P: Pool, R: Abort>(rt: &R, end: &mut P, user: u8, tasks: i64) {
     }
 }
 
-/// The next end, which has posted so many tasks of this user.
-fn posting_end<'p, L: Room, R: Wait + Abort>(
-    rt: &'p R,
-    pool: &'p QueuePool<L>,
-    passes: &mut Vec<PoolPass<L>>,
-    user: u8,
-    tasks: i64,
-) -> QueueEnd<'p, L, R> {
-    let mut end = pool.end(rt, next(rt, passes), user);
+/// A new end for a user, which has posted so many tasks of theirs.
+fn posting_end<S: Stage<R>, R: Host>(rt: &R, stage: &S, user: u8, tasks: i64) -> S::End {
+    let mut end = stage.end(rt, user);
     post_some(rt, &mut end, user, tasks);
     end
 }
 
-/// Closes a pool, after a while.
-fn close_late<L: Room, R: Wait + Clock>(rt: &R, pool: &QueuePool<L>) {
+/// Sleeps until others wait.
+fn sleep_a_while<R: Clock>(rt: &R) {
     thread::sleep(rt, Duration::from_millis(LATE_MILLIS));
-    pool.close(rt);
+}
+
+/// Closes a pool, after a while.
+fn close_late<S: Stage<R>, R: Host>(rt: &R, stage: &S) {
+    sleep_a_while(rt);
+    stage.close(rt);
 }
 
 /// Looks again and again whether something was counted, and answers whether it was.
@@ -111,33 +111,4 @@ impl<W: Write> Write for Counted<'_, W> {
     fn flush(&mut self) -> io::Result<()> {
         Ok(())
     }
-}
-
-/// A worker with its share, and its pass to a queue.
-type Hand<L> = (Share<L>, PoolPass<L>);
-
-/// A worker computes tasks until the pool is closed.
-fn work_with<L: Room, G: Gate, R: Wait + Clock>(
-    rt: &R,
-    pool: &QueuePool<L>,
-    gate: &G,
-    hand: Hand<L>,
-) -> Hand<L> {
-    let (share, pass) = hand;
-    work_queue(rt, pool, share, pass, gate, &Table::new())
-}
-
-/// So do both workers.
-fn work_both<L: Room + Send + Sync, G: Gate + Sync, R: Threads + Wait + Clock + Sync>(
-    rt: &R,
-    pool: &QueuePool<L>,
-    gate: &G,
-    hands: (Hand<L>, Hand<L>),
-) -> (Hand<L>, Hand<L>) {
-    let (first, second) = hands;
-    thread::join(
-        rt,
-        move || work_with(rt, pool, gate, first),
-        move || work_with(rt, pool, gate, second),
-    )
 }

@@ -183,116 +183,94 @@ const ONE_STEP: &str = "OK LOAD a 0 2\nOK ADVANCE a 1\n";
 
 const NO_STEP: &str = "OK LOAD a 0 2\n";
 
+/// A pool that hands out no strays and stays open.
+const PLAIN: Case = Case {
+    is_second: false,
+    copies: 0,
+    strays: 0,
+    posts: u64::MAX,
+    fetches: u64::MAX,
+    input: STEPS,
+    served: Served::End,
+    told: TWO_STEPS,
+};
+
+/// A pool that is closed at some post or fetch.
+const CLOSING: Case = Case {
+    posts: 9,
+    fetches: 9,
+    served: Served::PoolClosed,
+    told: NO_STEP,
+    ..PLAIN
+};
+
+/// A pool that hands out as many strays in a row as a connection bears.
+const STRAYING: Case = Case {
+    copies: 4095,
+    strays: 4095,
+    ..PLAIN
+};
+
+/// A pool that hands out one more.
+const LOST: Case = Case {
+    copies: 4096,
+    strays: 4096,
+    served: Served::TooManyStrays,
+    told: ONE_STEP,
+    ..PLAIN
+};
+
 const CASES: [Case; 11] = [
     Case {
-        is_second: false,
         copies: 1,
         strays: 1,
-        posts: u64::MAX,
-        fetches: u64::MAX,
-        input: STEPS,
-        served: Served::End,
-        told: TWO_STEPS,
+        ..PLAIN
     },
+    STRAYING,
+    LOST,
     Case {
-        is_second: false,
-        copies: 4095,
-        strays: 4095,
-        posts: u64::MAX,
-        fetches: u64::MAX,
-        input: STEPS,
-        served: Served::End,
-        told: TWO_STEPS,
-    },
-    Case {
-        is_second: false,
-        copies: 4096,
-        strays: 4096,
-        posts: u64::MAX,
-        fetches: u64::MAX,
-        input: STEPS,
-        served: Served::TooManyStrays,
+        is_second: true,
+        input: STEP,
         told: ONE_STEP,
+        ..STRAYING
     },
     Case {
         is_second: true,
-        copies: 4095,
-        strays: 4095,
-        posts: u64::MAX,
-        fetches: u64::MAX,
         input: STEP,
-        served: Served::End,
-        told: ONE_STEP,
-    },
-    Case {
-        is_second: true,
-        copies: 4096,
-        strays: 4096,
-        posts: u64::MAX,
-        fetches: u64::MAX,
-        input: STEP,
-        served: Served::TooManyStrays,
         told: NO_STEP,
+        ..LOST
     },
     Case {
-        is_second: false,
-        copies: 0,
-        strays: 0,
         posts: 0,
-        fetches: 9,
-        input: STEPS,
-        served: Served::PoolClosed,
-        told: NO_STEP,
+        ..CLOSING
     },
     Case {
-        is_second: false,
-        copies: 0,
-        strays: 0,
-        posts: 9,
         fetches: 0,
-        input: STEPS,
-        served: Served::PoolClosed,
-        told: NO_STEP,
+        ..CLOSING
     },
     Case {
-        is_second: false,
-        copies: 0,
-        strays: 0,
         posts: 1,
-        fetches: 9,
-        input: STEPS,
-        served: Served::PoolClosed,
         told: ONE_STEP,
+        ..CLOSING
     },
     Case {
-        is_second: false,
-        copies: 0,
-        strays: 0,
-        posts: 9,
         fetches: 1,
-        input: STEPS,
-        served: Served::PoolClosed,
         told: ONE_STEP,
+        ..CLOSING
     },
     Case {
-        is_second: false,
-        copies: 0,
-        strays: 0,
         posts: 0,
         fetches: 9,
         input: ALONE,
-        served: Served::End,
         told: "OK LOAD b 0 1\nOK SHOW b 0 0 4294967295 0 0\nOK ADVANCE b 1\nOK SHOW b 1 0 4 0 0\n",
+        ..PLAIN
     },
     Case {
-        is_second: false,
         copies: 4000,
         strays: 12_000,
-        posts: u64::MAX,
-        fetches: u64::MAX,
         input: CROWD,
-        served: Served::End,
         told: "OK LOAD a 0 65\nOK ADVANCE a 2\nOK SHOW a 2 64 0 0 0\n",
+        ..PLAIN
     },
 ];
 

@@ -1,23 +1,20 @@
 //! How far work goes ahead of the next command: fifteen tasks may be under way while it is read, and no more.
-ghost use Rattle.std.specs.Prelude.{◌≡◌};
 
-use super::{Counted, close_late, next, wait_for};
+use super::over_queue::over_queue;
+use super::scene::{Scene, Seen};
+use super::stage::{Host, Stage};
+use super::{Counted, close_late, wait_for};
 use arrayvec::{ArrayString, ArrayVec};
 use lj_pool::{Served, serve};
-use lj_queue::{PoolPass, QueueBlank, QueuePool, Room};
 use lj_quota::Quota;
 use lj_session::UserState;
 use lj_wire::{Reading, Writing};
-use std::alloc::{AllocError, AllocGlobal, Global};
+use std::alloc::AllocGlobal;
 use std::fmt::Write;
-use std::marker::Brand;
 use std::process::Abort;
-use std::rt::Clock;
-use std::sync::Wait;
 use std::sync::atomic::AtomicU64;
 use std::test::Fail;
 use std::thread;
-use std::thread::Threads;
 
 const USER: u8 = 7;
 
@@ -51,30 +48,23 @@ fn load(rt: &impl Abort, input: &mut Input, number: u8) {
 
 /// How many sessions there are, and what is replied when the last one is started.
 #[derive(Clone, Copy)]
-struct Case {
+pub struct Case {
     sessions: u8,
     last: &'static [u8],
 }
 
 /// How many lines are told, how that ends, and whether the state is handed back.
 #[derive(Clone, Copy, PartialEq, Eq, Debug)]
-struct Told {
+pub struct Told {
     lines: usize,
     served: Served,
     is_handed_back: bool,
 }
 
 /// Serves these sessions over a pool whose tasks nobody computes. It is counted when the last one is started.
-fn serve_starts<L: Room, R: Wait + Abort>(
-    rt: &R,
-    alloc: Global,
-    pool: &QueuePool<L>,
-    pass: PoolPass<L>,
-    case: Case,
-    count: &AtomicU64,
-) -> Told {
+fn serve_starts<S: Stage<R>, R: Host>(rt: &R, stage: &S, case: Case, count: &AtomicU64) -> Told {
     let input = input(rt, case.sessions);
-    let mut end = pool.end(rt, pass, USER);
+    let mut end = stage.end(rt, USER);
     let mut writer = Writing::new(Counted {
         output: ArrayVec::<u8, 1024>::new(),
         begins: case.last,
@@ -86,8 +76,9 @@ fn serve_starts<L: Room, R: Wait + Abort>(
         branches: 4,
     };
     let reader = Reading::new(input.as_str().as_bytes());
-    let state = UserState::new(alloc, quota);
-    let (state, served, _) = serve(alloc, state, USER, reader, &mut writer, &mut end);
+    let state = UserState::new(rt.alloc(), quota);
+    let (state, served, _) = serve(rt.alloc(), state, USER, reader, &mut writer, &mut end);
+    stage.leave(rt, end);
     let output = writer.into_inner().output;
     Told {
         lines: output.iter().filter(|byte| **byte == b'\n').count(),
@@ -96,40 +87,23 @@ fn serve_starts<L: Room, R: Wait + Abort>(
     }
 }
 
-/// Serves these sessions over a pool that is closed a while after the last one was started.
-fn serve_until_closed<L: Room + Send + Sync, R: Threads + Wait + Clock + Abort + Sync>(
+/// The sessions are served over a pool that is closed a while after the last one was started.
+pub fn serve_until_closed<S: Stage<R> + Sync, R: Host + Sync>(
     rt: &R,
-    alloc: Global,
-    blank: QueueBlank,
+    stage: &S,
     case: Case,
-) -> Result<Told, AllocError>
-    requires name { blank.name ≡ L.name }
-    requires parts { blank.parts ≡ L.parts }
-    requires none { blank.parts ≡ 0 }
-    requires table { blank.table ≡ L.table }
-    requires passes { L.passes ≡ 64 }
-{
-    let (pool, mut passes, _) = QueuePool::<L>::new(alloc, blank, 0)?;
-    let pass = next(rt, &mut passes);
+) -> Told {
     let started = AtomicU64::new(0);
-    let (queue, count) = (&pool, &started);
+    let count = &started;
     let ((), told) = thread::join(
         rt,
         move || {
             wait_for(rt, count);
-            close_late(rt, queue);
+            close_late(rt, stage);
         },
-        move || serve_starts(rt, alloc, queue, pass, case, count),
+        move || serve_starts(rt, stage, case, count),
     );
-    Ok(told)
-}
-
-fn serve_once(
-    rt: &(impl Threads + Wait + Clock + Abort + Sync),
-    alloc: Global,
-    case: Case,
-) -> Result<Told, AllocError> {
-    serve_until_closed::<Brand, _>(rt, alloc, QueueBlank::new(alloc, 0)?, case)
+    told
 }
 
 const FIFTEEN: Case = Case {
@@ -155,7 +129,13 @@ fn fifteen_tasks_are_under_way_while_a_command_is_read(rt: HostRuntime) -> Resul
         served: Served::PoolClosed,
         is_handed_back: false,
     };
-    assert_eq!(rt; serve_once(&rt, rt.alloc(), FIFTEEN)?, few);
-    assert_eq!(rt; serve_once(&rt, rt.alloc(), SIXTEEN)?, many);
+    assert_eq!(rt;
+        over_queue(&rt, 0, Scene::Ahead(FIFTEEN))?.seen,
+        Seen::Ahead(few)
+    );
+    assert_eq!(rt;
+        over_queue(&rt, 0, Scene::Ahead(SIXTEEN))?.seen,
+        Seen::Ahead(many)
+    );
     Ok(())
 }

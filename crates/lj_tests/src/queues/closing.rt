@@ -1,19 +1,15 @@
-//! A pool that is closed while an end waits for a result, or has one in hand.
-ghost use Rattle.std.specs.Prelude.{◌≡◌};
+//! A pool with a queue that is closed while an end waits for a result, or has one in hand.
 
-use super::{close_late, next, posting_end, put_back};
+use super::over_queue::{OverQueue, over_queue};
+use super::scene::{Scene, Seen};
+use super::stage::{Host, Stage, beside_worker};
+use super::{close_late, posting_end};
 use crate::tasks::task;
 use lj_pool::Pool;
-use lj_queue::{PoolPass, QueueBlank, QueueEnd, QueuePool, Room, Settled, gather, work_queue};
-use lj_table::Table;
-use std::alloc::{AllocError, AllocGlobal, Global};
-use std::marker::Brand;
+use lj_queue::Settled;
 use std::process::Abort;
-use std::rt::Clock;
-use std::sync::Wait;
 use std::test::Fail;
 use std::thread;
-use std::thread::Threads;
 
 const USER: u8 = 7;
 
@@ -21,106 +17,66 @@ const USER: u8 = 7;
 const LAST: u8 = 8;
 
 /// Posts a task that nobody computes, and waits for its result. Whether none came, and the end is closed.
-fn wait_in_vain<L: Room, R: Wait + Abort>(rt: &R, end: &mut QueueEnd<L, R>) -> bool {
+fn wait_in_vain<P: Pool, R: Abort>(rt: &R, end: &mut P) -> bool {
     if end.is_full() || end.post(task(rt, USER, 0), false).is_err() || end.owed() == 0 {
         return false;
     }
     end.fetch(USER).is_none() && end.closed()
 }
 
-fn close_while_one_waits<L: Room + Send + Sync, R: Threads + Wait + Clock + Abort + Sync>(
+/// Does so while the pool is closed.
+fn wait_until_closed<S: Stage<R> + Sync, P: Pool, R: Host + Sync>(
     rt: &R,
-    alloc: Global,
-    blank: QueueBlank,
-) -> Result<(bool, Settled), AllocError>
-    requires name { blank.name ≡ L.name }
-    requires parts { blank.parts ≡ L.parts }
-    requires none { blank.parts ≡ 0 }
-    requires table { blank.table ≡ L.table }
-    requires passes { L.passes ≡ 64 }
-{
-    let (pool, mut passes, _) = QueuePool::<L>::new(alloc, blank, 0)?;
-    let mut end = pool.end(rt, next(rt, &mut passes), USER);
-    let queue = &pool;
-    let ((), closed) = thread::join(
-        rt,
-        move || close_late(rt, queue),
-        || wait_in_vain(rt, &mut end),
-    );
-    put_back(rt, &mut passes, end.finish());
-    assert!(rt; passes.len() == 64);
-    Ok((closed, pool.settle(rt, passes)))
+    stage: &S,
+    end: &mut P,
+) -> bool {
+    let ((), is_closed) = thread::join(rt, move || close_late(rt, stage), || wait_in_vain(rt, end));
+    is_closed
 }
 
-fn close_once(
-    rt: &(impl Threads + Wait + Clock + Abort + Sync),
-    alloc: Global,
-) -> Result<(bool, Settled), AllocError> {
-    close_while_one_waits::<Brand, _>(rt, alloc, QueueBlank::new(alloc, 0)?)
+/// An end waits for a result until the pool is closed. Whether none came, and the end is closed.
+pub fn end_in_vain<S: Stage<R> + Sync, R: Host + Sync>(rt: &R, stage: &S) -> bool {
+    let mut end = stage.end(rt, USER);
+    let is_closed = wait_until_closed(rt, stage, &mut end);
+    stage.leave(rt, end);
+    is_closed
 }
 
 #[test]
 fn who_waits_for_a_result_is_told_of_a_closed_pool(rt: HostRuntime) -> Result<(), Fail> {
-    let told = close_once(&rt, rt.alloc()).or_else(|_| close_once(&rt, rt.alloc()))?;
-    let settled = Settled {
+    let OverQueue { seen, settled, .. } = over_queue(&rt, 0, Scene::InVain)?;
+    let expected = Settled {
         pushed: 1,
         popped: 0,
         left: 1,
     };
-    assert_eq!(rt; told, (true, settled));
+    assert_eq!(rt; (seen, settled), (Seen::Right(true), expected));
     Ok(())
 }
 
 /// Fetches one of two results that were given, so that the other is in hand, and closes the pool. Whether that other does not
 /// come any more.
-fn drop_in_hand<L: Room, R: Wait + Abort>(
-    rt: &R,
-    pool: &QueuePool<L>,
-    passes: &mut Vec<PoolPass<L>>,
-) -> bool {
-    let mut end = posting_end(rt, pool, passes, USER, 2);
-    let mut last = posting_end(rt, pool, passes, LAST, 1);
+fn drop_in_hand<S: Stage<R>, R: Host>(rt: &R, stage: &S) -> bool {
+    let mut end = posting_end(rt, stage, USER, 2);
+    let mut last = posting_end(rt, stage, LAST, 1);
     let all_given = last.owed() > 0 && last.fetch(LAST).is_some();
     let first_came = end.poll(USER).is_some();
-    pool.close(rt);
+    stage.close(rt);
     let polled = end.poll(USER);
-    all_given && first_came && polled.is_none() && end.owed() == 1 && end.fetch(USER).is_none()
+    let is_dropped = polled.is_none() && end.owed() == 1 && end.fetch(USER).is_none();
+    stage.leave(rt, end);
+    stage.leave(rt, last);
+    all_given && first_came && is_dropped
 }
 
-fn close_with_one_in_hand<L: Room + Send + Sync, R: Threads + Wait + Abort + Sync>(
-    rt: &R,
-    alloc: Global,
-    blank: QueueBlank,
-) -> Result<(bool, u64), AllocError>
-    requires name { blank.name ≡ L.name }
-    requires parts { blank.parts ≡ L.parts }
-    requires one { blank.parts ≡ 1 }
-    requires table { blank.table ≡ L.table }
-    requires passes { L.passes ≡ 65 }
-{
-    let (pool, mut passes, mut shares) = QueuePool::<L>::new(alloc, blank, 1)?;
-    let (share, pass) = (next(rt, &mut shares), next(rt, &mut passes));
-    let queue = &pool;
-    let ((share, pass), dropped) = thread::join(
-        rt,
-        move || work_queue(rt, queue, share, pass, &(), &Table::new()),
-        || drop_in_hand(rt, queue, &mut passes),
-    );
-    put_back(rt, &mut passes, pass);
-    put_back(rt, &mut shares, share);
-    assert!(rt; shares.len() == 1);
-    Ok((dropped, gather(rt, &pool, shares)))
-}
-
-fn close_in_hand_once(
-    rt: &(impl Threads + Wait + Abort + Sync),
-    alloc: Global,
-) -> Result<(bool, u64), AllocError> {
-    close_with_one_in_hand::<Brand, _>(rt, alloc, QueueBlank::new(alloc, 1)?)
+/// An end has a result in hand as the pool is closed. Whether that does not come any more.
+pub fn close_in_hand<S: Stage<R> + Sync, R: Host + Sync>(rt: &R, stage: &S) -> bool {
+    beside_worker(rt, stage, move || drop_in_hand(rt, stage))
 }
 
 #[test]
 fn a_result_in_hand_does_not_outlive_the_pool(rt: HostRuntime) -> Result<(), Fail> {
-    assert_eq!(rt; close_in_hand_once(&rt, rt.alloc())?, (true, 3));
+    let OverQueue { seen, given, .. } = over_queue(&rt, 1, Scene::InHand)?;
+    assert_eq!(rt; (seen, given), (Seen::Right(true), 3));
     Ok(())
 }

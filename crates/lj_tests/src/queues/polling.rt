@@ -1,25 +1,18 @@
 //! Ends that poll, over both pools: a result that is not there is not waited for, a worker that sleeps is told of its task,
 //! and a pool that is closed is not noted.
-ghost use Rattle.std.specs.Prelude.{◌≡◌};
 
-use super::{next, post_one};
+use super::over_lock::over_lock;
+use super::over_queue::over_queue;
+use super::scene::{Scene, Seen};
+use super::stage::{Host, Stage, beside_worker};
+use super::{post_one, sleep_a_while};
 use crate::tasks::task;
-use lj_pool::{LockPool, Pool, work};
-use lj_queue::{QueueBlank, QueuePool, Room, work_queue};
-use lj_table::Table;
-use std::alloc::{AllocError, AllocGlobal, Global};
-use std::marker::Brand;
+use lj_pool::Pool;
 use std::process::Abort;
 use std::rt::Clock;
-use std::sync::Wait;
-use std::sync::ledger::{Blank, Ledger};
 use std::test::Fail;
 use std::thread;
-use std::thread::Threads;
 use std::time::Duration;
-
-/// How many milliseconds the worker has to go to sleep.
-const LATE_MILLIS: u64 = 20;
 
 /// How often a result is polled for at most.
 const POLLS: u64 = 200_000;
@@ -31,7 +24,7 @@ const USER: u8 = 7;
 
 /// What polls answer.
 #[derive(Clone, Copy, PartialEq, Eq, Debug)]
-struct Polled {
+pub struct Polled {
     /// Whether nothing came while there was no worker.
     none_at_first: bool,
     /// Whether the results came of a task that was posted before, and of one that was posted while the worker slept.
@@ -66,11 +59,20 @@ fn post_first<P: Pool, R: Abort>(rt: &R, end: &mut P) -> bool {
 /// Polls for its result, and for that of a second task. Posts a third one. Whether both came.
 fn poll_for_both<P: Pool, R: Clock + Abort>(rt: &R, end: &mut P) -> bool {
     let first_came = poll_for(rt, end, 0);
-    thread::sleep(rt, Duration::from_millis(LATE_MILLIS));
+    sleep_a_while(rt);
     post_one(rt, end, task(rt, USER, 1));
     let second_came = poll_for(rt, end, 1);
     post_one(rt, end, task(rt, USER, 2));
     first_came && second_came
+}
+
+/// Does so beside a worker, and then closes the pool.
+fn poll_beside<S: Stage<R> + Sync, P: Pool, R: Host + Sync>(
+    rt: &R,
+    stage: &S,
+    end: &mut P,
+) -> bool {
+    beside_worker(rt, stage, || poll_for_both(rt, end))
 }
 
 /// Polls over a closed pool. Whether nothing came, the third task is still owed, and the end has not noted the close.
@@ -78,90 +80,34 @@ fn poll_closed<P: Pool>(end: &mut P) -> bool {
     end.poll(USER).is_none() && end.owed() == 1 && !end.closed()
 }
 
-fn poll_locked<L: Ledger + Send + Sync, R: Threads + Wait + Clock + Abort + Sync>(
-    rt: &R,
-    alloc: Global,
-    blank: Blank,
-) -> Result<Polled, AllocError>
-    requires name { blank.name ≡ L.name }
-    requires parts { blank.parts ≡ L.parts }
-    requires one { blank.parts ≡ 1 }
-{
-    let (pool, mut shares) = LockPool::<L>::new(alloc, blank, 1)?;
-    let share = next(rt, &mut shares);
-    let mut end = pool.end(rt);
+/// An end polls while there is no worker, beside one, and once the pool is closed.
+pub fn poll_in_turn<S: Stage<R> + Sync, R: Host + Sync>(rt: &R, stage: &S) -> Polled {
+    let mut end = stage.end(rt, USER);
     let none_at_first = post_first(rt, &mut end);
-    let desk = &pool;
-    let (_, both_came) = thread::join(
-        rt,
-        move || work(rt, desk, share, &(), &Table::new()),
-        || {
-            let came = poll_for_both(rt, &mut end);
-            desk.close(rt);
-            came
-        },
-    );
-    Ok(Polled {
+    let both_came = poll_beside(rt, stage, &mut end);
+    let none_of_closed = poll_closed(&mut end);
+    stage.leave(rt, end);
+    Polled {
         none_at_first,
         both_came,
-        none_of_closed: poll_closed(&mut end),
-    })
-}
-
-fn poll_queued<L: Room + Send + Sync, R: Threads + Wait + Clock + Abort + Sync>(
-    rt: &R,
-    alloc: Global,
-    blank: QueueBlank,
-) -> Result<Polled, AllocError>
-    requires name { blank.name ≡ L.name }
-    requires parts { blank.parts ≡ L.parts }
-    requires one { blank.parts ≡ 1 }
-    requires table { blank.table ≡ L.table }
-    requires passes { L.passes ≡ 65 }
-{
-    let (pool, mut passes, mut shares) = QueuePool::<L>::new(alloc, blank, 1)?;
-    let (share, pass) = (next(rt, &mut shares), next(rt, &mut passes));
-    let mut end = pool.end(rt, next(rt, &mut passes), USER);
-    let none_at_first = post_first(rt, &mut end);
-    let queue = &pool;
-    let (_, both_came) = thread::join(
-        rt,
-        move || work_queue(rt, queue, share, pass, &(), &Table::new()),
-        || {
-            let came = poll_for_both(rt, &mut end);
-            queue.close(rt);
-            came
-        },
-    );
-    Ok(Polled {
-        none_at_first,
-        both_came,
-        none_of_closed: poll_closed(&mut end),
-    })
-}
-
-fn locked_once(
-    rt: &(impl Threads + Wait + Clock + Abort + Sync),
-    alloc: Global,
-) -> Result<Polled, AllocError> {
-    poll_locked::<Brand, _>(rt, alloc, Blank::new(1))
-}
-
-fn queued_once(
-    rt: &(impl Threads + Wait + Clock + Abort + Sync),
-    alloc: Global,
-) -> Result<Polled, AllocError> {
-    poll_queued::<Brand, _>(rt, alloc, QueueBlank::new(alloc, 1)?)
+        none_of_closed,
+    }
 }
 
 #[test]
 fn polls_over_a_pool_behind_a_lock_do_not_wait(rt: HostRuntime) -> Result<(), Fail> {
-    assert_eq!(rt; locked_once(&rt, rt.alloc())?, EXPECTED);
+    assert_eq!(rt;
+        over_lock(&rt, 1, Scene::Polling)?.seen,
+        Seen::Polled(EXPECTED)
+    );
     Ok(())
 }
 
 #[test]
 fn polls_over_a_pool_with_a_queue_do_not_wait(rt: HostRuntime) -> Result<(), Fail> {
-    assert_eq!(rt; queued_once(&rt, rt.alloc())?, EXPECTED);
+    assert_eq!(rt;
+        over_queue(&rt, 1, Scene::Polling)?.seen,
+        Seen::Polled(EXPECTED)
+    );
     Ok(())
 }

@@ -1,24 +1,17 @@
 //! A queue that is full: who may not wait is refused, and who waits goes on once there is room, or is told that the pool
 //! is closed.
-ghost use Rattle.std.specs.Prelude.{◌≡◌};
 
-use super::{next, posting_end, put_back};
+use super::over_queue::{OverQueue, over_queue};
+use super::scene::{Scene, Seen};
+use super::stage::{Host, Stage};
+use super::{posting_end, put_back, sleep_a_while};
 use crate::tasks::task;
-use lj_pool::{Pool, Refused, Share};
-use lj_queue::{PoolPass, QueueBlank, QueueEnd, QueuePool, Room, Settled, gather, work_queue};
-use lj_table::Table;
-use std::alloc::{AllocError, AllocGlobal, Global};
-use std::marker::Brand;
+use lj_pool::{Pool, Refused};
+use lj_queue::Settled;
+use std::alloc::{AllocError, AllocGlobal};
 use std::process::Abort;
-use std::rt::Clock;
-use std::sync::Wait;
 use std::test::Fail;
 use std::thread;
-use std::thread::Threads;
-use std::time::Duration;
-
-/// How many milliseconds a thread waits before it does what another waits for.
-const LATE_MILLIS: u64 = 20;
 
 /// So many ends with 64 tasks each are all that the queue takes.
 const ENDS: u8 = 16;
@@ -28,7 +21,7 @@ const LAST: u8 = 16;
 
 /// What a post answers.
 #[derive(Clone, Copy, PartialEq, Eq, Debug)]
-enum Answer {
+pub enum Answer {
     Posted,
     /// There is no room, and the task was handed back.
     Full,
@@ -38,33 +31,17 @@ enum Answer {
     Other,
 }
 
-/// What came of a full queue for the end that comes last.
-#[derive(Clone, Copy, PartialEq, Eq, Debug)]
-struct Crowd {
-    at_once: Answer,
-    waited: Answer,
-    /// Whether its result came.
-    fetched: bool,
-    given: u64,
-    settled: Settled,
-}
-
 /// Ends that fill the queue.
-fn fill<'p, L: Room, R: Wait + Abort>(
-    rt: &'p R,
-    alloc: Global,
-    pool: &'p QueuePool<L>,
-    passes: &mut Vec<PoolPass<L>>,
-) -> Result<Vec<QueueEnd<'p, L, R>>, AllocError> {
-    let mut ends = Vec::with_capacity(alloc, usize::from(ENDS))?;
+fn fill<S: Stage<R>, R: Host>(rt: &R, stage: &S) -> Result<Vec<S::End>, AllocError> {
+    let mut ends = Vec::with_capacity(rt.alloc(), usize::from(ENDS))?;
     for user in 0..ENDS {
-        put_back(rt, &mut ends, posting_end(rt, pool, passes, user, 64));
+        put_back(rt, &mut ends, posting_end(rt, stage, user, 64));
     }
     Ok(ends)
 }
 
 /// Posts a task by an end that is owed nothing.
-fn post_last<L: Room, R: Wait + Abort>(rt: &R, end: &mut QueueEnd<L, R>, wait: bool) -> Answer {
+fn post_last<P: Pool, R: Abort>(rt: &R, end: &mut P, wait: bool) -> Answer {
     if end.owed() > 0 {
         return Answer::Other;
     }
@@ -77,138 +54,111 @@ fn post_last<L: Room, R: Wait + Abort>(rt: &R, end: &mut QueueEnd<L, R>, wait: b
 }
 
 /// Posts a task that may wait for room, fetches its result, and closes the pool. Whether the result came.
-fn post_and_fetch<L: Room, R: Wait + Abort>(
-    rt: &R,
-    pool: &QueuePool<L>,
-    end: &mut QueueEnd<L, R>,
-) -> (Answer, bool) {
+fn post_and_fetch<S: Stage<R>, P: Pool, R: Host>(rt: &R, stage: &S, end: &mut P) -> (Answer, bool) {
     let waited = post_last(rt, end, true);
     let fetched = if end.owed() > 0 {
         end.fetch(LAST)
     } else {
         None
     };
-    pool.close(rt);
+    stage.close(rt);
     let came = fetched.is_some_and(|done| done.task().is(&task(rt, LAST, 0)));
     (waited, came)
 }
 
-/// Computes tasks until the pool is closed, or closes it. Either begins late.
-fn work_or_close<L: Room, R: Wait + Clock>(
-    rt: &R,
-    pool: &QueuePool<L>,
-    hand: (Share<L>, PoolPass<L>),
-    works: bool,
-) -> (Share<L>, PoolPass<L>) {
-    thread::sleep(rt, Duration::from_millis(LATE_MILLIS));
-    if !works {
-        pool.close(rt);
-    }
-    let (share, pass) = hand;
-    work_queue(rt, pool, share, pass, &(), &Table::new())
-}
-
 /// What the end that comes last is told at once, what once it waited, and whether its result came.
-type Told = (Answer, Answer, bool);
+pub type Told = (Answer, Answer, bool);
 
-/// Fills the queue of a pool. The end that comes last is refused, and then waits for room until a worker makes it, or
-/// until the pool is closed. Shares and passes are put back.
-fn wait_over<L: Room + Send + Sync, R: Threads + Wait + Clock + Abort + Sync>(
-    rt: &R,
-    alloc: Global,
-    pool: &QueuePool<L>,
-    passes: &mut Vec<PoolPass<L>>,
-    shares: &mut Vec<Share<L>>,
+/// The queue of a pool is filled. The end that comes last is refused, and then waits for room until a worker makes it, or
+/// until the pool is closed.
+#[derive(Clone, Copy)]
+pub struct Crowd {
+    /// Whether a worker comes, late, or the close.
     works: bool,
-) -> Result<Told, AllocError> {
-    let hand = (next(rt, shares), next(rt, passes));
-    let ends = fill(rt, alloc, pool, passes)?;
-    let mut last = pool.end(rt, next(rt, passes), LAST);
-    let at_once = post_last(rt, &mut last, false);
-    let ((share, pass), (waited, fetched)) = thread::join(
-        rt,
-        move || work_or_close(rt, pool, hand, works),
-        || post_and_fetch(rt, pool, &mut last),
-    );
-    put_back(rt, passes, pass);
-    put_back(rt, passes, last.finish());
-    for end in ends {
-        put_back(rt, passes, end.finish());
+}
+
+impl Crowd {
+    /// Computes tasks until the pool is closed, or closes it first.
+    fn work_or_close<S: Stage<R>, R: Host>(&self, rt: &R, stage: &S) {
+        sleep_a_while(rt);
+        if !self.works {
+            stage.close(rt);
+        }
+        stage.work(rt, &());
     }
-    put_back(rt, shares, share);
-    Ok((at_once, waited, fetched))
-}
 
-fn wait_in_a_crowd<L: Room + Send + Sync, R: Threads + Wait + Clock + Abort + Sync>(
-    rt: &R,
-    alloc: Global,
-    blank: QueueBlank,
-    works: bool,
-) -> Result<Crowd, AllocError>
-    requires name { blank.name ≡ L.name }
-    requires parts { blank.parts ≡ L.parts }
-    requires one { blank.parts ≡ 1 }
-    requires table { blank.table ≡ L.table }
-    requires passes { L.passes ≡ 65 }
-{
-    let (pool, mut passes, mut shares) = QueuePool::<L>::new(alloc, blank, 1)?;
-    let (at_once, waited, fetched) = wait_over(rt, alloc, &pool, &mut passes, &mut shares, works)?;
-    assert!(rt; passes.len() == 65 && shares.len() == 1);
-    Ok(Crowd {
-        at_once,
-        waited,
-        fetched,
-        given: gather(rt, &pool, shares),
-        settled: pool.settle(rt, passes),
-    })
-}
+    /// The end that comes last waits beside that.
+    fn wait<S: Stage<R> + Sync, P: Pool, R: Host + Sync>(
+        &self,
+        rt: &R,
+        stage: &S,
+        last: &mut P,
+    ) -> (Answer, bool) {
+        let ((), told) = thread::join(
+            rt,
+            move || self.work_or_close(rt, stage),
+            || post_and_fetch(rt, stage, last),
+        );
+        told
+    }
 
-fn crowd_once(
-    rt: &(impl Threads + Wait + Clock + Abort + Sync),
-    alloc: Global,
-    works: bool,
-) -> Result<Crowd, AllocError> {
-    wait_in_a_crowd::<Brand, _>(rt, alloc, QueueBlank::new(alloc, 1)?, works)
-}
-
-/// The same, once more where memory was refused.
-fn crowded(
-    rt: &(impl Threads + Wait + Clock + Abort + Sync + AllocGlobal),
-    works: bool,
-) -> Result<Crowd, AllocError> {
-    crowd_once(rt, rt.alloc(), works).or_else(|_| crowd_once(rt, rt.alloc(), works))
+    /// What the end that comes last is told.
+    ///
+    /// # Errors
+    /// Out of memory.
+    pub fn play<S: Stage<R> + Sync, R: Host + Sync>(
+        &self,
+        rt: &R,
+        stage: &S,
+    ) -> Result<Told, AllocError> {
+        let ends = fill(rt, stage)?;
+        let mut last = stage.end(rt, LAST);
+        let at_once = post_last(rt, &mut last, false);
+        let (waited, fetched) = self.wait(rt, stage, &mut last);
+        stage.leave(rt, last);
+        for end in ends {
+            stage.leave(rt, end);
+        }
+        Ok((at_once, waited, fetched))
+    }
 }
 
 #[test]
 fn who_waits_for_room_goes_on(rt: HostRuntime) -> Result<(), Fail> {
-    let crowd = Crowd {
-        at_once: Answer::Full,
-        waited: Answer::Posted,
-        fetched: true,
-        given: 1025,
-        settled: Settled {
-            pushed: 1025,
-            popped: 1025,
-            left: 0,
-        },
+    let OverQueue {
+        seen,
+        given,
+        settled,
+    } = over_queue(&rt, 1, Scene::Crowd(Crowd { works: true }))?;
+    let told = (Answer::Full, Answer::Posted, true);
+    let all_popped = Settled {
+        pushed: 1025,
+        popped: 1025,
+        left: 0,
     };
-    assert_eq!(rt; crowded(&rt, true)?, crowd);
+    assert_eq!(rt;
+        (seen, given, settled),
+        (Seen::Crowd(Ok(told)), 1025, all_popped)
+    );
     Ok(())
 }
 
 #[test]
 fn who_waits_for_room_is_told_of_a_closed_pool(rt: HostRuntime) -> Result<(), Fail> {
-    let crowd = Crowd {
-        at_once: Answer::Full,
-        waited: Answer::Closed,
-        fetched: false,
-        given: 0,
-        settled: Settled {
-            pushed: 1024,
-            popped: 0,
-            left: 1024,
-        },
+    let OverQueue {
+        seen,
+        given,
+        settled,
+    } = over_queue(&rt, 1, Scene::Crowd(Crowd { works: false }))?;
+    let told = (Answer::Full, Answer::Closed, false);
+    let all_left = Settled {
+        pushed: 1024,
+        popped: 0,
+        left: 1024,
     };
-    assert_eq!(rt; crowded(&rt, false)?, crowd);
+    assert_eq!(rt;
+        (seen, given, settled),
+        (Seen::Crowd(Ok(told)), 0, all_left)
+    );
     Ok(())
 }

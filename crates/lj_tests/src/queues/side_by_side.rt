@@ -1,27 +1,24 @@
 //! Two sessions of one user, which are worked on at once while the user says nothing: a gate holds the task of one of them
 //! until it is called for that of the other, over both pools.
-ghost use Rattle.std.specs.Prelude.{◌≡◌, []};
 
-use super::{next, wait_for, work_both};
+use super::over_lock::over_lock;
+use super::over_queue::over_queue;
+use super::scene::{Scene, Seen};
+use super::stage::{Host, Stage, work_both};
+use super::wait_for;
 use arrayvec::ArrayVec;
-use lj_pool::{Gate, LockPool, Pool, serve, work};
-use lj_queue::{PoolPass, QueueBlank, QueuePool, Room};
+use lj_pool::{Gate, serve};
 use lj_quota::Quota;
 use lj_session::UserState;
-use lj_table::Table;
 use lj_tile::TaskName;
 use lj_wire::{Reading, Writing};
-use std::alloc::{AllocError, AllocGlobal, Global};
+use std::alloc::AllocGlobal;
 use std::io::{self, Read};
-use std::marker::Brand;
-use std::process::Abort;
 use std::rt::Clock;
 use std::sync::Wait;
 use std::sync::atomic::{AtomicU64, Ordering};
-use std::sync::ledger::{Blank, Ledger};
 use std::test::Fail;
 use std::thread;
-use std::thread::Threads;
 
 const USER: u8 = 0;
 
@@ -100,137 +97,55 @@ const SHOW: &str = "SHOW a 0\n";
 const TOLD: &str =
     "OK LOAD a 0 2\nOK LOAD b 0 2\nOK START a 1\nOK START b 1\nOK SHOW a 1 0 589 0 0\n";
 
-/// Serves the user over an end of a pool.
-fn serve_starts<P: Pool, R: Wait + Clock>(
-    alloc: Global,
-    pool: &mut P,
-    gate: &HoldFirst<'_, R>,
-) -> Output
-    requires { (P.seen pool.old).owed ≡ [] }
-{
+/// Serves the user, and then closes the pool.
+fn serve_starts<S: Stage<R>, R: Host>(rt: &R, stage: &S, gate: &HoldFirst<'_, R>) -> Output {
+    let mut end = stage.end(rt, USER);
     let mut writer = Writing::new(Output::new());
     let reader = Reading::new(Words {
         gate,
         first: STARTS.as_bytes(),
         then: SHOW.as_bytes(),
     });
-    let state = UserState::new(alloc, Quota::USUAL);
-    let (state, _, _) = serve(alloc, state, USER, reader, &mut writer, pool);
+    let state = UserState::new(rt.alloc(), Quota::USUAL);
+    let (state, _, _) = serve(rt.alloc(), state, USER, reader, &mut writer, &mut end);
     drop(state);
+    stage.leave(rt, end);
+    stage.close(rt);
     writer.into_inner()
 }
 
-/// Serves the user over a pool behind a lock, and then closes it.
-fn serve_locked<L: Ledger, R: Wait + Clock>(
-    rt: &R,
-    alloc: Global,
-    pool: &LockPool<L>,
-    gate: &HoldFirst<'_, R>,
-) -> Output {
-    let output = serve_starts(alloc, &mut pool.end(rt), gate);
-    pool.close(rt);
-    output
-}
-
-/// Serves the user over a pool with a queue, and then closes it.
-fn serve_queued<L: Room, R: Wait + Clock>(
-    rt: &R,
-    alloc: Global,
-    pool: &QueuePool<L>,
-    pass: PoolPass<L>,
-    gate: &HoldFirst<'_, R>,
-) -> Output {
-    let mut end = pool.end(rt, pass, USER);
-    let output = serve_starts(alloc, &mut end, gate);
-    pool.close(rt);
-    output
-}
-
-/// What the user is told, and what the gate counted.
-type Seen = (Output, [u64; 3]);
-
-fn run_locked<L: Ledger + Send + Sync, R: Threads + Wait + Clock + Abort + Sync>(
-    rt: &R,
-    alloc: Global,
-    blank: Blank,
-) -> Result<Seen, AllocError>
-    requires name { blank.name ≡ L.name }
-    requires parts { blank.parts ≡ L.parts }
-    requires one_each { blank.parts ≡ 2 }
-{
-    let (pool, mut shares) = LockPool::<L>::new(alloc, blank, 2)?;
-    let (one, other) = (next(rt, &mut shares), next(rt, &mut shares));
+/// A user is served beside two workers. Whether all was right.
+pub fn serve_beside_workers<S: Stage<R> + Sync, R: Host + Sync>(rt: &R, stage: &S) -> bool {
     let gate = HoldFirst::new(rt);
-    let (desk, keeper) = (&pool, &gate);
+    let keeper = &gate;
     let (output, _) = thread::join(
         rt,
-        move || serve_locked(rt, alloc, desk, keeper),
-        move || thread::join(
-            rt,
-            move || work(rt, desk, one, keeper, &Table::new()),
-            move || work(rt, desk, other, keeper, &Table::new()),
-        ),
+        move || serve_starts(rt, stage, keeper),
+        move || work_both(rt, stage, keeper),
     );
-    Ok((output, gate.counts()))
-}
-
-fn run_queued<L: Room + Send + Sync, R: Threads + Wait + Clock + Abort + Sync>(
-    rt: &R,
-    alloc: Global,
-    blank: QueueBlank,
-) -> Result<Seen, AllocError>
-    requires name { blank.name ≡ L.name }
-    requires parts { blank.parts ≡ L.parts }
-    requires one_each { blank.parts ≡ 2 }
-    requires table { blank.table ≡ L.table }
-    requires passes { L.passes ≡ 66 }
-{
-    let (pool, mut passes, mut shares) = QueuePool::<L>::new(alloc, blank, 2)?;
-    let hands = (
-        (next(rt, &mut shares), next(rt, &mut passes)),
-        (next(rt, &mut shares), next(rt, &mut passes)),
-    );
-    let pass = next(rt, &mut passes);
-    let gate = HoldFirst::new(rt);
-    let (queue, keeper) = (&pool, &gate);
-    let (output, _) = thread::join(
-        rt,
-        move || serve_queued(rt, alloc, queue, pass, keeper),
-        move || work_both(rt, queue, keeper, hands),
-    );
-    Ok((output, gate.counts()))
-}
-
-fn locked_once(
-    rt: &(impl Threads + Wait + Clock + Abort + Sync),
-    alloc: Global,
-) -> Result<Seen, AllocError> {
-    run_locked::<Brand, _>(rt, alloc, Blank::new(2))
-}
-
-fn queued_once(
-    rt: &(impl Threads + Wait + Clock + Abort + Sync),
-    alloc: Global,
-) -> Result<Seen, AllocError> {
-    run_queued::<Brand, _>(rt, alloc, QueueBlank::new(alloc, 2)?)
+    is_right(&output, gate.counts())
 }
 
 /// The session is to be shown as it is alone, and its task is to have passed after the gate was called for the other one,
 /// while the user said nothing.
-fn is_right(seen: &Seen) -> bool {
-    seen.0.as_slice() == TOLD.as_bytes() && seen.1 == [1, 1, 1]
+fn is_right(told: &Output, counts: [u64; 3]) -> bool {
+    told.as_slice() == TOLD.as_bytes() && counts == [1, 1, 1]
 }
 
 #[test]
 fn sessions_are_worked_on_at_once_over_a_pool_behind_a_lock(rt: HostRuntime) -> Result<(), Fail> {
-    let seen = locked_once(&rt, rt.alloc())?;
-    assert!(rt; is_right(&seen));
+    assert_eq!(rt;
+        over_lock(&rt, 2, Scene::SideBySide)?.seen,
+        Seen::Right(true)
+    );
     Ok(())
 }
 
 #[test]
 fn sessions_are_worked_on_at_once_over_a_pool_with_a_queue(rt: HostRuntime) -> Result<(), Fail> {
-    let seen = queued_once(&rt, rt.alloc())?;
-    assert!(rt; is_right(&seen));
+    assert_eq!(rt;
+        over_queue(&rt, 2, Scene::SideBySide)?.seen,
+        Seen::Right(true)
+    );
     Ok(())
 }

@@ -1,20 +1,15 @@
 //! A user that is withdrawn while its neighbour has results that were not fetched, over both pools.
-ghost use Rattle.std.specs.Prelude.{◌≡◌};
 
-use super::{next, post_one, post_some, posting_end, put_back};
+use super::over_lock::over_lock;
+use super::over_queue::{OverQueue, over_queue};
+use super::scene::{Scene, Seen};
+use super::stage::{Host, Stage, beside_worker};
+use super::{post_one, posting_end};
 use crate::tasks::task;
 use lj_book::Counts;
-use lj_pool::{LockPool, Pool, work};
-use lj_queue::{PoolPass, QueueBlank, QueuePool, Room, gather, work_queue};
-use lj_table::Table;
-use std::alloc::{AllocError, AllocGlobal, Global};
-use std::marker::Brand;
+use lj_pool::Pool;
 use std::process::Abort;
-use std::sync::Wait;
-use std::sync::ledger::{Blank, Ledger};
 use std::test::Fail;
-use std::thread;
-use std::thread::Threads;
 
 /// The user that is withdrawn, and how many tasks it posts.
 const GONE: u8 = 6;
@@ -34,7 +29,7 @@ const LAST: u8 = 7;
 
 /// Whether the last result came, and how many came of the others.
 #[derive(Clone, Copy, PartialEq, Eq, Debug)]
-struct Left {
+pub struct Left {
     last_came: bool,
     /// Of the user that is withdrawn, before that and afterwards.
     before: i64,
@@ -49,9 +44,12 @@ const EXPECTED: Left = Left {
     neighbour: NEIGHBOUR_TASKS,
 };
 
-/// Waits for the result of the last task. Whether it came.
-fn fetch_last<P: Pool>(end: &mut P) -> bool {
-    end.owed() > 0 && end.fetch(LAST).is_some()
+/// Posts the last task, and waits for its result. Whether it came.
+fn play_last<S: Stage<R>, R: Host>(rt: &R, stage: &S) -> bool {
+    let mut last = posting_end(rt, stage, LAST, 1);
+    let came = last.owed() > 0 && last.fetch(LAST).is_some();
+    stage.leave(rt, last);
+    came
 }
 
 /// Polls for results of a user's tasks, from this step on and before that. How many came, in order.
@@ -68,135 +66,84 @@ fn count_polled<P: Pool, R: Abort>(rt: &R, end: &mut P, user: u8, steps: (i64, i
 
 /// Withdraws a user once all results were given, when its end has some of them in hand: these are still handed out. The
 /// neighbour's end also posts a task of that user, of which nothing comes.
-fn leave_queue<L: Room, R: Wait + Abort>(
-    rt: &R,
-    pool: &QueuePool<L>,
-    passes: &mut Vec<PoolPass<L>>,
-) -> Left {
-    let mut gone = posting_end(rt, pool, passes, GONE, GONE_TASKS);
-    let mut neighbour = posting_end(rt, pool, passes, NEIGHBOUR, NEIGHBOUR_TASKS);
+fn leave_with_end<S: Stage<R>, R: Host>(rt: &R, stage: &S) -> Left {
+    let mut gone = posting_end(rt, stage, GONE, GONE_TASKS);
+    let mut neighbour = posting_end(rt, stage, NEIGHBOUR, NEIGHBOUR_TASKS);
     post_one(rt, &mut neighbour, task(rt, GONE, GONE_TASKS));
-    let last_came = fetch_last(&mut posting_end(rt, pool, passes, LAST, 1));
+    let last_came = play_last(rt, stage);
     let before = count_polled(rt, &mut gone, GONE, (0, 1));
     for step in GONE_TASKS..GONE_TASKS + MORE_TASKS {
         post_one(rt, &mut gone, task(rt, GONE, step));
     }
-    let all_came = fetch_last(&mut posting_end(rt, pool, passes, LAST, 1));
-    pool.withdraw(rt, GONE);
+    let all_came = play_last(rt, stage);
+    stage.withdraw(rt, GONE);
+    let after = count_polled(rt, &mut gone, GONE, (1, GONE_TASKS + MORE_TASKS));
+    let kept = count_polled(rt, &mut neighbour, NEIGHBOUR, (0, NEIGHBOUR_TASKS + 1));
+    stage.leave(rt, gone);
+    stage.leave(rt, neighbour);
     Left {
         last_came: last_came && all_came,
         before,
-        after: count_polled(rt, &mut gone, GONE, (1, GONE_TASKS + MORE_TASKS)),
-        neighbour: count_polled(rt, &mut neighbour, NEIGHBOUR, (0, NEIGHBOUR_TASKS + 1)),
+        after,
+        neighbour: kept,
     }
 }
 
-fn withdraw_queued<L: Room + Send + Sync, R: Threads + Wait + Abort + Sync>(
-    rt: &R,
-    alloc: Global,
-    blank: QueueBlank,
-) -> Result<(Left, u64), AllocError>
-    requires name { blank.name ≡ L.name }
-    requires parts { blank.parts ≡ L.parts }
-    requires one { blank.parts ≡ 1 }
-    requires table { blank.table ≡ L.table }
-    requires passes { L.passes ≡ 65 }
-{
-    let (pool, mut passes, mut shares) = QueuePool::<L>::new(alloc, blank, 1)?;
-    let (share, pass) = (next(rt, &mut shares), next(rt, &mut passes));
-    let queue = &pool;
-    let ((share, pass), left) = thread::join(
-        rt,
-        move || work_queue(rt, queue, share, pass, &(), &Table::new()),
-        || {
-            let left = leave_queue(rt, queue, &mut passes);
-            queue.close(rt);
-            left
-        },
-    );
-    put_back(rt, &mut passes, pass);
-    put_back(rt, &mut shares, share);
-    assert!(rt; shares.len() == 1);
-    Ok((left, gather(rt, &pool, shares)))
-}
-
-fn queued_once(
-    rt: &(impl Threads + Wait + Abort + Sync),
-    alloc: Global,
-) -> Result<(Left, u64), AllocError> {
-    withdraw_queued::<Brand, _>(rt, alloc, QueueBlank::new(alloc, 1)?)
+/// A user is withdrawn beside a worker, and then the pool is closed.
+pub fn withdraw_with_end<S: Stage<R> + Sync, R: Host + Sync>(rt: &R, stage: &S) -> Left {
+    beside_worker(rt, stage, move || leave_with_end(rt, stage))
 }
 
 /// All results are kept but the one of the task that was posted by another user's end. The three in hand come, and the two
 /// that the pool had do not.
 #[test]
 fn a_withdrawal_over_a_queue_leaves_the_neighbour(rt: HostRuntime) -> Result<(), Fail> {
+    let OverQueue { seen, given, .. } = over_queue(&rt, 1, Scene::WithEnd)?;
     let expected = Left {
         after: GONE_TASKS - 1,
         ..EXPECTED
     };
-    assert_eq!(rt; queued_once(&rt, rt.alloc())?, (expected, 11));
+    assert_eq!(rt; (seen, given), (Seen::WithEnd(expected), 11));
     Ok(())
 }
 
 /// What came, and the counts of the book while the entries of the end that is gone were there, and after they were withdrawn.
-type LeftAndCounts = (Left, Counts, Counts);
+pub type LeftAndCounts = (Left, Option<Counts>, Option<Counts>);
 
 /// Withdraws a user whose end is gone, once all results were given.
-fn leave_desk<L: Ledger, R: Wait + Abort>(rt: &R, pool: &LockPool<L>) -> LeftAndCounts {
-    let (mut gone, mut neighbour, mut last) = (pool.end(rt), pool.end(rt), pool.end(rt));
-    post_some(rt, &mut gone, GONE, GONE_TASKS);
-    post_some(rt, &mut neighbour, NEIGHBOUR, NEIGHBOUR_TASKS);
-    post_some(rt, &mut last, LAST, 1);
-    let last_came = fetch_last(&mut last);
+fn leave_without_end<S: Stage<R>, R: Host>(rt: &R, stage: &S) -> LeftAndCounts {
+    let mut gone = posting_end(rt, stage, GONE, GONE_TASKS);
+    let mut neighbour = posting_end(rt, stage, NEIGHBOUR, NEIGHBOUR_TASKS);
+    let last_came = play_last(rt, stage);
     let before = count_polled(rt, &mut gone, GONE, (0, 1));
-    drop(gone);
-    let standing = pool.counts(rt);
-    pool.withdraw(rt, GONE);
-    let withdrawn = pool.counts(rt);
+    stage.leave(rt, gone);
+    let standing = stage.counts(rt);
+    stage.withdraw(rt, GONE);
+    let withdrawn = stage.counts(rt);
+    let mut next = stage.end(rt, GONE);
     let left = Left {
         last_came,
         before,
-        after: count_polled(rt, &mut pool.end(rt), GONE, (1, GONE_TASKS)),
+        after: count_polled(rt, &mut next, GONE, (1, GONE_TASKS)),
         neighbour: count_polled(rt, &mut neighbour, NEIGHBOUR, (0, NEIGHBOUR_TASKS + 1)),
     };
+    stage.leave(rt, next);
+    stage.leave(rt, neighbour);
     (left, standing, withdrawn)
 }
 
-fn withdraw_locked<L: Ledger + Send + Sync, R: Threads + Wait + Abort + Sync>(
+/// A user whose end is gone is withdrawn beside a worker, and then the pool is closed.
+pub fn withdraw_without_end<S: Stage<R> + Sync, R: Host + Sync>(
     rt: &R,
-    alloc: Global,
-    blank: Blank,
-) -> Result<LeftAndCounts, AllocError>
-    requires name { blank.name ≡ L.name }
-    requires parts { blank.parts ≡ L.parts }
-    requires one { blank.parts ≡ 1 }
-{
-    let (pool, mut shares) = LockPool::<L>::new(alloc, blank, 1)?;
-    let share = next(rt, &mut shares);
-    let desk = &pool;
-    let (_, left) = thread::join(
-        rt,
-        move || work(rt, desk, share, &(), &Table::new()),
-        || {
-            let left = leave_desk(rt, desk);
-            desk.close(rt);
-            left
-        },
-    );
-    Ok(left)
-}
-
-fn locked_once(
-    rt: &(impl Threads + Wait + Abort + Sync),
-    alloc: Global,
-) -> Result<LeftAndCounts, AllocError> {
-    withdraw_locked::<Brand, _>(rt, alloc, Blank::new(1))
+    stage: &S,
+) -> LeftAndCounts {
+    beside_worker(rt, stage, move || leave_without_end(rt, stage))
 }
 
 /// An entry stands until it is fetched or withdrawn, also that of an end which is gone.
 #[test]
 fn a_withdrawal_over_a_book_leaves_the_neighbour(rt: HostRuntime) -> Result<(), Fail> {
+    let seen = over_lock(&rt, 1, Scene::WithoutEnd)?.seen;
     let standing = Counts {
         posted: 8,
         given: 8,
@@ -209,9 +156,7 @@ fn a_withdrawal_over_a_book_leaves_the_neighbour(rt: HostRuntime) -> Result<(), 
         entries: 3,
         ..standing
     };
-    assert_eq!(rt;
-        locked_once(&rt, rt.alloc())?,
-        (EXPECTED, standing, withdrawn)
-    );
+    let expected = (EXPECTED, Some(standing), Some(withdrawn));
+    assert_eq!(rt; seen, Seen::WithoutEnd(expected));
     Ok(())
 }

@@ -1,4 +1,0 @@
-use Rattle.lj_tests.proofs.queues.handed_back.locked_once.Given as goal
-
-abbrev pub ghosts-run_locked : goal.ghosts-run_locked
-ghosts-run_locked g a = record { name = a.blank.name; parts = a.blank.parts }

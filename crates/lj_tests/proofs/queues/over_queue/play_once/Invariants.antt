@@ -1,0 +1,8 @@
+use Rattle.std.specs.Prelude.{◌+◌}
+use Rattle.lj_tests.proofs.queues.over_queue.play_once.Given as goal
+
+abbrev pub ghosts-play-L-Ledger : goal.ghosts-play-L-Ledger
+ghosts-play-L-Ledger g a = record { name = a.blank.name; parts = a.blank.parts }
+
+abbrev pub ghosts-play-L-Room : goal.ghosts-play-L-Room
+ghosts-play-L-Room g a = record { table = a.blank.table; passes = a.workers + 64 }

@@ -1,0 +1,110 @@
+//! Scenes over a pool behind a lock.
+ghost use Rattle.std.specs.Prelude.{◌≡◌};
+
+use super::scene::{Scene, Seen, play_over};
+use super::stage::{Host, Stage, Worked};
+use super::{next, put_back};
+use lj_book::Counts;
+use lj_pool::{Gate, LockEnd, LockPool, Share, gather, work};
+use lj_table::Table;
+use std::alloc::{AllocError, AllocGlobal};
+use std::marker::Brand;
+use std::sync::Mutex;
+use std::sync::ledger::{Blank, Ledger};
+
+/// A pool behind a lock, with the shares that no worker has.
+#[derive(Drop)]
+struct LockStage<'p, L: Ledger, R> {
+    rt: &'p R,
+    pool: &'p LockPool<L>,
+    shares: Mutex<Vec<Share<L>>>,
+}
+
+impl<'p, L: Ledger + Send + Sync, R: Host + Sync> Stage<R> for LockStage<'p, L, R> {
+    type End = LockEnd<'p, L, R>;
+
+    fn end(&self, _rt: &R, _user: u8) -> LockEnd<'p, L, R> {
+        self.pool.end(self.rt)
+    }
+
+    fn leave(&self, _rt: &R, end: LockEnd<'p, L, R>) -> Option<usize> {
+        drop(end);
+        None
+    }
+
+    fn work<G: Gate>(&self, rt: &R, gate: &G) -> Worked {
+        let share = next(rt, &mut self.shares.lock(rt));
+        let share = work(rt, self.pool, share, gate, &Table::new());
+        let credited = share.count();
+        put_back(rt, &mut self.shares.lock(rt), share);
+        Worked {
+            credited,
+            pass: None,
+        }
+    }
+
+    fn withdraw(&self, rt: &R, user: u8) {
+        self.pool.withdraw(rt, user);
+    }
+
+    fn close(&self, rt: &R) {
+        self.pool.close(rt);
+    }
+
+    fn counts(&self, rt: &R) -> Option<Counts> {
+        Some(self.pool.counts(rt))
+    }
+}
+
+/// What was seen, how many results the pool was given, and the counts of its book at last.
+#[derive(Drop)]
+pub struct OverLock {
+    pub seen: Seen,
+    pub given: u64,
+    pub counts: Counts,
+}
+
+fn play<L: Ledger + Send + Sync, R: Host + Sync>(
+    rt: &R,
+    blank: Blank,
+    workers: u8,
+    scene: Scene,
+) -> Result<OverLock, AllocError>
+    requires name { blank.name ≡ L.name }
+    requires parts { blank.parts ≡ L.parts }
+    requires one_each { blank.parts ≡ workers }
+{
+    let (pool, shares) = LockPool::<L>::new(rt.alloc(), blank, usize::from(workers))?;
+    let stage = LockStage {
+        rt,
+        pool: &pool,
+        shares: Mutex::new(shares),
+    };
+    let seen = play_over(rt, &stage, scene);
+    let shares = stage.shares.into_inner();
+    assert!(rt; shares.len() == usize::from(workers));
+    Ok(OverLock {
+        seen,
+        counts: pool.counts(rt),
+        given: gather(rt, &pool, shares),
+    })
+}
+
+fn play_once<R: Host + Sync>(rt: &R, workers: u8, scene: Scene) -> Result<OverLock, AllocError> {
+    play::<Brand, R>(rt, Blank::new(u64::from(workers)), workers, scene)
+}
+
+/// Plays a scene over a pool behind a lock, for so many workers; once more if memory was refused.
+///
+/// # Errors
+/// Out of memory.
+pub fn over_lock<R: Host + Sync>(
+    rt: &R,
+    workers: u8,
+    scene: Scene,
+) -> Result<OverLock, AllocError> {
+    match play_once(rt, workers, scene) {
+        Err(AllocError) => play_once(rt, workers, scene),
+        played => played,
+    }
+}

@@ -1,0 +1,124 @@
+//! Scenes over a pool with a queue.
+ghost use Rattle.std.specs.Prelude.{◌≡◌, ◌+◌};
+
+use super::scene::{Scene, Seen, play_over};
+use super::stage::{Host, Stage, Worked};
+use super::{next, put_back};
+use lj_book::Counts;
+use lj_pool::{Gate, Share};
+use lj_queue::{
+    CONNECTIONS, PoolPass, QueueBlank, QueueEnd, QueuePool, Room, Settled, gather, work_queue,
+};
+use lj_table::Table;
+use std::alloc::{AllocError, AllocGlobal};
+use std::marker::Brand;
+use std::sync::Mutex;
+
+/// A pool with a queue, with the passes and shares that nobody has.
+#[derive(Drop)]
+struct QueueStage<'p, L: Room, R> {
+    rt: &'p R,
+    pool: &'p QueuePool<L>,
+    passes: Mutex<Vec<PoolPass<L>>>,
+    shares: Mutex<Vec<Share<L>>>,
+}
+
+impl<'p, L: Room + Send + Sync, R: Host + Sync> Stage<R> for QueueStage<'p, L, R> {
+    type End = QueueEnd<'p, L, R>;
+
+    fn end(&self, rt: &R, user: u8) -> QueueEnd<'p, L, R> {
+        let pass = next(rt, &mut self.passes.lock(rt));
+        self.pool.end(self.rt, pass, user)
+    }
+
+    fn leave(&self, rt: &R, end: QueueEnd<'p, L, R>) -> Option<usize> {
+        let pass = end.finish();
+        let number = pass.number();
+        put_back(rt, &mut self.passes.lock(rt), pass);
+        Some(number)
+    }
+
+    fn work<G: Gate>(&self, rt: &R, gate: &G) -> Worked {
+        let share = next(rt, &mut self.shares.lock(rt));
+        let pass = next(rt, &mut self.passes.lock(rt));
+        let (share, pass) = work_queue(rt, self.pool, share, pass, gate, &Table::new());
+        let worked = Worked {
+            credited: share.count(),
+            pass: Some(pass.number()),
+        };
+        put_back(rt, &mut self.shares.lock(rt), share);
+        put_back(rt, &mut self.passes.lock(rt), pass);
+        worked
+    }
+
+    fn withdraw(&self, rt: &R, user: u8) {
+        self.pool.withdraw(rt, user);
+    }
+
+    fn close(&self, rt: &R) {
+        self.pool.close(rt);
+    }
+
+    fn counts(&self, _rt: &R) -> Option<Counts> {
+        None
+    }
+}
+
+/// What was seen, how many results the pool was given, and what its passes pushed and popped.
+#[derive(Drop)]
+pub struct OverQueue {
+    pub seen: Seen,
+    pub given: u64,
+    pub settled: Settled,
+}
+
+fn play<L: Room + Send + Sync, R: Host + Sync>(
+    rt: &R,
+    blank: QueueBlank,
+    workers: u8,
+    scene: Scene,
+) -> Result<OverQueue, AllocError>
+    requires name { blank.name ≡ L.name }
+    requires parts { blank.parts ≡ L.parts }
+    requires one_each { blank.parts ≡ workers }
+    requires table { blank.table ≡ L.table }
+    requires passes { workers + CONNECTIONS ≡ L.passes }
+{
+    let count = usize::from(workers);
+    let (pool, passes, shares) = QueuePool::<L>::new(rt.alloc(), blank, count)?;
+    let stage = QueueStage {
+        rt,
+        pool: &pool,
+        passes: Mutex::new(passes),
+        shares: Mutex::new(shares),
+    };
+    let seen = play_over(rt, &stage, scene);
+    let QueueStage { passes, shares, .. } = stage;
+    let (passes, shares) = (passes.into_inner(), shares.into_inner());
+    assert!(rt; passes.len() == count + CONNECTIONS && shares.len() == count);
+    Ok(OverQueue {
+        seen,
+        given: gather(rt, &pool, shares),
+        settled: pool.settle(rt, passes),
+    })
+}
+
+fn play_once<R: Host + Sync>(rt: &R, workers: u8, scene: Scene) -> Result<OverQueue, AllocError> {
+    let blank = QueueBlank::new(rt.alloc(), u64::from(workers))?;
+    play::<Brand, R>(rt, blank, workers, scene)
+}
+
+/// Plays a scene over a pool with a queue, for so many workers; once more if memory was refused.
+///
+/// # Errors
+/// Out of memory.
+pub fn over_queue<R: Host + Sync>(
+    rt: &R,
+    workers: u8,
+    scene: Scene,
+) -> Result<OverQueue, AllocError> {
+    match play_once(rt, workers, scene) {
+        Err(AllocError) => play_once(rt, workers, scene),
+        played => played,
+    }
+}

@@ -1,0 +1,55 @@
+//! Scenes: what is played over a pool of either kind that is empty and open.
+
+use super::room::Crowd;
+use super::stage::{Host, Stage};
+use super::{ahead, closing, ends, filled, handed_back, polling, room, side_by_side, withdrawn};
+use std::alloc::AllocError;
+
+/// What is played. Its file says what that is.
+#[derive(Clone, Copy)]
+pub enum Scene {
+    Ahead(ahead::Case),
+    InVain,
+    InHand,
+    Nine,
+    Filling,
+    HandedBack,
+    Polling,
+    Crowd(Crowd),
+    SideBySide,
+    WithEnd,
+    WithoutEnd,
+}
+
+/// What was seen.
+#[derive(Clone, Copy, PartialEq, Eq, Debug)]
+pub enum Seen {
+    Ahead(ahead::Told),
+    /// Whether all was as the scene says.
+    Right(bool),
+    Nine(ends::Kept),
+    Filled([filled::Given; 2]),
+    Polled(polling::Polled),
+    Crowd(Result<room::Told, AllocError>),
+    WithEnd(withdrawn::Left),
+    WithoutEnd(withdrawn::LeftAndCounts),
+}
+
+/// Plays a scene. Each end leaves, and each worker stops.
+///
+/// Scenes are functions, since a method of a trait may start no threads over a stage that its caller chooses.
+pub fn play_over<S: Stage<R> + Sync, R: Host + Sync>(rt: &R, stage: &S, scene: Scene) -> Seen {
+    match scene {
+        Scene::Ahead(case) => Seen::Ahead(ahead::serve_until_closed(rt, stage, case)),
+        Scene::InVain => Seen::Right(closing::end_in_vain(rt, stage)),
+        Scene::InHand => Seen::Right(closing::close_in_hand(rt, stage)),
+        Scene::Nine => Seen::Nine(ends::compute_nine(rt, stage)),
+        Scene::Filling => Seen::Filled(filled::fill_end(rt, stage)),
+        Scene::HandedBack => Seen::Right(handed_back::serve_beside_workers(rt, stage)),
+        Scene::Polling => Seen::Polled(polling::poll_in_turn(rt, stage)),
+        Scene::Crowd(crowd) => Seen::Crowd(crowd.play(rt, stage)),
+        Scene::SideBySide => Seen::Right(side_by_side::serve_beside_workers(rt, stage)),
+        Scene::WithEnd => Seen::WithEnd(withdrawn::withdraw_with_end(rt, stage)),
+        Scene::WithoutEnd => Seen::WithoutEnd(withdrawn::withdraw_without_end(rt, stage)),
+    }
+}

@@ -1,0 +1,82 @@
+//! What scenes are played over: a pool of either kind, at which ends and workers come and go.
+ghost use Rattle.std.specs.Prelude.{◌≡◌, []};
+
+use lj_book::Counts;
+use lj_pool::{Gate, Pool};
+use std::alloc::AllocGlobal;
+use std::process::Abort;
+use std::rt::Clock;
+use std::sync::Wait;
+use std::thread;
+use std::thread::Threads;
+
+/// What a test has: memory, threads that wait, a clock, and leave to stop.
+pub trait Host: AllocGlobal + Threads + Wait + Clock + Abort {}
+
+impl<R: AllocGlobal + Threads + Wait + Clock + Abort> Host for R {}
+
+/// What a worker did.
+#[derive(Clone, Copy, PartialEq, Eq, Debug)]
+pub struct Worked {
+    /// How many results its share was credited.
+    pub credited: u64,
+    /// The number of its pass, if the pool has passes.
+    pub pass: Option<usize>,
+}
+
+/// A pool, and what its ends and workers need.
+pub trait Stage<R: Host> {
+    type End: Pool + Send + Drop;
+
+    /// A new end for a user.
+    fn end(&self, rt: &R, user: u8) -> Self::End
+        ensures { (Self.End.seen result).owed ≡ [] };
+
+    /// Takes back what an end needed. The number of its pass, if the pool has passes.
+    fn leave(&self, rt: &R, end: Self::End) -> Option<usize>;
+
+    /// A worker computes tasks until the pool is closed.
+    fn work<G: Gate>(&self, rt: &R, gate: &G) -> Worked;
+
+    /// Drops what the pool has of a user.
+    fn withdraw(&self, rt: &R, user: u8);
+
+    /// Closes the pool.
+    fn close(&self, rt: &R);
+
+    /// The counts of its book, if it has one.
+    fn counts(&self, rt: &R) -> Option<Counts>;
+}
+
+/// Plays a part beside a worker, and then closes the pool.
+pub fn beside_worker<S: Stage<R> + Sync, A, F: FnOnce() -> A, R: Host + Sync>(
+    rt: &R,
+    stage: &S,
+    part: F,
+) -> A
+    requires { F.IsAlwaysCallable part }
+{
+    let (_, seen) = thread::join(
+        rt,
+        move || stage.work(rt, &()),
+        move || {
+            let seen = part();
+            stage.close(rt);
+            seen
+        },
+    );
+    seen
+}
+
+/// Two workers compute tasks until the pool is closed. What both did.
+pub fn work_both<S: Stage<R> + Sync, G: Gate + Sync, R: Host + Sync>(
+    rt: &R,
+    stage: &S,
+    gate: &G,
+) -> (Worked, Worked) {
+    thread::join(
+        rt,
+        move || stage.work(rt, gate),
+        move || stage.work(rt, gate),
+    )
+}
