@@ -14,6 +14,7 @@ from typing import Deque, Iterable, List, NamedTuple, Sequence, Tuple, Union
 
 from .ends import Ends
 from .errors import BadReply, ClientError, Closed, ConnectionLost, Refused, TimedOut, refusal_of, shown
+from .interrupts import held
 
 MAX_UNDER_WAY = 1024
 MAX_OUTGOING = 1 << 20
@@ -255,32 +256,33 @@ class Wire:
         """Sends what there is room for. Where nothing can be sent any more, there may still be replies to read."""
         if not self._outgoing:
             return False
-        self._torn = True
-        try:
-            sent = self._ends.write(bytes(self._outgoing[:PIECE]))
-            del self._outgoing[:sent]
-        except BlockingIOError:
-            sent = 0
-        except OSError:
-            self._outgoing.clear()
-            sent = 0
-        self._torn = False
+        with held():
+            self._torn = True
+            try:
+                sent = self._ends.write(bytes(self._outgoing[:PIECE]))
+                del self._outgoing[:sent]
+            except BlockingIOError:
+                sent = 0
+            except OSError:
+                self._outgoing.clear()
+                sent = 0
+            self._torn = False
         return sent > 0
 
     def _receive(self) -> bool:
         """Receives what is there. Answers whether a line came whole."""
-        self._torn = True
-        try:
-            data = self._ends.read(PIECE)
-            self._at_end = "" if data else "the other side has ended the connection"
-        except BlockingIOError:
+        with held():
+            self._torn = True
+            try:
+                data = self._ends.read(PIECE)
+                self._at_end = "" if data else "the other side has ended the connection"
+            except BlockingIOError:
+                data = b""
+            except OSError as error:
+                data, self._at_end = b"", f"the connection is lost ({error.strerror or error})"
+            *lines, self._partial = (self._partial + data).split(b"\n")
+            self._lines.extend(lines)
             self._torn = False
-            return False
-        except OSError as error:
-            data, self._at_end = b"", f"the connection is lost ({error.strerror or error})"
-        *lines, self._partial = (self._partial + data).split(b"\n")
-        self._lines.extend(lines)
-        self._torn = False
         if len(self._partial) > MAX_LINE:
             raise self._given_up(BadReply(f"{self._partial[:40]!r}.. is no line of the protocol"))
         return bool(lines)

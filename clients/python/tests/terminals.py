@@ -76,6 +76,15 @@ class Terminal:
         """Presses Ctrl-C."""
         self.type("\x03")
 
+    def interrupt_until(self, wanted):
+        """Presses Ctrl-C, and each second once more, until this is shown. Python's readline misses one between two keys."""
+        end = time.monotonic() + SECONDS
+        while not re.search(wanted, self.shown, re.S) and time.monotonic() < end:
+            self.interrupt()
+            for _ in range(10):
+                self.read(0.1)
+        return self.until(wanted)
+
     def close(self):
         """Ends the program, if it has not ended, as a terminal does that is closed."""
         if self.child.poll() is None:
