@@ -126,7 +126,8 @@ function draw(now) {
     box.draw();
     if (playing) count();
   }
-  if (stale && (!playing || now - told >= READ_EACH)) {
+  const passed = now - told; // below 0 where a browser's clock for drawing has gone back
+  if (stale && (!playing || passed < 0 || passed >= READ_EACH)) {
     stale = false;
     told = now;
     tell();
