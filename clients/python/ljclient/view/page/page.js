@@ -118,16 +118,16 @@ async function goOn(steps) {
 }
 
 // Draws what has changed. While it plays, numbers and lines change no more often than they can be read.
-function draw(now) {
+function draw() {
   requestAnimationFrame(draw);
+  const now = performance.now(); // a browser under load may give every drawing one time
   if (fresh) {
     fresh = false;
     stale = true;
     box.draw();
     if (playing) count();
   }
-  const passed = now - told; // below 0 where a browser's clock for drawing has gone back
-  if (stale && (!playing || passed < 0 || passed >= READ_EACH)) {
+  if (stale && (!playing || now - told >= READ_EACH)) {
     stale = false;
     told = now;
     tell();
