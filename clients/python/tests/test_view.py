@@ -111,6 +111,11 @@ class Told(unittest.TestCase):
         self.assertEqual(told["potential"], -5399727 / 2**24 / 2)
         self.assertAlmostEqual(told["temperature"], told["kinetic"] * 2 / 3)
 
+    def test_a_crystal_begins_at_its_temperature(self):
+        """No force acts at the sites of a crystal, so the first step is that of the velocities alone."""
+        told = self.page("--temperature", "0.7").ask("frame", steps=1)
+        self.assertAlmostEqual(told["temperature"], 0.7, places=3)
+
     def test_a_tug(self):
         page = self.dimer()
         page.ask("frame", steps=1)

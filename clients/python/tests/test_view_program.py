@@ -12,12 +12,9 @@ import webbrowser
 from importlib import metadata
 from unittest import mock
 
-from ljclient import units
 from ljclient.view import command, scenes, server, websocket
 from support import DIMER, EXAMPLES, SECONDS, TOP, interruptible, is_running
 from viewing import View, command as command_of, file_of
-
-REDUCED = units.Scale.of(10, 1, 131072)
 
 
 def packs():
@@ -125,6 +122,9 @@ class Options(unittest.TestCase):
         self.assertIn("argon_256.xyz: dt is from", self.refused(argon, "--edge", 21.04, "--dt", 1000))
         self.assertIn("ERR 38 STEP_FACTOR", self.refused("--h", 0))
 
+    def test_a_temperature_that_is_too_high(self):
+        self.assertIn("A crystal that melts: at a temperature of 1e+12 an atom moves by half", self.refused("--temperature", 1e12))
+
     def test_options_that_do_not_fit(self):
         self.assertIn("--h stands in place of", self.refused("x.xyz", "--h", 1, "--dt", 10, status=2))
         self.assertIn("are for the atoms of a file", self.refused("--edge", 10, status=2))
@@ -151,29 +151,6 @@ class Options(unittest.TestCase):
 
 
 class Scenes(unittest.TestCase):
-    def test_velocities_are_those_of_a_temperature(self):
-        """The mean of the squares of 3 N drawn parts is off by sqrt(2 / 3N) of it, and here five times that is let through."""
-        atoms, heat = 500, 1.5
-        moved = scenes.Scene("", b"", REDUCED, heat, seed=7).displacements(atoms)
-        unit = REDUCED.sigma_on_ring * REDUCED.reduced_dt
-        mean = sum((part / unit) ** 2 for each in moved for part in each) / (3 * atoms)
-        self.assertAlmostEqual(mean / heat, 1, delta=5 * (2 / (3 * atoms)) ** 0.5)
-
-    def test_velocities_have_no_sum_but_for_rounding(self):
-        moved = scenes.Scene("", b"", REDUCED, 1.5).displacements(500)
-        for parts in zip(*moved):
-            self.assertLessEqual(abs(sum(parts)), 250)
-
-    def test_kelvin(self):
-        physical = units.Scale.of(34, dt=10, **units.ARGON)
-        reduced = units.Scale.of(34, 3.4, physical.h)
-        self.assertEqual(
-            scenes.Scene("", b"", physical, 119.8).displacements(5), scenes.Scene("", b"", reduced, 1.0).displacements(5)
-        )
-
-    def test_atoms_at_rest(self):
-        self.assertEqual(scenes.Scene("", b"", REDUCED).displacements(5), [])
-
     def test_the_crystal(self):
         """Each atom of a face-centred cubic crystal has twelve nearest neighbours, half the diagonal of a face away."""
         scene = scenes.crystal(131072, 1.5, 1)

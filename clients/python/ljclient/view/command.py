@@ -108,7 +108,7 @@ def try_all(scenes: Sequence[Scene], open_user: Callable[[], User]) -> None:
         for scene in scenes:
             try:
                 scene.begin(user)
-            except ClientError as error:
+            except (ClientError, ValueError) as error:
                 raise ClientError(f"{scene.title}: {error}") from error
 
 

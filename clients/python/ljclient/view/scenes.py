@@ -2,16 +2,14 @@
 from __future__ import annotations
 
 import itertools
-import math
 import os
-import random
 import re
 from dataclasses import dataclass
 from decimal import Decimal
-from typing import Callable, List, Optional, Sequence, Tuple
+from typing import Callable, Optional, Sequence
 
-from .. import Scale, Session, User, xyz
-from ..units import RING, kelvin
+from .. import Scale, Session, User, heating, xyz
+from ..units import RING
 
 NAME = "view"
 # With this edge a ring unit is a millionth, which is the last digit of what DUMP tells: a frame has the places themselves.
@@ -43,26 +41,17 @@ class Scene:
         """Loads the atoms in place of those that are there, so that each coordinate of DUMP is a place to the bit.
 
         They are loaded twice: with the scale of the file, which rounds them to places, and then these places as they are.
+        An atom alone begins at rest. ValueError for a temperature at which an atom would move by half the box in a step.
         """
         loaded = user.load(NAME, self.body, edge=self.scale.edge, sigma=self.scale.sigma, h=self.scale.h, replace=True)
         places, symbols = loaded.places(), loaded.symbols()
         rows = [(symbol, *(int(part) / MILLION for part in place)) for symbol, place in zip(symbols, places)]
         sigma = Decimal(self.scale.sigma_on_ring) / MILLION
         session = user.load(NAME, rows, edge=EXACT_EDGE, sigma=sigma, h=self.scale.h, replace=True)
-        user.ask_all(f"TUG {NAME} {atom} {x} {y} {z}" for atom, (x, y, z) in enumerate(self.displacements(len(rows))))
+        if self.temperature and len(rows) > 1:
+            moved = heating.displacements(len(rows), self.temperature, self.scale, self.seed)
+            user.ask_all(f"TUG {NAME} {atom} {x} {y} {z}" for atom, (x, y, z) in enumerate(moved))
         return session
-
-    def displacements(self, atoms: int) -> List[Tuple[int, ...]]:
-        """The first displacement of each atom for a step, in ring units: drawn as velocities of the temperature are, less
-        their mean. None for atoms that begin at rest."""
-        if not self.temperature:
-            return []
-        drawn = random.Random(self.seed)
-        reduced = self.temperature * (1.0 if self.scale.epsilon is None else kelvin / self.scale.epsilon)
-        width = math.sqrt(reduced) * self.scale.reduced_dt * self.scale.sigma_on_ring
-        velocities = [[drawn.gauss(0, width) for _ in range(3)] for _ in range(atoms)]
-        means = [sum(parts) / atoms for parts in zip(*velocities)]
-        return [tuple(round(part - mean) for part, mean in zip(parts, means)) for parts in velocities]
 
 
 def crystal(h: int, temperature: float, seed: int) -> Scene:
