@@ -6,7 +6,7 @@ from typing import Any, List, Sequence, Tuple
 try:
     import numpy
 except ImportError:
-    numpy = None
+    numpy = None  # type: ignore[assignment]
 
 from .units import RING
 

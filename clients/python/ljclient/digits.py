@@ -12,7 +12,7 @@ try:
     import numpy
     from numpy.lib.stride_tricks import sliding_window_view
 except ImportError:
-    numpy = None
+    numpy = None  # type: ignore[assignment]
 
 PLACE_DIGITS = 10
 DECIMALS = 6

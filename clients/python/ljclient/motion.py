@@ -62,5 +62,5 @@ def _rounded(atom: int, parts: Sequence[float]) -> Displacement:
     """The nearest whole displacement, where it is below half the box."""
     if not all(abs(part) < HALF - 1 for part in parts):
         raise ValueError(f"the velocity of atom {atom} is not below half the box in a step")
-    x, y, z = map(round, parts)
+    x, y, z = [round(part) for part in parts]
     return x, y, z
