@@ -1,6 +1,7 @@
 """Interrupts from the keyboard, which wait while something is half done."""
 from __future__ import annotations
 
+import _signal  # what signal calls: without its enumerations a call takes a tenth of the time
 import contextlib
 import signal
 import threading
@@ -10,15 +11,15 @@ from typing import Any, Iterator, List
 @contextlib.contextmanager
 def held() -> Iterator[None]:
     """Has an interrupt from the keyboard wait until the end. Other threads than the main one get none."""
-    before = signal.getsignal(signal.SIGINT)
+    before = _signal.getsignal(signal.SIGINT)
     if before is None or threading.current_thread() is not threading.main_thread():
         yield
         return
     came: List[Any] = []
-    signal.signal(signal.SIGINT, lambda *frame: came.append(frame))
+    _signal.signal(signal.SIGINT, lambda *frame: came.append(frame))
     try:
         yield
     finally:
-        signal.signal(signal.SIGINT, before)
+        _signal.signal(signal.SIGINT, before)
         if came:
             signal.raise_signal(signal.SIGINT)
