@@ -1,14 +1,17 @@
 """Lists of coordinates: arrays of numpy where it is installed, else lists of tuples."""
 from __future__ import annotations
 
+import importlib
+import math
 from typing import Any, List, Sequence, Tuple
 
-try:
-    import numpy
-except ImportError:
-    numpy = None  # type: ignore[assignment]
-
 from .units import RING
+
+# Modules that may be missing are imported by their names, so that types are the same where they are installed and where not.
+try:
+    numpy: Any = importlib.import_module("numpy")
+except ImportError:
+    numpy = None
 
 HALF = RING // 2
 
@@ -34,12 +37,12 @@ def millionths(positions: Any) -> Any:
 
 def listed(places: Any) -> List[Any]:
     """Places as a list, whose numbers are those of Python."""
-    return places.tolist() if hasattr(places, "tolist") else list(places)
+    return list(places.tolist() if hasattr(places, "tolist") else places)
 
 
 def greatest(places: Any) -> int:
     """The greatest coordinate of places."""
-    return int(places.max()) if hasattr(places, "max") else max(part for place in places for part in place)
+    return int(places.max() if hasattr(places, "max") else max(part for place in places for part in place))
 
 
 def picked(places: Any, numbers: Sequence[int]) -> Any:
@@ -52,14 +55,14 @@ def stacked(things: List[Any]) -> Any:
     return things if numpy is None else numpy.array(things)
 
 
-def least_images(places: Sequence, others: Sequence) -> Any:
+def least_images(places: Sequence[Any], others: Sequence[Any]) -> Any:
     """The differences `places - others` round the box the nearer way, in ring units: -2^31 to 2^31 - 1 along each axis."""
     if numpy is None:
         return [tuple((a - b + HALF) % RING - HALF for a, b in zip(*pair)) for pair in zip(places, others)]
     return (numpy.asarray(places, dtype=numpy.int64) - numpy.asarray(others, dtype=numpy.int64) + HALF) % RING - HALF
 
 
-def distance(places: Sequence, others: Sequence) -> float:
+def distance(places: Sequence[Any], others: Sequence[Any]) -> float:
     """The root mean square distance of atoms between two lists of places, in ring units, each round the box the nearer way."""
     squares = [sum(float(part) ** 2 for part in image) for image in least_images(places, others)]
-    return (sum(squares) / len(squares)) ** 0.5 if squares else 0.0
+    return math.sqrt(sum(squares) / len(squares)) if squares else 0.0

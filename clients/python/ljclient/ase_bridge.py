@@ -1,6 +1,7 @@
 """Between sessions and `Atoms` of ASE, where ASE is installed."""
 from __future__ import annotations
 
+import importlib
 from typing import Any, List, Optional, Sequence
 
 from . import arrays
@@ -39,13 +40,11 @@ def atoms_of(symbols: Sequence[str], now: Places, before: Places, scale: Scale) 
     Its step and time are in `info`. With epsilon and mass it has the mass of each atom, and the momenta by which it came here
     from the frame before. Symbols that ASE does not know become X.
     """
-    from ase import Atoms
-    from ase.data import atomic_numbers
-
-    known = [symbol if symbol in atomic_numbers else "X" for symbol in symbols]
+    ase, data = importlib.import_module("ase"), importlib.import_module("ase.data")
+    known = [symbol if symbol in data.atomic_numbers else "X" for symbol in symbols]
     positions = arrays.of_positions(now.places, scale.edge)
     info = {"step": now.step, "time": scale.time(now.step)}
-    atoms = Atoms(symbols=known, positions=positions, cell=[scale.edge] * 3, pbc=True, info=info)
+    atoms = ase.Atoms(symbols=known, positions=positions, cell=[scale.edge] * 3, pbc=True, info=info)
     if scale.dt is not None and scale.mass is not None:
         unit = scale.edge / (RING * scale.dt) * TIME_UNIT
         moved = arrays.least_images(now.places, before.places)

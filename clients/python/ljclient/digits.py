@@ -8,11 +8,7 @@ from __future__ import annotations
 
 from typing import Any, Optional
 
-try:
-    import numpy
-    from numpy.lib.stride_tricks import sliding_window_view
-except ImportError:
-    numpy = None  # type: ignore[assignment]
+from .arrays import numpy
 
 PLACE_DIGITS = 10
 DECIMALS = 6
@@ -33,7 +29,7 @@ def places(text: bytes, head: bytes) -> Optional[Any]:
     starts = numpy.concatenate(([0], ends[:-1, -1] + 1))
     if (ends[:, -1] - starts).min() < len(head):
         return None
-    heads = sliding_window_view(data, len(head))[starts]
+    heads = numpy.lib.stride_tricks.sliding_window_view(data, len(head))[starts]
     numbers = _before(data, ends[:, -5:-1] + 1, ends[:, -4:], PLACE_DIGITS)
     if numbers is None or numbers.max() > 9 or not (heads == numpy.frombuffer(head, dtype=numpy.uint8)).all():
         return None
@@ -119,7 +115,7 @@ def _before(data: Any, starts: Any, ends: Any, width: int) -> Optional[Any]:
     lengths = ends - starts
     if lengths.min() < 1 or lengths.max() > width:
         return None
-    rows = sliding_window_view(data, width)[ends - width]
+    rows = numpy.lib.stride_tricks.sliding_window_view(data, width)[ends - width]
     rows -= ord("0")
     kept = numpy.arange(width) >= width - numpy.arange(width + 1)[:, None]
     rows *= kept.astype(numpy.uint8)[lengths]

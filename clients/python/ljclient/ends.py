@@ -5,7 +5,7 @@ import os
 import socket
 import subprocess
 import tempfile
-from typing import Dict, List, Optional, Protocol, Tuple, cast
+from typing import IO, Dict, List, Optional, Protocol, Tuple, cast
 
 from .errors import CannotStart, ConnectionLost
 
@@ -89,7 +89,7 @@ class ChildEnds:
         except OSError as error:
             self._errors.close()
             raise CannotStart(f"cannot start {command[0]}: {error.strerror or error}") from error
-        self._ends = cast(Tuple, (self._child.stdout, self._child.stdin))
+        self._ends = cast(Tuple[IO[bytes], IO[bytes]], (self._child.stdout, self._child.stdin))
         for end in self._ends:
             os.set_blocking(end.fileno(), False)
 

@@ -1,7 +1,7 @@
 """What can go wrong: each is a `ClientError`, and each refusal of the server is a `Refused` (see `ljclient.refusals`)."""
 from __future__ import annotations
 
-from typing import Dict, Optional, Type
+from typing import Any, Dict, Optional, Tuple, Type
 
 
 class ClientError(Exception):
@@ -76,7 +76,7 @@ class Refused(ClientError):
         super().__init_subclass__(**words)
         Refused.by_number[cls.number] = cls
 
-    def __reduce__(self) -> tuple:
+    def __reduce__(self) -> Tuple[Any, ...]:
         return type(self), (self.command, self.line, self.number, self.name)
 
     def _text(self) -> str:

@@ -1,11 +1,14 @@
 """Interrupts from the keyboard, which wait while something is half done."""
 from __future__ import annotations
 
-import _signal  # what signal calls: without its enumerations a call takes a tenth of the time
 import contextlib
+import importlib
 import signal
 import threading
 from typing import Any, Iterator, List
+
+_signal = importlib.import_module("_signal")
+"""What signal calls: without its enumerations a call takes a tenth of the time."""
 
 
 @contextlib.contextmanager

@@ -2,6 +2,7 @@
 from __future__ import annotations
 
 import functools
+import importlib
 import sys
 import time
 from typing import Any, Callable, List, Optional, Sequence, Union
@@ -85,11 +86,10 @@ class NotebookBar:
 
     def show(self, done: int, total: int) -> None:
         """Draws how far the run is, in place of what was drawn before."""
-        from IPython.display import HTML, display
-
+        ipython = importlib.import_module("IPython.display")
         text = self._clock.text(done, total)
-        drawn = HTML(f"{self._name} <progress value='{done}' max='{total or 1}'></progress> {text}")
+        drawn = ipython.HTML(f"{self._name} <progress value='{done}' max='{total or 1}'></progress> {text}")
         if self._shown is None:
-            self._shown = display(drawn, display_id=True)
+            self._shown = ipython.display(drawn, display_id=True)
         else:
             self._shown.update(drawn)

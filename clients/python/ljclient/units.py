@@ -12,7 +12,7 @@ import math
 import operator
 from dataclasses import dataclass
 from decimal import ROUND_HALF_UP, Decimal, InvalidOperation, localcontext
-from typing import Optional, Union
+from typing import Optional, TypedDict, Union
 
 Number = Union[int, float, str, Decimal]
 
@@ -35,7 +35,16 @@ picosecond = 1000.0
 # An electronvolt in dalton angstrom^2 / femtosecond^2: 1.602176634e-19 J over 1.66053906660e-27 kg 1e10 m^2/s^2.
 _SPEED_SQUARED = 1.602176634e-19 / (1.66053906660e-27 * 1e10)
 
-ARGON = {"sigma": 3.4, "epsilon": 119.8 * kelvin, "mass": 39.948}
+
+class Substance(TypedDict):
+    """Atoms that are all alike, as words of `User.load`: sigma in angstrom, epsilon in electronvolt, mass in dalton."""
+
+    sigma: float
+    epsilon: float
+    mass: float
+
+
+ARGON: Substance = {"sigma": 3.4, "epsilon": 119.8 * kelvin, "mass": 39.948}
 """Argon, as in Rahman's simulation of 1964: `user.load("a", file, edge=21.04, dt=10, **units.ARGON)`."""
 
 

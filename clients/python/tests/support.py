@@ -2,6 +2,7 @@
 import contextlib
 import os
 import pathlib
+import re
 import signal
 import socket
 import subprocess
@@ -20,6 +21,11 @@ DIMER = "2\ndimer\nAr 0 0 0\nAr 1.5 0 0\n"
 DIMER_SCALE = {"edge": 256, "sigma": 1, "h": 131072}
 ARGON = {"edge": 21.04, "dt": 10, **units.ARGON}
 RING = 2**32
+
+
+def python_blocks(path):
+    """The examples in Python of a document."""
+    return re.findall(r"```python\n(.*?)```", path.read_text(), re.S)
 
 
 def dimer(user, name="a", **words):

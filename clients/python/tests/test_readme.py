@@ -11,13 +11,13 @@ import tempfile
 import unittest
 from unittest import mock
 
-from support import PROGRAM, TOP, Server, TOKEN
+from support import PROGRAM, TOP, Server, TOKEN, python_blocks
 
 README = TOP / "clients" / "python" / "README.md"
 
 
 def examples(path=README):
-    return re.findall(r"```python\n(.*?)```", path.read_text(), re.S)
+    return python_blocks(path)
 
 
 class Examples(unittest.TestCase):

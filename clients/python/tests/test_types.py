@@ -1,0 +1,58 @@
+"""The types of the package and of the Python in both READMEs, held strictly by mypy."""
+import os
+import subprocess
+import sys
+
+import pytest
+
+from support import TOP, python_blocks
+
+pytest.importorskip("mypy", reason="mypy is not installed")
+
+CLIENT = TOP / "clients" / "python"
+SUBSTANCE = """\
+from ljclient import run, units
+
+krypton = units.Substance(sigma=3.65, epsilon=164 * units.kelvin, mass=83.798)
+with run() as user:
+    argon = user.load("argon", "argon_256.xyz", edge=21.04, dt=10, order="space", **units.ARGON)
+    user.load("krypton", "argon_256.xyz", edge=21.04, dt=10, replace=True, **krypton)
+    user.session("argon", edge=21.04, dt=10, **units.ARGON)
+"""
+
+
+def told(folder, *words):
+    """The status of mypy and what it says, in a folder where no settings are but those of the words."""
+    environment = {**os.environ, "MYPYPATH": str(CLIENT)}
+    command = [sys.executable, "-m", "mypy", "--strict", "--config-file=", f"--cache-dir={folder / 'cache'}", *words]
+    done = subprocess.run(command, cwd=folder, env=environment, capture_output=True, text=True, timeout=300)
+    return done.returncode, done.stdout + done.stderr
+
+
+def test_the_package(tmp_path):
+    status, text = told(tmp_path, "-p", "ljclient")
+    assert status == 0, text
+
+
+@pytest.mark.parametrize("path", [TOP / "README.md", CLIENT / "README.md"], ids=["repository", "client"])
+def test_each_block_of_a_readme(tmp_path, path):
+    blocks = python_blocks(path)
+    assert blocks
+    files = []
+    for number, text in enumerate(blocks, 1):
+        files.append(f"block_{number}.py")
+        (tmp_path / files[-1]).write_text(text)
+    status, text = told(tmp_path, *files)
+    assert status == 0, text
+
+
+def test_substances_are_words_of_load(tmp_path):
+    (tmp_path / "good.py").write_text(SUBSTANCE)
+    status, text = told(tmp_path, "good.py")
+    assert status == 0, text
+
+
+def test_a_substance_that_lacks_its_mass_is_an_error(tmp_path):
+    (tmp_path / "bad.py").write_text(SUBSTANCE.replace(", mass=83.798", ""))
+    status, text = told(tmp_path, "bad.py")
+    assert (status, text.splitlines()[0][:34]) == (1, 'bad.py:3: error: Missing key "mass')
