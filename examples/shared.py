@@ -61,9 +61,9 @@ def user_of(options):
 
 
 @contextlib.contextmanager
-def hot_crystal(user, name, h=H, heat=HEAT):
+def hot_crystal(user, name, h=H, heat=HEAT, watch=True):
     """A session with a face-centred cubic crystal at rest, whose atoms are then tugged at random; dropped at the end."""
-    session = user.load(name, crystal(), edge=EDGE, sigma=1, h=h)
+    session = user.load(name, crystal(), edge=EDGE, sigma=1, h=h, watch=watch)
     try:
         for atom, velocity in enumerate(velocities(heat)):
             unit = math.sqrt(h / RING) / EDGE * RING

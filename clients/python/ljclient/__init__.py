@@ -17,6 +17,7 @@
 """
 from . import refusals, units
 from .arrays import distance, least_images
+from .energy_watch import EnergyWarning
 from .ensemble import Job, ensemble
 from .errors import BadReply, CannotStart, ClientError, Closed, ConnectionLost, Damaged, Refused, TimedOut
 from .measurement import Measurement
@@ -38,6 +39,7 @@ __all__ = [
     "Closed",
     "ConnectionLost",
     "Damaged",
+    "EnergyWarning",
     "Job",
     "Measurement",
     "Mixture",

@@ -7,6 +7,7 @@ from typing import TYPE_CHECKING, Any, Dict, Iterable, List, Optional, Sequence,
 
 from . import checkpoint, units, xyz
 from .closeness import warn_of_close_atoms
+from .energy_watch import EnergyWatch, warn_of_large_steps
 from .errors import ClientError
 from .interrupts import held
 from .mixture import Mixture, Pair, RawClass
@@ -44,6 +45,7 @@ class Loader:
         symbols: xyz.Symbols = None,
         replace: bool = False,
         order: Optional[str] = None,
+        watch: bool = True,
     ) -> Session:
         """Loads atoms into a new session, at step 0.
 
@@ -72,6 +74,9 @@ class Loader:
 
         With `order="space"` the server has the atoms in the order of space, where a step of many is faster, and `advance`
         sorts them anew each 250 steps. Everything here keeps the numbers of the source; `Session.order` tells the server's.
+
+        If h is above 200,000 there is an `EnergyWarning`, since the energy grows fast then. There is one on the way too, if
+        the energy changes (`Session.advance`). With `watch=False` there is none, and nothing is measured for it.
         """
         checked_name(name)
         edge = _edge_of(edge, source)
@@ -79,8 +84,10 @@ class Loader:
         motion = motion_of(source, scale) if before is None and not pair else None
         words = f"{units.word(edge)} {units.word(sigma)} {units.word(scale.h)}"
         frames = xyz.frames_of(source, before, symbols, pair)
-        known = Known(scale, is_sorted=is_in_space(order))
+        known = Known(scale, is_sorted=is_in_space(order), watch=EnergyWatch(watch))
         warn_of_close_atoms(frames, scale)
+        if watch:
+            warn_of_large_steps(scale)
         self._send("LOAD", name, words, frames, replace, motion, known)
         return Session(cast("User", self), name, scale, motion=motion)
 
@@ -103,10 +110,11 @@ class Loader:
         symbols: xyz.Symbols = None,
         replace: bool = False,
         order: Optional[str] = None,
+        watch: bool = True,
     ) -> Session:
         """Loads atoms of two species, all of one mass, into a new session at step 0.
 
-        name, source, edge, before, pair, symbols, replace, order are as in `load`.
+        name, source, edge, before, pair, symbols, replace, order, watch are as in `load`.
 
         species  the two symbols, such as `("Ar", "Kr")`; each atom has one of them
         first    sigma (angstrom) and epsilon (electronvolt) of two atoms of the first species
@@ -132,8 +140,10 @@ class Loader:
         motion = motion_of(source, mixture.scale) if before is None and not pair else None
         words = f"{units.word(edge)} {mixture.words}"
         frames = xyz.frames_of(source, before, symbols, pair)
-        known = Known(mixture.scale, mixture, is_sorted=is_in_space(order))
+        known = Known(mixture.scale, mixture, is_sorted=is_in_space(order), watch=EnergyWatch(watch))
         warn_of_close_atoms(frames, mixture.scale, mixture)
+        if watch:
+            warn_of_large_steps(mixture.scale, mixture)
         self._send("LOADMIX", name, words, frames, replace, motion, known)
         return Session(cast("User", self), name, mixture.scale, mixture=mixture, motion=motion)
 
@@ -165,12 +175,18 @@ class Loader:
             raise
 
     def load_saved(
-        self, path: checkpoint.Path, name: Optional[str] = None, *, replace: bool = False, order: Optional[str] = None
+        self,
+        path: checkpoint.Path,
+        name: Optional[str] = None,
+        *,
+        replace: bool = False,
+        order: Optional[str] = None,
+        watch: bool = True,
     ) -> Session:
         """Loads a session that `Session.save` has written, exactly as it was.
 
-        name, replace  as in `load`; without a name it has the one that it was saved under
-        order          "space" as in `load`; else as it was when it was saved
+        name, replace, watch  as in `load`; without a name it has the one that it was saved under
+        order                 "space" as in `load`; else as it was when it was saved
 
         Steps are counted on from the saved one. Raises `Damaged`, which names the line, if the file is not as it was
         written.
@@ -182,7 +198,9 @@ class Loader:
             is_sorted=is_in_space(order) or state.is_sorted,
         )
         numbers = by_halves(state.places) if state.is_sorted else None
-        self._put(state, Order(numbers), self._drops(state.name, replace))
+        if watch:
+            warn_of_large_steps(state.scale, state.mixture)
+        self._put(state, Order(numbers), self._drops(state.name, replace), EnergyWatch(watch))
         return Session(cast("User", self), state.name, state.scale, mixture=state.mixture)
 
     def resort(self, name: str) -> None:
@@ -191,7 +209,7 @@ class Loader:
             told = ", ".join(line.split(" ")[0] for line in saved)
             raise ValueError(f"{name} cannot be sorted anew, since what is saved by branch would be lost: {told}")
         state = self.state_of(name)
-        self._put(state, Order(by_halves(state.places)), [(f"DROP {name}", b"")])
+        self._put(state, Order(by_halves(state.places)), [(f"DROP {name}", b"")], self.known(name).watch)
 
     def restore(self, name: str, branch: str) -> int:
         """As `Session.restore`."""
@@ -204,7 +222,7 @@ class Loader:
         """The whole state of a session, which is as it was then. What is owed to it is done first."""
         return state_of(self, name)
 
-    def _put(self, state: State, order: Order, before: Sequence[Command]) -> None:
+    def _put(self, state: State, order: Order, before: Sequence[Command], watch: EnergyWatch) -> None:
         """Has a state be a session in this order, after these commands. An interrupt waits until this is done."""
         with held():
             try:
@@ -214,7 +232,7 @@ class Loader:
                     error.rescued = checkpoint.text_of(state)
                     self.has_dropped(state.name)
                 raise
-            self._known[state.name] = state.known(order)
+            self._known[state.name] = dataclasses.replace(state.known(order), watch=watch)
 
     def _drops(self, name: str, replace: bool) -> List[Command]:
         """The command that gives up a session which is to be replaced, if it is there."""

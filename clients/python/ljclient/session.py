@@ -7,12 +7,12 @@ import os
 from typing import TYPE_CHECKING, Any, Iterator, List, NamedTuple, Optional, Sequence, Tuple, Union
 
 from . import arrays, ase_bridge, checkpoint, frames, going, heating, progress as bars, reading, sampling
+from .energy_watch import WatchedRoad
 from .measurement import Measurement, known
 from .mixture import Mixture
 from .motion import Motion
 from .names import checked_name, count_of
 from .order import Order
-from .renewal import Renewal
 from .replies import fields, number_after, of_session, whole_number
 from .state import symbols_of
 from .thermo import Thermo, thermo
@@ -107,10 +107,14 @@ class Session:
         nothing in the result. With `progress=True` a bar is shown on a terminal or in a notebook; a function in its place
         is called with how many steps are done, and of how many.
 
+        The energy is measured at the start of a run of more than 500 steps, after 1,000, 2,000, 4,000, .. steps from there,
+        and after each 20,000. There is an `EnergyWarning`, once, if that of an atom has changed by half an epsilon. What else
+        changes it (`tug`, `heat`, `restore`) sets the start anew. `load(.., watch=False)` does without.
+
         `User.advance` has several sessions go on at the same time.
         """
-        road, report = Renewal(self._user, self.name), bars.reporter(progress, self.name)
-        course = going.Course(self.name, count_of(n, "a number of steps"), report, road)
+        total, report = count_of(n, "a number of steps"), bars.reporter(progress, self.name)
+        course = going.Course(self.name, total, report, WatchedRoad(self._user, self.name, total, piece))
         return going.go([course], self._user.ask_all, self._pace, piece)[0]
 
     def start(self, n: int) -> int:
@@ -123,7 +127,7 @@ class Session:
         total, most = count_of(n, "a number of steps"), going.MAX_STEPS
         lines = [f"START {self.name} {min(most, total - made)}" for made in range(0, max(total, 1), most)]
         target = number_after(lines[-1], self._user.ask_all(lines)[-1].words, 2)
-        step = Renewal(self._user, self.name).made(total, target)
+        step = WatchedRoad(self._user, self.name, total).made(total, target)
         self._user.known(self.name).is_started = True
         return step
 
@@ -163,6 +167,7 @@ class Session:
         now, before = self._frames_of_places(both=True)
         wanted = heating.displacements(len(now.places), temperature, scale, seed)
         changes = arrays.least_images(wanted, arrays.least_images(now.places, before.places))
+        self._user.known(self.name).watch.begin_anew()
         self._user.ask_rows([self._tug(atom, change) for atom, change in enumerate(changes) if any(change)])
         return self.measure().temperature
 
@@ -237,11 +242,12 @@ class Session:
         every, rows, progress  are as `every`, `frames` and `progress` of `sample`
 
         The kinetic energy is the mean of those half a step before and after, so a row is known when the session is a step
-        further. After the last row it stands at that row's step again.
+        further. After the last row it stands at that row's step again. If the energy changes there is a warning, as by
+        `advance`.
         """
         sampling.checked_stops(every, rows, "rows")
         known(self._given)
-        return thermo(self, self._user.ask_all, every, rows, progress)
+        return thermo(self, self._user.ask_all, self._look, every, rows, progress)
 
     def write_trajectory(self, path: sampling.Path, every: int, frames: int, progress: sampling.Progress = False) -> None:
         """Goes on, and writes frames to a file on the way, as extended XYZ: with Lattice, step and time.
@@ -277,6 +283,10 @@ class Session:
     def drop(self) -> None:
         """Gives up the session with all that is saved in it."""
         self._ask(f"DROP {self.name}")
+
+    def _look(self, row: Thermo, atoms: int) -> None:
+        """Warns if the energy of a row is far from that of the start."""
+        self._user.known(self.name).watch.look(self.name, self.scale, row, atoms)
 
     def _number_of(self, atom: Any) -> int:
         """The number by which the server knows an atom. Each number of an atom that goes out is of here."""

@@ -8,6 +8,7 @@ from dataclasses import dataclass, field, replace
 from typing import TYPE_CHECKING, Dict, Optional, Sequence, Tuple
 
 from . import arrays, frames
+from .energy_watch import EnergyWatch
 from .errors import BadReply
 from .mixture import Mixture
 from .order import Order, Place
@@ -29,6 +30,7 @@ class Known:
     gone        how many steps it has made since they were sorted
     is_started  whether steps were started that nobody has waited for
     branches    how the numbers of what is saved in it stand to those of the server
+    watch       what is known of its energy, to tell whether it changes
     """
 
     scale: Optional[Scale] = None
@@ -39,6 +41,7 @@ class Known:
     gone: int = 0
     is_started: bool = False
     branches: Dict[str, Order] = field(default_factory=dict)
+    watch: EnergyWatch = field(default_factory=EnergyWatch)
 
     def branch_order(self, branch: str) -> Order:
         """How the numbers of what is saved under a name stand to those of the server."""

@@ -1,7 +1,7 @@
 """Energies and temperature of a session on its way, in rows."""
 from __future__ import annotations
 
-from typing import TYPE_CHECKING, Iterator, List, NamedTuple
+from typing import TYPE_CHECKING, Callable, Iterator, List, NamedTuple
 
 from .going import Ask
 from .measurement import Measurement
@@ -34,11 +34,17 @@ class Thermo(NamedTuple):
         return Thermo(here.step, here.temperature_at(kinetic), kinetic, potential, potential + kinetic)
 
 
-def thermo(session: "Session", ask: Ask, every: int, rows: int, progress: Progress) -> Iterator[Thermo]:
-    """The rows of a session on its way, each when it is there."""
+# What is told of a row, and of how many atoms.
+Look = Callable[[Thermo, int], None]
+
+
+def thermo(session: "Session", ask: Ask, look: Look, every: int, rows: int, progress: Progress) -> Iterator[Thermo]:
+    """The rows of a session on its way, each when it is there and was looked at."""
     for number in stops(session, every, rows, progress, ahead=1):
         here, after = _measured(session, ask, is_last=number + 1 == rows)
-        yield Thermo.of(here, after)
+        row = Thermo.of(here, after)
+        look(row, here.atoms)
+        yield row
 
 
 def _measured(session: "Session", ask: Ask, is_last: bool) -> List[Measurement]:

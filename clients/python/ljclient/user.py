@@ -1,6 +1,7 @@
 """A user's connection to a server, or to a program of its own."""
 from __future__ import annotations
 
+import dataclasses
 import math
 import os
 from types import TracebackType
@@ -8,13 +9,13 @@ from typing import Callable, Dict, Iterable, List, Optional, Sequence, Tuple, Ty
 
 from . import going, moving, progress as bars, units
 from .ends import ChildEnds, SocketEnds
+from .energy_watch import EnergyWatch, WatchedRoad
 from .errors import BadReply, CannotStart, ClientError, ConnectionLost, TimedOut
 from .finding import find_program
 from .interrupts import held
 from .loading import Loader
 from .names import checked_name, count_of
 from .order import Order
-from .renewal import Renewal
 from .replies import fields, whole_number
 from .session import Row, Session
 from .state import Command, can_be_loaded
@@ -24,6 +25,8 @@ MAX_ITEMS = 1_000_000
 FAREWELL_SECONDS = 2.0
 # What was known of a session before these commands is no longer true.
 NEW_OR_GONE = ("LOAD", "LOADMIX", "DROP")
+# These change the energy of a session, which is to be what it was as long as steps alone are made.
+OTHER_ENERGY = ("TUG", "RESTORE")
 Program = Union[str, "os.PathLike[str]"]
 
 
@@ -68,6 +71,7 @@ class User(Loader):
         dt: Optional[float] = None,
         weight: int = units.FULL_WEIGHT,
         order: Union[Order, Sequence[int], None] = None,
+        watch: bool = True,
     ) -> Session:
         """A session that is at the server. Raises `refusals.NoSession` where there is none of that name.
 
@@ -76,7 +80,7 @@ class User(Loader):
         with its weight where that is not 256.
 
         Neither does it tell how another connection numbers atoms and steps: `order` is what `Session.order` told there, or
-        a list of the server's number of each atom.
+        a list of the server's number of each atom. `watch` is as in `load`, and the energy is compared with that of now.
         """
         self.ask(f"LIST {checked_name(name)}")
         known = self.known(name)
@@ -87,6 +91,7 @@ class User(Loader):
             raise ValueError("a scale is edge and sigma, with h or with epsilon, mass and dt")
         if order is not None:
             known.order, known.symbols = Order.of(order), ()
+        known.watch = EnergyWatch(watch)
         return Session(self, name, known.scale, mixture=known.mixture)
 
     def advance(
@@ -102,13 +107,15 @@ class User(Loader):
         progress  with True a bar for each is shown on a terminal or in a notebook; a function in its place is called with
                   the name of a session, how many of its steps are done, and of how many
         piece     as in `Session.advance`: so many steps of each are asked for at a time
+
+        There is a warning of each session whose energy changes, as by `Session.advance`.
         """
         totals = n if isinstance(n, list) else [n] * len(sessions)
         if len(totals) != len(sessions):
             raise ValueError(f"{len(totals)} numbers of steps for {len(sessions)} sessions")
         names = [session.name for session in sessions]
         counts = [count_of(total, "a number of steps") for total in totals]
-        roads = [Renewal(self, name) for name in names]
+        roads = [WatchedRoad(self, name, count, piece) for name, count in zip(names, counts)]
         courses = [going.Course(*parts) for parts in zip(names, counts, bars.reporters(progress, names), roads)]
         return going.go(courses, self.ask_all, going.Pace(), piece)
 
@@ -147,6 +154,8 @@ class User(Loader):
         for reply in replies:
             if reply.words[0] in NEW_OR_GONE:
                 self.has_dropped(reply.words[1])
+            elif reply.words[0] in OTHER_ENERGY:
+                self.known(reply.words[1]).watch.begin_anew()
         return replies
 
     def ask_text(self, line: str) -> Tuple[List[str], bytes]:
@@ -173,10 +182,13 @@ class User(Loader):
             self._wire = self._reopen()
         elif self._restart and asked >= max(MAX_ITEMS // 2, self._tried_at + MAX_ITEMS // 20):
             self._tried_at = math.inf
+            watches = {name: dataclasses.replace(known.watch) for name, known in self._known.items()}
             try:
                 self._move(self._restart, MAX_ITEMS - asked)
             finally:
                 self._tried_at = self._wire.asked
+                for name, watch in watches.items():
+                    self.known(name).watch = watch
 
     def _move(self, restart: Callable[[], Wire], commands: int) -> None:
         """Goes on in a new program with all sessions as they are, if this takes no more than so many commands.

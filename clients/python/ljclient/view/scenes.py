@@ -47,7 +47,7 @@ class Scene:
         places, symbols = loaded.places(), loaded.symbols()
         rows = [(symbol, *(int(part) / MILLION for part in place)) for symbol, place in zip(symbols, places)]
         sigma = Decimal(self.scale.sigma_on_ring) / MILLION
-        session = user.load(NAME, rows, edge=EXACT_EDGE, sigma=sigma, h=self.scale.h, replace=True)
+        session = user.load(NAME, rows, edge=EXACT_EDGE, sigma=sigma, h=self.scale.h, replace=True, watch=False)
         if self.temperature and len(rows) > 1:
             moved = heating.displacements(len(rows), self.temperature, self.scale, self.seed)
             user.ask_all(f"TUG {NAME} {atom} {x} {y} {z}" for atom, (x, y, z) in enumerate(moved))

@@ -1,0 +1,413 @@
+"""Warnings of a session whose energy changes, and what is measured for them.
+
+A wire that stands for a server notes each command. The energies that it tells are functions of the step, of one atom in a box
+of 256: there a kinetic number of 2^34 is a kinetic energy of one epsilon with h = 2^17, and 2^24 of potential are one epsilon.
+"""
+import contextlib
+import dataclasses
+import warnings
+from unittest import mock
+
+import pytest
+
+from ljclient import EnergyWarning, User, run, units, user as users
+from ljclient.wire import Reply
+from support import ARGON, DIMER, DIMER_SCALE, EXAMPLES, PROGRAM, dimer
+
+ATOM = [("Ar", 0, 0, 0)]
+CHECKS = [1000, 2000, 4000, 8000, 16_000, 20_000, 40_000]
+MEASURED = [0, 1, *(step for check in CHECKS for step in (check - 1, check))]
+UP_TO_20000 = MEASURED[:-2]
+
+
+class StandIn:
+    """A wire to a server whose sessions have energies that two functions tell of each step."""
+
+    def __init__(self, potential, kinetic):
+        self.potential, self.kinetic = potential, kinetic
+        self.asked, self.closed, self.atoms = 0, False, 1
+        self.lines, self.steps, self.measured = [], {}, []
+
+    def ask_all(self, commands):
+        return [self.reply(line) for line, _ in commands]
+
+    def reply(self, line):
+        """The step stands last in a reply; of MEASURE, atoms, momentum and both energies follow it."""
+        self.lines.append(line)
+        verb, name, *words = line.split()
+        step = self.steps.get(name, 0)
+        if verb in ("ADVANCE", "START"):
+            step = self.steps[name] = step + int(words[0])
+        told = [verb, name, *(words[:1] if verb in ("TUG", "RESTORE", "BRANCH") else []), str(step)]
+        if verb == "MEASURE":
+            self.measured.append(step)
+            energies = round(self.kinetic(step) * 2**34), round(self.potential(step) * 2**24)
+            told += [str(number) for number in (self.atoms, 0, 0, 0, *energies)]
+        return Reply(told, [])
+
+    def close(self):
+        self.closed = True
+
+
+def nothing(step):
+    return 0
+
+
+def opened(potential=nothing, kinetic=nothing, h=131072):
+    """A session of a stand-in, and the stand-in."""
+    wire = StandIn(potential, kinetic)
+    return User(wire).load("a", ATOM, edge=256, sigma=1, h=h), wire
+
+
+@contextlib.contextmanager
+def told():
+    """What is warned of the energy within."""
+    texts = []
+    with warnings.catch_warnings(record=True) as caught:
+        warnings.simplefilter("always")
+        yield texts
+    texts += [str(each.message) for each in caught if each.category is EnergyWarning]
+    assert {each.filename for each in caught} <= {__file__}
+
+
+def rising(step):
+    """In epsilon: 0.48 at step 15,999 and 0.6 at step 19,999, so it is told of at step 20,000."""
+    return 0.6 * step / 19_999
+
+
+# When it is measured.
+
+
+def test_the_start_is_measured_and_then_at_doubled_distances_up_to_20000():
+    a, wire = opened()
+    assert a.advance(61_000) == 61_000
+    assert wire.measured == [*MEASURED, 59_999, 60_000]
+
+
+def test_steps_are_counted_over_calls():
+    a, wire = opened()
+    a.advance(600)
+    for _ in range(400):
+        a.advance(100)
+    assert wire.measured == MEASURED
+
+
+@pytest.mark.parametrize("pieces", [[100], [500], [100, 400], [1] * 30])
+def test_a_short_run_takes_no_command_more(pieces):
+    a, wire = opened()
+    loaded = len(wire.lines)
+    for steps in pieces:
+        a.advance(steps, piece=1000)
+    assert wire.lines[loaded:] == [f"ADVANCE a {steps}" for steps in pieces]
+
+
+def test_many_short_runs_are_measured_from_the_501st_step_on():
+    a, wire = opened()
+    for _ in range(20):
+        a.advance(100)
+    assert wire.measured == [500, 501, 1499, 1500]
+
+
+def test_start_is_sent_alone_and_its_steps_count():
+    a, wire = opened()
+    a.advance(501)
+    before = len(wire.lines)
+    assert a.start(30_000) == 30_501
+    assert wire.lines[before:] == ["START a 30000"]
+    a.advance(10_000)
+    assert wire.measured == [0, 1, 30_501, 30_502, 39_999, 40_000]
+
+
+def test_pieces_that_are_given_stay_whole():
+    a, wire = opened(lambda step: step / 1000)
+    seen, loaded = [], len(wire.lines)
+    assert a.advance(1200, progress=lambda *words: seen.append(words), piece=400) == 1200
+    assert seen == [(done, 1200) for done in (0, 400, 800, 1200)]
+    assert wire.lines[loaded:] == ["MEASURE a", *["ADVANCE a 400"] * 3]
+    with told() as texts:
+        a.advance(100, piece=100)
+    assert wire.measured == [0, 1200]
+    assert len(texts) == 1 and "risen by 1.2 epsilon an atom from step 0 to step 1200" in texts[0]
+
+
+def test_an_interrupted_run_goes_on_and_is_measured():
+    a, wire = opened(rising)
+
+    def interrupt(done, _):
+        if done >= 3000:
+            raise KeyboardInterrupt
+
+    with pytest.raises(KeyboardInterrupt):
+        a.advance(20_000, progress=interrupt)
+    made = wire.steps["a"]
+    with told() as texts:
+        assert a.advance(20_000) == made + 20_000
+    assert 3000 <= made < 20_000
+    assert (len(texts), wire.measured) == (1, UP_TO_20000)
+
+
+# What is told.
+
+
+def test_it_is_told_once_what_has_changed_and_what_helps():
+    a, wire = opened(rising)
+    with told() as texts:
+        a.advance(100_000)
+        a.advance(100_000)
+    (text,) = texts
+    assert "the energy of a has risen by 0.6 epsilon an atom from step 0 to step 19999" in text
+    for advice in ("smaller time step", "h is 131072", "units of sigma and epsilon", "'What is computed' in the README"):
+        assert advice in text
+    assert wire.measured == UP_TO_20000
+
+
+@pytest.mark.parametrize("change, count", [(0.499, 0), (-0.499, 0), (0.5, 1), (-0.5, 1), (1e9, 1)])
+def test_half_an_epsilon_counts(change, count):
+    a, _ = opened(lambda step: -5 + (change if step > 20 else 0))
+    with told() as texts:
+        a.advance(2000)
+    assert len(texts) == count
+    assert all(("fallen" if change < 0 else "risen") in text for text in texts)
+
+
+def test_the_energy_of_an_atom_is_that_of_all_by_their_number():
+    for atoms, count in [(1, 1), (2, 0)]:
+        a, wire = opened(lambda step: 0.9 if step > 20 else 0)
+        wire.atoms = atoms
+        with told() as texts:
+            a.advance(1000)
+        assert len(texts) == count
+
+
+def test_a_start_at_rest_with_close_atoms_has_the_energy_that_it_keeps():
+    # The push of the first step is 8 epsilon of kinetic energy, of which the mean of both half steps is the half.
+    kinetic, potential = {1: 8, 2: 8}, {0: -4, 1: -8, 2: -4}
+    a, _ = opened(lambda step: potential.get(step, 0), lambda step: kinetic.get(step, 0))
+    with told() as texts:
+        a.advance(30_000)
+    assert texts == []
+
+
+def test_each_of_several_sessions_is_told_of():
+    wire = StandIn(rising, nothing)
+    user = User(wire)
+    sessions = [user.load(name, ATOM, edge=256, sigma=1, h=131072) for name in ("a", "b", "c")]
+    with told() as texts:
+        assert user.advance(sessions, [25_000, 1000, 20_000]) == [25_000, 1000, 20_000]
+    assert sorted(text.split()[3] for text in texts) == ["a", "c"]
+    assert sorted(wire.measured) == sorted(2 * UP_TO_20000 + MEASURED[:4])
+
+
+def test_samples_and_trajectories_are_watched(tmp_path):
+    for go_on in (lambda a: a.sample(5000, 6), lambda a: a.write_trajectory(tmp_path / "way.xyz", 5000, 6)):
+        a, _ = opened(rising)
+        frame = mock.Mock(step=0, **{"text.return_value": ""})
+        with told() as texts, mock.patch.object(a, "_positions_of_frame", lambda: (0, [])):
+            with mock.patch.object(a, "_frame", lambda: frame):
+                go_on(a)
+        assert len(texts) == 1
+
+
+def test_rows_of_thermo_are_looked_at_and_nothing_else_is_measured():
+    a, wire = opened(lambda step: step / 2000)
+    with told() as texts:
+        rows = list(a.thermo(every=500, rows=4))
+    assert [row.total for row in rows] == [0, 0.25, 0.5, 0.75]
+    assert len(texts) == 1 and "risen by 0.5 epsilon an atom from step 0 to step 1000" in texts[0]
+    assert wire.measured == [0, 1, 500, 501, 1000, 1001, 1500, 1501]
+
+
+def test_frequent_rows_of_thermo_lead_to_no_earlier_check():
+    a, wire = opened()
+    rows = list(a.thermo(every=10, rows=50))
+    assert len(wire.measured) == 2 * len(rows)
+    before = len(wire.measured)
+    a.advance(400)
+    assert len(wire.measured) == before
+
+
+def test_a_warning_that_is_an_error_leaves_the_session_as_it_is():
+    a, wire = opened(rising)
+    with warnings.catch_warnings():
+        warnings.simplefilter("error")
+        with pytest.raises(EnergyWarning):
+            a.advance(30_000)
+        assert wire.steps == {"a": 20_000}
+        assert a.advance(1000) == 21_000
+
+
+# What sets the start anew, and what does not.
+
+
+@pytest.mark.parametrize(
+    "change",
+    [
+        lambda a: a.tug(0, (1, 0, 0)),
+        lambda a: a._user.ask("TUG a 0 1 0 0"),
+        lambda a: a._user.ask_all(["TUG a 0 1 0 0"]),
+        lambda a: a.restore("k"),
+        lambda a: a._user.ask("RESTORE a k"),
+        lambda a: a._user.session("a"),
+        lambda a: a._user.load("a", ATOM, edge=256, sigma=1, h=131072),
+    ],
+)
+def test_what_sets_the_start_anew(change):
+    energies = [0.0]
+    a, wire = opened(lambda step: energies[0])
+    a.advance(1000)
+    energies[0] = 7.0
+    change(a)
+    with told() as texts:
+        a.advance(1000)
+    assert texts == []
+    assert wire.measured == [0, 1, 999, 1000, 1000, 1001, 1999, 2000]
+
+
+def test_heat_sets_the_start_anew():
+    with run(PROGRAM) as user, told() as texts:
+        a = user.load("argon", EXAMPLES / "argon_256.xyz", **ARGON)
+        a.advance(600)
+        a.heat(200)
+        a.advance(1000)
+    assert texts == []
+
+
+@pytest.mark.parametrize("keep", [lambda a: a.reverse(), lambda a: a.branch("k"), lambda a: a.measure(), lambda a: a.step])
+def test_what_keeps_the_start(keep):
+    energies = [0.0]
+    a, wire = opened(lambda step: energies[0])
+    a.advance(1000)
+    energies[0] = 7.0
+    keep(a)
+    with told() as texts:
+        a.advance(20_000)
+    assert len(texts) == 1 and "risen by 7 epsilon" in texts[0]
+
+
+def test_atoms_that_are_sorted_on_the_way_keep_their_start():
+    asked = []
+    with run(PROGRAM) as user:
+        a = dimer(user, order="space")
+        with spied(user, asked):
+            a.advance(1100)
+        assert [line for line in asked if "LOAD" in line]
+        assert sum(line.startswith("MEASURE") for line in asked) == 4
+        assert user.known("a").watch.start[0] == 0
+
+
+@contextlib.contextmanager
+def spied(user, asked):
+    """Notes each command line that goes to the program."""
+    ask_all = user._wire.ask_all
+
+    def note(commands):
+        asked.extend(line for line, _ in commands)
+        return ask_all(commands)
+
+    with mock.patch.object(user._wire, "ask_all", note):
+        yield
+
+
+def test_a_move_to_another_program_keeps_the_start():
+    with mock.patch.object(users, "MAX_ITEMS", 1000), run(PROGRAM) as user:
+        a = dimer(user)
+        a.advance(10)
+        a.branch("k")
+        a.advance(600)
+        watch, wire = dataclasses.replace(user.known("a").watch), user._wire
+        user.ask_all(["LIST"] * 500)
+        assert user._wire is not wire
+        assert user.known("a").watch == watch and watch.start[0] == 10
+
+
+# Sessions that are not watched.
+
+
+def test_nothing_is_measured_without_a_watch(tmp_path):
+    saved = tmp_path / "a.saved"
+    with run(PROGRAM) as user, told() as texts:
+        words = {"edge": 256, "watch": False}
+        dimer(user).save(saved)
+        loads = [
+            user.load("b", DIMER, sigma=1, h=300_000, **words),
+            user.load_mix("c", DIMER, species=("Ar", "Kr"), classes=[(1, 300_000, 256)] * 3, **words),
+            user.load_saved(saved, "d", watch=False),
+            user.session("a", watch=False),
+        ]
+        asked = []
+        with spied(user, asked):
+            for session in loads:
+                session.advance(1200)
+    assert texts == [] and not [line for line in asked if line.startswith("MEASURE")]
+
+
+def test_a_session_whose_scale_is_not_known_is_not_watched():
+    with run(PROGRAM) as user:
+        user.ask(f"LOAD a 256 1 131072 rest {len(DIMER)}", DIMER.encode())
+        for words in ({}, {"edge": "256", "sigma": "x", "h": 1}, {"edge": 256, "sigma": 1, "h": 0}):
+            asked = []
+            with spied(user, asked):
+                user.session("a", **words).advance(600)
+            assert not [line for line in asked if line.startswith("MEASURE")]
+
+
+# Large step factors.
+
+
+@pytest.mark.parametrize("h, count", [(131_072, 0), (200_000, 0), (200_001, 1), (1 << 24, 1)])
+def test_a_large_step_factor_is_told_at_once(h, count):
+    with told() as texts:
+        opened(h=h)
+    assert len(texts) == count
+    assert all(f"h is {h}, above 200000" in text and "smaller h" in text and "unit of the epsilon" in text for text in texts)
+
+
+def test_an_epsilon_in_kilojoule_per_mole_is_told():
+    # 0.996 kJ/mol are 0.01032 eV. Taken for electronvolt it makes h 96.5 times as large.
+    wrong = {**ARGON, "epsilon": units.ARGON["epsilon"] / units.kilojoule_per_mole}
+    with run(PROGRAM) as user, told() as texts:
+        a = user.load("argon", EXAMPLES / "argon_256.xyz", **wrong)
+        a.heat(94)
+        a.advance(5000)
+    at_once, later = texts
+    assert f"h is {a.h}, above 200000" in at_once and "epsilon=0.9961 is in electronvolt" in at_once
+    # 0.8 times the time step with h = 200,000 is that with 128,000: 10 fs * sqrt(128000 / 8938443).
+    assert "(dt=1.2)" in at_once
+    assert "the energy of argon has risen by" in later and "from step 0" in later
+
+
+@pytest.mark.parametrize("place", range(3))
+def test_the_step_factor_of_each_class_counts(place):
+    classes = [(1, 131_072, 256), (1, 131_072, 256), (1, 131_072, 256)]
+    classes[place] = (1, 300_000, 256)
+    with told() as texts:
+        User(StandIn(nothing, nothing)).load_mix("a", ATOM, edge=256, species=("Ar", "Kr"), classes=classes)
+    assert len(texts) == 1 and "h is 300000" in texts[0]
+
+
+def test_a_saved_session_with_a_large_step_factor(tmp_path):
+    saved = tmp_path / "a.saved"
+    with run(PROGRAM) as user, told() as texts:
+        user.load("a", DIMER, watch=False, **{**DIMER_SCALE, "h": 300_000}).save(saved)
+        user.load_saved(saved, "b")
+    assert len(texts) == 1 and "h is 300000" in texts[0]
+
+
+def test_nothing_is_loaded_where_such_a_warning_is_an_error():
+    wire = StandIn(nothing, nothing)
+    with warnings.catch_warnings():
+        warnings.simplefilter("error")
+        with pytest.raises(EnergyWarning):
+            User(wire).load("a", ATOM, edge=256, sigma=1, h=300_000)
+    assert wire.lines == []
+
+
+def test_there_and_back_from_a_hot_crystal_is_not_told_of():
+    with run(PROGRAM) as user, told() as texts:
+        a = user.load("argon", EXAMPLES / "argon_256.xyz", **ARGON)
+        a.heat(180)
+        for _ in range(2):
+            a.advance(1500)
+            a.reverse()
+        assert list(a.thermo(every=100, rows=2))
+    assert texts == []
