@@ -72,5 +72,5 @@ mixture_from (Ok first) (Ok unlike) (Ok second) = Ok (mixed first unlike second)
 -- the mixture of an edge, and of sigma, step factor and weight of each class, or its first fault, class by class
 abbrev pub mixture_of : ℤ → (first unlike second : ℤ × ℕ × ℕ) → Result Mix MixFault
 mixture_of edge first unlike second =
-    mixture_from (class_at 0 (class_of_numbers edge first)) (class_at 1 (class_of_numbers edge unlike))
-    (class_at 2 (class_of_numbers edge second))
+    mixture_from (class_at 1 (class_of_numbers edge first)) (class_at 2 (class_of_numbers edge unlike))
+    (class_at 3 (class_of_numbers edge second))

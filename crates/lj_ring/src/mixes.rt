@@ -49,8 +49,8 @@ impl Weight {
         parts: WHOLE_WEIGHT,
     };
 
-    /// The weight of so many 256ths, where it fits.
-    fn new(parts: u64) -> Option<Weight>
+    /// The weight of so many 256ths: `None` unless they are 1 to 65,536.
+    pub fn new(parts: u64) -> Option<Weight>
         ensures { SomeIff result (IsTrue (is_weight parts)) parts }
     {
         if 1 <= parts && parts <= u64::from(MAX_WEIGHT) {
@@ -113,7 +113,7 @@ impl fmt::Display for ClassFault {
     }
 }
 
-/// Why a mixture is refused: the first class that is, counted from 0, and its fault.
+/// Why a mixture is refused: the first class that is, counted from 1 as LOADMIX names them, and its fault.
 #[derive(Clone, Copy, PartialEq, Eq, Debug, Error)]
 pub struct MixFault {
     pub class: u8,
@@ -169,9 +169,9 @@ impl Mix {
     {
         let [first, unlike, second] = classes;
         Ok(Mix {
-            first: class_at(0, edge, first)?,
-            unlike: class_at(1, edge, unlike)?,
-            second: class_at(2, edge, second)?,
+            first: class_at(1, edge, first)?,
+            unlike: class_at(2, edge, unlike)?,
+            second: class_at(3, edge, second)?,
         })
     }
 
