@@ -9,7 +9,7 @@ CANNOT_LISTEN = b"ljserve: cannot listen\n"
 DENIED = b"ERR 01 DENIED\n"
 POOLS = ["lock", "queue"]
 # The one that a server has where none is named.
-USUAL_POOL = "queue"
+USUAL_POOL = "lock"
 # How many connections may be open at once.
 MAX_OPEN = 64
 

@@ -144,7 +144,7 @@ fn serve_command<'a>(alloc: Global) -> Result<Command<'a>, AllocError> {
                 .long("pool")
                 .value_name("KIND")
                 .value_parser(POOLS.as_slice())
-                .default_value(QUEUE)
+                .default_value(LOCK)
                 .help("Where open tasks are kept, in a book behind a lock or in a queue"),
         )
 }
