@@ -3,4 +3,4 @@ mod text;
 mod user_lines;
 
 pub use text::{FromLines, LineFault, TextFault, first_line, read_lines, without_user};
-pub use user_lines::{Users, read_users};
+pub use user_lines::{Users, UsersFault, read_users};

@@ -4,7 +4,7 @@ ghost use Rattle.ljserve.specs.Outcomes.{status_of, fault_of_replay, replay_faul
 ghost use Rattle.ljserve.specs.declared.program_fault.Fault.TheVariants.{Memory, Write};
 ghost use Rattle.ljserve.specs.declared.program_fault.ReplayFault.TheVariants.{Memory as NoMemory, Write as WriteFailed};
 
-use crate::input::TextFault;
+use crate::input::{TextFault, UsersFault};
 use lj_wire::WriteFault;
 use lj_world::OutOfMemory;
 use std::alloc::AllocError;
@@ -49,12 +49,12 @@ pub enum ReplayFault {
 
 impl Fault<'_> {
     /// That of users who are not read.
-    pub fn of_users(fault: TextFault) -> Self
+    pub fn of_users(fault: UsersFault) -> Self
         ensures { result ≡ users_fault_of fault }
     {
         match fault {
-            TextFault::Line(number) => Fault::UsersLine(number),
-            TextFault::Memory => Fault::Memory,
+            UsersFault::Line(number) => Fault::UsersLine(number),
+            UsersFault::Memory => Fault::Memory,
         }
     }
 

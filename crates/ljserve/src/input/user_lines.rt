@@ -13,12 +13,16 @@ use lj_xyz::split_word;
 use std::alloc::Global;
 use std::marker::Model;
 
+/// Why the users of a server are not read: `Line` is the first bad line, counted from 1, and that after the last
+/// line if there is no user.
+pub type UsersFault = TextFault;
+
 /// Reads the users of a server: a line for each, with a name, a token, and how many sessions, atoms and branches.
 /// Lines without a word, and lines that begin with `#`, are passed over.
 ///
 /// # Errors
-/// The number of the first bad line, counted from 1; that after the last line if there is no user; or out of memory.
-pub fn read_users(alloc: Global, bytes: &[u8]) -> Result<Vec<User>, TextFault>
+/// The first bad line, or out of memory.
+pub fn read_users(alloc: Global, bytes: &[u8]) -> Result<Vec<User>, UsersFault>
     ensures users { IfOk result (λ users. AreUsers users.items) }
     ensures some { IfOk result (λ users. 1 ≤ length users.items) }
 {
