@@ -132,10 +132,6 @@ reply_and_user user (Err refusal) = (reply.Refused refusal, user)
 abbrev pub answer : User → Command → Bool → Reply × User
 answer user command mark = reply_and_user user (command_result user command mark)
 
--- A command is answered so, whether memory is refused to it or not.
-abbrev pub IsAnswer : User → Command → Reply → User → Type 0
-IsAnswer user command reply next = (mark : Bool) → (reply, next) ≡ answer user command mark
-
 -- What is left of a command is answered in the end as the whole is.
 abbrev pub AnswersAlike : User → Command → User → Command → Type 0
 AnswersAlike next left user command = (mark : Bool) → answer next left mark ≡ answer user command mark

@@ -241,11 +241,6 @@ pub record IsWhole (expected : Kind) (held : HeldSession) : Type 0 where
   pub kind : kind_of held.live.part ≡ Some expected
   pub whole : is_whole held.live.part ≡ true
 
--- a step may be turned: a whole force step is open, and the next step number is in range
-pub record CanTurn (held : HeldSession) : Type 0 where
-  pub whole : IsWhole Force held
-  pub near : can_advance (as_session held) 1 ≡ true
-
 -- what a command comes to: a reply with the user after it, or a refusal
 abbrev pub outcome : Result Reply Refusal → User → Result (Reply × User) Refusal
 outcome (Ok reply) next = Ok (reply, next)

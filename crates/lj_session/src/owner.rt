@@ -28,7 +28,7 @@ use std::marker::Model;
 pub enum Begin {
     /// It is answered.
     Answered(Reply),
-    /// It runs: its tasks are to be computed.
+    /// It waits for steps of its session, which are made by `next_task`, `accept` and `turn_session`.
     Running,
 }
 

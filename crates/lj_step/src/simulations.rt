@@ -104,8 +104,8 @@ impl Model for Sim {
 }
 
 impl Sim {
-    /// A simulation that stands at step 0 and goes forward. Its room for steps is made here, and no other call takes
-    /// memory.
+    /// A simulation that stands at step 0 and goes forward. Its room for steps is made here; of the other calls
+    /// `snapshot` alone takes memory.
     ///
     /// For each block of 64 atoms bit `t` of `seconds` tells whether its atom `t` is of the second species of the
     /// mixture; those of blocks past the last of `seconds` are of the first.
@@ -195,14 +195,6 @@ impl Sim {
         self.step = snapshot.step;
         self.dir = snapshot.dir;
         self.partial.kind = None;
-    }
-
-    /// What the open step sums; None where no step is open.
-    pub fn open_kind(&self) -> Option<Kind>
-        ensures { result ≡ steps.kind_of self.now.part }
-    {
-        let partial = &self.partial;
-        partial.kind
     }
 
     /// Opens a step of a kind, which awaits the results of all its tiles: one for each two blocks of 64 atoms that may

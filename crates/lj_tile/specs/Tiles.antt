@@ -31,14 +31,6 @@ push_sum class p places chosen = record {
 abbrev pub Tile : Type 0
 Tile = ℕ → ℕ → Bool
 
--- a force tile has pairs of different atoms alone
-abbrev pub IsForceTile : Tile → Type 0
-IsForceTile tile = (i : ℕ) → tile i i ≡ false
-
--- an energy tile has pairs i < j alone
-abbrev pub IsEnergyTile : Tile → Type 0
-IsEnergyTile tile = (i j : ℕ) → tile i j ≡ true → i < j
-
 -- the value of a force tile on a frame, for atom i: the ring sum of the pushes of its pairs (i, j)
 abbrev pub tile_force : Composition → List Place → Tile → ℕ → Push
 tile_force c frame tile i = push_sum (class_between c i) (place_at frame i) frame (tile i)

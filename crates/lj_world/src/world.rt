@@ -92,13 +92,6 @@ impl World {
         }
     }
 
-    /// Whether an earlier step was out of memory.
-    pub fn is_lost(&self) -> bool
-        ensures { result ≡ self.now.lost }
-    {
-        self.lost
-    }
-
     /// Runs a world of these users over these events, and answers what is replied. For every user, and every other run
     /// in which the user's script agrees with the one here, one of the two lists of its replies is a prefix of the
     /// other, and both are prefixes of what its commands are answered alone.
