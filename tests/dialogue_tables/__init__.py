@@ -1,12 +1,13 @@
 """Tables of dialogues, for tests/program."""
 from dialogue_tables import branches, frames, limits, lines, loads, mixed_faults, mixed_lines, mixtures, refusals
-from dialogue_tables import side_by_side, words_of_numbers, worked
+from dialogue_tables import side_by_side, sizes, words_of_numbers, worked
 
 TABLES = {
     "worked dialogues": worked.DIALOGUES,
     "refusals": refusals.DIALOGUES,
     "loads": loads.DIALOGUES,
     "limits": limits.DIALOGUES,
+    "sizes": sizes.DIALOGUES,
     "lines": lines.DIALOGUES,
     "branches and quotas": branches.DIALOGUES,
     "frames of text": frames.DIALOGUES,

@@ -69,6 +69,25 @@ def a_client_that_does_not_read_may_go_away(setting: Setting) -> None:
     server.finish(tiles=0)
 
 
+def tasks_that_are_left_take_no_room(setting: Setting) -> None:
+    """Each visit ends while up to 10 tasks of its user are in the pool, so the book of 1,024 is full if they stay in it."""
+    visits = 160
+    server = setting.serve(user("A") + user("B"), visits + 2)
+    first = server.enter("A")
+    first.says(load_argon("a"), b"OK LOAD a 0 256\n")
+    first.leaves()
+    for visit in range(1, visits + 1):
+        client = server.enter("A")
+        client.says(b"START a 1000\nBYE\n", f"OK START a {1000 * visit}\nOK BYE\n".encode())
+        client.is_told_last(b"")
+        client.close()
+    other = server.enter("B")
+    other.says(load_argon("a") + b"ADVANCE a 1\n", b"OK LOAD a 0 256\nOK ADVANCE a 1\n")
+    other.leaves()
+    status, _, err = server.wait()
+    setting.expect("the server ends well", (status, err) == (0, b""), (status, err))
+
+
 def first_lines_are_denied(setting: Setting) -> None:
     known = token("A").encode()
     lines = [
@@ -178,6 +197,7 @@ TESTS = (
     a_connection_may_end_anywhere,
     a_reset_while_a_command_runs_is_no_loss,
     a_client_that_does_not_read_may_go_away,
+    tasks_that_are_left_take_no_room,
     first_lines_are_denied,
     wrong_tokens_and_unknown_names_are_denied,
     tokens_are_32_letters_or_digits,

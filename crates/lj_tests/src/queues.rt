@@ -1,4 +1,4 @@
-//! Tests of the pools: ends that are full, a full queue, a closed pool, ends that are gone, a user that is withdrawn, ends that
+//! Tests of the pools: ends that are full, a full pool, a closed pool, ends that are gone, a user that is withdrawn, ends that
 //! poll, tasks that a gate sends back, work that goes ahead of the next command, and sessions that are worked on at once.
 
 mod ahead;

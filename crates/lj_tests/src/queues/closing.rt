@@ -1,5 +1,6 @@
-//! A pool with a queue that is closed while an end waits for a result, or has one in hand.
+//! A pool that is closed while an end waits for a result, or has fetched one of two.
 
+use super::over_lock::{OverLock, over_lock};
 use super::over_queue::{OverQueue, over_queue};
 use super::scene::{Scene, Seen};
 use super::stage::{Host, Stage, beside_worker};
@@ -54,8 +55,14 @@ fn who_waits_for_a_result_is_told_of_a_closed_pool(rt: HostRuntime) -> Result<()
     Ok(())
 }
 
-/// Fetches one of two results that were given, so that the other is in hand, and closes the pool. Whether that other does not
-/// come any more.
+#[test]
+fn who_waits_for_a_result_is_told_of_a_closed_book(rt: HostRuntime) -> Result<(), Fail> {
+    assert_eq!(rt; over_lock(&rt, 1, Scene::InVain)?.seen, Seen::Right(true));
+    Ok(())
+}
+
+/// Fetches one of two results that were given, so that the other is in hand over a queue, and closes the pool. Whether
+/// neither comes any more.
 fn drop_in_hand<S: Stage<R>, R: Host>(rt: &R, stage: &S) -> bool {
     let mut end = posting_end(rt, stage, USER, 2);
     let mut last = posting_end(rt, stage, LAST, 1);
@@ -77,6 +84,14 @@ pub fn close_in_hand<S: Stage<R> + Sync, R: Host + Sync>(rt: &R, stage: &S) -> b
 #[test]
 fn a_result_in_hand_does_not_outlive_the_pool(rt: HostRuntime) -> Result<(), Fail> {
     let OverQueue { seen, given, .. } = over_queue(&rt, 1, Scene::InHand)?;
+    assert_eq!(rt; (seen, given), (Seen::Right(true), 3));
+    Ok(())
+}
+
+/// The result that came before the close lies in the room of the end still.
+#[test]
+fn no_result_outlives_a_pool_behind_a_lock(rt: HostRuntime) -> Result<(), Fail> {
+    let OverLock { seen, given, .. } = over_lock(&rt, 1, Scene::InHand)?;
     assert_eq!(rt; (seen, given), (Seen::Right(true), 3));
     Ok(())
 }

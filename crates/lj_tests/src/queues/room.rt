@@ -1,11 +1,13 @@
-//! A queue that is full: who may not wait is refused, and who waits goes on once there is room, or is told that the pool
+//! A pool that is full: who may not wait is refused, and who waits goes on once there is room, or is told that the pool
 //! is closed.
 
+use super::over_lock::{OverLock, over_lock};
 use super::over_queue::{OverQueue, over_queue};
 use super::scene::{Scene, Seen};
 use super::stage::{Host, Stage};
 use super::{posting_end, put_back, sleep_a_while};
 use crate::tasks::task;
+use lj_book::Counts;
 use lj_pool::{Pool, Refused};
 use lj_queue::Settled;
 use std::alloc::{AllocError, AllocGlobal};
@@ -13,7 +15,7 @@ use std::process::Abort;
 use std::test::Fail;
 use std::thread;
 
-/// So many ends with 64 tasks each are all that the queue takes.
+/// So many ends with 64 tasks each are all that a queue or a book takes.
 const ENDS: u8 = 16;
 
 /// The user who comes last.
@@ -23,15 +25,15 @@ const LAST: u8 = 16;
 #[derive(Clone, Copy, PartialEq, Eq, Debug)]
 pub enum Answer {
     Posted,
-    /// There is no room, and the task was handed back.
+    /// There is no room, the task was handed back, and the end is not closed.
     Full,
-    /// The pool is closed, and the task was handed back.
+    /// The pool and the end are closed, and the task was handed back.
     Closed,
-    /// Another task was handed back, or none could be posted.
+    /// Another task was handed back, the end is not as its pool, or none could be posted.
     Other,
 }
 
-/// Ends that fill the queue.
+/// Ends that fill the pool.
 fn fill<S: Stage<R>, R: Host>(rt: &R, stage: &S) -> Result<Vec<S::End>, AllocError> {
     let mut ends = Vec::with_capacity(rt.alloc(), usize::from(ENDS))?;
     for user in 0..ENDS {
@@ -45,11 +47,12 @@ fn post_last<P: Pool, R: Abort>(rt: &R, end: &mut P, wait: bool) -> Answer {
     if end.owed() > 0 {
         return Answer::Other;
     }
-    match end.post(task(rt, LAST, 0), wait) {
-        Ok(()) => Answer::Posted,
-        Err(Refused::Full(refused)) if refused.is(&task(rt, LAST, 0)) => Answer::Full,
-        Err(Refused::Closed(refused)) if refused.is(&task(rt, LAST, 0)) => Answer::Closed,
-        Err(_) => Answer::Other,
+    let posted = end.post(task(rt, LAST, 0), wait);
+    match (posted, end.closed()) {
+        (Ok(()), false) => Answer::Posted,
+        (Err(Refused::Full(refused)), false) if refused.is(&task(rt, LAST, 0)) => Answer::Full,
+        (Err(Refused::Closed(refused)), true) if refused.is(&task(rt, LAST, 0)) => Answer::Closed,
+        _ => Answer::Other,
     }
 }
 
@@ -69,20 +72,32 @@ fn post_and_fetch<S: Stage<R>, P: Pool, R: Host>(rt: &R, stage: &S, end: &mut P)
 /// What the end that comes last is told at once, what once it waited, and whether its result came.
 pub type Told = (Answer, Answer, bool);
 
-/// The queue of a pool is filled. The end that comes last is refused, and then waits for room until a worker makes it, or
-/// until the pool is closed.
+/// What happens to a full pool, after a while.
+#[derive(Clone, Copy, PartialEq, Eq)]
+pub enum Relief {
+    /// A worker takes its tasks, which makes room in a queue.
+    Worker,
+    /// A user is withdrawn, which makes room in a book, and then a worker comes.
+    Withdrawal,
+    /// It is closed.
+    Close,
+}
+
+/// A pool is filled. The end that comes last is refused, and then waits for room until there is some, or until the pool is
+/// closed.
 #[derive(Clone, Copy)]
 pub struct Crowd {
-    /// Whether a worker comes, late, or the close.
-    works: bool,
+    relief: Relief,
 }
 
 impl Crowd {
-    /// Computes tasks until the pool is closed, or closes it first.
-    fn work_or_close<S: Stage<R>, R: Host>(&self, rt: &R, stage: &S) {
+    /// Makes room or closes the pool, and computes tasks until it is closed.
+    fn relieve<S: Stage<R>, R: Host>(&self, rt: &R, stage: &S) {
         sleep_a_while(rt);
-        if !self.works {
-            stage.close(rt);
+        match self.relief {
+            Relief::Worker => {}
+            Relief::Withdrawal => stage.withdraw(rt, 0),
+            Relief::Close => stage.close(rt),
         }
         stage.work(rt, &());
     }
@@ -96,7 +111,7 @@ impl Crowd {
     ) -> (Answer, bool) {
         let ((), told) = thread::join(
             rt,
-            move || self.work_or_close(rt, stage),
+            move || self.relieve(rt, stage),
             || post_and_fetch(rt, stage, last),
         );
         told
@@ -123,13 +138,17 @@ impl Crowd {
     }
 }
 
+fn filled_until(relief: Relief) -> Scene {
+    Scene::Crowd(Crowd { relief })
+}
+
 #[test]
 fn who_waits_for_room_goes_on(rt: HostRuntime) -> Result<(), Fail> {
     let OverQueue {
         seen,
         given,
         settled,
-    } = over_queue(&rt, 1, Scene::Crowd(Crowd { works: true }))?;
+    } = over_queue(&rt, 1, filled_until(Relief::Worker))?;
     let told = (Answer::Full, Answer::Posted, true);
     let all_popped = Settled {
         pushed: 1025,
@@ -149,7 +168,7 @@ fn who_waits_for_room_is_told_of_a_closed_pool(rt: HostRuntime) -> Result<(), Fa
         seen,
         given,
         settled,
-    } = over_queue(&rt, 1, Scene::Crowd(Crowd { works: false }))?;
+    } = over_queue(&rt, 1, filled_until(Relief::Close))?;
     let told = (Answer::Full, Answer::Closed, false);
     let all_left = Settled {
         pushed: 1024,
@@ -159,6 +178,51 @@ fn who_waits_for_room_is_told_of_a_closed_pool(rt: HostRuntime) -> Result<(), Fa
     assert_eq!(rt;
         (seen, given, settled),
         (Seen::Crowd(Ok(told)), 0, all_left)
+    );
+    Ok(())
+}
+
+/// How many results were given before the close depends on the key of the last task.
+#[test]
+fn who_waits_for_room_in_a_book_goes_on(rt: HostRuntime) -> Result<(), Fail> {
+    let OverLock {
+        seen,
+        given,
+        counts,
+    } = over_lock(&rt, 1, filled_until(Relief::Withdrawal))?;
+    let told = (Answer::Full, Answer::Posted, true);
+    let one_fetched = Counts {
+        posted: 1025,
+        given,
+        fetched: 1,
+        withdrawn: 64,
+        entries: 960,
+    };
+    assert_eq!(rt;
+        (seen, counts),
+        (Seen::Crowd(Ok(told)), one_fetched)
+    );
+    Ok(())
+}
+
+#[test]
+fn who_waits_for_room_in_a_book_is_told_of_a_closed_pool(rt: HostRuntime) -> Result<(), Fail> {
+    let OverLock {
+        seen,
+        given,
+        counts,
+    } = over_lock(&rt, 1, filled_until(Relief::Close))?;
+    let told = (Answer::Full, Answer::Closed, false);
+    let none_taken = Counts {
+        posted: 1024,
+        given: 0,
+        fetched: 0,
+        withdrawn: 0,
+        entries: 1024,
+    };
+    assert_eq!(rt;
+        (seen, given, counts),
+        (Seen::Crowd(Ok(told)), 0, none_taken)
     );
     Ok(())
 }
