@@ -59,8 +59,8 @@ class WithoutModules(unittest.TestCase):
 
     def test_the_python_of_these_tests_is_told(self):
         words = [sys.executable, TOP / "tests" / "client", PROGRAM, "--only", "no_test_has_this_name"]
-        told = subprocess.run(words, capture_output=True, text=True, timeout=2 * SECONDS).stdout
-        self.assertEqual(told, f"Python {platform.python_version()}: {sys.executable}\n0 passed, 0 failed\n")
+        told = subprocess.run(words, capture_output=True, text=True, timeout=2 * SECONDS).stdout.splitlines()
+        self.assertEqual((told[0], told[-1]), (f"Python {platform.python_version()}: {sys.executable}", "0 passed, 0 failed"))
 
 
 class OnAServer(unittest.TestCase):
