@@ -71,6 +71,16 @@ class InABrowser(unittest.TestCase):
         self.browser.wait_for("document.getElementById('message').textContent.startsWith('256 of 256, to the bit')")
         self.picture("back")
 
+    def test_the_arrow_that_turns_hides_no_button(self):
+        """On its way round the arrow lies over Play, which is to have the click all the same."""
+        turned = "arrow.style = `transition: none; transform: rotate(${angle}deg)`"
+        at = "document.elementFromPoint(play.left + play.width / 2, play.top + play.height / 2).id"
+        told = self.browser.value(
+            "(() => { const arrow = document.getElementById('arrow'), play = document.getElementById('play').getBoundingClientRect();"
+            f" return [0, 45, 90, 135, 180].map((angle) => {{ {turned}; return {at}; }}); }})()"
+        )
+        self.assertEqual(told, ["play"] * 5)
+
     def test_one_step(self):
         for step in (1, 2, 3):
             self.browser.click("one")
