@@ -14,7 +14,7 @@ from unittest import mock
 
 from ljclient.view import command, scenes, server, websocket
 from support import DIMER, EXAMPLES, SECONDS, TOP, interruptible, is_running
-from viewing import View, command as command_of, file_of
+from viewing import View, children_of, command as command_of, file_of
 
 
 def packs():
@@ -22,15 +22,6 @@ def packs():
     with contextlib.suppress(metadata.PackageNotFoundError):
         return int(metadata.version("setuptools").split(".")[0]) >= 61
     return False
-
-
-def children_of(process):
-    """The numbers of the processes that this one has started."""
-    return [
-        int(path.parent.name)
-        for path in pathlib.Path("/proc").glob("[0-9]*/stat")
-        if path.read_text().rpartition(")")[2].split()[1] == str(process)
-    ]
 
 
 class Ends(unittest.TestCase):

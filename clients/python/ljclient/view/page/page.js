@@ -2,11 +2,13 @@
 
 import { Box, RING, distance, placesOf } from "./box.js";
 import { Chart, History } from "./charts.js";
+import { Message } from "./message.js";
 import { Talk } from "./talk.js";
 
 const PULL = 2; // the velocity that a pull by one sigma gives, in sigma per unit of time
 const READ_EACH = 100; // milliseconds
 const part = (name) => document.getElementById(name);
+const NOW = ["frame", "playing"]; // a message of this is of the step that is shown, while time stands still
 const byDirection = (direction) => (direction > 0 ? "--forward" : "--backward");
 
 const box = new Box(part("box"), tug);
@@ -18,35 +20,44 @@ let history = new History();
 let scene = null;
 let start = null;
 let latest = null; // the frame that is shown
+let refusal = ""; // why there are no atoms
 let playing = false;
 let fresh = false; // whether what is shown has changed since it was drawn
 let stale = false; // whether numbers and lines have changed since they were shown
 let told = 0; // when they were
 let frames = []; // when the last frames were drawn
+const message = new Message(part("message"), () => ({ scene, frame: latest, direction: latest?.direction, saved: latest?.saved, playing }));
 const talk = new Talk(heard, ended);
 
-function say(text, kind = "") {
-  part("message").textContent = text;
-  part("message").className = `message ${kind}`;
+function heard(answer) {
+  if (answer.error) fail(answer.error);
+  else if (answer.scene) begin(answer);
+  else if (typeof answer.atoms === "string") show(answer);
 }
 
-function heard(answer) {
-  if (answer.error) {
-    play(false);
-    say(answer.error, "bad");
-  }
-  if (answer.scene) begin(answer);
-  if (answer.atoms && typeof answer.atoms === "string") show(answer);
+function fail(error) {
+  play(false);
+  if (scene) part("scene").value = scene.number;
+  else refusal = error;
+  message.say(error, NOW, "bad");
 }
 
 function ended() {
   play(false);
-  for (const button of document.querySelectorAll("button")) button.disabled = true;
-  say("The program has ended, or has no room for a page more. Start it again, or load this page anew.", "bad");
+  for (const control of document.querySelectorAll("button, select")) control.disabled = true;
+  message.say(refusal || "The program has ended, or has no room for a page more. Start it again, or load this page anew.", [], "bad");
+}
+
+// Asks for the atoms of another file.
+function load(number) {
+  play(false);
+  message.say("Loading the atoms ..", ["scene"]);
+  talk.ask({ do: "load", scene: number });
 }
 
 // A new scene, which the answer says beside its first frame.
 function begin(answer) {
+  play(false);
   scene = answer.scene;
   start = placesOf(answer.atoms);
   history = new History();
@@ -57,6 +68,8 @@ function begin(answer) {
   const step = scene.dt === null ? `${scene.reduced_dt.toFixed(4)} of the unit of time` : `${scene.dt.toFixed(2)} fs`;
   const title = scene.titles.length < 2 ? `${scene.titles[0]}: ` : "";
   part("about").textContent = `${title}${start.length / 3} atoms, the box is ${scene.edge.toFixed(2)} σ wide, a step is ${step}`;
+  show(answer);
+  message.say("Press Play.", NOW);
 }
 
 // Cuts a slab out of the middle that has some fifty atoms, or out of where there are any.
@@ -82,6 +95,7 @@ function show(frame) {
   history.add(row);
   latest = frame;
   fresh = true;
+  message.keep();
   if (!playing) tell();
 }
 
@@ -96,7 +110,7 @@ function tell() {
   part("distance").textContent = far === 0 ? "0" : far < 0.001 ? far.toExponential(1) : far.toFixed(3);
   for (const name of ["kinetic", "potential", "total"]) part(name).textContent = row[name].toFixed(2).replace("-", "−");
   part("temperature").textContent = scene.in_kelvin ? `${frame.temperature.toFixed(1)} K` : `${frame.temperature.toFixed(2)} ε/k`;
-  part("restore").disabled = frame.saved === null;
+  part("restore").disabled = frame.saved === null || !talk.isOpen;
   part("restore").textContent = frame.saved === null ? "Restore" : `Restore step ${frame.saved.toLocaleString("en")}`;
 }
 
@@ -104,6 +118,8 @@ function play(on) {
   playing = on;
   frames = [];
   part("play").textContent = on ? "Pause" : "Play";
+  part("rate").textContent = "";
+  message.keep();
 }
 
 // Asks for the next frame. On the way back it stops where the motion began, and not a step beyond.
@@ -113,7 +129,7 @@ async function goOn(steps) {
   const frame = await talk.ask({ do: "frame", steps: left > 0 ? Math.min(steps, left) : steps });
   if (frame.step === 0 && left > 0) {
     play(false);
-    say("Back at step 0. Is each atom where it began? Press Exact?");
+    message.say("Back at step 0. Is each atom where it began? Press Exact?", NOW);
   }
 }
 
@@ -145,33 +161,40 @@ function count() {
 
 async function reverse() {
   const frame = await talk.ask({ do: "reverse" });
-  if (frame.direction) say(frame.direction < 0 ? "Time has turned: each step is undone." : "Time runs forward again.");
+  if (!frame.direction) return;
+  const text = frame.direction < 0 ? "Time has turned: the motion goes back, step by step." : "Time runs forward again.";
+  message.say(text, ["scene", "direction"]);
 }
 
 async function tug(atom, right, up) {
   const unit = PULL * scene.reduced_dt * scene.sigma;
   const by = [right, up, 0].map((pull) => Math.round(pull * unit));
   const frame = await talk.ask({ do: "tug", atom, by });
-  if (frame.atoms) say(`Atom ${atom} was tugged, by ${(PULL * Math.hypot(right, up)).toFixed(1)} σ per unit of time. All atoms now move otherwise.`);
+  if (!frame.atoms) return;
+  const strength = (PULL * Math.hypot(right, up)).toPrecision(2);
+  const text = `Atom ${atom} was tugged at step ${frame.step.toLocaleString("en")}, by ${strength} σ per unit of time`;
+  message.say(`${text}, which leads elsewhere.`, ["scene"]);
 }
 
 async function save() {
   const { saved } = await talk.ask({ do: "save" });
-  if (saved !== undefined) say(`Saved at step ${saved.toLocaleString("en")}.`);
+  if (saved !== undefined) message.say(`Saved at step ${saved.toLocaleString("en")}.`, ["scene", "saved"]);
 }
 
 async function goBack(what, text) {
   play(false);
   const frame = await talk.ask({ do: what });
-  if (frame.step !== undefined) say(`${text} step ${frame.step.toLocaleString("en")}.`);
+  if (frame.step !== undefined) message.say(`${text} step ${frame.step.toLocaleString("en")}.`, NOW);
 }
 
+// Compares the places of this step, so time stands still for it.
 async function compare() {
+  play(false);
   const { same, atoms, step } = await talk.ask({ do: "exact" });
   if (!same) return;
-  const [found, then] = same.kept > same.start ? [same.kept, "saved"] : [same.start, "at the start"];
-  if (found === atoms) say(`${found} of ${atoms}, to the bit: each atom is where it was ${then === "saved" ? "when it was saved" : then}.`, "good");
-  else say(`${found} of ${atoms} atoms have the place that they had at the start. This is step ${step.toLocaleString("en")}.`);
+  const [found, then] = same.kept > same.start ? [same.kept, "when it was saved"] : [same.start, "at the start"];
+  if (found === atoms) message.say(`${found} of ${atoms}, to the bit: each atom is where it was ${then}.`, NOW, "good");
+  else message.say(`${found} of ${atoms} atoms have the place that they had ${then}. This is step ${step.toLocaleString("en")}.`, NOW);
 }
 
 const acts = {
@@ -194,7 +217,7 @@ document.addEventListener("keydown", (event) => {
   button.click();
 });
 for (const name of ["depth", "thickness", "speed"]) part(name).addEventListener("input", slide);
-part("scene").addEventListener("change", (event) => (play(false), talk.ask({ do: "load", scene: Number(event.target.value) })));
+part("scene").addEventListener("change", (event) => load(Number(event.target.value)));
 matchMedia("(prefers-color-scheme: dark)").addEventListener("change", () => (fresh = true));
 addEventListener("resize", () => (fresh = true));
 

@@ -17,8 +17,12 @@ export class Talk {
     return this.waiting.length === 0;
   }
 
+  get isOpen() {
+    return this.socket.readyState === WebSocket.OPEN;
+  }
+
   ask(question) {
-    if (this.socket.readyState !== WebSocket.OPEN) return Promise.resolve({});
+    if (!this.isOpen) return Promise.resolve({});
     return new Promise((resolve) => {
       this.waiting.push(resolve);
       this.socket.send(JSON.stringify(question));
