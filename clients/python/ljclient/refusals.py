@@ -16,7 +16,7 @@ class Line(Refused):
 
 
 class Syntax(Refused):
-    number, name, meaning = 3, "SYNTAX", "a wrong number of words, or a word that is not of its shape"
+    number, name, meaning = 3, "SYNTAX", "a wrong number of words, a word that is not of its shape, or one symbol for both species"
 
 
 class Body(Refused):

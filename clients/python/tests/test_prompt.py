@@ -56,7 +56,7 @@ class Tables(unittest.TestCase):
     def test_help_on_each_command(self):
         for command in commands.COMMANDS:
             for word in (command.name, command.name.lower()):
-                told = "\n".join(helping.help_on(word))
+                told = " ".join(" ".join(helping.help_on(word)).split())
                 for part in (command.usage, command.reply, command.does):
                     self.assertIn(part, told)
                 for number in command.refusals:

@@ -13,15 +13,20 @@ class Command(NamedTuple):
     usage     its words, as docs/PROTOCOL.md has them
     reply     what it is answered
     refusals  the numbers of its refusals, in the order in which they are tested
-    does      what it does, in a sentence
+    does      what it does, in a sentence or two
+    example   a dialogue: lines with `> ` before them are typed, and the others are replies. It begins with the session of
+              the example of LOAD, if the command needs one
     with_file how it is said here with a file in place of the count, if it has a body
+    order     how the order of its refusals differs from that of their numbers, if it does
     """
 
     usage: str
     reply: str
     refusals: Tuple[int, ...]
     does: str
+    example: Tuple[str, ...]
     with_file: str = ""
+    order: str = ""
 
     @property
     def name(self) -> str:
@@ -34,39 +39,113 @@ COMMANDS = (
         "OK LOAD s 0 atoms",
         (11, 20, 36, 37, 38, *XYZ_FAULTS, 21, 90),
         "Loads the atoms of an XYZ text into a new session, at step 0.",
-        "LOAD s FILE edge sigma h [rest|pair]",
+        ("> LOAD a 256 1 131072 rest 28", "> 2", "> dimer", "> Ar 0 0 0", "> Ar 1.5 0 0", "OK LOAD a 0 2"),
+        with_file="LOAD s FILE edge sigma h [rest|pair]",
+        order="Of 30 to 35 the first in the text is answered. 90 may come in place of these and of 21.",
     ),
     Command(
         "LOADMIX s edge P Q s1 h1 e1 s2 h2 e2 s3 h3 e3 rest count",
         "OK LOADMIX s 0 atoms",
         (11, 20, 36, 37, 38, 40, *XYZ_FAULTS, 39, 21, 90),
         "Loads atoms of the two species P and Q. The classes are two atoms P, one P and one Q, and two atoms Q.",
-        "LOADMIX s FILE edge P Q s1 h1 e1 s2 h2 e2 s3 h3 e3 [rest|pair]",
+        (
+            "> LOADMIX m 256 Na Cl 1 131072 256 1 262144 512 1 131072 256 rest 26",
+            *("> 2", "> mix", "> Na 0 0 0", "> Cl 1.5 0 0", "OK LOADMIX m 0 2"),
+        ),
+        with_file="LOADMIX s FILE edge P Q s1 h1 e1 s2 h2 e2 s3 h3 e3 [rest|pair]",
+        order="37, 38 and 40 are tested of each class in turn. Of 30 to 35 and 39 the first in the text is answered. "
+        "90 may come in place of these and of 21.",
     ),
-    Command("ADVANCE s n", "OK ADVANCE s step", (10, 23), "Goes on by n steps, and waits until they are made."),
+    Command(
+        "ADVANCE s n",
+        "OK ADVANCE s step",
+        (10, 23),
+        "Goes on by n steps, and waits until they are made.",
+        ("> ADVANCE a 2", "OK ADVANCE a 2"),
+    ),
     Command(
         "START s n",
         "OK START s step",
         (10, 23),
-        "Begins to go on by n steps more. The reply comes at once, with the step that the session is going to.",
+        "Begins to go on by n steps more. The reply comes at once, with the step that the session is going to. "
+        "`ADVANCE s 0` waits until it is there.",
+        ("> START a 2", "OK START a 2", "> ADVANCE a 0", "OK ADVANCE a 2"),
     ),
-    Command("REVERSE s", "OK REVERSE s step", (10,), "Turns the motion back: n steps, REVERSE and n steps lead back to the start."),
-    Command("BRANCH s b", "OK BRANCH s b step", (10, 13, 22, 90), "Saves the simulation under the name b."),
-    Command("RESTORE s b", "OK RESTORE s b step", (10, 12), "Goes back to what was saved as b, which stays saved."),
-    Command("FORGET s b", "OK FORGET s b", (10, 12), "Gives up what was saved as b."),
-    Command("TUG s i dx dy dz", "OK TUG s i step", (10, 14), "Gives an atom a displacement of so much more for each step."),
+    Command(
+        "REVERSE s",
+        "OK REVERSE s step",
+        (10,),
+        "Turns the motion back: n steps, REVERSE and n - 1 steps lead to the places of the start, and "
+        "n steps, REVERSE, n steps and REVERSE give back the start exactly.",
+        ("> ADVANCE a 2", "OK ADVANCE a 2", "> REVERSE a", "OK REVERSE a 1", "> ADVANCE a 1", "OK ADVANCE a 0"),
+    ),
+    Command(
+        "BRANCH s b",
+        "OK BRANCH s b step",
+        (10, 13, 22, 90),
+        "Saves the simulation under the name b.",
+        ("> BRANCH a k", "OK BRANCH a k 0"),
+    ),
+    Command(
+        "RESTORE s b",
+        "OK RESTORE s b step",
+        (10, 12),
+        "Goes back to what was saved as b, which stays saved.",
+        ("> BRANCH a k", "OK BRANCH a k 0", "> ADVANCE a 2", "OK ADVANCE a 2", "> RESTORE a k", "OK RESTORE a k 0"),
+    ),
+    Command(
+        "FORGET s b",
+        "OK FORGET s b",
+        (10, 12),
+        "Gives up what was saved as b.",
+        ("> BRANCH a k", "OK BRANCH a k 0", "> FORGET a k", "OK FORGET a k"),
+    ),
+    Command(
+        "TUG s i dx dy dz",
+        "OK TUG s i step",
+        (10, 14),
+        "Gives an atom a displacement of so much more for each step.",
+        ("> TUG a 0 5 0 0", "OK TUG a 0 0"),
+    ),
     Command(
         "MEASURE s",
         "OK MEASURE s step atoms mx my mz kinetic potential",
         (10,),
-        "Measures momentum (ring units per step), the kinetic number (their squares) and the potential (2^-24 epsilon).",
+        "Measures the momentum (the sum of the displacements of the last step, in ring units), the kinetic number (the sum of "
+        "the squares of these displacements) and the potential (in 2^-24 epsilon; of two species, in 2^-24 of the unit of the "
+        "weights).",
+        ("> ADVANCE a 1", "OK ADVANCE a 1", "> MEASURE a", "OK MEASURE a 1 2 0 0 0 693842 -5399727"),
     ),
-    Command("SHOW s i", "OK SHOW s step i x y z", (10, 14), "Shows the place of an atom, in ring units: 2^-32 of the edge."),
-    Command("DUMP s", "OK DUMP s step lines", (10,), "Writes out the frame as lines of XYZ text."),
-    Command("LIST", "OK LIST k", (), "Lists the sessions, one a line: name, step, atoms, and how much is saved in it."),
-    Command("LIST s", "OK LIST s k", (10,), "Lists what is saved in a session, one a line: name and step."),
-    Command("DROP s", "OK DROP s", (10,), "Gives up the session with all that is saved in it."),
-    Command("BYE", "OK BYE", (), "Ends the connection, and the prompt."),
+    Command(
+        "SHOW s i",
+        "OK SHOW s step i x y z",
+        (10, 14),
+        "Shows the place of an atom, in ring units: 2^-32 of the edge.",
+        ("> SHOW a 1", "OK SHOW a 0 1 25165824 0 0"),
+    ),
+    Command(
+        "DUMP s",
+        "OK DUMP s step lines",
+        (10,),
+        "Writes out the frame as lines of XYZ text.",
+        ("> DUMP a", "OK DUMP a 0 4", "2", "step 0", "Ar 0.000000 0.000000 0.000000", "Ar 1.500000 0.000000 0.000000"),
+    ),
+    Command(
+        "LIST",
+        "OK LIST k",
+        (),
+        "Lists the sessions, one a line: name, the step that it is going to, atoms, and how much is saved in it.",
+        ("> LIST", "OK LIST 1", "a 0 2 0"),
+    ),
+    Command(
+        "LIST s",
+        "OK LIST s k",
+        (10,),
+        "Lists what is saved in a session, one a line: name and step.",
+        ("> BRANCH a k", "OK BRANCH a k 0", "> LIST a", "OK LIST a 1", "k 0"),
+    ),
+    Command("DROP s", "OK DROP s", (10,), "Gives up the session with all that is saved in it.", ("> DROP a", "OK DROP a")),
+    Command("BYE", "OK BYE", (), "Ends the connection, and the prompt.", ("> BYE", "OK BYE")),
 )
 
 WORDS: Dict[str, str] = {
@@ -74,15 +153,15 @@ WORDS: Dict[str, str] = {
     "b": "the name under which a simulation is saved: 1 to 16 letters, digits, `_` or `-`",
     "n": "how many steps, from 0 to 1000000",
     "i": "the number of an atom, from 0",
-    "dx dy dz": "whole numbers of ring units, 2^-32 of the edge",
+    "dx dy dz": "whole numbers of ring units, 2^-32 of the edge, from -2147483648 to 2147483647",
     "edge": "the edge of the box in the unit of the file, from 0.001 to 1000000",
     "sigma": "the distance sigma in the unit of the file, below a fifth of the edge",
     "h": "the step factor, dt^2 epsilon / (m sigma^2) in units of 2^-32: a whole number from 1 to 16777216",
     "P Q": "the symbols of the two species",
-    "s1 h1 e1": "sigma, h and weight of two atoms P; a weight is an epsilon in 256ths, from 1 to 65536",
+    "s1 h1 e1": "sigma, h and weight of two atoms P; a weight is an epsilon in 256ths of a unit, from 1 to 65536",
     "s2 h2 e2": "those of one P and one Q",
     "s3 h3 e3": "those of two atoms Q",
-    "rest": "`rest` starts at rest, at the first frame; `pair` from two frames that are one step apart",
+    "rest": "`rest` starts at rest, at the first frame; `pair` from two frames one step apart, the earlier one first",
     "count": "how many bytes of XYZ text follow the line",
     "FILE": "an XYZ file in place of the count; in quotes if it has blanks",
 }

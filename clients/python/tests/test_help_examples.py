@@ -1,0 +1,120 @@
+"""What the help of the prompt says: each of its examples is played, and each of its statements that a program can hold is held."""
+import io
+
+import pytest
+
+from ljclient import refusals, run
+from ljclient.prompt import commands, helping
+from ljclient.prompt.dialogue import PipeTalk
+from ljclient.prompt.link import Link
+from ljclient.prompt.reading import PipeInput
+from support import DIMER, PROGRAM, dimer, listed
+
+WITH_SESSION = "  Example, with the session of `help LOAD`:"
+LOADS = {form.usage for form in commands.COMMANDS if form.with_file}
+
+
+def shown_examples():
+    """Of each form of each command its usage, how its example begins, and the lines of it, as the help shows them."""
+    for name in commands.names():
+        for shown in "\n".join(helping.help_on(name)).split("\n\n"):
+            lines = shown.splitlines()
+            (start,) = [number for number, line in enumerate(lines) if line.startswith("  Example")]
+            yield lines[0], lines[start], [line[4:] for line in lines[start + 1 :]]
+
+
+EXAMPLES = {usage: (begin, lines) for usage, begin, lines in shown_examples()}
+
+
+def typed(lines):
+    return [line[2:] for line in lines if line.startswith("> ")]
+
+
+def played(lines):
+    """What the prompt shows: each line, and what it is replied. A body is typed after its line."""
+    link = Link(lambda: run(PROGRAM), "")
+    try:
+        out = io.StringIO()
+        PipeTalk(link, out).run(EchoedInput(lines, out))
+        return out.getvalue().splitlines()
+    finally:
+        link.close()
+
+
+class EchoedInput(PipeInput):
+    """Lines that are shown when they are read."""
+
+    def __init__(self, lines, out):
+        super().__init__(io.BytesIO("".join(line + "\n" for line in lines).encode()))
+        self.out = out
+
+    def line(self):
+        line = super().line()
+        if line is not None:
+            self.out.write(f"> {line}\n")
+        return line
+
+    def body(self, size):
+        body = super().body(size)
+        self.out.write("".join(f"> {line}\n" for line in body.decode().splitlines()))
+        return body
+
+
+def test_each_form_has_an_example():
+    assert list(EXAMPLES) == [form.usage for form in commands.COMMANDS]
+
+
+@pytest.mark.parametrize("usage", EXAMPLES)
+def test_an_example_is_replied_as_it_is_shown(usage):
+    begin, lines = EXAMPLES[usage]
+    _, load = EXAMPLES[commands.COMMANDS[0].usage]
+    before = [] if usage in LOADS else load
+    assert begin == ("  Example:" if usage in LOADS else WITH_SESSION)
+    assert any(line.split()[0] == usage.split()[0] for line in typed(lines))
+    assert played(typed(before + lines)) == before + lines
+
+
+def moving(user):
+    """A session of two atoms that is in motion at its start."""
+    session = dimer(user)
+    session.tug(1, (70_000, -3, 11))
+    session.advance(3)
+    return session
+
+
+@pytest.mark.parametrize("n", [1, 2, 5])
+def test_what_the_help_says_of_reverse(n):
+    told = " ".join(" ".join(helping.help_on("REVERSE")).split())
+    assert "n steps, REVERSE and n - 1 steps lead to the places of the start" in told
+    assert "n steps, REVERSE, n steps and REVERSE give back the start exactly." in told
+    with run(PROGRAM) as user:
+        session = moving(user)
+        start = user.state_of("a")
+        session.advance(n)
+        session.reverse()
+        session.advance(n - 1)
+        assert (session.step, listed(session.places())) == (start.step, listed(start.places))
+        session.advance(1)
+        assert listed(session.places()) != listed(start.places)
+        session.reverse()
+        assert user.state_of("a") == start
+
+
+def test_of_two_faults_in_a_text_the_first_is_answered():
+    for name in ("LOAD", "LOADMIX"):
+        assert "the first in the text is answered" in " ".join(" ".join(helping.help_on(name)).split())
+    with run(PROGRAM) as user, pytest.raises(refusals.XyzNumber) as refused:
+        user.load("a", "2\nfaults\nAr 0 x 0\nAr 1\n", edge=256, sigma=1, h=131072)
+    assert refused.value.line == 3
+
+
+def test_classes_are_tested_in_turn():
+    assert "37, 38 and 40 are tested of each class in turn" in " ".join(helping.help_on("LOADMIX"))
+    classes = [(1, 131072, 0), (200, 131072, 256), (1, 131072, 256)]
+    with run(PROGRAM) as user, pytest.raises(refusals.Weight):
+        user.load_mix("m", DIMER, edge=256, species=("Ar", "Kr"), classes=classes)
+
+
+def test_one_symbol_for_both_species_is_told():
+    with run(PROGRAM) as user, pytest.raises(refusals.Syntax, match="one symbol for both species"):
+        user.ask("LOADMIX m 256 Ar Ar 1 1 1 1 1 1 1 1 1 rest 28", DIMER.encode())
