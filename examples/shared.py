@@ -11,6 +11,7 @@ import sys
 TOP = os.path.dirname(os.path.dirname(os.path.abspath(__file__)))
 sys.path.insert(0, os.path.join(TOP, "clients", "python"))
 import ljclient  # noqa: E402
+from ljclient import tokens  # noqa: E402
 
 if os.path.exists(os.path.join(TOP, "VERSION")):  # a release
     os.environ.setdefault("LJSERVE", os.path.join(TOP, "bin", "ljserve"))
@@ -32,12 +33,12 @@ def options_of(words, text, steps, piece):
     parser.add_argument("--steps", metavar="N", type=int, default=steps, help=f"how many steps, a multiple of {piece}: {steps}")
     parser.add_argument("--server", metavar="HOST:PORT", help="a server to use; else the program runs for this alone")
     parser.add_argument("--user", metavar="NAME", help="who asks, as in the server's file of users")
-    parser.add_argument("--token", metavar="TOKEN", help="the user's token")
+    add_token_file(parser)
     options = parser.parse_args(words)
     if options.steps < piece or options.steps % piece:
         parser.error(f"--steps is a multiple of {piece}")
-    if options.server and not (options.user and options.token):
-        parser.error("--server needs --user and --token")
+    if options.server and not options.user:
+        parser.error("--server needs --user")
     if options.server and not options.server.rpartition(":")[2].isdecimal():
         parser.error(f"{options.server} is no HOST:PORT")
     if options.plot:
@@ -45,19 +46,43 @@ def options_of(words, text, steps, piece):
     return options
 
 
+class Refusal(argparse.Action):
+    """A word of the command line that was taken once, and where others would see a token."""
+
+    def __call__(self, parser, *_):
+        parser.error(tokens.NOT_IN_COMMANDS)
+
+
+def add_token_file(parser):
+    """The option that says where the token of a user stands."""
+    told = f"a file with the user's token, or of users; else {tokens.VARIABLE} has the token"
+    parser.add_argument("--token-file", metavar="FILE", help=told)
+    parser.add_argument("--token", nargs="?", action=Refusal, help=argparse.SUPPRESS)
+
+
+def connected(address, name, token_file):
+    """A user of the server at an address. The example ends and says why if there is no token, or none that can be one."""
+    host, _, port = address.rpartition(":")
+    try:
+        token = tokens.token_of(name, token_file, sys.stdin.isatty())
+        return ljclient.connect(host.strip("[]"), int(port), name, token)
+    except (ljclient.ClientError, ValueError) as error:
+        stop(error)
+
+
+def stop(error):
+    """Ends the example with a line that says why."""
+    sys.exit(f"{os.path.basename(sys.argv[0])}: {error}")
+
+
 @contextlib.contextmanager
 def user_of(options):
     """The user whose sessions the example has: of the server that is named, or of a program of its own."""
-    host, _, port = (options.server or "").rpartition(":")
     try:
-        if options.server:
-            opened = ljclient.connect(host.strip("[]"), int(port), options.user, options.token)
-        else:
-            opened = ljclient.run()
-        with opened as user:
+        with connected(options.server, options.user, options.token_file) if options.server else ljclient.run() as user:
             yield user
     except ljclient.ClientError as error:
-        sys.exit(f"{os.path.basename(sys.argv[0])}: {error}")
+        stop(error)
 
 
 @contextlib.contextmanager

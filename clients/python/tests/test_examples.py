@@ -70,9 +70,9 @@ class OnAServer(unittest.TestCase):
 
     def ran(self, token):
         """What `examples/session` does with 256 atoms in 100 steps."""
-        words = [f"127.0.0.1:{self.server.port}", "ann", token, str(EXAMPLES / "argon_256.xyz"), "21.04", "3.4", "131072", "100"]
-        command = [sys.executable, str(EXAMPLES / "session"), *words]
-        return subprocess.run(command, capture_output=True, text=True, timeout=2 * SECONDS)
+        words = [f"127.0.0.1:{self.server.port}", "ann", str(EXAMPLES / "argon_256.xyz"), "21.04", "3.4", "131072", "100"]
+        command, environment = [sys.executable, str(EXAMPLES / "session"), *words], {**os.environ, "LJSERVE_TOKEN": token}
+        return subprocess.run(command, env=environment, capture_output=True, text=True, timeout=2 * SECONDS)
 
     def test_a_file_is_run(self):
         done = self.ran(TOKEN)

@@ -3,13 +3,13 @@ from __future__ import annotations
 
 import argparse
 import contextlib
-import getpass
 import os
 import sys
 import threading
-from typing import Iterator, List, NoReturn, Optional
+from typing import Iterator, List, NoReturn
 
 from ..errors import ClientError
+from ..tokens import NOT_IN_COMMANDS, token_of
 from ..user import User, connect, run
 from .dialogue import PipeTalk, TerminalTalk
 from .link import Link
@@ -19,7 +19,6 @@ from .reading import PipeInput, TerminalInput, line_editing
 SECONDS = 600.0
 SECONDS_OF_A_PROGRAM = 1_000_000.0
 SECONDS_UNTIL_WORD = 2.0
-MAX_BYTES = 65_536
 ABOUT = """\
 A prompt for the commands of the protocol. Without HOST:PORT it starts a program of its own, and what is loaded is gone when it
 ends. `help` lists the commands. With an input that is no terminal it writes the replies alone.
@@ -50,7 +49,7 @@ def options_of(words: List[str]) -> argparse.Namespace:
     if unknown:
         parser.error(f"there is no option {unknown[0].partition('=')[0]}")
     if len(options.server) > 2:
-        parser.error("a token is never said on the command line, where others see it: use --token-file or LJSERVE_TOKEN")
+        parser.error(NOT_IN_COMMANDS)
     if len(options.server) == 1:
         parser.error("NAME is missing: who asks, as in the server's file of users")
     if options.timeout is not None and not 0 < options.timeout < float("inf"):
@@ -64,30 +63,6 @@ def is_address(word: str) -> bool:
     """Whether a word is a host and a port."""
     host, _, port = word.rpartition(":")
     return bool(host) and port.isascii() and port.isdecimal() and 0 < int(port) < 65536
-
-
-def token_of(name: str, path: Optional[str], is_terminal: bool) -> str:
-    """The token of a user: of a file, of the environment, or of whoever sits at the terminal."""
-    if path is not None:
-        return token_in(path, name)
-    if token := os.environ.get("LJSERVE_TOKEN", "").strip():
-        return token
-    if is_terminal:
-        return getpass.getpass(f"token of {name}: ").strip()
-    raise Fault("there is no token: say --token-file FILE, or set LJSERVE_TOKEN")
-
-
-def token_in(path: str, name: str) -> str:
-    """The token that a file has: its only word, or the second of the line that begins with this name."""
-    try:
-        with open(os.path.expanduser(path), encoding="utf-8", errors="replace") as file:
-            lines = [line.split() for line in file.read(MAX_BYTES).splitlines() if not line.startswith("#")]
-    except OSError as error:
-        raise Fault(f"cannot read {path}: {error.strerror or error}") from error
-    found = [words[1] for words in lines if len(words) > 1 and words[0] == name] or [words[0] for words in lines if len(words) == 1]
-    if not found:
-        raise Fault(f"{path} has no token of {name}")
-    return found[0]
 
 
 @contextlib.contextmanager
