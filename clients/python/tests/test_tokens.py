@@ -56,7 +56,8 @@ def test_files_are_for_their_owner_alone_whatever_the_umask(tmp_path):
 
 
 def test_the_slips_follow_the_users_if_they_have_no_file(tmp_path):
-    assert made(tmp_path, "ann", "--out", "users") == (0, "", "")
+    assert made(tmp_path, "ann", "--server", "räume:4000", "--out", "users") == (0, "", "")
+    assert made(tmp_path, "--check", "users") == (0, "1 user\n", "")
     (token,) = tokens_in(tmp_path / "users")
     assert f"#     token   {token}\n" in (tmp_path / "users").read_text()
 
