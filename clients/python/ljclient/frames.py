@@ -27,8 +27,13 @@ def dumped(user: "Loader", name: str) -> Frame:
 
 
 def dumped_positions(user: "Loader", name: str) -> Tuple[int, Any]:
-    """The step and the positions as the server dumps them, of a session whose box is that of the user."""
+    """The step and the positions as the server dumps them."""
     return reading.positions_of(name, *user.ask_text(f"DUMP {name}"))
+
+
+def place(user: "Loader", name: str, number: int) -> Place:
+    """The place of the atom that has this number at the server."""
+    return reading.place_of(name, number, user.ask_rows([f"SHOW {name} {number}"]))
 
 
 def shown(user: "Loader", name: str, count: int) -> Tuple[Places, ...]:
@@ -63,11 +68,16 @@ def on_ring(frame: Frame) -> Places:
     return Places(frame.step, places)
 
 
+def millionths(part: int, nanos: int) -> int:
+    """The millionths of a coordinate that the server dumps for a place, in a box whose edge is so many 10^-9."""
+    return part * nanos // (RING * 1000)
+
+
 def in_box(frame: Frame, edge: float) -> Frame:
     """A frame whose box shows each ring unit, as the server would dump it in a box of this edge, with six decimals."""
     nanos, rows = nano(edge), []
     for row, place in zip(frame.rows, arrays.listed(on_ring(frame).places)):
-        parts = (divmod(part * nanos // (RING * 1000), MILLION) for part in place)
+        parts = (divmod(millionths(part, nanos), MILLION) for part in place)
         rows.append(" ".join([row.split(" ")[0], *[f"{whole}.{rest:06}" for whole, rest in parts]]))
     return Frame(frame.step, rows)
 

@@ -6,7 +6,7 @@ import operator
 import os
 from typing import TYPE_CHECKING, Any, Iterator, List, NamedTuple, Optional, Sequence, Tuple, Union
 
-from . import arrays, ase_bridge, checkpoint, frames, going, heating, progress as bars, reading, sampling
+from . import arrays, ase_bridge, box, checkpoint, frames, going, heating, progress as bars, reading, sampling
 from .energy_watch import WatchedRoad
 from .measurement import Measurement, known
 from .mixture import Mixture
@@ -183,7 +183,7 @@ class Session:
     def place(self, atom: int) -> Tuple[int, int, int]:
         """The place of an atom, in ring units: whole numbers from 0 to 2^32 - 1."""
         number = self._number_of(atom)
-        return reading.place_of(self.name, number, self._user.ask_rows([f"SHOW {self.name} {number}"]))
+        return frames.place(self._user, self.name, number)
 
     def places(self) -> Any:
         """The places of all atoms, in ring units: whole numbers from 0 to 2^32 - 1, which are the simulation itself.
@@ -300,6 +300,7 @@ class Session:
     def _frame(self) -> reading.Frame:
         """The frame as the server dumps it, with atoms, step and positions as they are here. Each line of an atom that comes
         in is of here."""
+        box.settle(self._user, self.name)
         frame = frames.dumped(self._user, self.name)
         order = self.order
         frame = reading.Frame(order.step_of(frame.step), order.for_user(frame.rows))
@@ -308,6 +309,7 @@ class Session:
     def _positions_of_frame(self) -> Tuple[int, Any]:
         """The step and the positions of the frame, with six decimals. They are read without its lines, if the box is the
         user's; asking may move a session to another box."""
+        box.settle(self._user, self.name)
         if not self.order.on_ring:
             step, positions = frames.dumped_positions(self._user, self.name)
             order = self.order

@@ -29,6 +29,7 @@ class Known:
     is_sorted   whether its atoms are kept in the order of space
     gone        how many steps it has made since they were sorted
     is_started  whether steps were started that nobody has waited for
+    is_box_open whether its atoms have not told yet if the server has them in the box that shows each ring unit
     branches    how the numbers of what is saved in it stand to those of the server
     watch       what is known of its energy, to tell whether it changes
     """
@@ -40,12 +41,19 @@ class Known:
     is_sorted: bool = False
     gone: int = 0
     is_started: bool = False
+    is_box_open: bool = False
     branches: Dict[str, Order] = field(default_factory=dict)
     watch: EnergyWatch = field(default_factory=EnergyWatch)
 
     def branch_order(self, branch: str) -> Order:
         """How the numbers of what is saved under a name stand to those of the server."""
         return self.branches.get(branch, self.order)
+
+    def set_box(self, on_ring: bool, is_open: bool = False) -> None:
+        """Notes whether the server has it, and what is saved in it, in the box that shows each ring unit."""
+        self.order = replace(self.order, on_ring=on_ring)
+        self.branches = {branch: replace(order, on_ring=on_ring) for branch, order in self.branches.items()}
+        self.is_box_open = is_open and not on_ring
 
 
 @dataclass(frozen=True)

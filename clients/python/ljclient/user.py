@@ -8,6 +8,7 @@ from types import TracebackType
 from typing import Callable, Dict, Iterable, List, Optional, Sequence, Tuple, Type, Union
 
 from . import going, moving, progress as bars, units
+from .box import take_up
 from .ends import ChildEnds, SocketEnds
 from .energy_watch import EnergyWatch, WatchedRoad
 from .errors import BadReply, CannotStart, ClientError, ConnectionLost, TimedOut
@@ -80,17 +81,22 @@ class User(Loader):
         with its weight where that is not 256.
 
         Neither does it tell how another connection numbers atoms and steps: `order` is what `Session.order` told there, or
-        a list of the server's number of each atom. `watch` is as in `load`, and the energy is compared with that of now.
+        a list of the server's number of each atom. `Order(step=300)` says that the server's step 0 is step 300.
+
+        With an edge, one DUMP and one SHOW tell in which box the server has the session, so what was started is waited for. It
+        is a ValueError if that is neither the box of this edge nor the one of `load_saved`, `order="space"` and `resort`. Of
+        that one there is a warning if nothing says its step numbers.
+
+        `watch` is as in `load`, and the energy is compared with that of now.
         """
         self.ask(f"LIST {checked_name(name)}")
-        known = self.known(name)
+        scale = None
         if edge is not None and sigma is not None:
-            known.scale = units.Scale.of(edge, sigma, h, epsilon=epsilon, mass=mass, dt=dt, weight=weight)
-            known.mixture = None
+            scale = units.Scale.of(edge, sigma, h, epsilon=epsilon, mass=mass, dt=dt, weight=weight)
         elif (edge, sigma, h, epsilon, mass, dt) != (None,) * 6:
             raise ValueError("a scale is edge and sigma, with h or with epsilon, mass and dt")
-        if order is not None:
-            known.order, known.symbols = Order.of(order), ()
+        take_up(self, name, scale, order)
+        known = self.known(name)
         known.watch = EnergyWatch(watch)
         return Session(self, name, known.scale, mixture=known.mixture)
 

@@ -1,0 +1,117 @@
+"""Which box the server has a session in: that of the user, or the one that shows each ring unit.
+
+Another connection may have loaded the session, and no command tells its edge. But SHOW tells the place of an atom and DUMP
+its coordinates, and these two tell the edge.
+"""
+from __future__ import annotations
+
+import warnings
+from typing import TYPE_CHECKING, NamedTuple, Optional, Sequence, Tuple, Union
+
+from . import arrays, frames
+from .errors import BadReply
+from .frames import MILLION, RING_EDGE
+from .order import Order, Place
+from .units import RING, Number, Scale, checked_positive, nano
+
+if TYPE_CHECKING:
+    from .loading import Loader
+
+
+class Seen(NamedTuple):
+    """An atom as the server tells it: its place by SHOW, and its coordinates in millionths by DUMP."""
+
+    place: Place
+    dumped: Tuple[int, ...]
+
+    def fits(self, edge: Number) -> bool:
+        """Whether the atom would be dumped so in a box of this edge."""
+        nanos = nano(edge)
+        return tuple(frames.millionths(part, nanos) for part in self.place) == self.dumped
+
+    def edge(self) -> str:
+        """The edge of the box, with as many digits as are known. The atom is not at 0, where each edge fits."""
+        dumped = max(self.dumped)
+        edge = (dumped + 0.5) / MILLION * RING / max(self.place)
+        return f"{float(f'{edge:.{max(1, len(str(dumped)) - 1)}g}'):.12g}"
+
+
+def take_up(user: "Loader", name: str, scale: Optional[Scale], order: Union[Order, Sequence[int], None]) -> None:
+    """Has a session at the server be known by what is said of it, and by the box in which the server has it.
+
+    The box is looked for if an edge is said that is not known yet, or an order of the box that shows each ring unit.
+    Raises ValueError, and changes nothing, if the server has the session in another box than these.
+    """
+    known = user.known(name)
+    said = known.order if order is None else Order.of(order)
+    on_ring, is_open = known.order.on_ring, known.is_box_open
+    edge = None if scale is None else checked_positive("edge", scale.edge)
+    is_new = edge is not None and (is_open or known.scale is None or known.scale.edge != edge)
+    if not on_ring and said.on_ring:
+        on_ring = checked_ring(name, _seen(user, name))
+    elif not on_ring and is_new and edge is not None:
+        on_ring, is_open = box_of(name, _seen(user, name), edge)
+        if on_ring:
+            warn_of_numbers(name, said)
+    if scale is not None:
+        known.scale, known.mixture = scale, None
+    if order is not None:
+        known.order, known.symbols, known.branches = said, (), {}
+    known.set_box(on_ring, is_open)
+
+
+def settle(user: "Loader", name: str) -> None:
+    """Looks once more for the box of a session, where its atoms have not told it yet."""
+    known = user.known(name)
+    if known.is_box_open:
+        take_up(user, name, known.scale, None)
+
+
+def checked_ring(name: str, seen: Seen) -> bool:
+    """Raises ValueError if an atom is not in the box that shows each ring unit, in which its order has it."""
+    if not seen.fits(RING_EDGE):
+        raise ValueError(
+            f"this order is of a box whose edge is {RING_EDGE} at the server, and that of {name} is about {seen.edge()}: "
+            f"it is no longer the order of {name}"
+        )
+    return True
+
+
+def box_of(name: str, seen: Seen, edge: float) -> Tuple[bool, bool]:
+    """Whether an atom is in the box that shows each ring unit, and whether that is open, since a box of this edge fits too.
+
+    As long as it is open, both boxes have the whole frame at the same coordinates.
+    """
+    fits = seen.fits(edge)
+    on_ring = seen.fits(RING_EDGE) and nano(edge) != nano(RING_EDGE)
+    if not fits and not on_ring:
+        text = f"{name} is in a box whose edge is about {seen.edge()} at the server, not {edge!r}"
+        raise ValueError(f"{text}: say the edge that it was loaded with")
+    return on_ring and not fits, on_ring and fits
+
+
+def warn_of_numbers(name: str, said: Order) -> None:
+    """Warns, at who has called what calls this, that numbers are the server's, unless an order says the user's."""
+    if (said.step, said.direction) != (0, 1):
+        return
+    what = "steps" if said.numbers else "atoms and steps"
+    warnings.warn(
+        f"{name} is in a box whose edge is {RING_EDGE} at the server, as it is after load_saved, order='space' or resort. "
+        f"So its {what} have the server's numbers here; user.session(.., order=..) takes what session.order told elsewhere",
+        stacklevel=4,
+    )
+
+
+def _seen(user: "Loader", name: str) -> Seen:
+    """The atom that has the greatest coordinate, which tells the edge best.
+
+    Both commands tell the same step: DUMP waits for the steps that were started, and SHOW comes after it.
+    """
+    _, positions = frames.dumped_positions(user, name)
+    dumped = arrays.listed(arrays.millionths(positions))
+    greatest = [max(coordinates) for coordinates in dumped]
+    atom = greatest.index(max(greatest))
+    seen = Seen(frames.place(user, name, atom), tuple(dumped[atom]))
+    if max(seen.dumped) > 0 == max(seen.place):
+        raise BadReply(f"atom {atom} of {name} is shown at 0 and dumped elsewhere")
+    return seen
