@@ -63,7 +63,16 @@ class Refused(ClientError):
     meaning: str = ""
     by_number: Dict[int, Type["Refused"]] = {}
 
-    def __init__(self, command: str = "", line: Optional[int] = None, number: Optional[int] = None, name: Optional[str] = None):
+    def __init__(
+        self,
+        command: str = "",
+        line: Optional[int] = None,
+        number: Optional[int] = None,
+        name: Optional[str] = None,
+        meaning: Optional[str] = None,
+    ):
+        if meaning is not None:
+            self.meaning = meaning
         if number is not None:
             self.number = number
         if name is not None:
@@ -77,7 +86,7 @@ class Refused(ClientError):
         Refused.by_number[cls.number] = cls
 
     def __reduce__(self) -> Tuple[Any, ...]:
-        return type(self), (self.command, self.line, self.number, self.name)
+        return type(self), (self.command, self.line, self.number, self.name, self.meaning)
 
     def _text(self) -> str:
         where = "" if self.line is None else f" line {self.line}"

@@ -1,11 +1,12 @@
 """A user's connection to a server, or to a program of its own."""
 from __future__ import annotations
 
+import contextlib
 import dataclasses
 import math
 import os
 from types import TracebackType
-from typing import Callable, Dict, Iterable, List, Optional, Sequence, Tuple, Type, Union
+from typing import Callable, Dict, Iterable, Iterator, List, Optional, Sequence, Set, Tuple, Type, Union
 
 from . import going, moving, progress as bars, units
 from .box import take_up
@@ -17,6 +18,7 @@ from .interrupts import held
 from .loading import Loader
 from .names import checked_name, count_of
 from .order import Order
+from .refusals import NoSession
 from .replies import fields, whole_number
 from .session import Row, Session
 from .state import Command, can_be_loaded
@@ -28,6 +30,7 @@ FAREWELL_SECONDS = 2.0
 NEW_OR_GONE = ("LOAD", "LOADMIX", "DROP")
 # These change the energy of a session, which is to be what it was as long as steps alone are made.
 OTHER_ENERGY = ("TUG", "RESTORE")
+LOST = "the server no longer has it: the server was started again, or another connection has dropped it"
 Program = Union[str, "os.PathLike[str]"]
 
 
@@ -47,6 +50,8 @@ class User(Loader):
     ):
         super().__init__()
         self.name = name
+        # Of the sessions that this user has seen at the server, and not dropped.
+        self.session_names: Set[str] = set()
         self._wire = wire
         self._reopen = reopen
         self._restart = restart
@@ -156,23 +161,51 @@ class User(Loader):
     def ask_commands(self, commands: Sequence[Command]) -> List[Reply]:
         """As `ask_all`, of commands with the bodies that they announce."""
         self._make_room(len(commands))
-        replies = self._wire.ask_all(commands)
+        with self._losses_told():
+            try:
+                replies = self._wire.ask_all(commands)
+            except BaseException:
+                self.session_names -= dropped_by(commands)
+                raise
         for reply in replies:
-            if reply.words[0] in NEW_OR_GONE:
-                self.has_dropped(reply.words[1])
-            elif reply.words[0] in OTHER_ENERGY:
-                self.known(reply.words[1]).watch.begin_anew()
+            self._note(reply)
         return replies
+
+    def _note(self, reply: Reply) -> None:
+        """Notes which sessions there are, and forgets what was said of one that is new or gone."""
+        verb, *words = reply.words
+        if verb in NEW_OR_GONE:
+            self.has_dropped(words[0])
+        elif verb in OTHER_ENERGY:
+            self.known(words[0]).watch.begin_anew()
+        if verb == "DROP":
+            self.session_names.discard(words[0])
+        elif verb == "LIST" and len(words) == 1:
+            self.session_names.update(line.split(" ")[0] for line in reply.lines)
+        elif verb in ("LOAD", "LOADMIX", "LIST"):
+            self.session_names.add(words[0])
+
+    @contextlib.contextmanager
+    def _losses_told(self) -> Iterator[None]:
+        """Has a refusal say so if the server had the session that it does not know."""
+        try:
+            yield
+        except NoSession as refusal:
+            if self._reopen is None or self.session_names.isdisjoint(refusal.command.split()[1:2]):
+                raise
+            raise NoSession(refusal.command, meaning=LOST) from None
 
     def ask_text(self, line: str) -> Tuple[List[str], bytes]:
         """The words of the reply to a command line after `OK`, and the lines after them as they came. A refusal is raised."""
         self._make_room(1)
-        return self._wire.ask_text(line)
+        with self._losses_told():
+            return self._wire.ask_text(line)
 
     def ask_rows(self, lines: Sequence[str]) -> bytes:
         """The lines that many command lines are answered by, one for each, as they came. The first refusal is raised."""
         self._make_room(len(lines))
-        return self._wire.ask_rows(lines)
+        with self._losses_told():
+            return self._wire.ask_rows(lines)
 
     def _make_room(self, count: int) -> None:
         """Begins a new connection where this one's million commands would be passed, if the sessions outlast it.
@@ -242,6 +275,12 @@ class User(Loader):
             pass
         finally:
             self._wire.close()
+
+
+def dropped_by(commands: Sequence[Command]) -> Set[str]:
+    """The sessions that these commands drop, if they are not refused."""
+    words = [line.split()[:2] for line, _ in commands]
+    return {each[1] for each in words if len(each) == 2 and each[0] == "DROP"}
 
 
 def connect(host: str, port: int, name: str, token: str, *, timeout: float = 60.0) -> User:

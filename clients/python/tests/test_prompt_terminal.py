@@ -146,7 +146,7 @@ class AtATerminal(unittest.TestCase):
             self.says(terminal, f"LOAD a {ARGON} 21.04 3.4 131072", "ann> ")
             server.child.kill()
             told = self.says(terminal, "MEASURE a", "ann> ")
-            self.assertIn("The next command begins a new connection. The sessions are still at the server", told)
+            self.assertIn("The next command begins a new connection. If the server still runs, it still has the sessions.", told)
             self.assertIn("cannot connect", self.says(terminal, "LIST", "ann> "))
 
     def test_a_second_connection_is_told_what_it_waits_for(self):

@@ -13,7 +13,7 @@ from ..session import Session
 from ..wire import Reply
 from . import loading
 from .commands import names
-from .explaining import explained
+from .explaining import explained, lost
 from .helping import help_on
 from .link import Link
 from .loading import Fault, words_of
@@ -104,7 +104,8 @@ class TerminalTalk(Talk):
             except Fault as fault:
                 self.tell(f"  not sent: {fault}")
             except ClientError as error:
-                self.tell(f"  {error}", f"  {self.link.after_end}")
+                self.tell(f"  {error}")
+                self.tell_end()
             except KeyboardInterrupt:
                 lines.forget()
                 self.tell("")
@@ -131,6 +132,8 @@ class TerminalTalk(Talk):
             body = typed_body(line, lines)
         self.link.is_settled = False
         try:
+            self.link.ready()
+            self.tell(*(f"  {text}" for text in lost(self.link.lost())))
             if is_advance(words_of(line)):
                 self.advance(*words_of(line)[1:])
             else:
@@ -138,9 +141,13 @@ class TerminalTalk(Talk):
         except Refused as refusal:
             self.show_refusal(refusal)
             self.tell(*(f"  {text}" for text in explained(refusal, self.link.user, path, body)))
-            if self.link.user.closed:
-                self.tell(f"  {self.link.after_end}")
+            self.tell_end()
         self.link.is_settled = True
+
+    def tell_end(self) -> None:
+        """Tells what follows if the connection has ended."""
+        if self.link.user.closed:
+            self.tell(f"  {self.link.after_end}")
 
     def advance(self, name: str, steps: str) -> None:
         """Goes on by some steps, with a bar. An interrupt from the keyboard ends it after a piece."""

@@ -30,6 +30,12 @@ def explained(refusal: Refused, user: User, path: str = "", body: bytes = b"") -
         return lines
 
 
+def lost(names: List[str]) -> List[str]:
+    """The lines that tell which sessions the server no longer has."""
+    why = f"the server was started again, or another connection has dropped {'it' if len(names) == 1 else 'them'}"
+    return [listed("no longer at the server", names), why] if names else []
+
+
 def meant(word: str) -> List[str]:
     """The commands that are written nearly as this word."""
     near = difflib.get_close_matches(word.upper(), names(), 2)

@@ -92,7 +92,7 @@ def link_of(options: argparse.Namespace, is_terminal: bool) -> Link:
         with word_of_waiting(name):
             return connect(host.strip("[]"), int(port), name, token, timeout=options.timeout or SECONDS)
 
-    return Link(open_user, "The next command begins a new connection. The sessions are still at the server.")
+    return Link(open_user, "The next command begins a new connection. If the server still runs, it still has the sessions.")
 
 
 def welcome(link: Link, where: str) -> List[str]:
