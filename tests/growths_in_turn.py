@@ -4,7 +4,7 @@ A case is a name, what was seen and what is wanted.
 """
 from typing import Callable, Dict, Iterator, Tuple, Union
 
-from dialogue_tables.growths import BAD_TEXTS, GROWING, NOT_BEGUN, Growing
+from dialogue_tables.growths import BAD_TEXTS, GROWING, Growing, growths_of
 from shared.program import NO_MEMORY, Ended, run_words
 from shims import WHOLE, refused_in_turn
 
@@ -33,9 +33,8 @@ def cases_of(run: Runs, growing: Growing) -> Iterator[Case]:
     wanted = {"program", None, *growing.growing}
     yield f"what memory is refused to in {growing.name}", wanted - {*seen}, set()
     if growing is BAD_TEXTS:
-        begun = {*growing.growing} - {*NOT_BEGUN}
-        followed = {part for part, following in zip(seen, seen[1:]) if following is None}
-        yield "faults that are told where there is no memory for the atoms", begun - followed, set()
+        told = {part: seen.count(part) for part in growing.growing}
+        yield "how often texts that are refused take memory", told, {part: growths_of(part) for part in growing.growing}
 
 
 def cases(run: Runs) -> Iterator[Case]:

@@ -7,7 +7,7 @@ from dataclasses import dataclass
 from typing import Callable, Iterator, List, Optional, Sequence, Union
 
 from dialogue_tables.frames import FAULTS, SIZES, faults, numbered
-from dialogue_tables.in_boxes import DROP, ROW, Item, load_in, loaded, show
+from dialogue_tables.in_boxes import DROP, ROW, Item, load, load_in, loaded, show
 from dialogue_tables.mixtures import load_mix, mixed
 from dialogues import LOAD, Quota
 
@@ -125,17 +125,32 @@ STRANGE = (
     (load_mix("2\nc\nNa 0 0 0\nAr 0 0 0\n" * 2, mode="pair"), "ERR 39 XYZ_SPECIES line 4\n"),
 )
 
-# Texts with faults. Where there is no memory for the bytes of one, that is told; where there is none for its atoms,
-# its fault is.
-BAD_TEXTS = Growing(
-    "faults of texts",
-    (1, 1, 0),
-    [Plain(*item) for item in (*faults(), *STRANGE)],
-    [*(number for number, (_, text, _) in enumerate(FAULTS) if text), len(FAULTS), len(FAULTS) + 1],
+# Texts of more atoms than the quota has.
+TWO_ATOMS = "2\nc\nX 0 0 0\nX 1 0 0\n"
+MANY = (
+    (load(TWO_ATOMS), "ERR 21 QUOTA_ATOMS\n"),
+    (load(TWO_ATOMS * 2, "pair"), "ERR 21 QUOTA_ATOMS\n"),
 )
 
-# The numbers of the texts that end, or have their fault, before memory for atoms is asked for: before a comment line.
+# Texts that are refused. Where there is no memory for the bytes of one, or for the atoms of one of its frames, that is
+# told and not what is wrong behind.
+REFUSED = (*faults(), *STRANGE, *MANY)
+BAD_TEXTS = Growing(
+    "texts that are refused",
+    (1, 1, 0),
+    [Plain(*item) for item in REFUSED],
+    [*(number for number, (_, text, _) in enumerate(FAULTS) if text), *range(len(FAULTS), len(REFUSED))],
+)
+
+# The numbers of those whose fault stands before the atoms of the first frame, and of those whose second frame is begun.
 NOT_BEGUN = (0, 1, 2, 3, 4, 15, 16)
+BOTH_BEGUN = (28, 29, 30, 31, 32, 36)
+
+
+def growths_of(number: int) -> int:
+    """How often the text of this number takes memory: for its bytes, and for the atoms of each frame that is begun."""
+    return 1 + (number not in NOT_BEGUN) + (number in BOTH_BEGUN)
+
 
 GROWING = (
     growing(

@@ -1,20 +1,19 @@
 -- What the readers answer, in the relation of lines and answers.
-use Rattle.std.proofs.Common.{◌≡◌, ℕ, true, inl, inr, List, [], ◌∷◌, length, Option, Some, None, Result, Ok, Err, refl}
-use Rattle.std.specs.Prelude.{IfOk, IsOk, ◌↔◌}
-use Rattle.std.specs.Option.{ok_or}
+use Rattle.std.proofs.Common.{◌≡◌, ℕ, true, inl, inr, List, [], ◌∷◌, length, Option, Some, None, Result, Ok, Err}
+use Rattle.std.specs.Prelude.{IfOk}
 use Rattle.std.proofs.lemmas.Bool.{cases_Bool, eqb-true}
 use Rattle.lj_xyz.specs.declared.xyz_fault.XyzFault.{XyzFault}
 use Rattle.lj_xyz.specs.declared.xyz_fault.XyzError.{XyzError}
 use Rattle.lj_xyz.specs.declared.xyz_fault.XyzError.TheVariants as errors
 use Rattle.lj_xyz.specs.declared.atom_row.Row.{Row}
 use Rattle.lj_xyz.specs.declared.frame_reader.Position.{Position}
-use Rattle.lj_xyz.specs.declared.frame_reader.Position.TheVariants.{First}
+use Rattle.lj_xyz.specs.declared.frame_reader.Position.TheVariants.{First, Second}
 use Rattle.lj_fixed.specs.Numbers.{number_of}
 use Rattle.lj_xyz.specs.Symbols.{SymbolPair}
 use Rattle.lj_xyz.specs.Atoms.{is_count, count_if}
-use Rattle.lj_xyz.specs.Frames.{Mode, rest, pair, IsReading, HasFrames, IsFrame}
-use Rattle.lj_xyz.specs.Reading.{Left, frame_in, start, reading, Gives, Keeps}
-use Rattle.lj_xyz.proofs.ReadingLaws.{reading_is, reading_stands, reads_one}
+use Rattle.lj_xyz.specs.Frames.{Mode, rest, pair, IsReading, IsFrame}
+use Rattle.lj_xyz.specs.Reading.{Left, frame_in, start, reading, Fails, Gives}
+use Rattle.lj_xyz.proofs.ReadingLaws.{reading_stands, reads_one, reads_no_first, reads_no_second}
 
 -- what was read stands in the relation
 pub frames_stand : {X : Type 0} (symbols : Option SymbolPair) (view : X → List (List Row)) (mode : Mode)
@@ -23,46 +22,34 @@ pub frames_stand : {X : Type 0} (symbols : Option SymbolPair) (view : X → List
 frames_stand symbols view mode lines (Ok x) e = rw e at (reading_stands symbols mode lines)
 frames_stand symbols view mode lines (Err error) e = tt
 
--- a fault was answered exactly where it stands in the relation
+-- a fault that was answered stands in the relation
 pub fault_stands : {X : Type 0} (symbols : Option SymbolPair) (view : X → List (List Row)) (mode : Mode)
     (lines : List (List ℕ)) (r : Result X XyzError) → Gives view r (reading symbols mode lines)
-    → (fault : XyzFault) → (r ≡ Err (errors.Fault fault)) ↔ IsReading symbols mode lines (Err fault)
-fault_stands {X = X} symbols view mode lines r e fault =
-    (found_by r e, λ is. given r (rw (reading_is symbols mode lines (Err fault) is) at e))
-  where
-    found_by : (r : Result X XyzError) → Gives view r (reading symbols mode lines) → r ≡ Err (errors.Fault fault)
-        → IsReading symbols mode lines (Err fault)
-    found_by (Ok x) e is = absurd cc
-    found_by (Err errors.Memory) e is = absurd cc
-    found_by (Err (errors.Fault found)) e is =
-        let same : found ≡ fault = cc in
-        rw (← same) (rw e at (reading_stands symbols mode lines))
+    → (fault : XyzFault) → r ≡ Err (errors.Fault fault) → IsReading symbols mode lines (Err fault)
+fault_stands symbols view mode lines r e fault is =
+    let read : reading symbols mode lines ≡ Err fault = rw is at e in
+    rw read at (reading_stands symbols mode lines)
 
-    given : (r : Result X XyzError) → Gives view r (Err fault) → r ≡ Err (errors.Fault fault)
-    given (Ok x) e = absurd cc
-    given (Err errors.Memory) e = absurd cc
-    given (Err (errors.Fault found)) e =
-        let same : fault ≡ found = cc in
-        rw same refl
+-- where the first frame is not read, nothing is
+pub fails_first : (symbols : Option SymbolPair) (mode : Mode) (lines : List (List ℕ)) (error : XyzError)
+    → Fails error (frame_in symbols First (start lines)) → Fails error (reading symbols mode lines)
+fails_first symbols mode lines errors.Memory e = tt
+fails_first symbols mode lines (errors.Fault fault) e = reads_no_first symbols mode lines fault e
 
--- memory ran out only where the lines have frames
-pub memory_stands : {X : Type 0} (symbols : Option SymbolPair) (view : X → List (List Row)) (mode : Mode)
-    (lines : List (List ℕ)) (r : Result X XyzError) → Gives view r (reading symbols mode lines)
-    → r ≡ Err errors.Memory → HasFrames symbols mode lines
-memory_stands symbols view mode lines r e is =
-    good (reading symbols mode lines) (rw is at e) (reading_stands symbols mode lines)
-  where
-    good : (read : Result (List (List Row)) XyzFault) → IsOk read → IsReading symbols mode lines read
-        → HasFrames symbols mode lines
-    good (Ok frames) ok stands = (frames, stands)
-    good (Err fault) ok stands = absurd cc
+-- where the second one is not read, no pair is
+pub fails_second : (symbols : Option SymbolPair) (lines : List (List ℕ)) (first : List Row) (after : Left)
+    (error : XyzError) → frame_in symbols First (start lines) ≡ Ok (first, after)
+    → Fails error (frame_in None (Second (length first)) after) → Fails error (reading symbols pair lines)
+fails_second symbols lines first after errors.Memory e next = tt
+fails_second symbols lines first after (errors.Fault fault) e next =
+    reads_no_second symbols lines first after fault e next
 
--- what was read, where there was memory to keep it
-pub kept_one : (symbols : Option SymbolPair) (lines : List (List ℕ)) (rows : List Row) (after : Left)
-    → frame_in symbols First (start lines) ≡ Ok (rows, after) → (kept : Option (List Row)) → Keeps kept rows
-    → Gives (λ (rows : List Row). rows ∷ []) (ok_or kept errors.Memory) (reading symbols rest lines)
-kept_one symbols lines rows after e None keeps = rw (reads_one symbols lines rows after e) refl
-kept_one symbols lines rows after e (Some kept) keeps = rw keeps (reads_one symbols lines rows after e)
+-- the first frame is all that is read at rest
+pub gives_one : (symbols : Option SymbolPair) (lines : List (List ℕ)) (after : Left) (r : Result (List Row) XyzError)
+    → Gives (λ (rows : List Row). (rows, after)) r (frame_in symbols First (start lines))
+    → Gives (λ (rows : List Row). rows ∷ []) r (reading symbols rest lines)
+gives_one symbols lines after (Ok rows) e = reads_one symbols lines rows after e
+gives_one symbols lines after (Err error) e = fails_first symbols rest lines error e
 
 cc_some : (m n : ℕ) → ◌≡◌ {A = Option ℕ} (Some m) (Some n) → m ≡ n
 cc_some m n e = cc

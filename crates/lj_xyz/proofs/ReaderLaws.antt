@@ -1,7 +1,6 @@
 -- Reading line by line, as the loops of the reader do.
-use Rattle.std.proofs.Common.{◌≡◌, ℕ, suc, ◌+◌, ◌-◌, ◌≤◌, ◌<◌, List, [], ◌∷◌, ◌++◌, Option, Some, None, Result, Ok, Err}
-use Rattle.std.proofs.Common.{IfSome, IsSomeAnd, MatchOption, refl, sym, ap, subst, ◌∙◌, append_assoc, append-nil}
-use Rattle.std.proofs.Common.{arith}
+use Rattle.std.proofs.Common.{◌≡◌, ℕ, suc, ◌+◌, ◌-◌, ◌≤◌, ◌<◌, List, [], ◌∷◌, ◌++◌, Option, Result, Ok, Err}
+use Rattle.std.proofs.Common.{refl, sym, ap, subst, ◌∙◌, append_assoc, append-nil, arith}
 use Rattle.lj_xyz.specs.declared.xyz_fault.XyzKind.{XyzKind}
 use Rattle.lj_xyz.specs.declared.xyz_fault.XyzFault.{XyzFault}
 use Rattle.lj_xyz.specs.declared.atom_row.Row.{Row}
@@ -10,7 +9,7 @@ use Rattle.lj_xyz.specs.Lines.{words_of}
 use Rattle.lj_xyz.specs.Symbols.{SymbolPair}
 use Rattle.lj_xyz.specs.Atoms.{◌>>=◌, count_of}
 use Rattle.lj_xyz.specs.Frames.{missing, fault_behind}
-use Rattle.lj_xyz.specs.Reading.{Left, Tells, count_or_fault, head_in, next_row, rows_in, Keeps}
+use Rattle.lj_xyz.specs.Reading.{Left, Tells, count_or_fault, head_in, next_row, rows_in}
 
 -- ---- the count line
 
@@ -124,20 +123,3 @@ pub rows_start : (symbols : Option SymbolPair) (count : ℕ) (left : Left)
 rows_start symbols count left =
     let k : count - 0 ≡ count = omega arith in
     rw k (no_front (rows_in symbols count left))
-
--- the rows that were kept, and one more of them
-pub kept_more : {A : Type 0} (items : A → List Row) (before after : Option A) (front : List Row) (row : Row)
-    → IfSome after (λ more. IsSomeAnd before (λ kept. items more ≡ items kept ++ row ∷ []))
-    → IfSome before (λ kept. items kept ≡ front)
-    → IfSome after (λ more. items more ≡ front ++ row ∷ [])
-kept_more items before None front row one kept = tt
-kept_more items (Some b) (Some more) front row one kept = rw (← kept) one
-kept_more items None (Some more) front row one kept = absurd one
-
--- the rows that were kept, as a frame
-pub kept_all : {A : Type 0} (items : A → List Row) (before : Option A) (after : Option (List Row)) (front : List Row)
-    → MatchOption before (after ≡ None) (λ kept. IsSomeAnd after (λ rows. rows ≡ items kept))
-    → IfSome before (λ kept. items kept ≡ front) → Keeps after front
-kept_all items None after front cases kept = rw cases tt
-kept_all items (Some b) None front cases kept = tt
-kept_all items (Some b) (Some rows) front cases kept = cases ∙ kept

@@ -143,7 +143,3 @@ IsReading symbols pair lines (Ok frames) =
     (first : List Row) × (second : List Row) × (frames ≡ first ∷ second ∷ []) × GivesTwo symbols lines first second
 IsReading symbols pair lines (Err fault) =
     FirstFault symbols First 0 lines fault ⊎ FaultOfSecond symbols lines fault
-
--- the lines of a body have the frames that the mode asks for
-abbrev pub HasFrames : Option SymbolPair → Mode → List (List ℕ) → Type 0
-HasFrames symbols mode lines = (frames : List (List Row)) × IsReading symbols mode lines (Ok frames)

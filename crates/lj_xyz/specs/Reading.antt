@@ -1,6 +1,6 @@
 -- Reading from the first line to the last, with the first fault that is met. It gives what `Frames` says, by a law of
 -- this crate.
-use Rattle.std.specs.Prelude.{◌≡◌, ℕ, zero, suc, ◌+◌, List, [], ◌∷◌, length, Option, Some, None, Result, Ok, Err, IsOk}
+use Rattle.std.specs.Prelude.{◌≡◌, ℕ, zero, suc, ◌+◌, List, [], ◌∷◌, length, Option, Some, None, Result, Ok, Err}
 use Rattle.std.specs.Prelude.{if◌then◌else◌}
 use Rattle.lj_xyz.specs.declared.xyz_fault.XyzKind.{XyzKind}
 use Rattle.lj_xyz.specs.declared.xyz_fault.XyzKind.TheVariants as kind
@@ -91,9 +91,9 @@ reading symbols pair lines = do
   second ← frame_in None (Second (length first.0)) first.1
   Ok (first.0 ∷ second.0 ∷ [])
 
--- an error is what reading gives, and memory runs out only where reading gives frames
+-- an error is the fault that reading gives, unless memory ran out
 abbrev pub Fails : {Y : Type 0} → XyzError → Result Y XyzFault → Type 0
-Fails errors.Memory read = IsOk read
+Fails errors.Memory read = Unit {0}
 Fails (errors.Fault fault) read = read ≡ Err fault
 
 -- what a function returned, seen by `view`, is what reading gives, unless memory ran out
@@ -105,8 +105,3 @@ Gives view (Err error) read = Fails error read
 abbrev pub Tells : {X Y : Type 0} → (X → Y) → Result X XyzFault → Result Y XyzFault → Type 0
 Tells view (Ok x) read = read ≡ Ok (view x)
 Tells view (Err fault) read = read ≡ Err fault
-
--- the rows that were kept, where there was memory for them, are these
-abbrev pub Keeps : Option (List Row) → List Row → Type 0
-Keeps None rows = Unit {0}
-Keeps (Some kept) rows = kept ≡ rows

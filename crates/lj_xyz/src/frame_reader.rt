@@ -1,14 +1,14 @@
 //! The frames of a text, read from its first line to its last.
-ghost use Rattle.std.specs.Prelude.{◌≡◌, ◌≤◌, ◌↔◌, [], ◌∷◌, ◌++◌, length, Ok, Err, IfOk, IfSome, IsSomeAnd, IsTrue};
+ghost use Rattle.std.specs.Prelude.{◌≡◌, [], ◌∷◌, length, Ok, Err, IfOk, IsTrue};
 ghost use Rattle.std.specs.Option.{option_copied};
 ghost use Rattle.lj_xyz.specs.declared.xyz_fault.XyzFault.{XyzFault};
 ghost use Rattle.lj_xyz.specs.Lines.{lines_of};
 ghost use Rattle.lj_xyz.specs.Symbols.{is_of_species};
 ghost use Rattle.lj_xyz.specs.Atoms.{is_count, count_of, symbol_or_kind, row_of, row_of_four};
-ghost use Rattle.lj_xyz.specs.Frames.{IsReading, HasFrames, admits, missing, rest, pair};
+ghost use Rattle.lj_xyz.specs.Frames.{IsReading, admits, missing, rest, pair};
 ghost use Rattle.lj_xyz.specs.Reading.{Gives, Tells, count_or_fault, head_in, behind_comment, opening_in, next_row};
 ghost use Rattle.lj_xyz.specs.Reading.{rows_in, frame_in, reading};
-ghost use Rattle.lj_xyz.specs.Cursor.{left_of, Passes};
+ghost use Rattle.lj_xyz.specs.Cursor.{left_of};
 
 use crate::atom_row::{FramePair, Row, Rows};
 use crate::lines::{Lines, split_word};
@@ -26,13 +26,6 @@ pub const MAX_FRAME_ATOMS: usize = 4096;
 pub enum Position {
     First,
     Second(usize),
-}
-
-/// The atoms of a frame that was read: how many, and their rows where there was memory to keep them.
-#[derive(Drop)]
-pub struct Passed {
-    atoms: usize,
-    rows: Option<Rows>,
 }
 
 impl Position {
@@ -196,35 +189,22 @@ fn read_opening(lines: &mut Lines, position: Position) -> Result<usize, XyzFault
     Ok(atoms)
 }
 
-// The rows and one more, where these were kept and there is memory for it.
-fn kept_with(rows: Option<Vec<Row>>, row: Row) -> Option<Vec<Row>>
-    ensures { IfSome result (λ more. IsSomeAnd rows (λ rows. more.items ≡ rows.items ++ row ∷ [])) }
-{
-    let mut rows = rows?;
-    match rows.push(row) {
-        Ok(()) => Some(rows),
-        Err(_refused) => None,
-    }
-}
-
-// Reads on where there is no memory for the rows: a fault among them is answered all the same.
+// Ends at once where there is no memory for the rows: their lines are not looked at.
 fn read_rows(
     alloc: Global,
     lines: &mut Lines,
     atoms: usize,
     symbols: Option<&SymbolPair>,
-) -> Result<Passed, XyzFault>
-    ensures { Passes lines.new result (rows_in (option_copied symbols.entry) atoms (left_of lines.old)) }
+) -> Result<Rows, XyzError>
+    ensures { Gives (λ rows. (rows, left_of lines.new)) result
+        (rows_in (option_copied symbols.entry) atoms (left_of lines.old)) }
 {
-    let mut rows = Vec::with_capacity(alloc, atoms).ok();
+    let mut rows = Vec::with_capacity(alloc, atoms)?;
     for _ in 0..atoms {
         let row = read_row(lines, symbols)?;
-        rows = kept_with(rows, row);
+        rows.push(row)?;
     }
-    Ok(Passed {
-        atoms,
-        rows: rows.map(Rows::new),
-    })
+    Ok(Rows::new(rows))
 }
 
 #[tactic(auto, unfolding(crate::specs::Reading::frame_in))]
@@ -233,8 +213,9 @@ fn read_frame(
     lines: &mut Lines,
     position: Position,
     symbols: Option<&SymbolPair>,
-) -> Result<Passed, XyzFault>
-    ensures { Passes lines.new result (frame_in (option_copied symbols.entry) position (left_of lines.old)) }
+) -> Result<Rows, XyzError>
+    ensures { Gives (λ rows. (rows, left_of lines.new)) result
+        (frame_in (option_copied symbols.entry) position (left_of lines.old)) }
 {
     let atoms = read_opening(lines, position)?;
     read_rows(alloc, lines, atoms, symbols)
@@ -245,8 +226,7 @@ fn first_frame(alloc: Global, text: &[u8], symbols: Option<&SymbolPair>) -> Resu
         (reading (option_copied symbols.entry) rest (lines_of text.now)) }
 {
     let mut lines = Lines::new(text);
-    let frame = read_frame(alloc, &mut lines, Position::First, symbols)?;
-    frame.rows.ok_or(XyzError::Memory)
+    read_frame(alloc, &mut lines, Position::First, symbols)
 }
 
 // The second frame is read for atoms of any species.
@@ -260,22 +240,17 @@ fn first_two_frames(
 {
     let mut lines = Lines::new(text);
     let first = read_frame(alloc, &mut lines, Position::First, symbols)?;
-    let second = read_frame(alloc, &mut lines, Position::Second(first.atoms), None)?;
-    match (first.rows, second.rows) {
-        (Some(first), Some(second)) => Ok(FramePair { first, second }),
-        _ => Err(XyzError::Memory),
-    }
+    let second = read_frame(alloc, &mut lines, Position::Second(first.len()), None)?;
+    Ok(FramePair { first, second })
 }
 
 /// Reads the first frame of a text. What follows it is not read. Each atom is to have one of the symbols, where two are
-/// given. A fault is answered as that fault even where there is no memory for the rows.
+/// given. If there is no memory for the rows, that is answered at once, and no fault among them is.
 pub fn read_rest(alloc: Global, text: &[u8], symbols: Option<&SymbolPair>) -> Result<Rows, XyzError>
     ensures frame { IfOk result (λ rows.
         IsReading (option_copied symbols.entry) rest (lines_of text.now) (Ok (rows ∷ []))) }
-    ensures fault { (fault : XyzFault) → (result ≡ Err (XyzError.Fault fault))
-        ↔ IsReading (option_copied symbols.entry) rest (lines_of text.now) (Err fault) }
-    ensures memory { result ≡ Err XyzError.Memory →
-        HasFrames (option_copied symbols.entry) rest (lines_of text.now) }
+    ensures fault { (fault : XyzFault) → result ≡ Err (XyzError.Fault fault) →
+        IsReading (option_copied symbols.entry) rest (lines_of text.now) (Err fault) }
     ensures count { IfOk result (λ rows. IsTrue (is_count (length rows))) }
 
     // The same as an equation, where memory was found.
@@ -287,8 +262,8 @@ pub fn read_rest(alloc: Global, text: &[u8], symbols: Option<&SymbolPair>) -> Re
 
 /// Reads the first two frames of a text, which are to have as many atoms. What follows them is not read. Each atom of
 /// the first frame is to have one of the symbols, where two are given. Those of the second frame are to be symbols, and
-/// are compared neither with these nor with those of the first. A fault is answered as that fault even where there is
-/// no memory for the rows.
+/// are compared neither with these nor with those of the first. If there is no memory for the rows of a frame, that is
+/// answered at once, and no fault among them or behind them is.
 pub fn read_pair(
     alloc: Global,
     text: &[u8],
@@ -297,10 +272,8 @@ pub fn read_pair(
     ensures frames { IfOk result (λ frames.
         IsReading (option_copied symbols.entry) pair (lines_of text.now)
         (Ok (frames.first ∷ frames.second ∷ []))) }
-    ensures fault { (fault : XyzFault) → (result ≡ Err (XyzError.Fault fault))
-        ↔ IsReading (option_copied symbols.entry) pair (lines_of text.now) (Err fault) }
-    ensures memory { result ≡ Err XyzError.Memory →
-        HasFrames (option_copied symbols.entry) pair (lines_of text.now) }
+    ensures fault { (fault : XyzFault) → result ≡ Err (XyzError.Fault fault) →
+        IsReading (option_copied symbols.entry) pair (lines_of text.now) (Err fault) }
     ensures count { IfOk result (λ frames. IsTrue (is_count (length frames.first))) }
     ensures same_count { IfOk result (λ frames. length frames.second ≡ length frames.first) }
 

@@ -1,10 +1,11 @@
 //! What is wrong with a body, and where.
 ghost use Rattle.std.specs.Prelude.{◌≡◌};
 ghost use Rattle.lj_fixed.specs.declared.numbers.NumberFault.{NumberFault};
-ghost use Rattle.lj_xyz.specs.declared.xyz_fault.XyzError.TheVariants.{Fault};
+ghost use Rattle.lj_xyz.specs.declared.xyz_fault.XyzError.TheVariants.{Fault, Memory};
 ghost use Rattle.lj_xyz.specs.Kinds.{kind_of};
 
 use lj_fixed::NumberFault;
+use std::alloc::{AllocError, AllocFailed};
 use std::fmt;
 use thiserror::Error;
 
@@ -79,7 +80,7 @@ impl fmt::Display for XyzFault {
 #[derive(Debug, Drop, Error)]
 pub enum XyzError {
     Fault(XyzFault),
-    /// There was no memory for the rows of a text that has no fault.
+    /// There was no memory for the rows of a frame. What follows was not read.
     Memory,
 }
 
@@ -102,5 +103,21 @@ impl From<XyzFault> for XyzError {
 
     fn from(fault: XyzFault) -> XyzError {
         XyzError::Fault(fault)
+    }
+}
+
+impl From<AllocError> for XyzError {
+    ghost from_gives = { λ _ error. error ≡ Memory };
+
+    fn from(_error: AllocError) -> XyzError {
+        XyzError::Memory
+    }
+}
+
+impl<T: Drop> From<AllocFailed<T>> for XyzError {
+    ghost from_gives = { λ _ error. error ≡ Memory };
+
+    fn from(_failed: AllocFailed<T>) -> XyzError {
+        XyzError::Memory
     }
 }

@@ -5,7 +5,7 @@ use Rattle.lj_xyz.specs.declared.atom_row.Row.{Row}
 use Rattle.lj_xyz.specs.declared.atom_row.FramePair.{FramePair}
 use Rattle.lj_xyz.specs.Lines.{lines_of}
 use Rattle.lj_xyz.specs.Frames.{pair}
-use Rattle.lj_xyz.proofs.ReadLaws.{frames_stand, fault_stands, memory_stands, two_counts}
+use Rattle.lj_xyz.proofs.ReadLaws.{frames_stand, fault_stands, two_counts}
 use Rattle.lj_xyz.proofs.frame_reader.read_pair.Goals as goal
 
 abbrev view : FramePair → List (List Row)
@@ -34,8 +34,3 @@ returns-clause-same_count c =
     IfOk-weaker c.first_two_frames.result _ _ (λ frames is.
     (two_counts symbols (lines_of c.args.text.now) frames.first frames.second is).1)
     (frames_stand symbols view pair (lines_of c.args.text.now) c.first_two_frames.result c.first_two_frames.ensures)
-
-pub returns-clause-memory : goal.returns-clause-memory
-returns-clause-memory c =
-    let symbols = option_copied c.args.symbols in
-    memory_stands symbols view pair (lines_of c.args.text.now) c.first_two_frames.result c.first_two_frames.ensures

@@ -4,7 +4,7 @@ use Rattle.std.proofs.lemmas.Result.{IfOk-weaker}
 use Rattle.lj_xyz.specs.declared.atom_row.Row.{Row}
 use Rattle.lj_xyz.specs.Lines.{lines_of}
 use Rattle.lj_xyz.specs.Frames.{rest}
-use Rattle.lj_xyz.proofs.ReadLaws.{frames_stand, fault_stands, memory_stands, one_count}
+use Rattle.lj_xyz.proofs.ReadLaws.{frames_stand, fault_stands, one_count}
 use Rattle.lj_xyz.proofs.frame_reader.read_rest.Goals as goal
 
 abbrev view : List Row → List (List Row)
@@ -25,8 +25,3 @@ returns-clause-count c =
     let symbols = option_copied c.args.symbols in
     IfOk-weaker c.first_frame.result _ _ (λ rows. one_count symbols (lines_of c.args.text.now) rows)
     (frames_stand symbols view rest (lines_of c.args.text.now) c.first_frame.result c.first_frame.ensures)
-
-pub returns-clause-memory : goal.returns-clause-memory
-returns-clause-memory c =
-    memory_stands (option_copied c.args.symbols) view rest (lines_of c.args.text.now) c.first_frame.result
-    c.first_frame.ensures

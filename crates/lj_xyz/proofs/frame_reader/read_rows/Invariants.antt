@@ -1,14 +1,11 @@
-use Rattle.std.proofs.Common.{◌≡◌, ◌-◌, List, length, IfSome}
+use Rattle.std.proofs.Common.{◌≡◌, ◌-◌}
 use Rattle.std.specs.Option.{option_copied}
-use Rattle.lj_xyz.specs.declared.atom_row.Row.{Row}
 use Rattle.lj_xyz.specs.Cursor.{left_of}
 use Rattle.lj_xyz.specs.Reading.{rows_in}
 use Rattle.lj_xyz.proofs.ReaderLaws.{with_front}
 use Rattle.lj_xyz.proofs.frame_reader.read_rows.Given as goal
 
--- the rows that were read, kept or not
 abbrev pub invariant-loop : goal.invariant-loop
 invariant-loop l =
-    (front : List Row) × (length front ≡ l.counter) × IfSome l.rows (λ rows. rows.items ≡ front)
-    × (with_front front (rows_in (option_copied l.symbols) (l.atoms - l.counter) (left_of l.lines))
-    ≡ rows_in (option_copied l.symbols) l.atoms (left_of l.fn.lines))
+    with_front l.rows.items (rows_in (option_copied l.symbols) (l.atoms - l.counter) (left_of l.lines))
+    ≡ rows_in (option_copied l.symbols) l.atoms (left_of l.fn.lines)
