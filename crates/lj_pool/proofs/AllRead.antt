@@ -86,13 +86,14 @@ module _ (state : UserState) (read written : List ℕ) (old new : Seen) (held : 
     counted = a.counted;
   }
 
-  stops-on : StopsShort state read written new → StopsShort state (read ++ held) written new
+  stops-on : StopsShort state read written old new → StopsShort state (read ++ held) written old new
   unfolding reaches-on progress-on
   stops-on (inl s) = inl (record {
     between = s.between;
     item = s.item;
     reaches = reaches-on written s.between s.item s.reaches;
     waits = s.waits;
+    missing = s.missing;
   })
   stops-on (inr s) = inr (record {
     count = s.count;

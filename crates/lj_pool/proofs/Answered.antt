@@ -1,12 +1,11 @@
 -- Commands that are answered, at once or at a turn: what the pool owes stays, and what is to come grows by the steps of START.
-use Rattle.std.proofs.Common.{◌≡◌, inl, inr, ℕ, ◌+◌, ◌-◌, ◌<◌, ◌≤◌, true, false, nat_lt, List, [], ◌∷◌, Option, Some, None}
+use Rattle.std.proofs.Common.{◌≡◌, inl, inr, ℕ, ◌+◌, ◌-◌, ◌≤◌, Bool, true, false, ◌&&◌, nat_le, nat_lt, List, [], Option, Some, None}
 use Rattle.std.proofs.Common.{refl, sym, ap, ◌∙◌, subst, arith}
-use Rattle.std.specs.Prelude.{IfSome, IsSomeAnd, is_some}
-use Rattle.std.specs.List.{IsDistinct, Contains}
+use Rattle.std.specs.Prelude.{IfSome, IsSomeAnd, is_some, if◌then◌else◌}
+use Rattle.std.specs.List.{IsDistinct}
 use Rattle.std.specs.Option.{option_map_or}
 use Rattle.std.specs.Str.{bytes_eq}
 use Rattle.std.proofs.lemmas.Bool.{ltb-true, true≢false}
-use Rattle.std.proofs.lemmas.List.Elements.{Contains-push}
 use Rattle.std.proofs.lemmas.Option.{none-some, same_Some}
 use Rattle.std.proofs.lemmas.Slice.Eq.{bytes_eq-Decides}
 use Rattle.lj_tile.specs.declared.names.Label.{Label}
@@ -17,24 +16,26 @@ use Rattle.lj_session.specs.declared.command.Command.{Command}
 use Rattle.lj_session.specs.declared.command.Command.TheVariants.{Start}
 use Rattle.lj_session.specs.declared.reply.Reply.{Reply}
 use Rattle.lj_session.specs.declared.reply.Reply.TheVariants.{Refused}
-use Rattle.lj_session.specs.Answers.{session_named, command_result}
-use Rattle.lj_session.specs.Turns.{turns, waits_for}
+use Rattle.lj_branch.specs.Named.{value_named}
+use Rattle.lj_session.specs.Users.{User}
+use Rattle.lj_session.specs.Answers.{session_named, can_advance, command_result}
+use Rattle.lj_session.specs.Turns.{turns, waits_for, advance_turns}
 use Rattle.lj_session.specs.Begins.{OnRefusal}
 use Rattle.lj_session.specs.UserState.{HeldSession, UserState, IsAtWork, IsIdleIn, StepsAfter, StepsFollow, OthersKept}
-use Rattle.lj_session.specs.UserState.{OtherSessionsKept, session_meant, held_session, owed_in, names, with_session_changed, with_start, steps_before, turns_before}
+use Rattle.lj_session.specs.UserState.{OtherSessionsKept, session_meant, held_session, owed_in, names, with_session_changed, with_more_owed, with_start, steps_before, turns_before}
 use Rattle.lj_session.specs.UserState.{is_whole_in, is_measured, kind_owed}
 use Rattle.lj_session.specs.Owner.{Owner, IsAnswered, user_in, label_of, is_waited_for, IsLastTurn}
 use Rattle.lj_session.proofs.AtWork.{at_work-follows, kind-none}
 use Rattle.lj_session.proofs.Entries.{by_test}
-use Rattle.lj_session.proofs.Holding.{named-held, named-absent}
+use Rattle.lj_session.proofs.Holding.{named-held, named-absent, none-before}
 use Rattle.lj_session.proofs.Passing.{unmeasured}
 use Rattle.lj_wire.specs.declared.item.Item.TheVariants.{Command as Ordered}
 use Rattle.lj_pool.specs.Gathering.{tasks_posted_of, IsGathered, IsOpenFor, Gathers}
 use Rattle.lj_pool.specs.Counting.{steps_tiles, advance_tiles, command_tiles}
 use Rattle.lj_pool.specs.Coming.{tiles_of_session, tiles_after, waiting_tiles_of, tiles_to_come, tiles_coming, OwesNoMore, OwesNoneWhereWaited}
-use Rattle.lj_pool.specs.Owing.{MayOwe, OwesAfter}
+use Rattle.lj_pool.specs.Owing.{OwesAfter, most_after, steps_started}
 use Rattle.lj_pool.proofs.Outcomes.{no-own-tiles, Stays, still-there, start_stays, Outcome, staying, same_name_of, none_named, outcome}
-use Rattle.lj_pool.proofs.Sessions.{there-changed, other-changed, names-changed, sum-changed, sum-below, distinct-answered}
+use Rattle.lj_pool.proofs.Sessions.{same_name as same_bytes, there-changed, other-changed, names-changed, sum-changed, sum-below, distinct-answered}
 use Rattle.lj_pool.proofs.Tiles.{idle-tiles, idle-gathered, closed-part, closed-posted, same-posted, same-tiles, same-gathered}
 use Rattle.lj_pool.proofs.Tiles.{started-tiles, started-posted, started-gathered}
 use Rattle.lj_session.proofs.Waiting.{same_name}
@@ -85,6 +86,22 @@ idle_owed owned name idle = by (held_session owned name) refl
     by : (o : Option HeldSession) → held_session owned name ≡ o → owed_in owned name ≡ 0
     by None e = ap (λ o. option_map_or (λ (h : HeldSession). h.owed) o 0) e
     by (Some held) e = ap (λ o. option_map_or (λ (h : HeldSession). h.owed) o 0) e ∙ (idle held e).owed
+
+-- how many steps are owed to a session, if it is there
+abbrev owed_of : Option HeldSession → ℕ
+owed_of o = option_map_or (λ (h : HeldSession). h.owed) o 0
+
+-- a START owes its steps to its session
+more_owed : (n : ℕ) (held : HeldSession) → (with_more_owed n held).owed ≡ held.owed + n
+more_owed n held = by_test (nat_lt 0 n && nat_le held.owed 0) (λ t. rw t refl) (λ t. rw t refl)
+
+start_owed : (n : ℕ) (held : HeldSession) → (with_start n held).owed ≡ held.owed + advance_turns (Some (session_meant held)) n
+start_owed n held = by_test (can_advance (session_meant held) n) (λ t. rw t (more_owed n held)) (λ t. rw t (omega arith))
+
+started_there_is : (user : User) (name : List ℕ) (n : ℕ)
+    → steps_started user (Start name n) name ≡ advance_turns (value_named name user.sessions) n
+unfolding steps_started
+started_there_is user name n = ap (λ b. if b then advance_turns (value_named name user.sessions) n else 0) (same_bytes name)
 
 -- a command that is answered at once
 module _ (owner : Owner) (owed : List Task) (t : Gathers owner owed) (idle : owner.waiting ≡ None)
@@ -153,24 +170,49 @@ module _ (owner : Owner) (owed : List Task) (t : Gathers owner owed) (idle : own
       (distinct-answered owner.state next.state command answered.mark reply answered.answers t.distinct)
       settles
 
-  -- steps are owed where some were, and after a START
-  pub answered_owes : OwesAfter owner.state (Ordered command ∷ []) next.state
-  answered_owes name = of_each {P = λ name. 0 < owed_in next.state name → MayOwe owner.state (Ordered command ∷ []) name}
-      (λ name same more. inl (subst (λ o. 0 < option_map_or (λ (h : HeldSession). h.owed) o 0) same more))
-      (λ name is. by name (outcome_of name is)) name
+  -- the most steps that may be owed where the command waits for the session, and elsewhere
+  most_is : (name : List ℕ) (waited : Bool) → is_waited_for (Some command) name ≡ waited
+      → most_after (user_in owner) (Ordered command) name (owed_in owner.state name)
+      ≡ (if waited then 0 else owed_in owner.state name + steps_started (user_in owner) command name)
+  most_is name waited is =
+      ap (λ b. if b then 0 else owed_in owner.state name + steps_started (user_in owner) command name) is
+
+  -- no more steps are owed than may be
+  kept_within : (name : List ℕ) → owed_in next.state name ≤ owed_in owner.state name
+      → owed_in next.state name ≤ most_after (user_in owner) (Ordered command) name (owed_in owner.state name)
+  kept_within name fewer = by_test (is_waited_for (Some command) name)
+      (λ t.
+      let none = none-before owner.state command name (same_name command name t) at_once in
+      omega (arith, fewer, none))
+      (λ t. let most = most_is name false t in omega (arith, fewer, most))
+
+  started_within : (name : List ℕ) (n : ℕ) (before : HeldSession) → command ≡ Start name n
+      → held_session owner.state name ≡ Some before → held_session next.state name ≡ Some (with_start n before)
+      → owed_in next.state name ≤ most_after (user_in owner) (Ordered command) name (owed_in owner.state name)
+  started_within name n before start was is =
+      let most = most_is name false (ap (λ o. option_map_or (λ session. bytes_eq session name) o false) (start-waits command name n start)) in
+      let old = ap owed_of was in
+      let new = ap owed_of is in
+      let more = start_owed n before in
+      let started = ap (λ (k : Command). steps_started (user_in owner) k name) start ∙ started_there_is (user_in owner) name n
+      ∙ ap (λ o. advance_turns o n) (named-held owner.state name before was) in
+      omega (arith, most, old, new, more, started)
+
+  pub answered_owes : OwesAfter owner.state (Ordered command) next.state
+  answered_owes = of_each {P = λ name. owed_in next.state name
+      ≤ most_after (user_in owner) (Ordered command) name (owed_in owner.state name)}
+      (λ name same. kept_within name (let is = ap owed_of same in omega (arith, is)))
+      (λ name is. by name (outcome_of name is))
     where
-      by : (name : List ℕ) → Outcome owner.state next.state command name → 0 < owed_in next.state name
-          → MayOwe owner.state (Ordered command ∷ []) name
-      by name (inl rests) more = let none = idle_owed next.state name rests.after in absurd (omega (arith, none, more))
-      by name (inr (inl s)) more =
-          let before = ap (λ o. option_map_or (λ (h : HeldSession). h.owed) o 0) s.was in
-          let after = ap (λ o. option_map_or (λ (h : HeldSession). h.owed) o 0) s.is in
+      by : (name : List ℕ) → Outcome owner.state next.state command name
+          → owed_in next.state name ≤ most_after (user_in owner) (Ordered command) name (owed_in owner.state name)
+      by name (inl rests) = kept_within name (let none = idle_owed next.state name rests.after in omega (arith, none))
+      by name (inr (inl s)) =
+          let before = ap owed_of s.was in
+          let after = ap owed_of s.is in
           let same = s.same.owed in
-          inl (omega (arith, before, after, same, more))
-      by name (inr (inr s)) more = inr (
-        s.n,
-        subst (λ (k : Command). Contains (Ordered k ∷ []) (Ordered (Start name s.n))) (sym s.start) (Contains-push [] (Ordered (Start name s.n))),
-      )
+          kept_within name (omega (arith, before, after, same))
+      by name (inr (inr s)) = started_within name s.n s.before s.start s.was s.is
 
   -- the tiles of each session
   tiles_below : ((name : List ℕ) (n : ℕ) → command ≡ Start name n → ⊥) → (name : List ℕ) (held : HeldSession)
@@ -190,13 +232,34 @@ module _ (owner : Owner) (owed : List Task) (t : Gathers owner owed) (idle : own
           omega (arith, same, is, was)
       by name (inr (inr s)) held found = absurd (no_start name s.n s.start)
 
+  tiles_within : ((name : List ℕ) (n : ℕ) → command ≡ Start name n → ⊥) → (name : List ℕ) (held : HeldSession)
+      → held_session next.state name ≡ Some held → tiles_of_session held ≤ number_in tiles_of_session owner.state name
+  tiles_within no_start name held found = of_each {P = λ name. (held : HeldSession) → held_session next.state name ≡ Some held
+      → tiles_of_session held ≤ number_in tiles_of_session owner.state name}
+      (λ name same held found. let is = ap (λ o. option_map_or tiles_of_session o 0) (sym same ∙ found) in omega (arith, is))
+      (λ name is. by name (outcome_of name is)) name held found
+    where
+      by : (name : List ℕ) → Outcome owner.state next.state command name → (held : HeldSession)
+          → held_session next.state name ≡ Some held → tiles_of_session held ≤ number_in tiles_of_session owner.state name
+      by name (inl rests) held found = let none = idle-tiles held (rests.after held found) in omega (arith, none)
+      by name (inr (inl s)) held found =
+          let same = same-tiles s.before s.after s.same.live s.same.passed s.same.owed in
+          let was = ap (λ o. option_map_or tiles_of_session o 0) s.was in
+          let is = ap tiles_of_session (same_Some s.after held (sym s.is ∙ found)) in
+          omega (arith, same, was, is)
+      by name (inr (inr s)) held found = absurd (no_start name s.n s.start)
+
+  distinct_next : IsDistinct bytes_eq (names next.state)
+  distinct_next = distinct-answered owner.state next.state command answered.mark reply answered.answers t.distinct
+
   answered_quiet : ((name : List ℕ) (n : ℕ) → command ≡ Start name n → ⊥)
-      → tiles_to_come owner.state + command_tiles (user_in owner) command ≤ tiles_to_come next.state
+      → tiles_to_come next.state ≡ tiles_to_come owner.state + command_tiles (user_in owner) command
   answered_quiet no_start =
       let own : turns (user_in owner) command ≡ 0 = omega (arith, at_once) in
       let none = no-own-tiles (user_in owner) command own no_start in
       let below = sum-below tiles_of_session owner.state.sessions next.state.sessions t.distinct (tiles_below no_start) in
-      omega (arith, none, below)
+      let within = sum-below tiles_of_session next.state.sessions owner.state.sessions distinct_next (tiles_within no_start) in
+      omega (arith, none, below, within)
 
   -- a START
   module _ (session : List ℕ) (n : ℕ) (which : command ≡ Start session n) where
@@ -220,7 +283,7 @@ module _ (owner : Owner) (owed : List Task) (t : Gathers owner owed) (idle : own
 
     answered_start_at : (before : HeldSession) → held_session owner.state session ≡ Some before
         → held_session next.state session ≡ Some (with_start n before)
-        → tiles_to_come owner.state + command_tiles (user_in owner) command ≤ tiles_to_come next.state
+        → tiles_to_come next.state ≡ tiles_to_come owner.state + command_tiles (user_in owner) command
     answered_start_at before was is =
         let sum = sum-changed owner.state session (with_start n) tiles_of_session before was in
         let more = started-tiles before n (work_of session before was) in
@@ -228,7 +291,8 @@ module _ (owner : Owner) (owed : List Task) (t : Gathers owner owed) (idle : own
         ap (command_tiles (user_in owner)) which ∙ start_tiles_is before was in
         let distinct = subst (IsDistinct bytes_eq) (sym (names-changed owner.state session (with_start n))) t.distinct in
         let below = sum-below tiles_of_session given.sessions next.state.sessions distinct below_each in
-        omega (arith, sum, more, tiles, below)
+        let within = sum-below tiles_of_session next.state.sessions given.sessions distinct_next within_each in
+        omega (arith, sum, more, tiles, below, within)
       where
         lookup_is : (name : List ℕ) → held_session given name ≡ held_session next.state name
         lookup_is name = by_test (bytes_eq session name)
@@ -243,17 +307,40 @@ module _ (owner : Owner) (owed : List Task) (t : Gathers owner owed) (idle : own
         below_each name held found =
             let is = ap (λ o. option_map_or tiles_of_session o 0) (sym (lookup_is name) ∙ found) in omega (arith, is)
 
-    answered_start : tiles_to_come owner.state + command_tiles (user_in owner) command ≤ tiles_to_come next.state
+        within_each : (name : List ℕ) (held : HeldSession) → held_session next.state name ≡ Some held
+            → tiles_of_session held ≤ number_in tiles_of_session given name
+        within_each name held found =
+            let is = ap (λ o. option_map_or tiles_of_session o 0) (lookup_is name ∙ found) in omega (arith, is)
+
+    -- a session that was not there has no tiles to come
+    absent_within : held_session owner.state session ≡ None → (name : List ℕ) (held : HeldSession)
+        → held_session next.state name ≡ Some held → tiles_of_session held ≤ number_in tiles_of_session owner.state name
+    absent_within w name held found = of_each {P = λ name. (held : HeldSession) → held_session next.state name ≡ Some held
+        → tiles_of_session held ≤ number_in tiles_of_session owner.state name}
+        (λ name same held found. let is = ap (λ o. option_map_or tiles_of_session o 0) (sym same ∙ found) in omega (arith, is))
+        (λ name is. by name (same_name_of session name (sym session_is ∙ is)) (outcome_of name is)) name held found
+      where
+        absent : (name : List ℕ) → session ≡ name → (held : HeldSession) → held_session owner.state name ≡ Some held → ⊥
+        absent name same held there = none-some held (sym w ∙ ap (held_session owner.state) same ∙ there)
+
+        by : (name : List ℕ) → session ≡ name → Outcome owner.state next.state command name → (held : HeldSession)
+            → held_session next.state name ≡ Some held → tiles_of_session held ≤ number_in tiles_of_session owner.state name
+        by name same (inl rests) held found = let none = idle-tiles held (rests.after held found) in omega (arith, none)
+        by name same (inr (inl s)) held found = absurd (absent name same s.before s.was)
+        by name same (inr (inr s)) held found = absurd (absent name same s.before s.was)
+
+    answered_start : tiles_to_come next.state ≡ tiles_to_come owner.state + command_tiles (user_in owner) command
     answered_start = by (held_session owner.state session) refl (outcome_of session session_is)
       where
         by : (o : Option HeldSession) → held_session owner.state session ≡ o → Outcome owner.state next.state command session
-            → tiles_to_come owner.state + command_tiles (user_in owner) command ≤ tiles_to_come next.state
+            → tiles_to_come next.state ≡ tiles_to_come owner.state + command_tiles (user_in owner) command
         by None w o =
             let none : command_tiles (user_in owner) command ≡ 0 = ap (command_tiles (user_in owner)) which ∙ start_tiles_none w in
             let below = sum-below tiles_of_session owner.state.sessions next.state.sessions t.distinct (λ name held found.
             let same = kept_else name (λ is. none-some held (sym w ∙ ap (held_session owner.state) is ∙ found)) in
             let is = ap (λ o. option_map_or tiles_of_session o 0) (same ∙ found) in omega (arith, is)) in
-            omega (arith, none, below)
+            let within = sum-below tiles_of_session next.state.sessions owner.state.sessions distinct_next (absent_within w) in
+            omega (arith, none, below, within)
         by (Some before) w o = answered_start_at before w (started_by (held_session next.state session) refl)
           where
             started_by : (p : Option HeldSession) → held_session next.state session ≡ p → held_session next.state session ≡ Some (with_start n before)
@@ -267,10 +354,11 @@ module _ (owner : Owner) (owed : List Task) (t : Gathers owner owed) (idle : own
                 subst (λ (k : Command). StepsAfter k (held_session owner.state session) after) which (steps session after session_is e) in
                 e ∙ ap (λ (h : HeldSession). Some h) (subst (λ o. IsSomeAnd o (λ held. after ≡ with_start n held)) w s)
 
-  pub answered_tiles : tiles_to_come owner.state + command_tiles (user_in owner) command ≤ tiles_to_come next.state
+  pub answered_tiles : tiles_to_come next.state ≡ tiles_to_come owner.state + command_tiles (user_in owner) command
   answered_tiles = by command refl
     where
-      by : (k : Command) → command ≡ k → tiles_to_come owner.state + command_tiles (user_in owner) command ≤ tiles_to_come next.state
+      by : (k : Command) → command ≡ k
+          → tiles_to_come next.state ≡ tiles_to_come owner.state + command_tiles (user_in owner) command
       by (Start session n) e = answered_start session n e
       by k e = answered_quiet (λ name n is. let differ = sym e ∙ is in cc)
 
@@ -358,7 +446,7 @@ module _ (owner : Owner) (owed : List Task) (t : Gathers owner owed) (name : Lis
       (λ n k e. none_named name (sym (start-waits waited.command n k e) ∙ waited.waits))))
       (λ b. rw b refl)
 
-  pub ended_tiles : tiles_coming owner ≤ tiles_coming next
+  pub ended_tiles : tiles_coming next ≡ tiles_coming owner
   ended_tiles =
       let below = sum-below tiles_of_session owner.state.sessions next.state.sessions t.distinct
       (of_each_session {P = λ other. (held : HeldSession) → held_session owner.state other ≡ Some held
@@ -366,5 +454,12 @@ module _ (owner : Owner) (owed : List Task) (t : Gathers owner owed) (name : Lis
       (λ held found. let none = none_here held found in omega (arith, none))
       (λ other apart held found. let is = ap (λ o. option_map_or tiles_of_session o 0) (others other apart ∙ found) in
       omega (arith, is))) in
+      let within = sum-below tiles_of_session next.state.sessions owner.state.sessions distinct
+      (of_each_session {P = λ other. (held : HeldSession) → held_session next.state other ≡ Some held
+      → tiles_of_session held ≤ number_in tiles_of_session owner.state other}
+      (λ held found. let none = idle-tiles held (rests held found) in omega (arith, none))
+      (λ other apart held found. let is = ap (λ o. option_map_or tiles_of_session o 0) (sym (others other apart) ∙ found) in
+      omega (arith, is))) in
       let own = own_none in
-      omega (arith, below, own)
+      let next_own = ap (waiting_tiles_of next) done in
+      omega (arith, below, within, own, next_own)

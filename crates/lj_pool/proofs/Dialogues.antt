@@ -8,15 +8,16 @@ use Rattle.std.proofs.lemmas.Bool.{ltb-true, ltb-false}
 use Rattle.std.specs.Io.KnownBytes.{Consumes, Appends}
 use Rattle.std.proofs.KnownBytes.{Consumes-nil, Consumes-trans, Appends-nil, Appends-trans}
 use Rattle.std.proofs.lemmas.List.{append_assoc, append-nil, length-append}
-use Rattle.std.proofs.lemmas.List.Elements.{Contains-append_left, Contains-push, Contains-push_cases}
 use Rattle.lj_session.specs.declared.command.Command.TheVariants.{Bye as ByeCommand}
 use Rattle.lj_session.specs.declared.reply.Reply.{Reply}
 use Rattle.lj_session.specs.declared.command.Command.{Command as Order}
-use Rattle.lj_session.specs.declared.command.Command.TheVariants.{Advance, Start, Measure}
+use Rattle.lj_session.specs.declared.command.Command.TheVariants.{Advance, Measure}
+use Rattle.lj_tile.specs.Task.{Task}
 use Rattle.lj_branch.specs.Named.{value_named}
 use Rattle.lj_session.specs.Turns.{turns, waits_for, advance_turns, measure_turns}
 use Rattle.lj_session.specs.Users.{Session, User}
 use Rattle.lj_session.specs.UserState.{HeldSession, UserState, user_of, state_at_rest, held_session, owed_in, steps_before, turns_before}
+use Rattle.lj_session.specs.Owner.{is_waited_for}
 use Rattle.lj_session.proofs.Entries.{by_test}
 use Rattle.lj_session.proofs.Holding.{named-held}
 use Rattle.lj_session.proofs.Waiting.{rested_user}
@@ -39,8 +40,8 @@ use Rattle.lj_pool.specs.declared.engine.running.Halt.{Halt}
 use Rattle.lj_pool.specs.declared.engine.running.Halt.TheVariants as halts
 use Rattle.lj_pool.specs.Seen.{Seen}
 use Rattle.lj_pool.specs.declared.pool.TheConstants.{MAX_AHEAD}
-use Rattle.lj_pool.specs.Counting.{command_tiles, item_tiles, tiles, tiles_owed, CountsRise}
-use Rattle.lj_pool.specs.Owing.{MayOwe, OwesAfter}
+use Rattle.lj_pool.specs.Counting.{command_tiles, item_tiles, tiles, tiles_owed, CountsRise, FallsShort, HandedWithin}
+use Rattle.lj_pool.specs.Owing.{most_after, most_after_all, most_owed, steps_started, OwesAfter, OwesAfterAll}
 use Rattle.lj_pool.specs.Coming.{tiles_to_come}
 use Rattle.lj_pool.specs.Endings.{served_of, ending_of}
 use Rattle.lj_pool.specs.Served.{NoneEnds, EndsByBye, EndsByFault, AnswersAll, IsServed, Reaches, MayWait, StopsShort, Serves}
@@ -124,43 +125,66 @@ lost_before : (owned : UserState) (found item : Item) → IsLost found item → 
 unfolding turns waits_for
 lost_before owned found item l = ap (item_before owned) l.item_is
 
-may_wait : (start : UserState) (before : List Item) (owned : UserState) (found item : Item) → OwesAfter start before owned
-    → IsHandedOut found item → 0 < item_before owned item → MayWait start before (user_of owned) found
-may_wait start before owned found item owes (inl same) some = of found (subst (λ i. 0 < item_before owned i) same some)
+may_wait : (start : UserState) (before : List Item) (marks : List Bool) (owned : UserState) (found item : Item)
+    → OwesAfterAll start before marks owned → IsHandedOut found item → 0 < item_before owned item
+    → MayWait start before marks (user_of owned) found
+may_wait start before marks owned found item owes (inl same) some = of found (subst (λ i. 0 < item_before owned i) same some)
   where
-    of : (item : Item) → 0 < item_before owned item → MayWait start before (user_of owned) item
-    of (Command command) more = waits_there owned (MayOwe start before) owes command more
+    of : (item : Item) → 0 < item_before owned item → MayWait start before marks (user_of owned) item
+    of (Command command) more = waits_there owned (λ name. 0 < most_owed start before marks name)
+        (λ name some. let few = owes name in omega (arith, few, some)) command more
     of (Bad fault) more = absurd (omega (arith, more))
     of (Last fault) more = absurd (omega (arith, more))
-may_wait start before owned found item owes (inr l) some =
+may_wait start before marks owned found item owes (inr l) some =
     let none = lost_before owned found item l in absurd (omega (arith, none, some))
 
--- a START that is handed out stands in the stream
-start_found : (found item : Item) (name : List ℕ) (n : ℕ) → IsHandedOut found item → Contains (item ∷ []) (Command (Start name n))
-    → found ≡ Command (Start name n)
-start_found found item name n handed there = by handed (Contains-push_cases [] item (Command (Start name n)) there)
-  where
-    by : IsHandedOut found item → Contains [] (Command (Start name n)) ⊎ (item ≡ Command (Start name n))
-        → found ≡ Command (Start name n)
-    by handed (inl none) = absurd (let few = none.1 in omega (arith, few))
-    by (inl same) (inr is) = sym same ∙ is
-    by (inr l) (inr is) = absurd (let differ = sym l.item_is ∙ is in cc)
+-- the most steps that may be owed after one item more
+most-more : (user : User) (items : List Item) (marks : List Bool) (item : Item) (mark : Bool) (name : List ℕ) (n : ℕ)
+    → length marks ≡ length items
+    → most_after_all user (items ++ item ∷ []) (marks ++ mark ∷ []) name n
+    ≡ most_after (last_user user items marks) item name (most_after_all user items marks name n)
+most-more user [] [] item mark name n h = refl
+most-more user [] (next ∷ marks) item mark name n h = absurd (omega (arith, h))
+most-more user (first ∷ items) [] item mark name n h = absurd (omega (arith, h))
+most-more user (first ∷ items) (next ∷ marks) item mark name n h =
+    most-more (item_text user first next).1 items marks item mark name (most_after user first name n) (omega (arith, h))
 
--- steps may be owed after one item more where they are owed after it
-owes-more : (start : UserState) (items : List Item) (owned : UserState) (found item : Item) (last : UserState) → OwesAfter start items owned
-    → IsHandedOut found item → OwesAfter owned (item ∷ []) last → OwesAfter start (items ++ found ∷ []) last
-owes-more start items owned found item last before handed after name more = by (after name more)
-  where
-    earlier : MayOwe start items name → MayOwe start (items ++ found ∷ []) name
-    earlier (inl some) = inl some
-    earlier (inr (n, there)) = inr (n, Contains-append_left items (found ∷ []) (Command (Start name n)) there)
+-- as many may be owed, or more, if more may be before
+most-monotone : (user : User) (item : Item) (name : List ℕ) (n m : ℕ) → n ≤ m
+    → most_after user item name n ≤ most_after user item name m
+most-monotone user (Command command) name n m few = by_test (is_waited_for (Some command) name)
+    (λ t. rw t (omega arith))
+    (λ t. rw t (omega (arith, few)))
+most-monotone user (Bad fault) name n m few = few
+most-monotone user (Last fault) name n m few = few
 
-    by : MayOwe owned (item ∷ []) name → MayOwe start (items ++ found ∷ []) name
-    by (inl some) = earlier (before name some)
-    by (inr (n, there)) = inr (
-      n,
-      subst (Contains (items ++ found ∷ [])) (start_found found item name n handed there) (Contains-push items found),
-    )
+-- as many may be owed after what is handed out for an item
+most_lost : (user : User) (found item : Item) (name : List ℕ) (n : ℕ) → IsLost found item
+    → (most_after user item name n ≡ n) × (most_after user found name n ≡ n)
+unfolding waits_for steps_started
+most_lost user found item name n l = (
+  ap (λ i. most_after user i name n) l.item_is ∙ omega arith,
+  ap (λ i. most_after user i name n) l.found_is ∙ omega arith,
+)
+
+most_alike : (user : User) (found item : Item) (name : List ℕ) (n : ℕ) → IsHandedOut found item
+    → most_after user item name n ≡ most_after user found name n
+most_alike user found item name n (inl same) = ap (λ i. most_after user i name n) same
+most_alike user found item name n (inr l) = let both = most_lost user found item name n l in both.0 ∙ sym both.1
+
+-- no more steps are owed than may be, after one item more
+owes-more : (start : UserState) (items : List Item) (marks : List Bool) (owned : UserState) (found item : Item) (mark : Bool)
+    (last : UserState) → OwesAfterAll start items marks owned → user_of owned ≡ last_user (user_of start) items marks
+    → length marks ≡ length items → IsHandedOut found item → OwesAfter owned item last
+    → OwesAfterAll start (items ++ found ∷ []) (marks ++ mark ∷ []) last
+owes-more start items marks owned found item mark last before same many handed after name =
+    subst (λ n. owed_in last name ≤ n)
+    (sym (most-more (user_of start) items marks found mark name (owed_in start name) many)) (subst
+    (λ u. owed_in last name ≤ most_after u found name (most_owed start items marks name)) same
+    (let few = after name in
+    let alike = most_alike (user_of owned) found item name (owed_in owned name) handed in
+    let more = most-monotone (user_of owned) found name (owed_in owned name) (most_owed start items marks name) (before name) in
+    omega (arith, few, alike, more)))
 
 -- what is handed out for an item takes the same tiles
 lost_tiles : (user : User) (found item : Item) → IsLost found item → (item_tiles user item ≡ 0)
@@ -226,7 +250,8 @@ serving-start start first was old none is_open = record {
   next_is = rested_user start;
   counted = rises_none old old (0 + tiles_owed start - tiles_to_come (state_at_rest start)) refl refl
       (let all = rested-tiles start in omega (arith, all));
-  owes = λ name more. inl (let same = rested-owes start name in omega (arith, same, more));
+  handed = let all = rested-tiles start in omega (arith, all);
+  owes = λ name. let same = rested-owes start name in omega (arith, same);
   phase = is_open;
   errors = refl;
 }
@@ -238,9 +263,11 @@ module _ (start : UserState) (first now : LineReader) (was is : Option (List ℕ
 
   -- the work goes on
   pub serving-goes : (next : UserState) (newer : Seen) → user_of next ≡ user_of owned
-      → CountsRise (tiles_to_come owned - tiles_to_come next) new newer → ((name : List ℕ) → owed_in next name ≤ owed_in owned name)
+      → CountsRise (tiles_to_come owned - tiles_to_come next) new newer
+      → HandedWithin (tiles_to_come owned) (tiles_to_come next) new newer
+      → ((name : List ℕ) → owed_in next name ≤ owed_in owned name)
       → Serving start first now was is old newer next
-  serving-goes next newer same risen fewer = record {
+  serving-goes next newer same risen handed fewer = record {
     read = s.read;
     written = s.written;
     items = s.items;
@@ -255,7 +282,8 @@ module _ (start : UserState) (first now : LineReader) (was is : Option (List ℕ
     counted = rises_more (tiles user s.items s.marks + tiles_owed start - tiles_to_come owned)
         (tiles_to_come owned - tiles_to_come next)
         (tiles user s.items s.marks + tiles_owed start - tiles_to_come next) s.counted risen (omega arith);
-    owes = λ name more. s.owes name (let few = fewer name in omega (arith, few, more));
+    handed = let before = s.handed in omega (arith, before, handed);
+    owes = λ name. let before = s.owes name in let few = fewer name in omega (arith, before, few);
     phase = s.phase;
     errors = s.errors;
   }
@@ -278,10 +306,11 @@ module _ (start : UserState) (first now : LineReader) (was is : Option (List ℕ
 
   -- before the next item the pool is given up
   pub serving-stops : (halt : Halt) (newer : Seen) → MAX_AHEAD < length newer.owed
-      → (name : List ℕ) × (0 < owed_in owned name) → Serves (served_of halt) start first.left now.left was is old newer None
+      → ((task : Task) → Contains newer.owed task → 0 < owed_in owned task.name.label.session)
+      → Serves (served_of halt) start first.left now.left was is old newer None
   serving-stops halt newer many owed = by halt
     where
-      short : StopsShort start s.read s.written newer
+      short : StopsShort start s.read s.written old newer
       short = inr (record {
         count = now.items;
         left = [];
@@ -295,7 +324,10 @@ module _ (start : UserState) (first now : LineReader) (was is : Option (List ℕ
           written_is = s.written_is;
           next_is = s.next_is;
         };
-        owes = (owed.0, s.owes owed.0 owed.1);
+        owes = λ task there.
+            let some = owed task there in
+            let few = s.owes task.name.label.session in
+            omega (arith, some, few);
         many = many;
       })
 
@@ -367,21 +399,28 @@ module _ (start : UserState) (first now : LineReader) (was is : Option (List ℕ
     }
 
     -- it waits, and the pool is given up
-    stops : (newer : Seen) → 0 < item_before owned item → StopsShort start (s.read ++ h.front) s.written newer
+    stops : (newer : Seen) → 0 < item_before owned item
+        → FallsShort (tiles_to_come owned + item_tiles (user_of owned) item) new newer
+        → StopsShort start (s.read ++ h.front) s.written old newer
     unfolding reaches
-    stops newer waits = inl (record {
+    stops newer waits missing = inl (record {
       between = user_of owned;
       item = h.found;
       reaches = reaches;
-      waits = may_wait start s.items owned h.found item s.owes h.is_found waits;
+      waits = may_wait start s.items s.marks owned h.found item s.owes h.is_found waits;
+      missing =
+          let handed = s.handed in
+          let same = tiles_alike (user_of owned) h.found item h.is_found in
+          omega (arith, missing, handed, same);
     })
 
     pub serving-halts : (halt : Halt) (newer : Seen) → 0 < item_before owned item
+        → FallsShort (tiles_to_come owned + item_tiles (user_of owned) item) new newer
         → Serves (served_of halt) start first.left after.left was is old newer None
-    serving-halts halts.PoolClosed newer waits =
-        serves-on served.PoolClosed after h.front newer None h.taken (stops newer waits)
-    serving-halts halts.TooManyStrays newer waits =
-        serves-on served.TooManyStrays after h.front newer None h.taken (stops newer waits)
+    serving-halts halts.PoolClosed newer waits missing =
+        serves-on served.PoolClosed after h.front newer None h.taken (stops newer waits missing)
+    serving-halts halts.TooManyStrays newer waits missing =
+        serves-on served.TooManyStrays after h.front newer None h.taken (stops newer waits missing)
 
     -- something is written for it
     serves-more : (ending : Served) (more : List ℕ) (now_is : Option (List ℕ)) (newer : Seen) (state : Option UserState)
@@ -424,7 +463,8 @@ module _ (start : UserState) (first now : LineReader) (was is : Option (List ℕ
 
       -- and the text is written
       module _ (now_is : Option (List ℕ)) (appends : Appends is now_is words) (newer : Seen)
-          (risen : CountsRise (item_tiles (user_of owned) item + tiles_to_come owned - tiles_to_come last) new newer) where
+          (risen : CountsRise (item_tiles (user_of owned) item + tiles_to_come owned - tiles_to_come last) new newer)
+          (handed : HandedWithin (tiles_to_come owned + item_tiles (user_of owned) item) (tiles_to_come last) new newer) where
         abbrev items_more : List Item
         items_more = s.items ++ h.found ∷ []
 
@@ -450,18 +490,29 @@ module _ (start : UserState) (first now : LineReader) (was is : Option (List ℕ
         next_more : user_of last ≡ last_user user items_more marks_more
         next_more = ap (λ item_text. item_text.1) (sym tells_last) ∙ more.next_is
 
-        counted_more : CountsRise (tiles user items_more marks_more + tiles_owed start - tiles_to_come last) old newer
-        counted_more =
+        tiles_sum : tiles user items_more marks_more ≡ tiles user s.items s.marks + item_tiles (user_of owned) item
+        tiles_sum =
             let sum = tiles-more user s.items s.marks h.found t.mark marks_many in
             let same = tiles_alike (user_of owned) h.found item h.is_found in
             let from : item_tiles (user_of owned) h.found ≡ item_tiles (last_user user s.items s.marks) h.found =
             ap (λ u. item_tiles u h.found) s.next_is in
+            omega (arith, sum, same, from)
+
+        handed_more : HandedWithin (tiles user items_more marks_more + tiles_owed start) (tiles_to_come last) old newer
+        handed_more =
+            let sum = tiles_sum in
+            let before = s.handed in
+            omega (arith, sum, before, handed)
+
+        counted_more : CountsRise (tiles user items_more marks_more + tiles_owed start - tiles_to_come last) old newer
+        counted_more =
+            let sum = tiles_sum in
             rises_more (tiles user s.items s.marks + tiles_owed start - tiles_to_come owned)
             (item_tiles (user_of owned) item + tiles_to_come owned - tiles_to_come last)
             (tiles user items_more marks_more + tiles_owed start - tiles_to_come last)
-            s.counted risen (omega (arith, sum, same, from))
+            s.counted risen (omega (arith, sum))
 
-        pub serving-more : ending_of item ≡ None → OwesAfter owned (item ∷ []) last → Serving start first after was now_is old newer last
+        pub serving-more : ending_of item ≡ None → OwesAfter owned item last → Serving start first after was now_is old newer last
         serving-more none owes =
             let goes : is_ending item ≡ false = goes_on item none in
             record {
@@ -478,7 +529,8 @@ module _ (start : UserState) (first now : LineReader) (was is : Option (List ℕ
               written_is = written_more;
               next_is = next_more;
               counted = counted_more;
-              owes = owes-more start s.items owned h.found item last s.owes h.is_found owes;
+              handed = handed_more;
+              owes = owes-more start s.items s.marks owned h.found item t.mark last s.owes s.next_is marks_many h.is_found owes;
               phase = h.phase_is ∙ ap (λ end. cond end Over Open) goes;
               errors = h.errors_is ∙ s.errors;
             }

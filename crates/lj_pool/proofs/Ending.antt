@@ -1,6 +1,6 @@
 -- What waited is answered at a turn, after work that went on; and a command that is answered once its work is done.
-use Rattle.std.proofs.Common.{◌≡◌, ℕ, ◌+◌, ◌-◌, ◌<◌, ◌≤◌, true, List, [], ◌∷◌, Option, Some, None, Result, Ok, Err, inl, refl, sym, ap, ◌∙◌, subst, arith}
-use Rattle.std.specs.Prelude.{IfSome, IfNone, IsSome, OnOk, is_some}
+use Rattle.std.proofs.Common.{◌≡◌, ℕ, ◌+◌, ◌-◌, ◌<◌, ◌≤◌, true, List, Option, Some, None, Result, Ok, Err, refl, sym, ap, ◌∙◌, subst, arith}
+use Rattle.std.specs.Prelude.{IfSome, IfNone, IsSome, OnOk, OnErr, is_some, if◌then◌else◌}
 use Rattle.std.specs.List.{IsDistinct}
 use Rattle.std.specs.Str.{bytes_eq}
 use Rattle.std.proofs.lemmas.Bool.{true≢false}
@@ -17,9 +17,9 @@ use Rattle.lj_pool.specs.declared.engine.running.Halt.{Halt}
 use Rattle.lj_pool.specs.declared.engine.running.Halt.TheVariants.{PoolClosed, TooManyStrays}
 use Rattle.lj_pool.specs.Seen.{Seen}
 use Rattle.lj_pool.specs.Gathering.{Gathers}
-use Rattle.lj_pool.specs.Counting.{CountsRise, StraysRise, command_tiles}
+use Rattle.lj_pool.specs.Counting.{CountsRise, FallsShort, HandedWithin, StraysRise, command_tiles}
 use Rattle.lj_pool.specs.Coming.{GoesOn, OwesNoMore, OwesNoneWhereWaited, tiles_to_come, tiles_coming, waiting_tiles_of}
-use Rattle.lj_pool.specs.Owing.{OwesAfter}
+use Rattle.lj_pool.specs.Owing.{OwesAfter, most_after, steps_started}
 use Rattle.lj_pool.specs.Running.{IsHalted}
 use Rattle.lj_pool.proofs.Sessions.{distinct-answered}
 use Rattle.lj_pool.proofs.Begun.{Begins, begins, begun-waits, begun-owes}
@@ -61,6 +61,7 @@ pub record Ends (start : Owner) (before : Seen) (reply : Reply) (next : Owner) (
   pub replied : IsReplied start reply (user_in next)
   pub gathers : Gathers next after.owed
   pub counted : CountsRise (tiles_coming start - tiles_coming next) before after
+  pub handed : HandedWithin (tiles_coming start) (tiles_coming next) before after
   pub no_more : OwesNoMore start next.state
   pub rests : OwesNoneWhereWaited start next.state
 
@@ -85,6 +86,12 @@ module _ (start : Owner) (before : Seen) (now : Owner) (after : Seen) (goes : Go
       rises_more (tiles_coming start - tiles_coming now) 0 (tiles_coming start - tiles_coming next) goes.counted
       (rises_none after after 0 refl refl (omega arith)) (omega (arith, more))
 
+  ends_handed : HandedWithin (tiles_coming start) (tiles_coming next) before after
+  ends_handed =
+      let same = ended_tiles now after.owed goes.gathers name whole last next number done others rests distinct in
+      let handed = goes.handed in
+      omega (arith, same, handed)
+
   -- no step is owed to the session that was waited for, and no more than before to the others
   ends_owes : OwesNoMore start next.state
   ends_owes other quiet =
@@ -102,6 +109,7 @@ module _ (start : Owner) (before : Seen) (now : Owner) (after : Seen) (goes : Go
     replied = ends_replied;
     gathers = ends_gathers;
     counted = ends_counted;
+    handed = ends_handed;
     no_more = ends_owes;
     rests = ends_rests;
   }
@@ -145,15 +153,31 @@ module _ (owner : Owner) (seen : Seen) (t : Gathers owner seen.owed) (idle : own
         (command_tiles (user_in owner) command + tiles_to_come owner.state - tiles_to_come last.state) counted
         (rises_none after after 0 refl refl (omega arith)) (omega (arith, first, none))
 
-    -- and steps are owed after it only where some were
-    pub begun_owes : (last : UserState) → OwesNoMore next last → OwesNoneWhereWaited next last → OwesAfter owner.state (Ordered command ∷ []) last
-    begun_owes last no_more rests name more = by_test (is_waited_for next.waiting name)
-        (λ t. let none = rests name t in absurd (omega (arith, none, more)))
+    pub begun_handed : (last : Owner) (after : Seen) → last.waiting ≡ None
+        → HandedWithin (tiles_coming next) (tiles_coming last) seen after
+        → HandedWithin (tiles_to_come owner.state + command_tiles (user_in owner) command) (tiles_to_come last.state) seen after
+    begun_handed last after done handed =
+        let first = begun_tiles in
+        let none = ap (waiting_tiles_of last) done in
+        omega (arith, handed, first, none)
+
+    pub begun_missing : (after : Seen) → FallsShort (tiles_coming next) seen after
+        → FallsShort (tiles_to_come owner.state + command_tiles (user_in owner) command) seen after
+    begun_missing after short = let first = begun_tiles in omega (arith, short, first)
+
+    -- and no more steps are owed after it than may be
+    pub begun_owes : (last : UserState) → OwesNoMore next last → OwesNoneWhereWaited next last
+        → OwesAfter owner.state (Ordered command) last
+    begun_owes last no_more rests name = by_test (is_waited_for next.waiting name)
+        (λ t. let none = rests name t in omega (arith, none))
         (λ t.
-        let waits = ap (λ (o : Owner). is_waited_for o.waiting name) is ∙ begun-waits command owner name in
-        let begins_with = ap (λ (o : Owner). owed_in o.state name) is ∙ begun-owes command owner name (sym waits ∙ t) in
+        let quiet = sym (ap (λ (o : Owner). is_waited_for o.waiting name) is ∙ begun-waits command owner name) ∙ t in
+        let begins_with = ap (λ (o : Owner). owed_in o.state name) is ∙ begun-owes command owner name quiet in
         let few = no_more name t in
-        inl (omega (arith, begins_with, few, more)))
+        let most : most_after (user_in owner) (Ordered command) name (owed_in owner.state name)
+        ≡ owed_in owner.state name + steps_started (user_in owner) command name =
+        ap (λ b. if b then 0 else owed_in owner.state name + steps_started (user_in owner) command name) quiet in
+        omega (arith, begins_with, few, most))
 
   -- and is answered at once
   module _ (reply : Reply) (number : next.number ≡ owner.number) (done : next.waiting ≡ None)
@@ -170,7 +194,13 @@ module _ (owner : Owner) (seen : Seen) (t : Gathers owner seen.owed) (idle : own
         rises_none seen seen (command_tiles (user_in owner) command + tiles_to_come owner.state - tiles_to_come next.state)
         refl refl (omega (arith, more))
 
-    pub at_once_owes : OwesAfter owner.state (Ordered command ∷ []) next.state
+    pub at_once_handed : HandedWithin
+        (tiles_to_come owner.state + command_tiles (user_in owner) command) (tiles_to_come next.state) seen seen
+    at_once_handed =
+        let same = answered_tiles owner seen.owed t idle command reply next number done at_once answered unchanged others steps in
+        omega (arith, same)
+
+    pub at_once_owes : OwesAfter owner.state (Ordered command) next.state
     at_once_owes = answered_owes owner seen.owed t idle command reply next number done at_once answered unchanged others steps
 
 -- strays in a row, and what halts
@@ -200,6 +230,14 @@ halted_on TooManyStrays a b c risen halted = λ below.
 pub when_none : {A : Type 0} {P : Type 0} (o : Option A) → (IsSome o → ⊥) → IfNone o P → P
 when_none None not_some h = h
 when_none (Some x) not_some h = absurd (not_some refl)
+
+pub on_err : {A B : Type 0} {P Q : Type 0} (r : Result A B) → (P → Q) → OnErr r P → OnErr r Q
+on_err (Ok x) f p = tt
+on_err (Err e) f p = f p
+
+pub at_err : {A B : Type 0} {P : Type 0} (r : Result A B) → P → OnErr r P
+at_err (Ok x) p = tt
+at_err (Err e) p = p
 
 pub on_both : {A B : Type 0} {P Q R : Type 0} (r : Result A B) → (P → Q → R) → OnOk r P → OnOk r Q → OnOk r R
 on_both (Ok x) f p q = f p q

@@ -1,9 +1,10 @@
 -- The work goes on: by nothing, by a post, by a result, by a turn, and by one after the other.
-use Rattle.std.proofs.Common.{◌≡◌, ℕ, ◌+◌, ◌-◌, ◌<◌, ◌≤◌, true, false, nat_lt, List, Option, Some, None}
+use Rattle.std.proofs.Common.{◌≡◌, ℕ, ◌+◌, ◌-◌, ◌<◌, ◌≤◌, true, false, nat_lt, List, [], ◌∷◌, ◌++◌, length, Option, Some, None}
 use Rattle.std.proofs.Common.{Result, Ok, Err, inl, inr, refl, sym, ap, ◌∙◌, subst, arith}
 use Rattle.std.specs.Prelude.{if◌then◌else◌, ◌↔◌, IfSome, IsOk, OnOk, OnErr, is_ok}
 use Rattle.std.specs.Option.{option_map_or}
 use Rattle.std.proofs.lemmas.Bool.{true≢false, false≢true}
+use Rattle.std.proofs.lemmas.List.{length-append}
 use Rattle.lj_tile.specs.Task.{Task}
 use Rattle.lj_step.specs.OpenSteps.{tile_number_of, tiles_of, IsAwaitedTaskIn}
 use Rattle.lj_session.specs.declared.command.Command.{Command}
@@ -17,7 +18,7 @@ use Rattle.lj_session.specs.Owner.{Owner, user_in, label_of, task_in, with_task_
 use Rattle.lj_session.specs.Owner.{WaitsAlike, WaitsAlikeFor, IsLastTurn, is_waited_for, owner_turned}
 use Rattle.lj_session.proofs.Holding.{changed-quota}
 use Rattle.lj_session.proofs.Waiting.{posted_user, taken_user}
-use Rattle.lj_pool.specs.Seen.{Seen, SameOwed, IsPosted, IsHandedOut, IsStray}
+use Rattle.lj_pool.specs.Seen.{Seen, SameOwed, IsPosted, TakesOff, IsHandedOut, IsStray, one_more}
 use Rattle.lj_pool.specs.Gathering.{Gathers, tiles_left_in}
 use Rattle.lj_pool.specs.Counting.{CountsRise, command_tiles}
 use Rattle.lj_pool.specs.Coming.{GoesOn, tiles_of_session, posts_of_session, waiting_tiles, waiting_tiles_of, turns_coming}
@@ -49,6 +50,11 @@ rises_one work a b k (inl off) one =
 rises_one work a b k (inr stray) one =
     let good = stray.good in let strays = stray.strays in
     record { good = omega (arith, good); strays = omega (arith, strays); together = λ g s. omega (arith, good, strays, g, s, one) }
+
+-- one result is counted once
+good_once : (work : Task) (a b : Seen) → IsHandedOut work a b → b.good ≤ a.good + 1
+good_once work a b (inl off) = let good = off.good in omega (arith, good)
+good_once work a b (inr stray) = let good = stray.good in omega (arith, good)
 
 -- what waits is answered alike
 alike_then_for : (x y z : Option Command) (u v w : User) → WaitsAlikeFor x y u v → WaitsAlikeFor y z v w → WaitsAlikeFor x z u w
@@ -94,6 +100,7 @@ goes_then {a} {b} {c} first second =
       quota = second.quota ∙ first.quota;
       counted = rises_more (tiles_coming a - tiles_coming b) (tiles_coming b - tiles_coming c) (tiles_coming a - tiles_coming c)
           first.counted second.counted (omega (arith, t1, t2));
+      handed = let one = first.handed in let other = second.handed in omega (arith, one, other);
       turns = omega (arith, first.turns, second.turns);
       tiles = omega (arith, t1, t2);
       posts = omega (arith, first.posts, second.posts);
@@ -112,6 +119,7 @@ goes_unchanged owner before after t same = record {
   number = refl;
   quota = refl;
   counted = rises_none before after (tiles_coming owner - tiles_coming owner) same.good same.strays (omega arith);
+  handed = let good = same.good in omega (arith, good);
   turns = omega arith;
   tiles = omega arith;
   posts = omega arith;
@@ -222,6 +230,7 @@ module _ (owner : Owner) (before after : Seen) (t : Gathers owner before.owed) (
         quota = ap (λ (o : Owner). o.state.quota) there_is ∙ changed-quota owner.state p.name with_posted;
         counted = rises_none before after (tiles_coming owner - tiles_coming (with_task_posted owner))
             posted.good posted.strays (omega (arith, tiles));
+        handed = let good = posted.good in omega (arith, tiles, good);
         turns = omega (arith, turns_same);
         tiles = omega (arith, tiles);
         posts = omega (arith, less);
@@ -280,6 +289,7 @@ module _ (owner : Owner) (before after : Seen) (t : Gathers owner before.owed) (
           quota = changed-quota owner.state work.name.label.session (with_tile_in (tile_number_of work));
           counted = rises_one work before after (tiles_coming owner - tiles_coming (with_task_in work owner)) handed
               (omega (arith, less));
+          handed = let one = good_once work before after handed in omega (arith, less, one);
           turns = omega (arith, turns_same);
           tiles = omega (arith, less);
           posts = omega (arith, posts, same);
@@ -306,6 +316,7 @@ module _ (owner : Owner) (before after : Seen) (t : Gathers owner before.owed) (
         number = refl;
         quota = refl;
         counted = rises_one work before after (tiles_coming owner - tiles_coming owner) handed (omega arith);
+        handed = let good = stray.good in omega (arith, good);
         turns = omega arith;
         tiles = omega arith;
         posts = omega arith;
@@ -334,6 +345,42 @@ module _ (owner : Owner) (before after : Seen) (t : Gathers owner before.owed) (
     comes_stray (Ok a) accepted is = absurd (true≢false is)
     comes_stray (Err e) accepted is = refused_stray (λ wanted. false≢true (accepted.1 wanted))
 
+-- where a task is owed a tile is to come
+pub owed-coming : (owner : Owner) (seen : Seen) → Gathers owner seen.owed → 0 < length seen.owed → 0 < tiles_coming owner
+owed-coming owner seen t some = by seen.owed refl
+  where
+    without : List Task → Seen
+    without rest = record { owed = rest; good = one_more seen.good; strays = seen.strays; closed = seen.closed }
+
+    by : (owed : List Task) → seen.owed ≡ owed → 0 < tiles_coming owner
+    by [] e = absurd (let none = ap length e in omega (arith, none, some))
+    by (work ∷ rest) e =
+        let off : TakesOff work seen (without rest) = record {
+          front = [];
+          behind = rest;
+          was = e;
+          first = λ there. let few = there.1 in omega (arith, few);
+          owed = refl;
+          good = refl;
+          strays = refl;
+        } in
+        let less = taken-fewer owner seen (without rest) t work (inl off)
+        (wanted_off owner seen.owed t work seen (without rest) refl off) in
+        omega (arith, less)
+
+-- and so it is where a task is to be posted
+pub post-coming : (owner : Owner) (seen : Seen) → Gathers owner seen.owed → (work : Task) → task_in owner ≡ Some work
+    → 0 < tiles_coming owner
+post-coming owner seen t work some =
+    let goes = goes_posted owner seen with_it t work some (record { owed = refl; good = refl; strays = refl }) in
+    let many = length-append seen.owed (work ∷ []) in
+    let coming = owed-coming (with_task_posted owner) with_it goes.gathers (omega (arith, many)) in
+    let same = goes.tiles in
+    omega (arith, coming, same)
+  where
+    with_it : Seen
+    with_it = record { owed = seen.owed ++ work ∷ []; good = seen.good; strays = seen.strays; closed = seen.closed }
+
 -- a session turned, where that answers nothing
 pub goes_turned : (owner next : Owner) (seen : Seen) (t : Gathers owner seen.owed) (name : List ℕ)
     → is_whole_in owner.state name ≡ true → (IsLastTurn name owner → ⊥) → next ≡ owner_turned name owner
@@ -352,6 +399,7 @@ goes_turned owner next seen t name whole more is alike number quota =
       number = number;
       quota = quota;
       counted = rises_none seen seen (tiles_coming owner - tiles_coming next) refl refl (omega (arith, tiles));
+      handed = omega (arith, tiles);
       turns = omega (arith, turns_less, turns_is);
       tiles = omega (arith, tiles);
       posts = omega (arith, posts_less, posts_is);

@@ -1,12 +1,12 @@
 -- Serving goes on before the next item, and the state that is handed back.
-use Rattle.std.proofs.Common.{◌≡◌, ℕ, ◌-◌, ◌<◌, ◌≤◌, List, [], length, Option, None, refl, sym, ap, subst, arith}
-use Rattle.std.specs.List.{IsDistinct}
+use Rattle.std.proofs.Common.{◌≡◌, ℕ, ◌-◌, ◌<◌, ◌≤◌, List, [], Option, None, refl, sym, ap, subst, arith}
+use Rattle.std.specs.List.{IsDistinct, Contains}
 use Rattle.std.specs.Str.{bytes_eq}
+use Rattle.lj_tile.specs.Task.{Task}
 use Rattle.lj_session.specs.UserState.{UserState, owed_in, state_at_rest, names}
 use Rattle.lj_session.specs.Owner.{Owner, owner_of_state, is_waited_for}
 use Rattle.lj_wire.specs.declared.reader.phase.Phase.TheVariants.{Open}
 use Rattle.lj_wire.specs.LineReader.{LineReader}
-use Rattle.lj_pool.specs.declared.pool.TheConstants.{MAX_AHEAD}
 use Rattle.lj_pool.specs.Seen.{Seen}
 use Rattle.lj_pool.specs.Gathering.{Gathers, NoneOwed}
 use Rattle.lj_pool.specs.Counting.{tiles_owed}
@@ -15,7 +15,7 @@ use Rattle.lj_pool.specs.Serving.{Serving}
 use Rattle.lj_pool.proofs.Dialogues.{serving-start, serving-goes}
 use Rattle.lj_pool.proofs.Ending.{alike_none}
 use Rattle.lj_pool.proofs.Going.{rises_more, rises_none}
-use Rattle.lj_pool.proofs.Rested.{gathers-entered, rested-few, none-owed, some-owed}
+use Rattle.lj_pool.proofs.Rested.{gathers-entered, rested-few, none-owed, owed-owes}
 
 -- an owner that has just been given the state
 module _ (state : UserState) (number : ℕ) (owner : Owner) (is : owner ≡ owner_of_state state number) where
@@ -49,11 +49,12 @@ module _ {owner : Owner} {seen : Seen} (idle : owner.waiting ≡ None) {next : O
       serving-goes start first now was is old seen owner.state s next.state newer (alike_none owner next goes.alike idle).1
       (rises_more (tiles_coming owner - tiles_coming next) 0 (tiles_to_come owner.state - tiles_to_come next.state) goes.counted
       (rises_none newer newer 0 refl refl (omega arith)) (omega (arith, before, after)))
+      (let handed = goes.handed in omega (arith, handed, before, after))
       (λ name. goes.owes name (ap (λ w. is_waited_for w name) idle))
 
-  -- where many tasks are owed then, a step is owed to a session
-  pub ahead_owes : MAX_AHEAD < length newer.owed → (name : List ℕ) × (0 < owed_in next.state name)
-  ahead_owes many = some-owed next newer.owed goes.gathers ahead_idle (omega (arith, many))
+  -- a step is owed then to the session of each task that is owed
+  pub ahead_owes : (task : Task) → Contains newer.owed task → 0 < owed_in next.state task.name.label.session
+  ahead_owes = owed-owes next newer.owed goes.gathers ahead_idle
 
 -- the state handed back
 module _ (owner : Owner) (seen : Seen) (t : Gathers owner seen.owed) (idle : owner.waiting ≡ None) (back : UserState)

@@ -1,7 +1,7 @@
 -- States whose steps are begun anew: what is to come of them, and that nothing is owed then where no step is.
-use Rattle.std.proofs.Common.{◌≡◌, ℕ, ◌<◌, ◌≤◌, nat_lt, List, [], ◌∷◌, length, map, Option, Some, None, refl, sym, ap}
+use Rattle.std.proofs.Common.{◌≡◌, ℕ, ◌<◌, ◌≤◌, nat_lt, List, [], ◌∷◌, map, Option, Some, None, refl, sym, ap}
 use Rattle.std.proofs.Common.{◌∙◌, subst, arith}
-use Rattle.std.specs.List.{IsDistinct, filter, sum_by}
+use Rattle.std.specs.List.{IsDistinct, Contains, filter, sum_by}
 use Rattle.std.specs.Option.{option_map, option_map_or}
 use Rattle.std.specs.Str.{bytes_eq}
 use Rattle.std.proofs.lemmas.Bool.{ltb-true, ltb-false}
@@ -17,6 +17,7 @@ use Rattle.lj_pool.specs.Gathering.{IsGathered, is_of, tasks_posted_of, Gathers,
 use Rattle.lj_pool.specs.Counting.{owed_tiles, tiles_owed}
 use Rattle.lj_pool.specs.Coming.{tiles_of_session, tiles_to_come}
 use Rattle.lj_pool.proofs.Sessions.{same_name, sum-below}
+use Rattle.lj_pool.proofs.Gathered.{Opened, owed_wanted, taken_open}
 use Rattle.lj_pool.proofs.Tiles.{rest-tiles, rest-owed, rest-more, rest-gathered, rest-posted, closed-part, closed-posted}
 
 -- sums over the sessions of a state begun anew
@@ -126,15 +127,18 @@ module _ (owner : Owner) (owed : List Task) (t : Gathers owner owed) (idle : own
       by (w ∷ ws) e =
           absurd (not_none w ws e (sym (rested-owes owner.state w.name.label.session) ∙ none w.name.label.session))
 
-  -- where it owes a task, a step is owed to a session
-  pub some-owed : 0 < length owed → (name : List ℕ) × (0 < owed_in owner.state name)
-  some-owed some = by owed refl
+  -- a step is owed to the session of each task that it owes
+  pub owed-owes : (task : Task) → Contains owed task → 0 < owed_in owner.state task.name.label.session
+  owed-owes task there =
+      by_test (nat_lt 0 (owed_in owner.state name)) (λ yes. ltb-true 0 (owed_in owner.state name) yes)
+      (λ no. absurd (let none = ltb-false 0 (owed_in owner.state name) no in closed (omega (arith, none))))
     where
-      by : (ws : List Task) → owed ≡ ws → (name : List ℕ) × (0 < owed_in owner.state name)
-      by [] e = absurd (let none = ap length e in omega (arith, none, some))
-      by (w ∷ ws) e =
-          let name = w.name.label.session in (
-            name,
-            by_test (nat_lt 0 (owed_in owner.state name)) (λ yes. ltb-true 0 (owed_in owner.state name) yes)
-                (λ no. absurd (not_none w ws e (let none = ltb-false 0 (owed_in owner.state name) no in omega (arith, none)))),
-          )
+      name : List ℕ
+      name = task.name.label.session
+
+      opened : Opened owner owed t name
+      opened = taken_open owner owed t task (owed_wanted owner owed t task there)
+
+      closed : owed_in owner.state name ≡ 0 → ⊥
+      closed none = none-some opened.step (sym (closed-part opened.held.live.part (work name opened.held opened.there
+          ∙ kind-none None name opened.held (owed-of owner.state name opened.held opened.there none) refl)) ∙ opened.is_open)

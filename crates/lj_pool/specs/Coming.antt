@@ -9,7 +9,7 @@ use Rattle.lj_session.specs.UserState.{HeldSession, UserState, owed_in, steps_be
 use Rattle.lj_session.specs.Owner.{Owner, user_in, is_waited_for, WaitsAlike}
 use Rattle.lj_pool.specs.Seen.{Seen}
 use Rattle.lj_pool.specs.Gathering.{Gathers, tiles_left_in}
-use Rattle.lj_pool.specs.Counting.{steps_tiles, command_tiles, sum_over, CountsRise}
+use Rattle.lj_pool.specs.Counting.{steps_tiles, command_tiles, sum_over, CountsRise, HandedWithin}
 
 -- how many tiles the steps of a session have that are owed after the open one
 abbrev pub tiles_after : HeldSession → ℕ
@@ -58,14 +58,15 @@ OwesNoMore old new = (name : List ℕ) → is_waited_for old.waiting name ≡ fa
 abbrev pub OwesNoneWhereWaited : Owner → UserState → Type 0
 OwesNoneWhereWaited old new = (name : List ℕ) → is_waited_for old.waiting name ≡ true → owed_in new name ≡ 0
 
--- The work goes on: what will be answered stays, each tile that came in was counted, and no session is owed more steps but
--- the one that is waited for, which stays the same.
+-- The work goes on: what will be answered stays, each tile that came in was counted, each result that was handed out and owed
+-- was of such a tile, and no session is owed more steps but the one that is waited for, which stays the same.
 pub record GoesOn (old : Owner) (before : Seen) (new : Owner) (after : Seen) : Type 0 where
   pub gathers : Gathers new after.owed
   pub alike : WaitsAlike old new
   pub number : new.number ≡ old.number
   pub quota : new.state.quota ≡ old.state.quota
   pub counted : CountsRise (tiles_coming old - tiles_coming new) before after
+  pub handed : HandedWithin (tiles_coming old) (tiles_coming new) before after
   pub turns : turns_coming new ≤ turns_coming old
   pub tiles : tiles_coming new ≤ tiles_coming old
   pub posts : posts_coming new ≤ posts_coming old

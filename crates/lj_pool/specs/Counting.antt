@@ -73,6 +73,14 @@ pub record CountsRise (number : ℕ) (old new : Seen) : Type 0 where
   pub together : new.good < last_count → new.strays < last_count
       → old.good + old.strays + number ≤ new.good + new.strays
 
+-- Of so many tiles these are left: no more results that were owed have been handed out than the others.
+abbrev pub HandedWithin : ℕ → ℕ → Seen → Seen → Type 0
+HandedWithin number left old new = new.good + left ≤ old.good + number
+
+-- Fewer results that were owed have been handed out than this number.
+abbrev pub FallsShort : ℕ → Seen → Seen → Type 0
+FallsShort number old new = new.good < old.good + number
+
 -- The count of results that were not owed has risen by this number, or stands at its last value.
 abbrev pub StraysRise : ℕ → Seen → Seen → Type 0
 StraysRise number old new = new.strays < last_count → old.strays + number ≤ new.strays

@@ -1,9 +1,10 @@
 -- How a stream of commands is served to its end: what is written, and which state is handed back.
 use Rattle.std.specs.Prelude.{◌≡◌, ℕ, ◌<◌, ◌≤◌, Bool, true, false, List, [], ◌∷◌, ◌++◌, length, take, Option, Some}
 use Rattle.std.specs.Prelude.{None, IsSome, IsSomeAnd, ◌+◌, ◌-◌, ◌⊎◌}
-use Rattle.std.specs.List.{list_any}
+use Rattle.std.specs.List.{list_any, Contains}
 use Rattle.std.specs.Io.KnownBytes.{Consumes, Appends}
 use Rattle.lj_session.specs.declared.command.Command.TheVariants.{Bye as ByeCommand}
+use Rattle.lj_tile.specs.Task.{Task}
 use Rattle.lj_branch.specs.Named.{value_named}
 use Rattle.lj_session.specs.Users.{User}
 use Rattle.lj_session.specs.Turns.{turns, waits_for}
@@ -21,8 +22,8 @@ use Rattle.lj_pool.specs.declared.engine.served.Served.TheVariants.{End, Bye, En
 use Rattle.lj_pool.specs.declared.engine.served.Served.TheVariants.{TooManyStrays}
 use Rattle.lj_pool.specs.Seen.{Seen}
 use Rattle.lj_pool.specs.declared.pool.TheConstants.{MAX_AHEAD}
-use Rattle.lj_pool.specs.Counting.{tiles, tiles_owed, CountsRise}
-use Rattle.lj_pool.specs.Owing.{MayOwe}
+use Rattle.lj_pool.specs.Counting.{tiles, tiles_owed, item_tiles, CountsRise, FallsShort}
+use Rattle.lj_pool.specs.Owing.{most_owed}
 
 -- no item ends the connection
 abbrev pub NoneEnds : List Item → Type 0
@@ -69,32 +70,36 @@ pub record BreaksOff (user : User) (read written : List ℕ) (next : User) : Typ
   pub next_is : next ≡ (item_text between item mark).1
 
 -- the item waits for a session of the user: it takes steps of its own, or steps may be owed there after the items before it
-abbrev pub MayWait : UserState → List Item → User → Item → Type 0
-MayWait state before user (Command command) = IsSomeAnd (waits_for command)
-    (λ name. IsSome (value_named name user.sessions) × ((0 < turns user command) ⊎ MayOwe state before name))
-MayWait state before user (Bad fault) = ⊥
-MayWait state before user (Last fault) = ⊥
+abbrev pub MayWait : UserState → List Item → List Bool → User → Item → Type 0
+MayWait state before marks user (Command command) = IsSomeAnd (waits_for command)
+    (λ name. IsSome (value_named name user.sessions) × ((0 < turns user command) ⊎ (0 < most_owed state before marks name)))
+MayWait state before marks user (Bad fault) = ⊥
+MayWait state before marks user (Last fault) = ⊥
 
--- The items before one that waits are answered, and nothing is written for that.
-pub record StopsAt (state : UserState) (read written : List ℕ) : Type 0 where
+-- The items before one that waits are answered, and nothing is written for that. The pool has handed out fewer results that
+-- were owed than there are tiles in the steps that were owed at first, that the items took, and that the last one takes.
+pub record StopsAt (state : UserState) (read written : List ℕ) (old new : Seen) : Type 0 where
   pub between : User
   pub item : Item
   pub reaches : Reaches (user_of state) read written between item
-  pub waits : MayWait state reaches.progress.items between item
+  pub waits : MayWait state reaches.progress.items reaches.progress.marks between item
+  pub missing : FallsShort
+      (tiles (user_of state) reaches.progress.items reaches.progress.marks + tiles_owed state + item_tiles between item) old new
 
--- So many items of what was read are answered, steps may be owed to some session then, and the pool owes more than it may
--- before the next item is.
+-- So many items of what was read are answered, and the pool owes more tasks than it may before the next item is, each of a
+-- session to which steps may be owed then.
 pub record StopsBetween (state : UserState) (read written : List ℕ) (new : Seen) : Type 0 where
   pub count : ℕ
   pub left : List ℕ
   pub between : User
   pub progress : Progress (user_of state) read count written left between
-  pub owes : (name : List ℕ) × MayOwe state progress.items name
+  pub owes : (task : Task) → Contains new.owed task
+      → 0 < most_owed state progress.items progress.marks task.name.label.session
   pub many : MAX_AHEAD < length new.owed
 
 -- What is written where the pool was given up.
-abbrev pub StopsShort : UserState → List ℕ → List ℕ → Seen → Type 0
-StopsShort state read written new = StopsAt state read written ⊎ StopsBetween state read written new
+abbrev pub StopsShort : UserState → List ℕ → List ℕ → Seen → Seen → Type 0
+StopsShort state read written old new = StopsAt state read written old new ⊎ StopsBetween state read written new
 
 -- What is written for what was read, and the state that is handed back.
 abbrev pub IsServed : Served → UserState → List ℕ → List ℕ → Seen → Seen → Option UserState → Type 0
@@ -103,8 +108,8 @@ IsServed Bye state read written old new (Some next) = AnswersAll EndsByBye state
 IsServed Ended state read written old new (Some next) = AnswersAll EndsByFault state read written old new next
 IsServed ReadFault state read written old new (Some next) = AnswersAll NoneEnds state read written old new next
 IsServed WriteFault state read written old new (Some next) = BreaksOff (user_of state) read written (user_of next)
-IsServed PoolClosed state read written old new None = StopsShort state read written new
-IsServed TooManyStrays state read written old new None = StopsShort state read written new
+IsServed PoolClosed state read written old new None = StopsShort state read written old new
+IsServed TooManyStrays state read written old new None = StopsShort state read written old new
 -- a state is handed back exactly where the pool was not given up
 IsServed End state read written old new None = ⊥
 IsServed Bye state read written old new None = ⊥

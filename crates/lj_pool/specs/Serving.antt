@@ -12,9 +12,9 @@ use Rattle.lj_wire.specs.Streams.{AreMarks}
 use Rattle.lj_wire.specs.Progress.{Takes}
 use Rattle.lj_wire.specs.Told.{item_reply, texts, last_user}
 use Rattle.lj_pool.specs.Seen.{Seen}
-use Rattle.lj_pool.specs.Counting.{tiles, tiles_owed, CountsRise}
+use Rattle.lj_pool.specs.Counting.{tiles, tiles_owed, CountsRise, HandedWithin}
 use Rattle.lj_pool.specs.Coming.{tiles_to_come}
-use Rattle.lj_pool.specs.Owing.{OwesAfter}
+use Rattle.lj_pool.specs.Owing.{OwesAfterAll}
 
 -- an item is answered by a reply, which leaves the next user, under some mark
 abbrev pub AnswersItem : User → Item → Reply → User → Type 0
@@ -36,6 +36,7 @@ pub record Serving (start : UserState) (first now : LineReader) (was is : Option
   pub next_is : user_of owned ≡ last_user (user_of start) items marks
   pub counted : CountsRise
       (tiles (user_of start) items marks + tiles_owed start - tiles_to_come owned) old new
-  pub owes : OwesAfter start items owned
+  pub handed : HandedWithin (tiles (user_of start) items marks + tiles_owed start) (tiles_to_come owned) old new
+  pub owes : OwesAfterAll start items marks owned
   pub phase : now.phase ≡ Open
   pub errors : now.errors ≡ first.errors

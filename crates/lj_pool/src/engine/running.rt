@@ -6,7 +6,7 @@ ghost use Rattle.lj_wire.specs.Runs.{item_before};
 ghost use Rattle.lj_pool.specs.declared.engine.running.Halt.TheVariants.{TooManyStrays};
 ghost use Rattle.lj_pool.specs.Seen.{SameOwed};
 ghost use Rattle.lj_pool.specs.Gathering.{Gathers};
-ghost use Rattle.lj_pool.specs.Counting.{CountsRise, StraysRise, item_tiles};
+ghost use Rattle.lj_pool.specs.Counting.{CountsRise, FallsShort, HandedWithin, StraysRise, item_tiles};
 ghost use Rattle.lj_pool.specs.Coming.{GoesOn, OwesNoMore, OwesNoneWhereWaited, posts_coming, tiles_coming, tiles_to_come};
 ghost use Rattle.lj_pool.specs.Owing.{OwesAfter};
 ghost use Rattle.lj_pool.specs.Running.{IsHalted};
@@ -42,8 +42,14 @@ pub(crate) fn answer<P: Pool>(
     ensures counted { OnOk result (CountsRise
         (item_tiles (user_in owner.old) item + tiles_to_come owner.old.state - tiles_to_come owner.new.state)
         (P.seen pool.old) (P.seen pool.new)) }
-    ensures owes { OnOk result (OwesAfter owner.old.state (item ∷ []) owner.new.state) }
+    ensures handed { OnOk result (HandedWithin
+        (tiles_to_come owner.old.state + item_tiles (user_in owner.old) item) (tiles_to_come owner.new.state)
+        (P.seen pool.old) (P.seen pool.new)) }
+    ensures owes { OnOk result (OwesAfter owner.old.state item owner.new.state) }
     ensures waits { OnErr result (0 < item_before owner.old.state item) }
+    ensures missing { OnErr result (FallsShort
+        (tiles_to_come owner.old.state + item_tiles (user_in owner.old) item)
+        (P.seen pool.old) (P.seen pool.new)) }
     ensures halted { IfErr result (λ halt. IsHalted halt (P.seen pool.old) (P.seen pool.new)) }
     ensures number { owner.new.number ≡ user }
     ensures quota { owner.new.state.quota ≡ owner.old.state.quota }
@@ -69,6 +75,9 @@ fn run<P: Pool>(owner: &mut Owner, user: u8, pool: &mut P, room: &mut Task) -> R
     ensures gathers { OnOk result (Gathers owner.new (P.seen pool.new).owed) }
     ensures counted { OnOk result
         (CountsRise (tiles_coming owner.old - tiles_coming owner.new) (P.seen pool.old) (P.seen pool.new)) }
+    ensures handed { OnOk result
+        (HandedWithin (tiles_coming owner.old) (tiles_coming owner.new) (P.seen pool.old) (P.seen pool.new)) }
+    ensures missing { OnErr result (FallsShort (tiles_coming owner.old) (P.seen pool.old) (P.seen pool.new)) }
     ensures no_more { OnOk result (OwesNoMore owner.old owner.new.state) }
     ensures rests { OnOk result (OwesNoneWhereWaited owner.old owner.new.state) }
     ensures halted { IfErr result (λ halt. IsHalted halt (P.seen pool.old) (P.seen pool.new)) }
@@ -189,6 +198,7 @@ fn post_or_wait<P: Pool>(owner: &mut Owner, pool: &mut P, room: &mut Task) -> Re
     ensures goes_on { GoesOn owner.old (P.seen pool.old) owner.new (P.seen pool.new) }
     ensures fewer { IfOk result (λ posted. posted ≡ true → posts_coming owner.new < posts_coming owner.old) }
     ensures owes { IfOk result (λ posted. posted ≡ false → 0 < length (P.seen pool.new).owed) }
+    ensures awaits { OnErr result (0 < tiles_coming owner.new) }
     ensures halted { IfErr result (λ halt. IsHalted halt (P.seen pool.old) (P.seen pool.new)) }
     ensures own { let user = owner.old.number in P.for_others pool.new user ≡ P.for_others pool.old user }
 {
@@ -210,6 +220,7 @@ fn post_next<P: Pool>(
     ensures owes { (wait ≡ false → 0 < length (P.seen pool.old).owed) → IsSome owner.old.waiting
         → ready_session owner.old ≡ None
         → IfOk result (λ posted. posted ≡ false → 0 < length (P.seen pool.new).owed) }
+    ensures awaits { OnErr result (0 < tiles_coming owner.new) }
     ensures halted { IfErr result (λ halt. IsHalted halt (P.seen pool.old) (P.seen pool.new)) }
     ensures own { let user = owner.old.number in P.for_others pool.new user ≡ P.for_others pool.old user }
 {
@@ -251,7 +262,9 @@ fn fetch_next<P: Pool>(owner: &mut Owner, user: u8, pool: &mut P) -> Result<bool
     ensures fewer { IfOk result (λ taken. taken ≡ true → tiles_coming owner.new < tiles_coming owner.old) }
     ensures stray { IfOk result (λ taken. taken ≡ false → StraysRise 1 (P.seen pool.old) (P.seen pool.new)) }
     ensures kept { IfOk result (λ taken. taken ≡ false → (P.seen pool.new).owed ≡ (P.seen pool.old).owed) }
+    ensures awaits { IfOk result (λ taken. taken ≡ false → 0 < tiles_coming owner.new) }
     ensures unchanged { OnErr result (SameOwed (P.seen pool.old) (P.seen pool.new)) }
+    ensures awaits_still { OnErr result (0 < tiles_coming owner.new) }
     ensures halted { IfErr result (λ halt. IsHalted halt (P.seen pool.old) (P.seen pool.new)) }
     ensures own { P.for_others pool.new user ≡ P.for_others pool.old user }
 {

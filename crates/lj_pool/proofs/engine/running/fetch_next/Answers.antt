@@ -1,5 +1,5 @@
-use Rattle.std.proofs.Common.{refl, sym, ◌∙◌, arith}
-use Rattle.lj_pool.proofs.Going.{comes, comes_fewer, comes_stray, shown}
+use Rattle.std.proofs.Common.{length, refl, sym, ap, ◌∙◌, arith}
+use Rattle.lj_pool.proofs.Going.{comes, comes_fewer, comes_stray, shown, owed-coming}
 use Rattle.lj_pool.proofs.engine.running.fetch_next.Goals as goal
 
 pub returns-clause-goes_on : goal.returns-clause-goes_on
@@ -35,3 +35,13 @@ returns-clause-kept g c taken =
     (comes_stray c.args.owner.now old new c.requires.gathers c.fetched.result.now
     (shown old new c.fetched.ensures (c.if-not-fetch_in.ensures.handed_out refl))
     c.take_in.new.self c.take_in.result c.take_in.ensures.accepted (sym c.is_ok.ensures.value ∙ taken)).owed
+
+pub returns-clause-awaits : goal.returns-clause-awaits
+returns-clause-awaits g c taken =
+    let same = ap length (returns-clause-kept g c taken) in
+    let some = c.requires.owes in
+    owed-coming c.take_in.new.self (g.P.Pool.seen c.fetch_in.new.self) (returns-clause-goes_on g c).gathers (omega (arith, same, some))
+
+pub returns-then-not-fetch_in-clause-awaits_still : goal.returns-then-not-fetch_in-clause-awaits_still
+returns-then-not-fetch_in-clause-awaits_still g c =
+    owed-coming c.args.owner.now (g.P.Pool.seen c.args.pool.now) c.requires.gathers c.requires.owes

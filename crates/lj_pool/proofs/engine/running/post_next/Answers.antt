@@ -2,7 +2,7 @@ use Rattle.std.proofs.Common.{◌<◌, refl, sym, subst}
 use Rattle.lj_session.specs.Owner.{Owner}
 use Rattle.lj_pool.specs.Coming.{GoesOn, posts_coming}
 use Rattle.lj_pool.proofs.Gathered.{owes_some}
-use Rattle.lj_pool.proofs.Going.{goes_nothing, goes_posted, fewer_posts}
+use Rattle.lj_pool.proofs.Going.{goes_nothing, goes_posted, fewer_posts, post-coming}
 use Rattle.lj_pool.proofs.engine.running.post_next.Goals as goal
 
 pub returns-then-is_full-clause-goes_on : goal.returns-then-is_full-clause-goes_on
@@ -28,3 +28,8 @@ returns-in-Ok-clause-fewer g c _ =
     subst (λ (o : Owner). posts_coming o < posts_coming c.args.owner.now) (sym c.posted.ensures.noted)
     (fewer_posts c.args.owner.now (g.P.Pool.seen c.args.pool.now) (g.P.Pool.seen c.post_from.new.self) c.requires.gathers
     c.next_task_in.new.room (c.if-not-next_task_in.ensures.some refl))
+
+pub returns-in-Err-Closed-clause-awaits : goal.returns-in-Err-Closed-clause-awaits
+returns-in-Err-Closed-clause-awaits g c =
+    post-coming c.args.owner.now (g.P.Pool.seen c.args.pool.now) c.requires.gathers
+    c.next_task_in.new.room (c.if-not-next_task_in.ensures.some refl)

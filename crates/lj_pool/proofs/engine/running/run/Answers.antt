@@ -1,5 +1,5 @@
 use Rattle.std.proofs.Common.{◌≡◌, true, false, refl, arith, rules}
-use Rattle.lj_pool.proofs.Ending.{Ends, ends, alike_some, strays_none}
+use Rattle.lj_pool.proofs.Ending.{Ends, ends, alike_some, at_err, strays_none}
 use Rattle.lj_pool.proofs.Going.{goes_then, goes_turned, turned_fewer}
 use Rattle.lj_pool.proofs.engine.running.run.Given.{Over}
 use Rattle.lj_pool.proofs.engine.running.run.Goals as goal
@@ -25,6 +25,9 @@ returns-in-Some-turn_session-clause-gathers g c = (ended g c).gathers
 pub returns-in-Some-turn_session-clause-counted : goal.returns-in-Some-turn_session-clause-counted
 returns-in-Some-turn_session-clause-counted g c = (ended g c).counted
 
+pub returns-in-Some-turn_session-clause-handed : goal.returns-in-Some-turn_session-clause-handed
+returns-in-Some-turn_session-clause-handed g c = (ended g c).handed
+
 pub returns-in-Some-turn_session-clause-no_more : goal.returns-in-Some-turn_session-clause-no_more
 returns-in-Some-turn_session-clause-no_more g c = (ended g c).no_more
 
@@ -39,6 +42,18 @@ poll_next-requires g c = record {
       c.in_default-turn_session.ensures.turned c.in_default-turn_session.ensures.alike
       c.turn_session.ensures.number c.turn_session.ensures.quota).gathers;
 }
+
+pub returns-in_err-post_next-clause-missing : goal.returns-in_err-post_next-clause-missing
+returns-in_err-post_next-clause-missing g c =
+    let turned = goes_turned c.loop-name.owner c.turn_session.new.self (g.P.Pool.seen c.loop-name.pool)
+    c.loop-name.invariant.goes.gathers c.in-Some.name c.in-Some.ensures.whole
+    (λ e. let last : false ≡ true = c.in_default-turn_session.ensures.last.1 e in cc)
+    c.in_default-turn_session.ensures.turned c.in_default-turn_session.ensures.alike
+    c.turn_session.ensures.number c.turn_session.ensures.quota in
+    let handed = (goes_then c.loop-name.invariant.goes
+    (goes_then turned (goes_then c.poll_next.ensures.goes_on c.post_next.ensures.goes_on))).handed in
+    let some = c.in_err-post_next.ensures.awaits in
+    at_err c.from_residual.result (omega (arith, handed, some))
 
 pub loop-name-preserved-in-Some : goal.loop-name-preserved-in-Some
 loop-name-preserved-in-Some g c =

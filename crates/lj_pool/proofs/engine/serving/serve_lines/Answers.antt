@@ -28,7 +28,7 @@ returns-in-Err-clause-told g c =
     let stops = serving-stops c.args.state c.args.lines.now c.items.lines (g.W.Sink.contents c.args.writer.now)
     (g.W.Sink.contents c.items.writer) (g.P.Pool.seen c.args.pool.now) (g.P.Pool.seen c.work_ahead.new.pool)
     c.work_ahead.new.owner.state s c.in-Err.halt (g.P.Pool.seen c.work_ahead.new.pool) c.in-Err.ensures.many
-    (ahead_owes c.items.invariant.idle c.work_ahead.ensures.goes_on c.in-Err.ensures.many) in
+    (ahead_owes c.items.invariant.idle c.work_ahead.ensures.goes_on) in
     subst (λ kind. Serves kind c.args.state c.args.lines.now.left c.items.lines.left (g.W.Sink.contents c.args.writer.now)
     (g.W.Sink.contents c.items.writer) (g.P.Pool.seen c.args.pool.now) (g.P.Pool.seen c.work_ahead.new.pool) c.given_up.result.0)
     (sym c.given_up.ensures.served)
@@ -78,7 +78,7 @@ returns-in-Err-answer-clause-told g c =
     let halts = serving-halts c.args.state c.args.lines.now c.items.lines (g.W.Sink.contents c.args.writer.now)
     (g.W.Sink.contents c.items.writer) (g.P.Pool.seen c.args.pool.now) (g.P.Pool.seen c.work_ahead.new.pool)
     c.work_ahead.new.owner.state s c.next.new.self c.in-Ok-Some.item item
-    c.in-Err-answer.halt (g.P.Pool.seen c.answer.new.pool) c.in-Err-answer.ensures.waits in
+    c.in-Err-answer.halt (g.P.Pool.seen c.answer.new.pool) c.in-Err-answer.ensures.waits c.in-Err-answer.ensures.missing in
     subst (λ kind. Serves kind c.args.state c.args.lines.now.left c.next.new.self.left (g.W.Sink.contents c.args.writer.now)
     (g.W.Sink.contents c.items.writer) (g.P.Pool.seen c.args.pool.now) (g.P.Pool.seen c.answer.new.pool)
     c.given_up-in-Err-answer.result.0) (sym c.given_up-in-Err-answer.ensures.served)
@@ -112,7 +112,7 @@ returns-in-Some-clause-told g c =
     (g.W.Sink.contents c.items.writer) (g.P.Pool.seen c.args.pool.now) (g.P.Pool.seen c.work_ahead.new.pool)
     c.work_ahead.new.owner.state s c.next.new.self c.in-Ok-Some.item item
     c.in-Ok-answer.reply c.answer.new.owner.state c.in-Ok-answer.ensures.answered (g.W.Sink.contents c.put_reply.new.writer)
-    written (g.P.Pool.seen c.answer.new.pool) c.in-Ok-answer.ensures.counted
+    written (g.P.Pool.seen c.answer.new.pool) c.in-Ok-answer.ensures.counted c.in-Ok-answer.ensures.handed
     c.into_state-in-Some.result c.into_state-in-Some.ensures.user
     (back_few c.answer.new.owner (g.P.Pool.seen c.answer.new.pool) c.in-Ok-answer.ensures.gathers c.in-Ok-answer.ensures.idle
     c.into_state-in-Some.result c.into_state-in-Some.ensures.state)
@@ -134,7 +134,7 @@ items-preserved g c =
           (g.W.Sink.contents c.items.writer) (g.P.Pool.seen c.args.pool.now) (g.P.Pool.seen c.work_ahead.new.pool)
           c.work_ahead.new.owner.state s c.next.new.self c.in-Ok-Some.item item
           c.in-Ok-answer.reply c.answer.new.owner.state c.in-Ok-answer.ensures.answered (g.W.Sink.contents c.put_reply.new.writer)
-          written (g.P.Pool.seen c.answer.new.pool) c.in-Ok-answer.ensures.counted
+          written (g.P.Pool.seen c.answer.new.pool) c.in-Ok-answer.ensures.counted c.in-Ok-answer.ensures.handed
           (sym c.ending_of-ending.ensures ∙ c.in_default-ending.is) c.in-Ok-answer.ensures.owes;
       gathers = c.in-Ok-answer.ensures.gathers;
       idle = c.in-Ok-answer.ensures.idle;
