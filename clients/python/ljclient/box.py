@@ -5,7 +5,6 @@ its coordinates, and these two tell the edge.
 """
 from __future__ import annotations
 
-import warnings
 from typing import TYPE_CHECKING, NamedTuple, Optional, Sequence, Tuple, Union
 
 from . import arrays, frames
@@ -13,6 +12,7 @@ from .errors import BadReply
 from .frames import MILLION, RING_EDGE
 from .order import Order, Place
 from .units import RING, Number, Scale, checked_positive, nano
+from .warning import warn_caller
 
 if TYPE_CHECKING:
     from .loading import Loader
@@ -91,14 +91,13 @@ def box_of(name: str, seen: Seen, edge: float) -> Tuple[bool, bool]:
 
 
 def warn_of_numbers(name: str, said: Order) -> None:
-    """Warns, at who has called what calls this, that numbers are the server's, unless an order says the user's."""
+    """Warns that numbers are the server's, unless an order says the user's."""
     if (said.step, said.direction) != (0, 1):
         return
     what = "steps" if said.numbers else "atoms and steps"
-    warnings.warn(
+    warn_caller(
         f"{name} is in a box whose edge is {RING_EDGE} at the server, as it is after load_saved, order='space' or resort. "
-        f"So its {what} have the server's numbers here; user.session(.., order=..) takes what session.order told elsewhere",
-        stacklevel=4,
+        f"So its {what} have the server's numbers here; user.session(.., order=..) takes what session.order told elsewhere"
     )
 
 

@@ -2,9 +2,6 @@
 from __future__ import annotations
 
 import math
-import os
-import sys
-import warnings
 from dataclasses import dataclass, replace
 from typing import TYPE_CHECKING, Optional, Tuple
 
@@ -15,6 +12,7 @@ from .renewal import Renewal
 from .replies import of_session
 from .thermo import Thermo
 from .units import Scale
+from .warning import warn_caller
 
 if TYPE_CHECKING:
     from .loading import Loader
@@ -27,7 +25,6 @@ SHORT_RUN = 500
 # After so many steps from the start the energy is measured again, then when their number has doubled, and after each 20,000.
 FIRST_CHECK = 1_000
 CHECKED_EACH = 20_000
-PACKAGE = os.path.dirname(__file__) + os.sep
 
 
 class EnergyWarning(UserWarning):
@@ -69,10 +66,11 @@ class EnergyWatch:
         step, before = self.start
         if self.is_on and abs(energy - before) >= LARGE_CHANGE:
             self.is_on = False
-            _warn(
+            warn_caller(
                 f"the energy of {name} has {'risen' if energy > before else 'fallen'} by {abs(energy - before):.3g} epsilon an "
                 f"atom from step {step} to step {row.step}. Take a smaller time step (h is {scale.h}, and grows with its "
-                f"square), and check the units of sigma and epsilon. See 'What is computed' in the README."
+                f"square), and check the units of sigma and epsilon. See 'What is computed' in the README.",
+                EnergyWarning,
             )
 
 
@@ -142,15 +140,8 @@ def warn_of_large_steps(scale: Scale, mixture: Optional[Mixture] = None) -> None
     if largest.dt is not None:
         shorter = 0.8 * largest.dt * math.sqrt(LARGE_STEP_FACTOR / largest.h)
         advice = f"Take a smaller time step (dt={shorter:.2g}), and check that epsilon={largest.epsilon:.4g} is in electronvolt."
-    _warn(
+    warn_caller(
         f"h is {largest.h}, above {LARGE_STEP_FACTOR}: the energy of such a run grows fast, and its atoms heat up or fly apart. "
-        f"{advice} See 'What is computed' in the README."
+        f"{advice} See 'What is computed' in the README.",
+        EnergyWarning,
     )
-
-
-def _warn(text: str) -> None:
-    """Warns at the nearest caller that is none of this package."""
-    level, frame = 1, sys._getframe()
-    while frame.f_back is not None and frame.f_code.co_filename.startswith(PACKAGE):
-        level, frame = level + 1, frame.f_back
-    warnings.warn(text, EnergyWarning, stacklevel=level)

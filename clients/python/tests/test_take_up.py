@@ -273,10 +273,11 @@ def test_an_atom_at_0_tells_nothing_until_it_moves(join, tmp_path, edge, before)
     body = MOVING.format(before=before).encode()
     with join() as user:
         user.ask(f"LOAD a {edge} 0.1 131072 pair {len(body)}", body)
-    with join() as user, warnings.catch_warnings():
-        warnings.simplefilter("ignore")
+    with join() as user, warnings.catch_warnings(record=True) as told:
+        warnings.simplefilter("always")
         session = user.session("a", edge=21.04, sigma=0.1, h=131072)
         assert seen(session, tmp_path) == [[(0, 0, 0)]] * 3
+        assert told == []
         session.branch("start")
         session.advance(5)
         (place,) = places = shown(user, 1)
@@ -284,6 +285,7 @@ def test_an_atom_at_0_tells_nothing_until_it_moves(join, tmp_path, edge, before)
         assert seen(session, tmp_path) == [in_box(places, 21.04)] * 3
         assert listed(session.places()) == places
         assert session.order.on_ring is (edge == RING_EDGE)
+        assert [warning.filename for warning in told] == [__file__] * (edge == RING_EDGE)
         assert session.restore("start") == 0
         assert session.advance(10) == 10
         assert seen(session, tmp_path) == [in_box(shown(user, 1), 21.04)] * 3
