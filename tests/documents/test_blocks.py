@@ -1,0 +1,412 @@
+"""Each block of the documents is run as it stands, or named here with the reason why it is not.
+
+The names of blocks are what they begin with or, of Python, what stands in them. Where a document shows what is printed,
+that is compared. Addresses are replaced by that of a server on a loopback port.
+"""
+import ast
+import contextlib
+import itertools
+import re
+import socket
+import subprocess
+import time
+
+import pytest
+from blocks import TOP, all_blocks
+from support import EXAMPLES, SECONDS, TOKEN, Server, free_port
+from terminals import PROMPT, Terminal, environment
+
+LOADED = "LOAD a 256 1 131072 rest 28\n2\ndimer\nAr 0 0 0\nAr 1.5 0 0\n"
+USERS = (EXAMPLES / "users").read_text()
+CODE = re.compile(r"`([^`]+)`")
+
+
+def contents(document):
+    return (TOP / document).read_text()
+
+
+def replies(folder, commands):
+    return folder.shell("bin/ljserve", commands).splitlines()
+
+
+def at_port(text, port):
+    """The text with the port of a server on this machine in place of that of the documents."""
+    return re.sub(r'127\.0\.0\.1(:|", )400\d', rf"127.0.0.1\g<1>{port}", text)
+
+
+# Checks that several blocks have.
+
+def runs(but=None):
+    """Holds that the lines of a block end with status 0, but for those that begin with words that are named with a reason."""
+
+    def check(block, folder):
+        left_out = but or {}
+        lines = block.text.splitlines()
+        assert all(any(line.startswith(word) for line in lines) for word in left_out)
+        folder.shell("\n".join(line for line in lines if not line.startswith(tuple(left_out))))
+
+    return check
+
+
+def prints(*wanted):
+    def check(block, folder):
+        assert folder.python(block.text) == list(wanted)
+
+    return check
+
+
+def is_printed_by(command):
+    def check(block, folder):
+        assert folder.shell(command) == block.text
+
+    return check
+
+
+def stands_in(path):
+    """Holds that a file has these lines, however far they are indented there."""
+
+    def lines_of(text):
+        return "\n".join(line.strip() for line in text.splitlines())
+
+    def check(block, _):
+        assert lines_of(block.text) in lines_of(contents(path))
+
+    return check
+
+
+def parted(text):
+    """The commands of a dialogue, and the replies that stand below each."""
+    commands, told = [], []
+    lines = iter(text.splitlines(keepends=True))
+    for line in lines:
+        if not line.startswith(("OK ", "ERR ")):
+            commands.append(line)
+            continue
+        told.append(line)
+        if line.startswith(("OK LIST", "OK DUMP")):
+            told += itertools.islice(lines, int(line.split()[-1]))
+    return "".join(commands), "".join(told)
+
+
+def is_dialogue(before=""):
+    """Holds that the program replies as a dialogue shows, after other commands."""
+
+    def check(block, folder):
+        commands, told = parted(block.text)
+        assert commands and told
+        assert folder.shell("bin/ljserve", before + commands).endswith(told)
+
+    return check
+
+
+def is_frame_after(steps):
+    """Holds that DUMP shows this frame after so many steps of the two atoms."""
+
+    def check(block, folder):
+        assert folder.shell("bin/ljserve", f"{LOADED}ADVANCE a {steps}\nDUMP a\n").endswith(block.text)
+
+    return check
+
+
+# README.md
+
+def stored_run(block, folder):
+    runs({"bin/try": NEEDS_KIT, "bin/test": NEEDS_KIT})(block, folder)
+    (command,) = [line for line in block.text.splitlines() if line.startswith("bin/ljserve")]
+    assert folder.shell(command) == (EXAMPLES / "dimer.replies").read_text()
+
+
+def lines_of_protocol(block, folder):
+    """The replies are those of the table below the block, whose commands are those of the block without the body."""
+    rows = re.findall(r"^\| `(.*?)` \| `(.*?)` \|", contents("README.md").split(block.text)[1].split("\n## ")[0], re.M)
+    commands, told = zip(*rows)
+    assert folder.shell(block.text).splitlines() == list(told)
+    inside = "".join(f"{line}\n" for line in block.text.splitlines()[1:-1])
+    assert inside == LOADED + "".join(f"{command}\n" for command in commands[1:])
+
+
+# docs/
+
+def first_dialogue(block, folder):
+    """The replies are those of the table below, behind that of DUMP the four lines that are shown at its end."""
+    below = contents("docs/PROTOCOL.md").split(block.text)[1]
+    table, frame = below.split("The four lines behind `OK DUMP a 1 4`:\n\n```\n")
+    told = [word for row in table.splitlines() if row.startswith("| `") for word in CODE.findall(row.split("|")[3])]
+    told[told.index("OK DUMP a 1 4") + 1:1 + told.index("OK DUMP a 1 4")] = frame.split("```")[0].splitlines()
+    assert replies(folder, block.text) == told
+
+
+def commands_of_a_checkpoint(block, folder):
+    told = re.search(r"The replies are `(.*?)`, `(.*?)` and `(.*?)`", contents("docs/CHECKPOINTS.md")).groups()
+    assert replies(folder, block.text) == list(told)
+
+
+def own_file(block, folder):
+    told = folder.shell(block.text).splitlines()
+    assert told[:2] == ["OK LOAD a 0 256", "OK ADVANCE a 100"]
+    assert f"`{told[2]}`" in contents("docs/EXAMPLES.md")
+
+
+def connected(port, child):
+    """A connection to a server, once it listens."""
+    end = time.monotonic() + SECONDS
+    while child.poll() is None and time.monotonic() < end:
+        with contextlib.suppress(ConnectionRefusedError):
+            return socket.create_connection(("127.0.0.1", port), SECONDS)
+        time.sleep(0.01)
+    raise AssertionError("the server does not listen")
+
+
+@contextlib.contextmanager
+def begun(command, folder):
+    """A connection to the server that a command of a document begins, at a port that is free."""
+    port = free_port()
+    words = ["sh", "-c", "exec " + at_port(command, port)]
+    child = subprocess.Popen(words, cwd=folder.path, env=folder.environment, stdout=subprocess.DEVNULL)
+    try:
+        yield connected(port, child)
+    finally:
+        child.kill()
+        child.wait()
+
+
+def is_told(connection, commands):
+    """What a server replies to commands up to the end of the connection."""
+    with connection:
+        connection.sendall(commands.encode())
+        connection.shutdown(socket.SHUT_WR)
+        return connection.makefile().read()
+
+
+def serves(block, folder):
+    with begun(block.text, folder) as connection:
+        assert is_told(connection, "HELLO alice aliceExampleToken000000000000001\nLIST\n") == "OK HELLO alice\nOK LIST 0\n"
+
+
+def dialogue_of_a_connection(block, _):
+    first, text = block.text.split("\n", 1)
+    commands, told = parted(text)
+    assert first == "$ nc 127.0.0.1 4000"
+    with Server(lines=USERS) as server:
+        assert is_told(socket.create_connection(("127.0.0.1", server.port), SECONDS), commands) == told
+
+
+def small_client(block, folder):
+    with Server(lines=USERS) as server:
+        assert folder.shell(at_port(block.text, server.port)).splitlines()[:2] == ["256", "step 1000"]
+
+
+def prompt_of_a_server(block, folder):
+    with Server(lines=USERS) as server:
+        assert folder.shell(at_port(block.text, server.port), "LIST\n") == "OK LIST 0\n"
+
+
+def before_the_lesson(block, folder):
+    *made, served = block.text.splitlines()
+    told = folder.shell("\n".join(made))
+    assert "22 users" in told
+    assert (folder.path / "slips.txt").read_text().count("192.0.2.10:4000") >= 22
+    name, token = re.search(r"^(student\d+) (\S+)", (folder.path / "users").read_text(), re.M).groups()
+    with begun(served, folder) as connection:
+        assert is_told(connection, f"HELLO {name} {token}\n") == f"OK HELLO {name}\n"
+
+
+def after_the_lesson(block, folder):
+    from ljclient import connect, units
+
+    with Server(users=("student01",)) as server:
+        with connect("127.0.0.1", server.port, "student01", TOKEN) as user:
+            user.load("argon", EXAMPLES / "argon_256.xyz", edge=21.04, dt=2, **units.ARGON)
+        folder.python(block.text.replace('"192.0.2.10", 4000', f'"127.0.0.1", {server.port}').replace("TOKEN", f'"{TOKEN}"'))
+    assert (folder.path / "argon.saved").read_text().startswith("ljserve checkpoint 1\n")
+
+
+# clients/python/README.md
+
+def path_of_the_client(block, folder):
+    assert folder.shell(block.text, "import ljclient\nprint(ljclient.run().sessions())\n", client=False) == "[]\n"
+
+
+def five_minutes(block, folder):
+    measured, away, back = folder.python(block.text)
+    assert f"{float(measured.split()[0]):.6f}" == "10.000006"
+    assert float(away) > 1000
+    assert back == "0.0"
+
+
+def server_that_keeps(block, folder):
+    with Server(lines=USERS) as server:
+        told = folder.python(at_port(block.text, server.port))
+    assert told == ["[Row(name='argon', step=100, atoms=256, branches=1)]", "100"]
+
+
+def on_the_way(block, folder):
+    *rows, steps = folder.python(block.text)
+    assert [row.split()[0] for row in rows] == ["0", "100", "200"]
+    assert steps == "[200, 210, 220, 230, 240] 5"
+    assert (folder.path / "argon_way.xyz").read_text().count("step=") == 5
+
+
+def two_species(block, folder):
+    *told, energy = folder.python(block.text)
+    assert "\n".join(["```", *told, "```"]) in contents(block.document)
+    assert float(energy) < -1
+
+
+def many_runs(block, folder):
+    """At first one atom alone moves, by its tug along x."""
+    noted = [ast.literal_eval(line) for line in folder.python(block.text)]
+    assert [(len(each), each[0]) for each in noted] == [(3, 1000000**2)] * 8
+    assert len({each[-1] for each in noted}) == 8
+
+
+def prompt_at_a_terminal(block, folder):
+    """Each line is typed, and what is shown below it is as in the document."""
+    with contextlib.closing(Terminal(PROMPT, {**environment(), "PYTHONPATH": str(TOP / "clients" / "python")})) as terminal:
+        terminal.until("ljserve> ")
+        for part in block.text.split("ljserve> ")[1:]:
+            line, told = part.split("\n", 1)
+            terminal.type(line.replace("examples/", f"{EXAMPLES}/") + "\r")
+            terminal.until("\n")
+            assert terminal.until("ljserve> ") == f"{told}ljserve> "
+
+
+def prompt_in_a_pipe(block, folder):
+    told = folder.shell(block.text).splitlines()
+    assert told[:2] == ["OK LOAD a 0 256", "OK ADVANCE a 100"]
+    assert f"`{told[2]}`" in contents("docs/EXAMPLES.md")
+
+
+# conformance/README.md
+
+def streams_of_a_port(block, folder):
+    folder.put("my_port", "#!/bin/sh\nshift 2\nexec bin/ljserve run \"$@\"\n")
+    assert folder.shell(block.text.splitlines()[1]).endswith(" streams agree, 0 differ\n")
+
+
+def reference(block, folder):
+    assert folder.shell(block.text.splitlines()[0]) == (EXAMPLES / "dimer.replies").read_text()
+
+
+# What becomes of each block: the check that runs it, or the reason why it is not run.
+
+DRAWING = "a drawing"
+FORM = "the form of a line"
+NEEDS_KIT = "needs a kit of the toolchain, and minutes of proofs"
+TAKES_HOURS = "takes hours"
+ELSEWHERE = "an address that stands for another machine's"
+BLOCKS = {
+    "README.md": {
+        "bytes in": DRAWING,
+        "bin/try < examples/dimer.txt": stored_run,
+        "rattle-kit": "the kit, as `rt version` tells it",
+        "step       n - 1": DRAWING,
+        "bin/ljserve << 'END'": lines_of_protocol,
+        "for _ in range(2)": prints("0.0"),
+    },
+    "CONTRIBUTING.md": {
+        "rt check": NEEDS_KIT,
+        "rt try": NEEDS_KIT,
+        "bin/release": NEEDS_KIT,
+        "lj_tile: ": "the subject of a commit",
+    },
+    "docs/ARCHITECTURE.md": {"                      lock: Hall": DRAWING},
+    "docs/CHECKPOINTS.md": {
+        "argon.save(": prints("500 1000", "0.0"),
+        "ljserve checkpoint 1": "clients/python/tests/test_checkpoint.py compares it with a file that is written by hand",
+        "LOAD a 4294.967296": commands_of_a_checkpoint,
+    },
+    "docs/CLASS.md": {
+        "tools/users 22": before_the_lesson,
+        "tools/watch": "clients/python/tests/test_watch.py runs it, at ports that are free",
+        "python3 -m ljclient 192.0.2.10": ELSEWHERE,
+        "3 open": "clients/python/tests/test_watch.py compares such lines, whose times and addresses differ",
+        "from ljclient import": after_the_lesson,
+    },
+    "docs/EXAMPLES.md": {"(examples/load": own_file},
+    "docs/PROTOCOL.md": {
+        LOADED: first_dialogue,
+        "2\nstep 1": is_frame_after(1),
+        "LOADMIX m": is_dialogue(),
+        "START a 2": is_dialogue(LOADED + LOADED.replace("LOAD a", "LOAD b")),
+        "OK DUMP a 2 4": is_frame_after(2),
+        "ljserve run": runs(),
+    },
+    "docs/READING.md": {
+        "pub fn image": stands_in("crates/lj_ring/src/coordinates.rt"),
+        "-- z is the least image": stands_in("crates/lj_ring/specs/Ring.antt"),
+        "pub fn steps_are_undone": stands_in("crates/lj_step/src/laws.rt"),
+        "pub fn hello": stands_in("crates/lj_access/src/directory.rt"),
+        "bin/ljserve --version": NEEDS_KIT,
+    },
+    "docs/SCHEDULES.md": {
+        "bin/ljserve replay": runs(),
+        "A 1 OK LOAD c": is_printed_by("bin/ljserve replay examples/two_users.schedule"),
+        "A 1 OK LOAD a": is_printed_by("bin/ljserve replay examples/side_by_side.schedule"),
+        "user NAME": FORM,
+    },
+    "docs/SERVER.md": {
+        "bin/ljserve serve": serves,
+        "served 1 connections": "tests/server compares what a server prints at its end",
+        "examples/session": small_client,
+        "python3 -m ljclient 127.0.0.1": prompt_of_a_server,
+        "NAME TOKEN": FORM,
+        "HELLO NAME TOKEN": FORM,
+        "$ nc": dialogue_of_a_connection,
+        "sudo": "needs systemd, and changes the machine",
+    },
+    "docs/SOAK.md": {"bench/soak serve": TAKES_HOURS, "bench/soak bytes": TAKES_HOURS},
+    "clients/python/README.md": {
+        "export PYTHONPATH": path_of_the_client,
+        "print(argon.dt": five_minutes,
+        'argon.branch("warm")': server_that_keeps,
+        "fine.start(100)": prints("[200, 100]", "300", "300 300"),
+        "argon.thermo(": on_the_way,
+        "user.load_mix(": two_species,
+        "Ar with Ar": "compared with what the block above it prints",
+        "python3 -m ljclient view": "needs a browser; clients/python/tests/test_view_program.py begins it without one",
+        "partial(begin": many_runs,
+        "python3 -m ljclient\n": runs(),
+        "ljserve> LOAD": prompt_at_a_terminal,
+        "printf": prompt_in_a_pipe,
+    },
+    "conformance/README.md": {
+        "conformance/run bin/ljserve": streams_of_a_port,
+        "motion/edges_of_bins": "what a port is told that rounds down",
+        "conformance/reference.py <": reference,
+        "conformance/random": "takes an hour; clients/python/tests/test_conformance.py plays 300 streams",
+    },
+}
+NAMED = [(document, word) for document, words in BLOCKS.items() for word in words]
+
+
+def found(block):
+    """What is said of a block: for each name that it has, the check or the reason."""
+    return [said for word, said in BLOCKS.get(block.document, {}).items() if block.is_named(word)]
+
+
+RUN = [block for block in all_blocks() if any(map(callable, found(block)))]
+
+
+@pytest.mark.parametrize("block", RUN, ids=str)
+def test_block(block, folder):
+    (check,) = found(block)
+    check(block, folder)
+
+
+def test_the_comparison_that_is_silent(folder):
+    """Both files are among the examples, since a release has no crates."""
+    (command,) = re.findall(r"`(bin/ljserve < \S+ \| cmp - \S+)` is silent", contents("README.md"))
+    assert folder.shell(command) == ""
+    assert contents("examples/dimer.txt") == contents("crates/ljserve/stdin")
+    assert contents("examples/dimer.replies") == contents("crates/ljserve/stdout")
+
+
+@pytest.mark.parametrize("block", all_blocks(), ids=str)
+def test_it_is_run_or_named_with_a_reason(block):
+    assert len(found(block)) == 1
+
+
+@pytest.mark.parametrize("document, word", NAMED)
+def test_a_name_is_that_of_one_block(document, word):
+    assert sum(block.document == document and block.is_named(word) for block in all_blocks()) == 1
