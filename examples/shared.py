@@ -17,7 +17,7 @@ if os.path.exists(os.path.join(TOP, "VERSION")):  # a release
     os.environ.setdefault("LJSERVE", os.path.join(TOP, "bin", "ljserve"))
 
 RING = ljclient.units.RING  # the edge of the box, in ring units
-H = 131072  # the usual step factor: a time step of 0.0055
+H = 131072  # a time step of 0.0055, for runs of some thousand steps; README.md says what is for longer ones
 CELLS = 4  # of the crystal along each axis, with four atoms in each
 ATOMS = 4 * CELLS**3
 DENSITY = 0.8442  # atoms per cube of sigma, with which argon is liquid just above its triple point

@@ -3,7 +3,7 @@
     from ljclient import run, units
 
     with run() as user:
-        argon = user.load("argon", "argon_256.xyz", edge=21.04, dt=10, **units.ARGON)
+        argon = user.load("argon", "argon_256.xyz", edge=21.04, dt=2, **units.ARGON)
         start = argon.places()
         argon.advance(1000, progress=True)
         argon.reverse()

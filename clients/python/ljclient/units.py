@@ -45,7 +45,7 @@ class Substance(TypedDict):
 
 
 ARGON: Substance = {"sigma": 3.4, "epsilon": 119.8 * kelvin, "mass": 39.948}
-"""Argon, as in Rahman's simulation of 1964: `user.load("a", file, edge=21.04, dt=10, **units.ARGON)`."""
+"""Argon, as in Rahman's simulation of 1964: `user.load("a", file, edge=21.04, dt=2, **units.ARGON)`."""
 
 
 def reduced_time_step(h: int) -> float:

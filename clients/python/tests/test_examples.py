@@ -70,14 +70,14 @@ class OnAServer(unittest.TestCase):
 
     def ran(self, token):
         """What `examples/session` does with 256 atoms in 100 steps."""
-        words = [f"127.0.0.1:{self.server.port}", "ann", str(EXAMPLES / "argon_256.xyz"), "21.04", "3.4", "131072", "100"]
+        words = [f"127.0.0.1:{self.server.port}", "ann", str(EXAMPLES / "argon_256.xyz"), "21.04", "3.4", "3706", "100"]
         command, environment = [sys.executable, str(EXAMPLES / "session"), *words], {**os.environ, "LJSERVE_TOKEN": token}
         return subprocess.run(command, env=environment, capture_output=True, text=True, timeout=2 * SECONDS)
 
     def test_a_file_is_run(self):
         done = self.ran(TOKEN)
         self.assertEqual((done.returncode, done.stdout.splitlines()[:2]), (0, ["256", "step 100"]))
-        place = "100292 5391970 3675682"
+        place = "638484 804537 4294921034"
         self.assertIn(f"step 100: atom 0 at {place}\nmomentum 0 0 0, ", done.stderr)
         self.assertIn(f"`OK SHOW a 100 0 {place}`", (TOP / "docs" / "EXAMPLES.md").read_text())
 

@@ -1,0 +1,40 @@
+"""The numbers that the README works out, by arithmetic of its own, and those that it takes from docs/ACCURACY.md."""
+import re
+from fractions import Fraction
+
+from blocks import TOP
+
+README = (TOP / "README.md").read_text()
+SIGMA = 2**24  # of the two atoms, in ring units
+H = 131072
+
+
+def force(square):
+    """The Lennard-Jones force over the distance, at a squared distance in squares of sigma."""
+    u = 1 / Fraction(square)
+    return 24 * (2 * u**7 - u**4)
+
+
+def test_the_pair_that_is_worked_out():
+    worked = re.findall(r"in? bin (\d+).*?`(\d+) \* ([\d.]+) / 2\^(\d+)` is (\d+)", README.replace("is where bin", "in bin"))
+    assert [int(bin) for bin, *_ in worked] == [288, 287]
+    distances = [Fraction(3, 2), Fraction(3 * SIGMA // 2 - 2 * 589, SIGMA)]
+    for (bin, entry, factor, power, push), distance in zip(worked, distances):
+        assert int(128 * distance**2) == int(bin)
+        assert int(force(Fraction(2 * int(bin) + 1, 256)) * 2**24) == -int(entry)
+        assert int(entry) * Fraction(factor) / 2 ** int(power) == int(entry) * H * distance * SIGMA / 2**56
+        assert int(int(entry) * Fraction(factor) / 2 ** int(power)) == int(push)
+        assert round(-force(distance**2) * H * distance * SIGMA / 2**32) == 593
+    assert "by 593 both times" in README
+
+
+def test_the_energies_are_those_of_accuracy():
+    measured = (TOP / "docs" / "ACCURACY.md").read_text()
+    rows = re.findall(r"^\| (\d+) \| ([\d.]+) \| ([\d.]+ fs) \| ([\d.]+)(?: epsilon per atom)? \| (.*?) \|$", README, re.M)
+    assert len(rows) == 4
+    for h, step, argon, gained, last in rows:
+        (row,) = re.findall(rf"^\| {h} \| {step} \| {argon} \| (.*) \|$", measured, re.M)
+        cells = row.split(" | ")
+        assert cells[1] == f"+{gained}"
+        burst = re.fullmatch(r"bursts after (\d+),(\d+)", last)
+        assert cells[-1] == "".join(burst.groups()) if burst else (cells[4], cells[-1]) == (f"+{last}", "no")
