@@ -194,5 +194,6 @@ def test_a_prompt_says_so_before_what_is_refused(server, terminal):
     says(terminal, "LIST")
     with started_again(server):
         told = says(terminal, "ADVANCE a 10")
-        assert told.startswith("  no longer at the server: a\n  the server was started again, or another connection has dropped it\n")
+        why = "the server was started again, or another connection has dropped it"
+        assert told.startswith(f"  no longer at the server: a\n  {why}\n")
         assert f"\nERR 10 NO_SESSION\n  {NEVER}\n  sessions: none\n" in told

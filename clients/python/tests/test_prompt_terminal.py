@@ -144,7 +144,7 @@ class AtATerminal(unittest.TestCase):
             terminal = self.begin(f"127.0.0.1:{server.port}", "ann", LJSERVE_TOKEN=TOKEN)
             terminal.until("ann> ")
             self.says(terminal, f"LOAD a {ARGON} 21.04 3.4 131072", "ann> ")
-            server.child.kill()
+            server.end()
             told = self.says(terminal, "MEASURE a", "ann> ")
             self.assertIn("The next command begins a new connection. If the server still runs, it still has the sessions.", told)
             self.assertIn("cannot connect", self.says(terminal, "LIST", "ann> "))
