@@ -13,6 +13,7 @@ import time
 
 import pytest
 from blocks import TOP, all_blocks
+from ljclient import connect, units
 from support import EXAMPLES, SECONDS, TOKEN, Server, free_port
 from terminals import PROMPT, Terminal, environment
 
@@ -212,8 +213,6 @@ def before_the_lesson(block, folder):
 
 
 def after_the_lesson(block, folder):
-    from ljclient import connect, units
-
     with Server(users=("student01",)) as server:
         with connect("127.0.0.1", server.port, "student01", TOKEN) as user:
             user.load("argon", EXAMPLES / "argon_256.xyz", edge=21.04, dt=2, **units.ARGON)
