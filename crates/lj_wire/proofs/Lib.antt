@@ -3,6 +3,7 @@ pub mod ReplyLines
 pub mod Splitting
 pub mod Marks
 mod Turns
+mod Alone
 mod Existence
 pub mod Progressing
 mod Displacements

@@ -1,10 +1,10 @@
 -- Laws of streams and of answers, each proved on the function of its name.
-use Rattle.std.specs.Prelude.{◌≡◌, ℕ, ◌<◌, ◌≤◌, Bool, true, false, List}
+use Rattle.std.specs.Prelude.{◌≡◌, ℕ, ◌<◌, ◌≤◌, Bool, true, false, List, map}
 use Rattle.lj_session.specs.declared.body.LoadBody.TheVariants.{Lost}
 use Rattle.lj_session.specs.declared.command.Command.{Command as Order}
 use Rattle.lj_session.specs.Users.{User}
 use Rattle.lj_session.specs.Answers.{AnswersAlike}
-use Rattle.lj_session.specs.UserState.{UserState, turns_before}
+use Rattle.lj_session.specs.UserState.{UserState, turns_before, user_after}
 use Rattle.lj_session.specs.Owner.{command_left}
 use Rattle.lj_wire.specs.declared.item.Item.{Item}
 use Rattle.lj_wire.specs.declared.item.Item.TheVariants.{Command}
@@ -14,7 +14,7 @@ use Rattle.lj_wire.specs.Commands.{body_len_announced, item_with, item_of}
 use Rattle.std.specs.List.{concat}
 use Rattle.lj_session.specs.declared.reply.Reply.{Reply}
 use Rattle.lj_wire.specs.Texts.{is_memory, text, reply_lines}
-use Rattle.lj_wire.specs.Told.{item_reply, item_text}
+use Rattle.lj_wire.specs.Told.{item_reply, item_text, last_user, alone}
 use Rattle.lj_wire.specs.Runs.{item_before}
 use Rattle.lj_wire.specs.Streams.{Splits}
 
@@ -56,3 +56,14 @@ BodyIsBounded = (line : List ℕ) → body_len_announced line ≤ MAX_BODY_BYTES
 -- The text of a reply is its lines, one after another.
 abbrev pub LinesAreTheText : Type 0
 LinesAreTheText = (user : User) (reply : Reply) → text user reply ≡ concat (reply_lines user reply)
+
+-- Commands lead a user where they lead it as items.
+abbrev pub CommandsAreItems : Type 0
+CommandsAreItems = (user : User) (commands : List Order) (marks : List Bool)
+    → last_user user (map (λ command. Command command) commands) marks ≡ user_after user commands marks
+
+-- The user is the last one of some items with marks, answered alone.
+pub record IsReachedAlone (user : User) : Type 0 where
+  pub items : List Item
+  pub marks : List Bool
+  pub leads : user ≡ (alone user.quota items marks).1

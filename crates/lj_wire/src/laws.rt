@@ -1,6 +1,10 @@
-//! Laws of streams and of answers: functions that do nothing, whose contracts are the laws.
+//! Laws of streams and of answers: functions that do nothing of their own, whose contracts are the laws.
+ghost use Rattle.lj_session.specs.UserState.{user_of};
 ghost use Rattle.lj_wire.specs.Laws.{OneSplitting, SomeSplitting, MarkIsTold, AlikeIsTold, WaitingGoesOn};
-ghost use Rattle.lj_wire.specs.Laws.{BodyMissingIsMarked, BodyIsBounded, LinesAreTheText};
+ghost use Rattle.lj_wire.specs.Laws.{BodyMissingIsMarked, BodyIsBounded, LinesAreTheText, CommandsAreItems};
+ghost use Rattle.lj_wire.specs.Laws.{IsReachedAlone};
+
+use lj_session::UserState;
 
 /// A stream has one splitting into items and a rest.
 pub fn one_splitting()
@@ -41,3 +45,16 @@ pub fn body_is_bounded()
 pub fn lines_are_the_text()
     ensures { LinesAreTheText }
 {}
+
+/// Commands lead a user where they lead it as items.
+pub fn commands_are_items()
+    ensures { CommandsAreItems }
+{}
+
+/// The user of every state is the last one of some items with marks, answered alone.
+pub fn state_is_reached_alone(state: &UserState)
+    ensures { IsReachedAlone (user_of state.now) }
+{
+    commands_are_items();
+    state.len();
+}

@@ -22,8 +22,8 @@ pub use ends::{
 pub use hello::{Hello, TOKEN_WORD_BYTES, TokenWord};
 pub use item::{Fault, Item};
 pub use laws::{
-    alike_is_told, body_is_bounded, body_missing_is_marked, lines_are_the_text, mark_is_told,
-    one_splitting, some_splitting, waiting_goes_on,
+    alike_is_told, body_is_bounded, body_missing_is_marked, commands_are_items, lines_are_the_text,
+    mark_is_told, one_splitting, some_splitting, state_is_reached_alone, waiting_goes_on,
 };
 pub use limits::{LONG_LINE_BYTES, MAX_BODY_BYTES, MAX_ITEMS, MAX_LINE_BYTES};
 pub use line::split_line;
