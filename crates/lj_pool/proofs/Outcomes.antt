@@ -21,7 +21,7 @@ use Rattle.lj_session.specs.Loads.{admission, refusal_unless}
 use Rattle.lj_session.specs.Answers.{session_named, session_of, simulation_saved, can_advance, command_result, reply_and_user, answer}
 use Rattle.lj_session.specs.Turns.{turns, waits_for, advance_turns, measure_turns}
 use Rattle.lj_session.specs.Begins.{OnRefusal}
-use Rattle.lj_session.specs.UserState.{HeldSession, UserState, IsAtWork, IsIdle, IsIdleIn, SameSteps, StepsFollow, user_of}
+use Rattle.lj_session.specs.UserState.{HeldSession, UserState, IsAtWork, IsIdle, IsIdleIn, SameSteps, StepsAfterLoad, StepsFollow, user_of}
 use Rattle.lj_session.specs.UserState.{held_session, with_start, turns_before}
 use Rattle.lj_session.specs.Owner.{IsAnswered}
 use Rattle.lj_session.proofs.AtWork.{kind-none}
@@ -235,7 +235,8 @@ outcome old new (Load load) reply work a u s z name n = by (held_session old nam
 
     by : (o : Option HeldSession) → held_session old name ≡ o → Outcome old new (Load load) name
     by None e = generic old new (Load load) reply work a u s z name n
-        (λ held found. absurd (none-some held (sym e ∙ found))) (λ after there. s name after n there)
+        (λ held found. absurd (none-some held (sym e ∙ found)))
+        (λ after there. inl (subst (λ o. StepsAfterLoad o after) e (s name after n there)))
     by (Some held) e = inr (inl (record {
       before = held;
       after = held;

@@ -9,13 +9,13 @@ use Rattle.lj_tile.specs.declared.names.Kind.TheVariants.{Force, Energy}
 use Rattle.lj_step.specs.Sim.{OpenStep}
 use Rattle.lj_step.specs.OpenSteps.{kind_of, with_tile}
 use Rattle.lj_session.specs.declared.command.Command.{Command}
-use Rattle.lj_session.specs.declared.command.Command.TheVariants.{Start, Forget, ListBranches, Measure}
+use Rattle.lj_session.specs.declared.command.Command.TheVariants.{Load, Start, Forget, ListBranches, Measure}
 use Rattle.lj_session.specs.declared.refusal.Refusal.{Refusal}
 use Rattle.lj_session.specs.declared.reply.Reply.{Reply}
 use Rattle.lj_session.specs.Turns.{waits_for}
 use Rattle.lj_session.specs.Answers.{session_named, command_result, can_advance}
 use Rattle.lj_session.specs.Users.{User}
-use Rattle.lj_session.specs.UserState.{OthersKept, StepsFollow, StepsAfter, SameSteps, IsIdle, Performs, steps_before, with_start, session_meant, user_of}
+use Rattle.lj_session.specs.UserState.{OthersKept, StepsFollow, StepsAfter, StepsAfterLoad, SameSteps, IsIdle, Performs, steps_before, with_start, session_meant, user_of}
 use Rattle.lj_session.proofs.Performing.{IsFarIn, steps-same, start-done}
 use Rattle.lj_session.specs.UserState.{HeldSession, UserState, IsAtWork, kind_owed, is_measured, held_session, with_held_session, with_session_changed, with_step, with_more_owed, with_step_passed, with_step_taken, session_at_rest, state_at_rest, with_posted, with_passed_to, next_tile, with_tile_in}
 use Rattle.lj_session.proofs.Entries.{by_test, named-put_any, named-put_other, named-seen}
@@ -160,7 +160,16 @@ at_work-follows command old new others steps work name held e = by (session_name
     begun n (Some before) h is = subst (λ (x : HeldSession). kind_of x.live.part ≡ kind_owed None name x) (sym is)
         (kind-started name n before (work name before h))
 
+    idle : IsIdle held → kind_of held.live.part ≡ kind_owed None name held
+    idle i = i.closed ∙ sym (kind-none None name held i.owed refl)
+
+    loaded : (o : Option HeldSession) → held_session old name ≡ o → StepsAfterLoad o held
+        → kind_of held.live.part ≡ kind_owed None name held
+    loaded None h i = idle i
+    loaded (Some before) h s = same (Some before) h s
+
     after : (command : Command) → StepsAfter command (held_session old name) held → kind_of held.live.part ≡ kind_owed None name held
+    after (Load load) s = loaded (held_session old name) refl s
     after (Start session n) s = begun n (held_session old name) refl s
     after (Forget session branch) s = same (held_session old name) refl s
     after (ListBranches session) s = same (held_session old name) refl s
@@ -168,7 +177,7 @@ at_work-follows command old new others steps work name held e = by (session_name
       where
         either : IsIdle held ⊎ IsSomeAnd (held_session old name) (λ before. SameSteps before held)
             → kind_of held.live.part ≡ kind_owed None name held
-        either (inl i) = i.closed ∙ sym (kind-none None name held i.owed refl)
+        either (inl i) = idle i
         either (inr s) = same (held_session old name) refl s
 
     own : session_named command ≡ Some name → kind_of held.live.part ≡ kind_owed None name held

@@ -1,6 +1,6 @@
 -- LOAD and LOADMIX, case by case.
 use Rattle.std.proofs.Common.{◌≡◌, ℕ, ◌+◌, Bool, true, false, List, length, Option, Some, None, Result, Ok, Err, nat_le}
-use Rattle.std.proofs.Common.{nat_lt, refl, sym, ap, ◌∙◌, subst, inl}
+use Rattle.std.proofs.Common.{nat_lt, refl, sym, ap, ◌∙◌, subst}
 use Rattle.std.specs.Prelude.{is_some}
 use Rattle.std.specs.Option.{option_map}
 use Rattle.std.proofs.lemmas.Bool.{true≢false}
@@ -27,7 +27,7 @@ use Rattle.lj_session.specs.Substances.{load_reply, mix_of_substance, nano_or_ze
 use Rattle.lj_session.specs.Answers.{command_result}
 use Rattle.lj_session.specs.Openings.{frames_of, last_of, held_from}
 use Rattle.lj_session.specs.Faults.{xyz_refusal}
-use Rattle.lj_session.specs.UserState.{HeldSession, UserState, IsIdle, Performs, session_meant, user_of, held_session, with_held_session}
+use Rattle.lj_session.specs.UserState.{HeldSession, UserState, IsIdle, StepsAfterLoad, Performs, session_meant, user_of, held_session, with_held_session}
 use Rattle.lj_step.specs.OpenSteps.{kind_of}
 use Rattle.lj_session.proofs.Entries.{by_test, named-put_any, named-seen}
 use Rattle.lj_session.proofs.Holding.{user_of-put}
@@ -166,7 +166,9 @@ module _ (old new : UserState) (load : Load) (mix : Mix) (is_mix : admission (us
           (sym (ap user_of is ∙ user_of-put old load.name (held_from mix (symbols_of load.substance) first (last_of first second))))))
           (λ other apart. ap (λ (o : UserState). held_session o other) is
           ∙ others-put old load.name (held_from mix (symbols_of load.substance) first (last_of first second)) other apart)
-          (λ name after value_named there. inl (idle_of (held_from mix (symbols_of load.substance) first (last_of first second)) after
+          (λ name after value_named there. subst (λ o. StepsAfterLoad o after)
+          (sym (ap (held_session old) (same_name name load.name value_named) ∙ absent-admitted))
+          (idle_of (held_from mix (symbols_of load.substance) first (last_of first second)) after
           (sym (named-put_any name old.sessions (held_from mix (symbols_of load.substance) first (last_of first second)))
           ∙ ap (λ n. held_session (with_held_session n (held_from mix (symbols_of load.substance) first (last_of first second)) old) name) (same_name name load.name value_named)
           ∙ ap (λ (o : UserState). held_session o name) (sym is) ∙ there) refl refl))

@@ -111,16 +111,28 @@ is_done user (ListBranches name) mark = after (ListBranches name) (session_of us
 is_done user (Unload name) mark = after (Unload name) (session_of user name) _ (λ session. (tt, tt))
 is_done user Bye mark = (tt, tt)
 
+-- what is done is no refusal
+unrefused : (P : Type 0) (made : Reply) → IsDone made → OnRefusal made P
+unrefused P (reply.Refused refusal) h = absurd h
+unrefused P _ h = tt
+
 -- so a refusal that is replied is an error, which changes nothing
 pub refused-unchanged : (P : Type 0) (old new : UserState) (command : Command) (result : Result Reply Refusal)
     → Performs old command result new → OnErr result P → OnRefusal (reply_of result) P
 refused-unchanged P old new command (Err refusal) performs same = same
-refused-unchanged P old new command (Ok made) performs same = by made
+refused-unchanged P old new command (Ok made) performs same = unrefused P made
     (subst (λ r. IfOk r (λ made. Replies command made.0)) performs.performs (is_done _ command performs.mark)).0
-  where
-    by : (made : Reply) → IsDone made → OnRefusal made P
-    by (reply.Refused refusal) h = absurd h
-    by _ h = tt
+
+-- MEASURE is not refused once its energy step is whole
+pub measured-unrefused : (P : Type 0) (old : UserState) (name : List ℕ) (made : Reply) → Reads old (Measure name) (Ok made)
+    → OnRefusal made P
+measured-unrefused P old name made reads = unrefused P made
+    (subst (λ r. IfOk r (λ made. Replies (Measure name) made.0)) (reads false) (is_done _ (Measure name) false)).0
+
+-- what follows where a command is refused
+pub on_refusal : {P Q : Type 0} (made : Reply) → (P → Q) → OnRefusal made P → OnRefusal made Q
+on_refusal (reply.Refused refusal) follows p = follows p
+on_refusal _ follows p = tt
 
 -- to a session whose frame is told no step is owed
 pub settled-performed : (old new : UserState) (command : Command) (result : Result Reply Refusal)

@@ -266,6 +266,7 @@ rests-followed command old new name waits none work steps held there =
     none_some e = cc
 
     after : (command : Command) → waits_for command ≡ Some name → StepsAfter command (held_session old name) held → IsIdle held
+    after (Load load) w s = absurd (none_some w)
     after (Start session n) w s = absurd (none_some w)
     after (Forget session branch) w s = absurd (none_some w)
     after (ListBranches session) w s = absurd (none_some w)

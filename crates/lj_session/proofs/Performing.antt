@@ -36,6 +36,7 @@ IsFarIn owned command =
 
 -- nothing has changed
 same-after : (command : Command) (held : HeldSession) → IsFar command held → StepsAfter command (Some held) held
+same-after (Load load) held far = record { live = refl; passed = refl; owed = refl }
 same-after (Start name n) held far = rw far refl
 same-after (Forget name branch) held far = record { live = refl; passed = refl; owed = refl }
 same-after (ListBranches name) held far = record { live = refl; passed = refl; owed = refl }

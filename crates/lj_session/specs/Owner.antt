@@ -121,10 +121,14 @@ with_task_in work owner =
 abbrev pub ready_session : Owner → Option (List ℕ)
 ready_session owner = find (is_whole_in owner.state) (names owner.state)
 
--- the step of a session passed, and what waits for the session begun again
+-- the step of a session passed
+abbrev pub state_turned : List ℕ → UserState → UserState
+state_turned name owned = with_session_changed name with_step_passed owned
+
+-- so of the owner, and what waits for the session begun again
 abbrev pub owner_turned : List ℕ → Owner → Owner
 owner_turned name owner =
-    let passed = with_state (with_session_changed name with_step_passed owner.state) owner in
+    let passed = with_state (state_turned name owner.state) owner in
     if is_waited_for owner.waiting name then owner_begun_again owner.waiting passed else passed
 
 -- The turn of this session is the last one before what waits is answered.

@@ -15,7 +15,7 @@ use Rattle.lj_step.specs.OpenSteps.{IsAwaitedTask}
 use Rattle.lj_quota.specs.declared.Quota.{Quota}
 use Rattle.lj_quota.specs.declared.Used.{Used}
 use Rattle.lj_session.specs.declared.command.Command.{Command}
-use Rattle.lj_session.specs.declared.command.Command.TheVariants.{Start, Measure, Forget, ListBranches}
+use Rattle.lj_session.specs.declared.command.Command.TheVariants.{Load, Start, Measure, Forget, ListBranches}
 use Rattle.lj_session.specs.declared.refusal.Refusal.{Refusal}
 use Rattle.lj_session.specs.declared.refusal.Refusal.TheVariants.{Memory}
 use Rattle.lj_session.specs.declared.reply.Reply.{Reply}
@@ -274,9 +274,15 @@ pub record SameSteps (old new : HeldSession) : Type 0 where
 abbrev pub with_start : ℕ → HeldSession → HeldSession
 with_start n held = if can_advance (session_meant held) n then with_more_owed n held else held
 
--- The steps of its session after a command: START owes more, FORGET and LIST leave them as they were, and after another they
--- are as they were, or none is owed or open.
+-- the steps of its session after a load: none in one that is loaded, and as they were in one that was there
+abbrev pub StepsAfterLoad : Option HeldSession → HeldSession → Type 0
+StepsAfterLoad None after = IsIdle after
+StepsAfterLoad (Some held) after = SameSteps held after
+
+-- The steps of its session after a command: a load opens none and leaves those that were there, START owes more, FORGET and
+-- LIST leave them as they were, and after another they are as they were, or none is owed or open.
 abbrev pub StepsAfter : Command → Option HeldSession → HeldSession → Type 0
+StepsAfter (Load load) before after = StepsAfterLoad before after
 StepsAfter (Start name n) before after = IsSomeAnd before (λ held. after ≡ with_start n held)
 StepsAfter (Forget name branch) before after = IsSomeAnd before (λ held. SameSteps held after)
 StepsAfter (ListBranches name) before after = IsSomeAnd before (λ held. SameSteps held after)

@@ -12,7 +12,7 @@ ghost use Rattle.lj_session.specs.Owner.{WaitsAlike};
 ghost use Rattle.lj_session.specs.Owner.{state_begun, command_left};
 ghost use Rattle.lj_session.specs.Owner.{user_in, owner_of_state, is_owing, is_busy, turns_left, is_waited_for, owner_begun};
 ghost use Rattle.lj_session.specs.Owner.{label_of, task_in};
-ghost use Rattle.lj_session.specs.Owner.{with_task_posted, with_task_in, ready_session, owner_turned};
+ghost use Rattle.lj_session.specs.Owner.{with_task_posted, with_task_in, ready_session, owner_turned, state_turned};
 ghost use Rattle.lj_session.specs.Begins.{IfAnswered, OnRunning, OnRefused, OnRefusal, reply_of};
 
 use crate::command::Command;
@@ -194,7 +194,7 @@ impl Owner {
 
     /// Turns the step of a session: one step less is owed to it, and the next one is open if there is one. Where that was
     /// what a command waited for, the command begins again: it is answered, or begins to take steps of its own. No other
-    /// session is changed.
+    /// session is changed. If the command is refused, the step is made and nothing else.
     pub fn turn_session(&mut self, name: &Name) -> Option<Reply>
         requires { is_whole_in self.old.state name.now ≡ true }
         ensures last { IsSome result ↔ IsLastTurn name.now self.old }
@@ -202,6 +202,8 @@ impl Owner {
         ensures idle { OnSome result (self.new.waiting ≡ None) }
         ensures settled { IfSome result (IsSettled self.new.state) }
         ensures rests { OnSome result (IsIdleIn self.new.state name.now) }
+        ensures refused { IfSome result (λ reply.
+            OnRefusal reply (self.new.state ≡ state_turned name.now self.old.state)) }
         ensures turned { IfNone result (self.new ≡ owner_turned name.now self.old) }
         ensures alike { IfNone result (WaitsAlike self.old self.new) }
         ensures others { OtherSessionsKept name.now self.old.state self.new.state }

@@ -5,12 +5,13 @@ use Rattle.lj_session.specs.declared.reply.Reply.{Reply}
 use Rattle.lj_session.specs.declared.reply.Reply.TheVariants.{Refused}
 use Rattle.lj_session.specs.Users.{User}
 use Rattle.lj_session.specs.UserState.{turns_before, OthersKept, OtherSessionsKept, IsIdleIn, StepsFollow}
-use Rattle.lj_session.specs.Owner.{Owner, user_in, IsAnswered, IsReplied, IsLastTurn, is_waited_for}
+use Rattle.lj_session.specs.Begins.{OnRefusal}
+use Rattle.lj_session.specs.Owner.{Owner, user_in, IsAnswered, IsReplied, IsLastTurn, is_waited_for, state_turned}
 use Rattle.lj_wire.specs.declared.item.Fault.{Fault}
 use Rattle.lj_wire.specs.declared.item.Item.TheVariants.{Command, Bad, Last}
 use Rattle.lj_wire.specs.Items.{refusal_of}
 use Rattle.lj_wire.specs.Texts as texts
-use Rattle.lj_world.specs.Begun.{Answers, BeginsAtOnce, TurnsLast}
+use Rattle.lj_world.specs.Begun.{Answers, BeginsAtOnce, TurnsLast, OnRefused}
 
 -- a command that is answered, as a text
 told_answer : (owner next : Owner) (command : Order) (reply : Reply) (text : List ℕ) → IsAnswered (user_in owner) command reply (user_in next)
@@ -23,35 +24,47 @@ told_answer owner next command reply text answered idle number made = record {
   number = number;
 }
 
+-- what holds where its reply is a refusal
+refused_answer : (owner next : Owner) (command : Order) (reply : Reply) (P : Type 0)
+    → (answered : IsAnswered (user_in owner) command reply (user_in next)) → OnRefusal reply P
+    → OnRefused owner (Command command) answered.mark P
+refused_answer owner next command reply P answered fact =
+    subst (λ (r : Reply). OnRefusal r P) (ap (λ a. a.0) answered.answers) fact
+
 -- a command before which no turn comes
 pub command_answered : (owner next : Owner) (command : Order) (reply : Reply) (text : List ℕ)
     → turns_before owner.state command ≡ 0 → IsAnswered (user_in owner) command reply (user_in next)
     → next.waiting ≡ None → next.number ≡ owner.number → OthersKept command owner.state next.state
-    → StepsFollow command owner.state next.state → text ≡ texts.text (user_in next) reply
+    → StepsFollow command owner.state next.state → OnRefusal reply (next ≡ owner) → text ≡ texts.text (user_in next) reply
     → BeginsAtOnce owner (Command command) text next
-command_answered owner next command reply text none answered idle number others steps made = record {
+unfolding told_answer
+command_answered owner next command reply text none answered idle number others steps unchanged made = record {
   at_once = none;
   answers = told_answer owner next command reply text answered idle number made;
   steps = (others, steps);
+  unchanged = refused_answer owner next command reply (next ≡ owner) answered unchanged;
 }
 
 -- what waits, at the last turn of its session
 pub wait_answered : (owner next : Owner) (name : List ℕ) (reply : Reply) (text : List ℕ) → IsLastTurn name owner
     → IsReplied owner reply (user_in next) → next.waiting ≡ None → next.number ≡ owner.number → IsIdleIn next.state name
-    → OtherSessionsKept name owner.state next.state → text ≡ texts.text (user_in next) reply → TurnsLast owner name text next
-wait_answered owner next name reply text last replied idle number rests others made = by owner.waiting refl
+    → OtherSessionsKept name owner.state next.state → OnRefusal reply (next.state ≡ state_turned name owner.state)
+    → text ≡ texts.text (user_in next) reply → TurnsLast owner name text next
+unfolding told_answer
+wait_answered owner next name reply text last replied idle number rests others refused made = by owner.waiting refl
   where
     by : (waiting : Option Order) → owner.waiting ≡ waiting → TurnsLast owner name text next
     by None e = absurd (true≢false (sym last.waited ∙ ap (λ w. is_waited_for w name) e))
-    by (Some command) e = record {
-      last = last;
-      command = command;
-      waits = e;
-      answers = told_answer owner next command reply text
-          (subst (λ w. IfSome w (λ k. IsAnswered (user_in owner) k reply (user_in next))) e replied) idle number made;
-      rests = rests;
-      others = others;
-    }
+    by (Some command) e =
+        let answered = subst (λ w. IfSome w (λ k. IsAnswered (user_in owner) k reply (user_in next))) e replied in record {
+          last = last;
+          command = command;
+          waits = e;
+          answers = told_answer owner next command reply text answered idle number made;
+          rests = rests;
+          others = others;
+          refused = refused_answer owner next command reply (next.state ≡ state_turned name owner.state) answered refused;
+        }
 
 -- a line that is no command
 pub fault_answered : (owner : Owner) (fault : Fault) (text : List ℕ) → owner.waiting ≡ None
@@ -60,6 +73,7 @@ fault_answered owner fault text idle made = record {
   at_once = refl;
   answers = record { mark = false; is_told = ap (λ (t : List ℕ). (t, user_in owner)) made; idle = idle; number = refl };
   steps = refl;
+  unchanged = refl;
 }
 
 -- a fault that ends the connection
@@ -69,4 +83,5 @@ last_answered owner fault text idle made = record {
   at_once = refl;
   answers = record { mark = false; is_told = ap (λ (t : List ℕ). (t, user_in owner)) made; idle = idle; number = refl };
   steps = refl;
+  unchanged = refl;
 }

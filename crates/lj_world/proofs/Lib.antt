@@ -23,3 +23,4 @@ pub mod Values
 pub mod Others
 pub mod Pushing
 pub mod Ongoing
+pub mod Refusals

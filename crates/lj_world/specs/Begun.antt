@@ -1,11 +1,12 @@
 -- What an owner's beginning of an item and its turn of a session come to, where what is answered is a text.
 use Rattle.std.specs.Prelude.{◌≡◌, ℕ, ◌<◌, Bool, true, List, Option, Some, None}
 use Rattle.lj_session.specs.declared.command.Command.{Command as Order}
+use Rattle.lj_session.specs.Begins.{OnRefusal}
 use Rattle.lj_session.specs.UserState.{UserState, turns_before, is_whole_in, IsIdleIn, OthersKept, OtherSessionsKept, StepsFollow}
-use Rattle.lj_session.specs.Owner.{Owner, user_in, is_owing, owner_begun, ready_session, owner_turned, IsLastTurn}
+use Rattle.lj_session.specs.Owner.{Owner, user_in, is_owing, owner_begun, ready_session, state_turned, owner_turned, IsLastTurn}
 use Rattle.lj_wire.specs.declared.item.Item.{Item}
 use Rattle.lj_wire.specs.declared.item.Item.TheVariants.{Command, Bad, Last}
-use Rattle.lj_wire.specs.Told.{item_text}
+use Rattle.lj_wire.specs.Told.{item_reply, item_text}
 use Rattle.lj_wire.specs.Runs.{item_before}
 
 -- An item is answered: for some mark the text and the next user are what the item is told. Nothing waits then.
@@ -15,17 +16,22 @@ pub record Answers (owner : Owner) (item : Item) (text : List ℕ) (next : Owner
   pub idle : next.waiting ≡ None
   pub number : next.number ≡ owner.number
 
+-- a fact where an item is refused, under a mark
+abbrev pub OnRefused : Owner → Item → Bool → Type 0 → Type 0
+OnRefused owner item mark P = OnRefusal (item_reply (user_in owner) item mark).0 P
+
 -- the open steps after an item: those of a command's session follow from what it does, and all others are as they were
 abbrev pub LeavesSteps : Item → UserState → UserState → Type 0
 LeavesSteps (Command command) old new = OthersKept command old new × StepsFollow command old new
 LeavesSteps (Bad fault) old new = new ≡ old
 LeavesSteps (Last fault) old new = new ≡ old
 
--- no turn comes before the item is answered, and it is answered now
+-- No turn comes before the item is answered, and it is answered now. A refusal leaves the owner as it was.
 pub record BeginsAtOnce (owner : Owner) (item : Item) (text : List ℕ) (after : Owner) : Type 0 where
   pub at_once : item_before owner.state item ≡ 0
   pub answers : Answers owner item text after
   pub steps : LeavesSteps item owner.state after.state
+  pub unchanged : OnRefused owner item answers.mark (after ≡ owner)
 
 -- the item is a command before which turns come, and waits
 pub record BeginsToWait (owner : Owner) (item : Item) (after : Owner) : Type 0 where
@@ -56,7 +62,7 @@ pub record TurnsOn (owner : Owner) (name : List ℕ) (after : Owner) : Type 0 wh
   pub next : after ≡ owner_turned name owner
 
 -- It is the last turn before what waits is answered, which is answered now. Nothing is owed to the session then, and
--- every other is held as it was.
+-- every other is held as it was. A refusal leaves what the step leaves.
 pub record TurnsLast (owner : Owner) (name : List ℕ) (text : List ℕ) (after : Owner) : Type 0 where
   pub last : IsLastTurn name owner
   pub command : Order
@@ -64,6 +70,7 @@ pub record TurnsLast (owner : Owner) (name : List ℕ) (text : List ℕ) (after 
   pub answers : Answers owner (Command command) text after
   pub rests : IsIdleIn after.state name
   pub others : OtherSessionsKept name owner.state after.state
+  pub refused : OnRefused owner (Command command) answers.mark (after.state ≡ state_turned name owner.state)
 
 -- the step of this session is turned, and what waits is answered by this text, or nothing is
 abbrev pub TurnsTo : Owner → List ℕ → Option (List ℕ) → Owner → Type 0

@@ -3,20 +3,25 @@ use Rattle.std.specs.Prelude.{◌≡◌, ◌≢◌, ℕ, ◌<◌, nat_eq, List, 
 use Rattle.std.specs.Option.{option_map, option_and_then}
 use Rattle.lj_quota.specs.declared.Quota.{Quota}
 use Rattle.lj_session.specs.declared.command.Command.{Command as Order}
+use Rattle.lj_session.specs.declared.refusal.Refusal.{Refusal}
 use Rattle.lj_session.specs.Users.{User as Value, fresh_user}
 use Rattle.lj_session.specs.UserState.{UserState, user_of}
-use Rattle.lj_session.specs.Owner.{Owner, user_in, rest_of}
+use Rattle.lj_session.specs.Owner.{Owner, user_in, rest_of, state_turned}
+use Rattle.lj_session.specs.Refusals.{refusal_text}
 use Rattle.lj_session.specs.Turns.{turns}
 use Rattle.lj_session.specs.Laws.{RestKeepsUser, PostedKeepsUser, AcceptKeepsUser, BegunWaitsAlike, user_taking}
 use Rattle.lj_wire.specs.declared.item.Item.TheVariants.{Command}
+use Rattle.lj_wire.specs.Texts.{ended_line}
 use Rattle.lj_wire.specs.Told.{alone, last_user}
 use Rattle.lj_wire.specs.Laws.{AlikeIsTold, WaitingGoesOn}
 use Rattle.lj_access.specs.declared.user.User.{User}
 use Rattle.lj_access.specs.Rows.{Row, user_with}
+use Rattle.lj_world.specs.declared.event.Act.TheVariants.{Next, Turn}
 use Rattle.lj_world.specs.declared.event.Event.{Event}
 use Rattle.lj_world.specs.declared.event.Event.TheVariants.{Hello, At, By}
 use Rattle.lj_world.specs.declared.transcript.Entry.{Entry}
-use Rattle.lj_world.specs.Machine.{Machine, Connection, inside, start, connection_at}
+use Rattle.lj_world.specs.Begun.{CanTurn}
+use Rattle.lj_world.specs.Machine.{Machine, Connection, Stage, waiting, inside, gone, start, connection_at}
 use Rattle.lj_world.specs.Runs.{Step, Run, IsTranscript}
 use Rattle.lj_world.specs.Scripts.{Heard, Script, Agree, IsPrefix, OneIsPrefix, all_heard, line_of, replies, script}
 
@@ -196,3 +201,43 @@ HasRun old events = (entries : List Entry) × (last : Machine) × Run old events
 -- No list of events is without a run, whichever state it begins in: what cannot happen changes nothing.
 abbrev pub EachListHasARun : Type 0
 EachListHasARun = (old : Machine) (events : List Event) → ¬ ¬ HasRun old events
+
+-- a text tells a refusal
+abbrev pub IsRefusal : List ℕ → Type 0
+IsRefusal text = (refusal : Refusal) × (text ≡ ended_line (refusal_text refusal))
+
+-- the owner of a user's state that is inside
+abbrev pub owner_inside : Stage → Option Owner
+owner_inside waiting = None
+owner_inside (inside owner) = Some owner
+owner_inside gone = None
+
+-- the owner that a connection has
+abbrev pub owner_at : Machine → ℕ → Option Owner
+owner_at s connection = option_and_then (λ talk. owner_inside talk.stage) (connection_at s connection)
+
+-- Every session of every user is held as it was, at home or by an owner, with what is owed to it and its open step.
+pub record SessionsKept (old new : Machine) : Type 0 where
+  pub rows : new.rows ≡ old.rows
+  pub owners : (connection : ℕ) → owner_at new connection ≡ owner_at old connection
+
+-- So they are but for one, whose step a connection has turned.
+pub record SessionTurned (connection : ℕ) (session : Option (List ℕ)) (old new : Machine) : Type 0 where
+  pub rows : new.rows ≡ old.rows
+  pub others : (other : ℕ) → other ≢ connection → owner_at new other ≡ owner_at old other
+  pub owner : Owner
+  pub owns : owner_at old connection ≡ Some owner
+  pub name : List ℕ
+  pub can : CanTurn session owner name
+  pub after : Owner
+  pub left : owner_at new connection ≡ Some after
+  pub turned : after.state ≡ state_turned name owner.state
+
+-- A refusal that is told at a NEXT leaves every session as it was. At one that is told at a TURN the step of its session is
+-- made, and nothing else.
+pub record RefusalsLeaveSessions : Type 0 where
+  pub at_next : (old : Machine) (connection : ℕ) (reply : Entry) (new : Machine)
+      → Step old (At connection Next) (Some reply) new → IsRefusal reply.text → SessionsKept old new
+  pub at_turn : (old : Machine) (connection : ℕ) (session : Option (List ℕ)) (reply : Entry) (new : Machine)
+      → Step old (At connection (Turn session)) (Some reply) new → IsRefusal reply.text
+      → SessionTurned connection session old new

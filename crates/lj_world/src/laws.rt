@@ -1,6 +1,7 @@
 //! Laws of runs: functions that do nothing of their own, whose contracts are the laws.
 ghost use Rattle.lj_world.specs.Laws.{Known, RepliesAreFirstTexts, AgreeingScriptsAgreeInTexts, Headline};
 ghost use Rattle.lj_world.specs.Laws.{ValueIsThatOfScript, TicketsAreInOrder, OthersChangeNothing, EachListHasARun};
+ghost use Rattle.lj_world.specs.Laws.{RefusalsLeaveSessions};
 
 use lj_session::{accept_keeps_user, begun_waits_alike, posted_keeps_user, rest_keeps_user};
 use lj_wire::{alike_is_told, mark_is_told, waiting_goes_on};
@@ -57,6 +58,12 @@ pub fn tickets_are_in_order()
 /// An event that is not a user's changes nothing of it.
 pub fn others_change_nothing()
     ensures { OthersChangeNothing }
+{}
+
+/// A refusal that is told at a NEXT leaves every session as it was, with what is owed to it and its open step. At one that is
+/// told at a TURN the step of its session is made, and nothing else.
+pub fn refusals_leave_sessions()
+    ensures { RefusalsLeaveSessions }
 {}
 
 /// No list of events is without a run, whichever state it begins in.

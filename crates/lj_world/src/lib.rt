@@ -17,7 +17,8 @@ mod world;
 pub use event::{Act, Deed, Event};
 pub use laws::{
     agreeing_scripts_agree_in_texts, each_list_has_a_run, headline, others_change_nothing,
-    replies_are_first_texts, tickets_are_in_order, value_is_that_of_script,
+    refusals_leave_sessions, replies_are_first_texts, tickets_are_in_order,
+    value_is_that_of_script,
 };
 pub use limits::{MAX_CONNECTIONS, MAX_POSTED, MAX_WORKERS};
 pub use transcript::{Entry, ReplyText, Transcript};

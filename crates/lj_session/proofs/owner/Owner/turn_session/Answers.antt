@@ -3,9 +3,9 @@ use Rattle.std.proofs.lemmas.Bool.{false≢true}
 use Rattle.std.specs.Prelude.{IfSome}
 use Rattle.lj_session.specs.declared.command.Command.{Command}
 use Rattle.lj_session.specs.KeptOwners.{owner_of_kept}
-use Rattle.lj_session.specs.Owner.{Owner, IsLastTurn, IsReplied, is_waited_for}
+use Rattle.lj_session.specs.Owner.{Owner, IsLastTurn, IsReplied, is_waited_for, state_turned}
 use Rattle.lj_session.specs.UserState.{UserState, IsAtWork, IsIdleIn, OtherSessionsKept, is_whole_in, held_session, owed_in, with_step_passed, turns_before, user_of}
-use Rattle.lj_session.proofs.Others.{others-changed, settled-measured}
+use Rattle.lj_session.proofs.Others.{others-changed, settled-measured, measured-unrefused, on_refusal}
 use Rattle.lj_session.proofs.Passing.{forces, others-closed, rests-closed}
 use Rattle.lj_session.proofs.Owing.{turns-kept, turns-some, unwaited-owed, unwaited-work, unwaited-apart, owed-apart}
 use Rattle.lj_session.proofs.Turned.{measured-whole, measured-last, measured-replied, measured-work}
@@ -113,6 +113,10 @@ returns-then-owed-eq0-clause-rests c =
     subst (λ (o : UserState). IsIdleIn o c.args.name.now) (sym c.close_step.ensures.closed)
     (rests-closed c.self.inside.state c.args.name.now (none (goal.at.returns-then-owed-eq0-clause-rests c).Then-owed-eq0))
 
+pub returns-then-owed-eq0-clause-refused : goal.returns-then-owed-eq0-clause-refused
+returns-then-owed-eq0-clause-refused c =
+    measured-unrefused _ c.self.inside.state c.copy.result c.measured-reply.result c.measured-reply.ensures
+
 pub returns-then-owed-eq0-clause-others : goal.returns-then-owed-eq0-clause-others
 returns-then-owed-eq0-clause-others c =
     subst (λ (owner : Owner). OtherSessionsKept c.args.name.now owner.state c.close_step.new.self) c.self.view_is
@@ -153,6 +157,11 @@ returns-in-Answered-clause-rests c =
     (waited_for p.After-owed) c.self.invariant.at_work (whole_for p.After-owed) (some_of _ _ c.if-owed-eq0.false c.owed.ensures)
     c.pass_step-2.new.self c.pass_step-2.ensures.passed c.begin.new.self.state c.in-Answered.ensures.at_once
     c.in-Answered.ensures.steps
+
+pub returns-in-Answered-clause-refused : goal.returns-in-Answered-clause-refused
+returns-in-Answered-clause-refused c =
+    on_refusal c.in-Answered.reply (λ same. ap (λ (owner : Owner). owner.state) same ∙ c.pass_step-2.ensures.passed
+    ∙ ap (λ (owner : Owner). state_turned c.args.name.now owner.state) c.self.view_is) c.in-Answered.ensures.unchanged
 
 pub returns-in-Answered-clause-others : goal.returns-in-Answered-clause-others
 returns-in-Answered-clause-others c =
