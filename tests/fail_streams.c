@@ -1,13 +1,15 @@
 /* Has reads or writes of a program fail, or take few bytes.
    A word as r7 says that the 7th read of a stream and all after it fail, w7 that the 7th write and all after it do, and
-   e7 that they take nothing. FAILING is such a word for standard input and output, FAILING_CONNECTIONS has one for each
+   e7 that they take nothing. With a capital, as R7, that one call alone fails. FAILING is such a word for standard input and output, FAILING_CONNECTIONS has one for each
    connection that is accepted, in their order. A read of such a stream gives MOST_READ bytes at most, and a write takes
    MOST_WRITTEN. Connections whose word is -, or that have none, are left as they are, and so are other descriptors.
    Build: cc -shared -fPIC -o fail_streams.so fail_streams.c -ldl
    Use: LD_PRELOAD=./fail_streams.so FAILING=r7 PROGRAM */
 #define _GNU_SOURCE
+#include <ctype.h>
 #include <dlfcn.h>
 #include <errno.h>
+#include <limits.h>
 #include <stdlib.h>
 #include <string.h>
 #include <sys/socket.h>
@@ -16,7 +18,7 @@
 enum { DESCRIPTORS = 1024 };
 
 static struct {
-    /* One of r, w and e, or 0 where the stream is left as it is. */
+    /* One of r, w, e and their capitals, or 0 where the stream is left as it is. */
     char kind;
     long number;
 } streams[DESCRIPTORS];
@@ -51,11 +53,12 @@ static int is_meant(int stream) {
 
 /* Whether this read or write is one that fails, or takes nothing. */
 static int is_reached(int stream, const char *kinds) {
-    if (!is_meant(stream) || !strchr(kinds, streams[stream].kind)) return 0;
+    if (!is_meant(stream) || !strchr(kinds, tolower(streams[stream].kind))) return 0;
     if (streams[stream].number > 1) {
         streams[stream].number--;
         return 0;
     }
+    if (isupper(streams[stream].kind)) streams[stream].number = LONG_MAX;
     return 1;
 }
 
@@ -88,7 +91,7 @@ int accept4(int listener, struct sockaddr *address, socklen_t *length, int flags
         static ssize_t(*next) parameters;                               \
         if (!next) next = (ssize_t(*) parameters)dlsym(RTLD_NEXT, #name); \
         if (is_reached(stream, "we")) {                                 \
-            if (streams[stream].kind == 'e') return 0;                  \
+            if (tolower(streams[stream].kind) == 'e') return 0;                  \
             errno = EIO;                                                \
             return -1;                                                  \
         }                                                               \

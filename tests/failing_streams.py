@@ -88,6 +88,17 @@ class Failing:
         yield "a write takes nothing", self.told(cut([LOAD], 7), FAILING="e1"), (1, b"", WRITE_FAULT)
         yield "nothing is written for no input", self.told([], FAILING="w1"), (0, b"", b"")
 
+    def only_once(self) -> Iterator[Case]:
+        """A read or a write fails that would succeed if it were tried again: it is not."""
+        lists = [b"LIST\n"] * 2
+        for number in (1, 2, 3):
+            seen = self.told(lists, FAILING=f"R{number}")
+            yield f"read {number} alone fails", seen, (1, b"OK LIST 0\n" * (number - 1), READ_FAULT)
+        for kind in "WE":
+            for number, told in [(1, b""), (2, b"OK LI")]:
+                seen = self.told(lists, FAILING=f"{kind}{number}", MOST_WRITTEN=5)
+                yield f"write {kind}{number} alone", seen, (1, told, WRITE_FAULT)
+
     def replays(self, kind: str, most: Optional[int]) -> Iterator[Case]:
         """Each write of a replay fails in turn, and at last none does."""
         with file_of(LISTS) as path:
@@ -108,6 +119,7 @@ class Failing:
         yield from self.writes("w", 5, cut(ITEMS, 7))
         yield from self.few_bytes_per_write()
         yield from self.within_a_line()
+        yield from self.only_once()
 
 
 def cases(run: Runs) -> Iterator[Case]:

@@ -1,8 +1,9 @@
 //! Ends of a stream: where bytes come from, and where they go. An end may count its errors.
 ghost use Rattle.std.specs.Prelude.{◌≡◌, ℕ, ◌<◌, ◌≤◌, List, Option, Some, None, length, IfOk, OnOk, OnErr};
-ghost use Rattle.std.specs.Io.KnownBytes.{ReadConsumes, WriteAppends};
-ghost use Rattle.lj_wire.specs.Ends.{Rises};
+ghost use Rattle.std.specs.Io.KnownBytes.{Keeps, ReadConsumes, WriteAppends};
+ghost use Rattle.lj_wire.specs.Ends.{Rises, one_more};
 
+use crate::asked::{Reads, Writes};
 use std::fmt;
 use std::io::{Read, Write};
 use thiserror::Error;
@@ -105,14 +106,14 @@ impl<R: Read> Source for Reading<R> {
     }
 }
 
-/// A reader whose errors are counted, up to `u64::MAX`.
+/// A reader whose errors are counted, up to `u64::MAX`. For each read it asks once.
 #[derive(Drop)]
 pub struct CountedReading<R> {
     reader: R,
     errors: u64,
 }
 
-impl<R: Read> CountedReading<R> {
+impl<R: Reads> CountedReading<R> {
     /// Reads nothing.
     pub fn new(reader: R) -> Self
         ensures remaining { ⟦<CountedReading<R> as Source>⟧.remaining result ≡ R.remaining reader }
@@ -134,21 +135,48 @@ impl<R: Read> CountedReading<R> {
         let CountedReading { reader, errors: _ } = self;
         reader
     }
+
+    /// Counts a fault of what has to come before a read, which is not asked for then.
+    pub fn note_fault(&mut self)
+        ensures kept { let left = ⟦<CountedReading<R> as Source>⟧.remaining in
+            left self.new ≡ left self.old }
+        ensures risen { let errors = ⟦<CountedReading<R> as Source>⟧.errors in
+            Rises (errors self.old) (errors self.new) }
+    {
+        let _fault = self.fault();
+    }
+
+    // Asks for one read, and counts an error.
+    fn ask(&mut self, buf: &mut [u8]) -> Result<usize, ReadFault>
+        ensures bound { IfOk result (λ n. n ≤ length buf.new) }
+        ensures bytes { ReadConsumes (R.remaining self.old.reader) (R.remaining self.new.reader) result buf.new }
+        ensures counted { OnOk result (self.new.errors ≡ self.old.errors) }
+        ensures risen { OnErr result (Rises (Some self.old.errors) (Some self.new.errors)) }
+        ensures once { R.asked self.new.reader ≡ one_more (R.asked self.old.reader) }
+    {
+        match self.reader.read_once(buf) {
+            Ok(count) => Ok(count),
+            Err(_) => Err(self.fault()),
+        }
+    }
+
+    // Counts a fault.
+    fn fault(&mut self) -> ReadFault
+        ensures kept { self.new.reader ≡ self.old.reader }
+        ensures risen { Rises (Some self.old.errors) (Some self.new.errors) }
+    {
+        self.errors = self.errors.saturating_add(1);
+        ReadFault
+    }
 }
 
-impl<R: Read> Source for CountedReading<R> {
+impl<R: Reads> Source for CountedReading<R> {
     ghost remaining = { λ reading. R.remaining reading.reader };
 
     ghost errors = { λ reading. Some reading.errors };
 
     fn read(&mut self, buf: &mut [u8]) -> Result<usize, ReadFault> {
-        match self.reader.read(buf) {
-            Ok(count) => Ok(count),
-            Err(_) => {
-                self.errors = self.errors.saturating_add(1);
-                Err(ReadFault)
-            }
-        }
+        self.ask(buf)
     }
 }
 
@@ -180,18 +208,22 @@ impl<W: Write> Sink for Writing<W> {
     ghost faults = { λ _. None };
 
     fn write(&mut self, bytes: &[u8]) -> Result<usize, WriteFault> {
-        write_some(&mut self.writer, bytes)
+        match self.writer.write(bytes) {
+            Ok(0) if !bytes.is_empty() => Err(WriteFault),
+            Ok(count) => Ok(count),
+            Err(_) => Err(WriteFault),
+        }
     }
 }
 
-/// A writer whose faults are counted, up to `u64::MAX`.
+/// A writer whose faults are counted, up to `u64::MAX`. For each write and flush it asks once.
 #[derive(Drop)]
 pub struct CountedWriting<W> {
     writer: W,
     faults: u64,
 }
 
-impl<W: Write> CountedWriting<W> {
+impl<W: Writes> CountedWriting<W> {
     /// Writes nothing.
     pub fn new(writer: W) -> Self
         ensures contents { ⟦<CountedWriting<W> as Sink>⟧.contents result ≡ W.contents writer }
@@ -200,7 +232,7 @@ impl<W: Write> CountedWriting<W> {
         CountedWriting { writer, faults: 0 }
     }
 
-    /// How many writes have answered an error or taken nothing, at most `u64::MAX`.
+    /// How many writes have answered an error or taken nothing, or flushes an error; at most `u64::MAX`.
     pub fn faults(&self) -> u64
         ensures { ⟦<CountedWriting<W> as Sink>⟧.faults self.now ≡ Some result }
     {
@@ -213,31 +245,63 @@ impl<W: Write> CountedWriting<W> {
         let CountedWriting { writer, faults: _ } = self;
         writer
     }
+
+    /// Sends what was written.
+    pub fn flush(&mut self) -> Result<(), WriteFault>
+        ensures kept { let written = ⟦<CountedWriting<W> as Sink>⟧.contents in
+            Keeps (written self.old) (written self.new) }
+        ensures counted { let faults = ⟦<CountedWriting<W> as Sink>⟧.faults in
+            OnOk result (faults self.new ≡ faults self.old) }
+        ensures risen { let faults = ⟦<CountedWriting<W> as Sink>⟧.faults in
+            OnErr result (Rises (faults self.old) (faults self.new)) }
+    {
+        self.ask_flush()
+    }
+
+    // Asks for one flush, and counts a fault.
+    fn ask_flush(&mut self) -> Result<(), WriteFault>
+        ensures kept { Keeps (W.contents self.old.writer) (W.contents self.new.writer) }
+        ensures counted { OnOk result (self.new.faults ≡ self.old.faults) }
+        ensures risen { OnErr result (Rises (Some self.old.faults) (Some self.new.faults)) }
+        ensures once { W.asked self.new.writer ≡ one_more (W.asked self.old.writer) }
+    {
+        match self.writer.flush_once() {
+            Ok(()) => Ok(()),
+            Err(_) => Err(self.fault()),
+        }
+    }
+
+    // Asks for one write, and counts a fault.
+    fn ask(&mut self, bytes: &[u8]) -> Result<usize, WriteFault>
+        ensures bound { IfOk result (λ n. n ≤ length bytes.now) }
+        ensures some { IfOk result (λ n. 0 < length bytes.now → 0 < n) }
+        ensures bytes { WriteAppends (W.contents self.old.writer) (W.contents self.new.writer) result bytes.now }
+        ensures counted { OnOk result (self.new.faults ≡ self.old.faults) }
+        ensures risen { OnErr result (Rises (Some self.old.faults) (Some self.new.faults)) }
+        ensures once { W.asked self.new.writer ≡ one_more (W.asked self.old.writer) }
+    {
+        match self.writer.write_once(bytes) {
+            Ok(count) if count > 0 || bytes.is_empty() => Ok(count),
+            Ok(_) | Err(_) => Err(self.fault()),
+        }
+    }
+
+    // Counts a fault.
+    fn fault(&mut self) -> WriteFault
+        ensures kept { self.new.writer ≡ self.old.writer }
+        ensures risen { Rises (Some self.old.faults) (Some self.new.faults) }
+    {
+        self.faults = self.faults.saturating_add(1);
+        WriteFault
+    }
 }
 
-impl<W: Write> Sink for CountedWriting<W> {
+impl<W: Writes> Sink for CountedWriting<W> {
     ghost contents = { λ writing. W.contents writing.writer };
 
     ghost faults = { λ writing. Some writing.faults };
 
     fn write(&mut self, bytes: &[u8]) -> Result<usize, WriteFault> {
-        let written = write_some(&mut self.writer, bytes);
-        if written.is_err() {
-            self.faults = self.faults.saturating_add(1);
-        }
-        written
-    }
-}
-
-// One write, which is a fault where it takes none of some bytes.
-fn write_some<W: Write>(writer: &mut W, bytes: &[u8]) -> Result<usize, WriteFault>
-    ensures bound { IfOk result (λ n. n ≤ length bytes.now) }
-    ensures some { IfOk result (λ n. 0 < length bytes.now → 0 < n) }
-    ensures bytes { WriteAppends (W.contents writer.old) (W.contents writer.new) result bytes.now }
-{
-    match writer.write(bytes) {
-        Ok(0) if !bytes.is_empty() => Err(WriteFault),
-        Ok(count) => Ok(count),
-        Err(_) => Err(WriteFault),
+        self.ask(bytes)
     }
 }

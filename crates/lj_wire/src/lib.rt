@@ -1,6 +1,7 @@
 //! The line protocol: items of a stream, and the texts of replies.
 #![tactic(auto)]
 
+mod asked;
 mod command_line;
 mod displacement;
 mod ends;
@@ -16,6 +17,7 @@ mod replies;
 mod verb;
 mod words;
 
+pub use asked::{Asked, Reads, Writes};
 pub use ends::{
     CountedReading, CountedWriting, ReadFault, Reading, Sink, Source, WriteFault, Writing,
 };

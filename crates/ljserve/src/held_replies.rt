@@ -1,10 +1,13 @@
 //! The ends of a conversation: what was replied is sent before more input is waited for.
-ghost use Rattle.std.specs.Prelude.{◌≡◌, ◌<◌, ◌≤◌, ℕ, [], None, length, take, IfOk, IfErr, OnOk, OnErr};
-ghost use Rattle.std.specs.Io.KnownBytes.{Appends, Keeps, append_known};
+ghost use Rattle.std.specs.Prelude.{◌≡◌, ◌<◌, ◌≤◌, ℕ, [], Some, None, length, take, IfOk, IfErr, OnOk, OnErr};
+ghost use Rattle.std.specs.Io.KnownBytes.{Appends, append_known};
+ghost use Rattle.lj_wire.specs.Ends.{Rises};
 ghost use Rattle.ljserve.specs.declared.program_fault.Fault.TheVariants.{Memory};
 
 use crate::program_fault::Fault;
-use lj_wire::{ReadFault, Sink, Source, WriteFault, put_all};
+use lj_wire::{
+    Asked, CountedReading, CountedWriting, ReadFault, Sink, Source, WriteFault, put_all,
+};
 use std::alloc::Global;
 use std::cell::{Cell, RefCell};
 use std::io::{Read, Write};
@@ -12,49 +15,10 @@ use std::io::{Read, Write};
 /// How many bytes of replies are held back at most.
 const MAX_HELD_BYTES: usize = 65_536;
 
-/// A writer that can be flushed.
-#[derive(Drop)]
-pub struct Outlet<W> {
-    writer: W,
-}
-
-impl<W: Write> Outlet<W> {
-    /// Writes nothing.
-    pub fn new(writer: W) -> Self
-        ensures { ⟦<Outlet<W> as Sink>⟧.contents result ≡ W.contents writer }
-    {
-        Outlet { writer }
-    }
-
-    /// Sends what was written.
-    pub fn flush(&mut self) -> Result<(), WriteFault>
-        ensures { Keeps (W.contents self.old.writer) (W.contents self.new.writer) }
-    {
-        match self.writer.flush() {
-            Ok(()) => Ok(()),
-            Err(_) => Err(WriteFault),
-        }
-    }
-}
-
-impl<W: Write> Sink for Outlet<W> {
-    ghost contents = { λ outlet. W.contents outlet.writer };
-
-    ghost faults = { λ _. None };
-
-    fn write(&mut self, bytes: &[u8]) -> Result<usize, WriteFault> {
-        match self.writer.write(bytes) {
-            Ok(0) if !bytes.is_empty() => Err(WriteFault),
-            Ok(count) => Ok(count),
-            Err(_) => Err(WriteFault),
-        }
-    }
-}
-
 /// Replies that are held back, and where they go.
 #[derive(Drop)]
 struct Held<W> {
-    outlet: Outlet<W>,
+    outlet: CountedWriting<Asked<W>>,
     bytes: Vec<u8>,
 }
 
@@ -64,9 +28,9 @@ impl<W: Write> Held<W> {
     fn hold(&mut self, bytes: &[u8]) -> Result<usize, WriteFault>
         ensures bound { IfOk result (λ n. n ≤ length bytes.now) }
         ensures some { IfOk result (λ n. 0 < length bytes.now → 0 < n) }
-        ensures held { IfOk result (λ n. Appends
-            (append_known (W.contents self.old.outlet.writer) self.old.bytes.items)
-            (append_known (W.contents self.new.outlet.writer) self.new.bytes.items)
+        ensures held { let sent = ⟦<CountedWriting<Asked<W>> as Sink>⟧.contents in IfOk result (λ n. Appends
+            (append_known (sent self.old.outlet) self.old.bytes.items)
+            (append_known (sent self.new.outlet) self.new.bytes.items)
             (take n bytes.now)) }
     {
         if self.bytes.len() >= MAX_HELD_BYTES {
@@ -83,11 +47,15 @@ impl<W: Write> Held<W> {
     /// Writes what is held back, and flushes the writer. Nothing is held back then, nor after a fault.
     fn send(&mut self) -> Result<(), WriteFault>
         ensures none { self.new.bytes.items ≡ [] }
-        ensures sent { OnOk result (Appends (W.contents self.old.outlet.writer)
-            (W.contents self.new.outlet.writer) self.old.bytes.items) }
-        ensures begun { OnErr result ((n : ℕ) × (n ≤ length self.old.bytes.items)
-            × Appends (W.contents self.old.outlet.writer)
-            (W.contents self.new.outlet.writer) (take n self.old.bytes.items)) }
+        ensures sent { let sent = ⟦<CountedWriting<Asked<W>> as Sink>⟧.contents in OnOk result
+            (Appends (sent self.old.outlet) (sent self.new.outlet) self.old.bytes.items) }
+        ensures begun { let sent = ⟦<CountedWriting<Asked<W>> as Sink>⟧.contents in OnErr result ((n : ℕ)
+            × (n ≤ length self.old.bytes.items)
+            × Appends (sent self.old.outlet) (sent self.new.outlet) (take n self.old.bytes.items)) }
+        ensures counted { let faults = ⟦<CountedWriting<Asked<W>> as Sink>⟧.faults in OnOk result
+            (faults self.new.outlet ≡ faults self.old.outlet) }
+        ensures risen { let faults = ⟦<CountedWriting<Asked<W>> as Sink>⟧.faults in OnErr result
+            (Rises (faults self.old.outlet) (faults self.new.outlet)) }
     {
         if self.bytes.is_empty() {
             return Ok(());
@@ -117,7 +85,7 @@ impl<W: Write + Drop> Replies<W> {
         match Vec::with_capacity(alloc, MAX_HELD_BYTES) {
             Ok(bytes) => Ok(Replies {
                 held: RefCell::new(Held {
-                    outlet: Outlet::new(writer),
+                    outlet: CountedWriting::new(Asked::writer(writer)),
                     bytes,
                 }),
                 failed: Cell::new(false),
@@ -157,34 +125,36 @@ impl<W: Write + Drop> Sink for &Replies<W> {
     }
 }
 
-/// Where commands come from. The replies are flushed before each read.
+/// Where commands come from. The replies are flushed before each read, and a fault of that counts as one of the read.
 #[derive(Drop)]
 pub struct Commands<'a, R, W: Write + Drop> {
-    reader: R,
+    reader: CountedReading<Asked<R>>,
     replies: &'a Replies<W>,
 }
 
 impl<'a, R: Read, W: Write + Drop> Commands<'a, R, W> {
     /// Reads nothing.
     pub fn new(reader: R, replies: &'a Replies<W>) -> Self
-        ensures { ⟦<Commands<'a, R, W> as Source>⟧.remaining result ≡ R.remaining reader }
+        ensures remaining { ⟦<Commands<'a, R, W> as Source>⟧.remaining result ≡ R.remaining reader }
+        ensures errors { ⟦<Commands<'a, R, W> as Source>⟧.errors result ≡ Some 0 }
     {
-        Commands { reader, replies }
+        Commands {
+            reader: CountedReading::new(Asked::reader(reader)),
+            replies,
+        }
     }
 }
 
 impl<R: Read, W: Write + Drop> Source for Commands<'_, R, W> {
-    ghost remaining = { λ commands. R.remaining commands.reader };
+    ghost remaining = { λ commands. ⟦<CountedReading<Asked<R>> as Source>⟧.remaining commands.reader };
 
-    ghost errors = { λ _. None };
+    ghost errors = { λ commands. ⟦<CountedReading<Asked<R>> as Source>⟧.errors commands.reader };
 
     fn read(&mut self, buf: &mut [u8]) -> Result<usize, ReadFault> {
         if self.replies.flush().is_err() {
+            self.reader.note_fault();
             return Err(ReadFault);
         }
-        match self.reader.read(buf) {
-            Ok(count) => Ok(count),
-            Err(_) => Err(ReadFault),
-        }
+        self.reader.read(buf)
     }
 }

@@ -19,9 +19,9 @@ mod serve;
 use arguments::{Job, Service, no_text, parse_arguments};
 use clap::Error;
 use clap::error::ErrorKind;
-use held_replies::Outlet;
 use input::read_users;
 use lj_quota::Quota;
+use lj_wire::{Asked, CountedWriting};
 use log::sink::Discard;
 use log::{LevelFilter, Log, Logged};
 use program_fault::Fault;
@@ -60,7 +60,7 @@ fn run_input(rt: &HostRuntime, quota: Quota) -> Result<(), Fault<'static>> {
 /// Replays the schedule in the file of this name on standard output.
 fn replay_file<'a>(rt: &HostRuntime, file: &'a str) -> Result<(), Fault<'a>> {
     let bytes = read_file(rt, file)?;
-    let mut outlet = Outlet::new(io::writer(rt));
+    let mut outlet = CountedWriting::new(Asked::writer(io::writer(rt)));
     replay(rt.alloc(), bytes.as_slice(), &mut outlet)?;
     outlet.flush()?;
     Ok(())

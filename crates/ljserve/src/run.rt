@@ -1,8 +1,9 @@
 //! One user served over a reader and a writer.
 ghost use Rattle.std.specs.Prelude.{◌≡◌, IfErr};
+ghost use Rattle.lj_wire.specs.Ends.{Rises};
 ghost use Rattle.ljserve.specs.Conversations.{Converses};
 ghost use Rattle.ljserve.specs.Outcomes.{ComesTo, IsOfRun};
-ghost use Rattle.lj_pool.specs.declared.engine.served.Served.TheVariants.{PoolClosed, TooManyStrays};
+ghost use Rattle.lj_pool.specs.declared.engine.served.Served.TheVariants.{PoolClosed, ReadFault, TooManyStrays, WriteFault};
 
 use crate::held_replies::{Commands, Replies};
 use crate::program_fault::Fault;
@@ -32,7 +33,7 @@ pub fn run<R: Read + Drop, W: Write + Drop>(
 {
     let replies = Replies::new(alloc, writer)?;
     let commands = Commands::new(reader, &replies);
-    let (served, _) = converse(alloc, quota, commands, &replies);
+    let (served, _, _) = converse(alloc, quota, commands, &replies);
     if replies.flush().is_err() || replies.has_failed() {
         return Err(Fault::Write);
     }
@@ -46,13 +47,15 @@ fn converse<R: Source + Drop, W: Sink>(
     quota: Quota,
     source: R,
     mut sink: W,
-) -> (Served, W)
-    ensures { Converses result.0 quota (R.remaining source) (W.contents sink) (W.contents result.1) }
+) -> (Served, R, W)
+    ensures told { Converses result.0 quota (R.remaining source) (W.contents sink) (W.contents result.2) }
+    ensures read_fault { result.0 ≡ ReadFault → Rises (R.errors source) (R.errors result.1) }
+    ensures write_fault { result.0 ≡ WriteFault → Rises (W.faults sink) (W.faults result.2) }
 {
     let mut pool = InlinePool::new(Table::new());
     let state = UserState::new(alloc, quota);
-    let (_, served, _) = serve(alloc, state, ONLY_USER, source, &mut sink, &mut pool);
-    (served, sink)
+    let (_, served, source) = serve(alloc, state, ONLY_USER, source, &mut sink, &mut pool);
+    (served, source, sink)
 }
 
 /// What a run comes to that has ended so, and whose replies are written.
