@@ -198,10 +198,7 @@ fn who_waits_for_room_in_a_book_goes_on(rt: HostRuntime) -> Result<(), Fail> {
         withdrawn: 64,
         entries: 960,
     };
-    assert_eq!(rt;
-        (seen, counts),
-        (Seen::Crowd(Ok(told)), one_fetched)
-    );
+    assert_eq!(rt; (seen, counts), (Seen::Crowd(Ok(told)), one_fetched));
     Ok(())
 }
 
