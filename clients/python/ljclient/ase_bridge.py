@@ -5,6 +5,7 @@ import importlib
 from typing import Any, List, Optional, Sequence
 
 from . import arrays
+from .elements import Replacements, replaced, wanted
 from .reading import Places
 from .units import RING, Scale, time_unit
 
@@ -34,20 +35,36 @@ def velocities_of(atoms: Any) -> Optional[List[List[float]]]:
     return velocities if any(map(any, velocities)) else None
 
 
+def elements_of(symbols: Sequence[str], species: Sequence[str], replacements: Optional[Replacements]) -> List[str]:
+    """The element of each atom: its symbol, or what is to stand in its place.
+
+    Raises ValueError if ASE does not know one of them. Without replacements it is one too if ASE does not know one of the
+    symbols and species: beside a species A, B is not boron.
+    """
+    elements = importlib.import_module("ase.data").atomic_numbers
+    names = list(symbols) if replacements is None else replaced(symbols, replacements)
+    unknown = sorted({*names, *(species if replacements is None else ())} - set(elements))
+    if unknown and replacements is None:
+        named = {*symbols, *species}
+        raise ValueError(f"ASE knows no element {unknown[0]!r}: say an element for each symbol of the session, {wanted(named)}")
+    if unknown:
+        raise ValueError(f"ASE knows no element {unknown[0]!r}, which symbols= says")
+    return names
+
+
 def atoms_of(symbols: Sequence[str], now: Places, before: Places, scale: Scale) -> Any:
     """A frame as an `Atoms`: positions in the unit of the file, in a periodic cubic cell.
 
     Its step and time are in `info`. With epsilon and mass it has the mass of each atom, and the momenta by which it came here
-    from the frame before. Symbols that ASE does not know become X.
+    from the frame before.
     """
-    ase, data = importlib.import_module("ase"), importlib.import_module("ase.data")
-    known = [symbol if symbol in data.atomic_numbers else "X" for symbol in symbols]
+    ase = importlib.import_module("ase")
     positions = arrays.of_positions(now.places, scale.edge)
     info = {"step": now.step, "time": scale.time(now.step)}
-    atoms = ase.Atoms(symbols=known, positions=positions, cell=[scale.edge] * 3, pbc=True, info=info)
+    atoms = ase.Atoms(symbols=symbols, positions=positions, cell=[scale.edge] * 3, pbc=True, info=info)
     if scale.dt is not None and scale.mass is not None:
         unit = scale.edge / (RING * scale.dt) * TIME_UNIT
         moved = arrays.least_images(now.places, before.places)
-        atoms.set_masses([scale.mass] * len(known))
+        atoms.set_masses([scale.mass] * len(symbols))
         atoms.set_velocities([[part * unit for part in parts] for parts in moved])
     return atoms

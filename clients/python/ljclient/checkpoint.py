@@ -12,8 +12,8 @@ import zlib
 from typing import Dict, Iterator, List, Pattern, Sequence, Tuple, Union
 
 from .errors import Damaged
-from .mixture import MAX_WEIGHT, SYMBOL, Mixture
-from .names import NAME
+from .mixture import MAX_WEIGHT, Mixture
+from .names import NAME, SYMBOL
 from .order import IN_SPACE, Place
 from .state import State
 from .units import MAX_STEP_FACTOR, RING, Scale

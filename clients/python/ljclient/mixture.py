@@ -2,14 +2,13 @@
 from __future__ import annotations
 
 import math
-import re
 from dataclasses import dataclass, field
 from typing import List, Optional, Sequence, Tuple
 
+from .names import checked_symbol
 from .units import FULL_WEIGHT, Number, Scale, checked_positive, plain_float, word
 
 MAX_WEIGHT = 65_536
-SYMBOL = re.compile(r"[!-~]{1,16}\Z")
 Pair = Tuple[Number, float]
 RawClass = Tuple[Number, int, int]
 
@@ -86,8 +85,7 @@ def checked_species(species: Sequence[str]) -> Tuple[str, str]:
         raise ValueError(f"a mixture has two species, such as ('Ar', 'Kr'), not {species!r}")
     first, second = species
     for symbol in (first, second):
-        if not (isinstance(symbol, str) and SYMBOL.match(symbol)):
-            raise ValueError(f"a symbol is 1 to 16 printing characters, not {symbol!r}")
+        checked_symbol(symbol)
     if first == second:
         raise ValueError(f"the two species have one symbol, {first!r}; `load` takes atoms that are all alike")
     return first, second

@@ -1,4 +1,4 @@
-"""Names of sessions and of what is saved, and numbers that count something."""
+"""Names of sessions and of what is saved, symbols of atoms, and numbers that count something."""
 from __future__ import annotations
 
 import operator
@@ -6,6 +6,7 @@ import re
 from typing import Any
 
 NAME = re.compile(r"[A-Za-z0-9_-]{1,16}\Z")
+SYMBOL = re.compile(r"[!-~]{1,16}\Z")
 
 
 def checked_name(name: str) -> str:
@@ -13,6 +14,13 @@ def checked_name(name: str) -> str:
     if not (isinstance(name, str) and NAME.match(name)):
         raise ValueError(f"a name is 1 to 16 letters, digits, `_` or `-`, not {name!r}")
     return name
+
+
+def checked_symbol(symbol: Any) -> str:
+    """The symbol of an atom. Raises ValueError for what is none."""
+    if not (isinstance(symbol, str) and SYMBOL.match(symbol)):
+        raise ValueError(f"a symbol is 1 to 16 printing characters, not {symbol!r}")
+    return symbol
 
 
 def count_of(number: Any, what: str) -> int:

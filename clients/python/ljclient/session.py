@@ -7,6 +7,7 @@ import os
 from typing import TYPE_CHECKING, Any, Iterator, List, NamedTuple, Optional, Sequence, Tuple, Union
 
 from . import arrays, ase_bridge, box, checkpoint, frames, going, heating, progress as bars, reading, sampling
+from .elements import Replacements, replaced, with_symbols
 from .energy_watch import WatchedRoad
 from .measurement import Measurement, known
 from .mixture import Mixture
@@ -200,14 +201,17 @@ class Session:
         edge = self.scale.edge
         return arrays.of_positions(self.places(), edge)
 
-    def dump(self) -> str:
-        """The frame as XYZ text: positions in the unit of the file, rounded down to six decimals."""
-        frame = self._frame()
+    def dump(self, symbols: Optional[Replacements] = None) -> str:
+        """The frame as XYZ text: positions in the unit of the file, rounded down to six decimals.
+
+        symbols  as in `write_trajectory`
+        """
+        frame = with_symbols(self._frame(), symbols)
         return frame.text(f"step {frame.step}")
 
-    def write(self, path: Union[str, "os.PathLike[str]"]) -> None:
+    def write(self, path: Union[str, "os.PathLike[str]"], symbols: Optional[Replacements] = None) -> None:
         """Writes the frame to a file, as `dump` gives it."""
-        text = self.dump()
+        text = self.dump(symbols)
         with open(path, "w", encoding="ascii", newline="\n") as file:
             file.write(text)
 
@@ -215,14 +219,18 @@ class Session:
         """The symbol of each atom."""
         return list(symbols_of(self._user, self.name))
 
-    def to_ase(self) -> Any:
+    def to_ase(self, symbols: Optional[Replacements] = None) -> Any:
         """The frame as an `Atoms` of ASE, which has to be installed: positions in the periodic cell, step and time in `info`.
+
+        symbols  the element in place of each symbol of the session, such as `{"A": "Ar", "B": "Kr"}`. It is a ValueError if
+                 one is left out. Without it, it is one if ASE does not know one of the symbols as an element
 
         If epsilon and mass are known it has masses and momenta too, those of half a step ago, as kinetic energies are.
         """
-        scale = self.scale
+        scale, species = self.scale, self.mixture.species if self.mixture else ()
+        elements = ase_bridge.elements_of(self.symbols(), species, symbols)
         now, before = self._frames_of_places(both=True)
-        return ase_bridge.atoms_of(self.symbols(), now, before, scale)
+        return ase_bridge.atoms_of(elements, now, before, scale)
 
     def sample(self, every: int, frames: int, exact: bool = False, progress: sampling.Progress = False) -> sampling.Samples:
         """Goes on, and returns frames on the way: `steps`, and `frames` as one array of shape (frames, atoms, 3).
@@ -249,15 +257,26 @@ class Session:
         known(self._given)
         return thermo(self, self._user.ask_all, self._look, every, rows, progress)
 
-    def write_trajectory(self, path: sampling.Path, every: int, frames: int, progress: sampling.Progress = False) -> None:
+    def write_trajectory(
+        self,
+        path: sampling.Path,
+        every: int,
+        frames: int,
+        progress: sampling.Progress = False,
+        symbols: Optional[Replacements] = None,
+    ) -> None:
         """Goes on, and writes frames to a file on the way, as extended XYZ: with Lattice, step and time.
 
         every, frames, progress  are as in `sample`
+        symbols                  what is written in place of each symbol of the session, such as `{"A": "Ar", "B": "Kr"}`; it
+                                 is a ValueError if one is left out. ASE reads names of elements alone, and B as boron
 
         The file has each frame as soon as it is there. Times are in femtoseconds if epsilon and mass are known, else in units
         of `sigma sqrt(m / epsilon)`.
         """
-        sampling.write_trajectory(self, self._frame, path, every, frames, progress)
+        if symbols is not None:
+            replaced(self.symbols(), symbols)
+        sampling.write_trajectory(self, lambda: with_symbols(self._frame(), symbols), path, every, frames, progress)
 
     def saved(self) -> List[Saved]:
         """What is saved in it, in order of saving."""

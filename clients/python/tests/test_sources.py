@@ -145,7 +145,9 @@ class WithAse(unittest.TestCase):
     def test_symbols_that_ase_does_not_know(self):
         with run(PROGRAM) as user:
             odd = user.load("a", [("Ar", 0, 0, 0), ("Ar1", 1, 1, 1)], **DIMER_SCALE)
-            self.assertEqual(odd.to_ase().get_chemical_symbols(), ["Ar", "X"])
+            with self.assertRaisesRegex(ValueError, "ASE knows no element 'Ar1'"):
+                odd.to_ase()
+            self.assertEqual(odd.to_ase({"Ar": "Ar", "Ar1": "X"}).get_chemical_symbols(), ["Ar", "X"])
 
 
 if __name__ == "__main__":

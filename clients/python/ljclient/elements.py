@@ -1,0 +1,34 @@
+"""Symbols in place of those of a session, whose own may be names of species, such as A and B, that name no element."""
+from __future__ import annotations
+
+from typing import Iterable, List, Mapping, Optional, Sequence
+
+from .names import checked_symbol
+from .reading import Frame
+
+# The symbol that is to stand in place of each one of a session.
+Replacements = Mapping[str, str]
+
+
+def wanted(symbols: Iterable[str]) -> str:
+    """How the replacements of these symbols are said."""
+    return "symbols={" + ", ".join(f"{symbol!r}: .." for symbol in sorted(set(symbols))) + "}"
+
+
+def replaced(symbols: Sequence[str], replacements: Replacements) -> List[str]:
+    """What stands in place of each of these symbols. Raises ValueError if one is left out, or if something is no symbol."""
+    if not isinstance(replacements, Mapping):
+        raise ValueError(f"say a symbol in place of each one of the session, {wanted(symbols)}, not {replacements!r}")
+    for symbol in symbols:
+        if symbol not in replacements:
+            raise ValueError(f"symbols= has nothing in place of {symbol!r}: say one for each of {wanted(symbols)}")
+        checked_symbol(replacements[symbol])
+    return [replacements[symbol] for symbol in symbols]
+
+
+def with_symbols(frame: Frame, replacements: Optional[Replacements]) -> Frame:
+    """A frame with these symbols in place of its own."""
+    if replacements is None:
+        return frame
+    names = replaced(frame.symbols(), replacements)
+    return Frame(frame.step, [f"{name} {row.split(' ', 1)[1]}" for name, row in zip(names, frame.rows)])
