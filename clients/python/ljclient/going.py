@@ -2,8 +2,9 @@
 from __future__ import annotations
 
 import operator
+import threading
 import time
-from typing import Callable, Iterable, List, Optional, Protocol, Sequence, cast
+from typing import Callable, ContextManager, Iterable, List, Optional, Protocol, Sequence, cast
 
 from .progress import Report
 from .replies import number_after
@@ -13,6 +14,7 @@ MAX_STEPS = 1_000_000
 UNBOUNDED = 1 << 62
 FIRST_PIECE = 16
 PIECE_SECONDS = 0.2
+PAUSE_SECONDS = 0.001
 # The replies to many commands of the protocol.
 Ask = Callable[[Iterable[str]], List[Reply]]
 
@@ -76,21 +78,40 @@ class Course:
             self._report(self.done, self.total)
 
 
-def go(courses: Sequence[Course], ask: Ask, pace: Pace, piece: Optional[int]) -> List[int]:
-    """Has sessions go on at the same time, in pieces of so many steps or at a pace, and answers where each has come to."""
+class Breaks:
+    """Pauses in which other threads get the lock: one that takes it again at once often gets it before who has waited."""
+
+    def __init__(self) -> None:
+        self._last = time.monotonic()
+
+    def take(self) -> None:
+        """Pauses for a moment each tenth of a second, if there are other threads."""
+        if threading.active_count() > 1 and time.monotonic() - self._last >= PIECE_SECONDS / 2:
+            time.sleep(PAUSE_SECONDS)
+            self._last = time.monotonic()
+
+
+def go(courses: Sequence[Course], ask: Ask, pace: Pace, piece: Optional[int], lock: ContextManager[object]) -> List[int]:
+    """Has sessions go on at the same time, in pieces of so many steps or at a pace, and answers where each has come to.
+
+    Each piece is whole under the lock. Between two of them other threads may use the user.
+    """
     if piece is not None and operator.index(piece) < 1:
         raise ValueError(f"a piece is 1 step at least, not {piece}")
     for course in courses:
         course.tell()
+    breaks = Breaks()
     while under_way := [course for course in courses if not course.is_over]:
-        for course in under_way:
-            course.make_ready()
-        start = time.monotonic()
-        steps = go_by(under_way, ask, piece or pace.steps())
-        pace.took(steps, time.monotonic() - start)
+        with lock:
+            for course in under_way:
+                course.make_ready()
+            start = time.monotonic()
+            steps = go_by(under_way, ask, piece or pace.steps())
+            pace.took(steps, time.monotonic() - start)
         for course in under_way:
             if course.total:
                 course.tell()
+        breaks.take()
     return [cast(int, course.step) for course in courses]
 
 

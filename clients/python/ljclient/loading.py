@@ -3,6 +3,7 @@ from __future__ import annotations
 
 import contextlib
 import dataclasses
+import threading
 from typing import TYPE_CHECKING, Any, Dict, Iterable, List, Optional, Sequence, Tuple, cast
 
 from . import checkpoint, units, xyz
@@ -17,6 +18,7 @@ from .order import Order, by_halves, is_in_space
 from .replies import number_after
 from .session import Row, Session
 from .state import Command, Known, State, state_of
+from .threads import whole
 from .wire import Reply
 
 if TYPE_CHECKING:
@@ -27,6 +29,8 @@ class Loader:
     """The part of a `User` that loads atoms, and knows what was said of each session."""
 
     def __init__(self) -> None:
+        # Of the thread that uses the user. It is held as long as something has to be whole, and may be taken again.
+        self.lock = threading.RLock()
         self._known: Dict[str, Known] = {}
 
     def load(
@@ -147,6 +151,7 @@ class Loader:
         self._send("LOADMIX", name, words, frames, replace, motion, known)
         return Session(cast("User", self), name, mixture.scale, mixture=mixture, motion=motion)
 
+    @whole
     def _send(
         self,
         command: str,
@@ -174,6 +179,7 @@ class Loader:
                 self.ask(f"DROP {name}")
             raise
 
+    @whole
     def load_saved(
         self,
         path: checkpoint.Path,
@@ -203,6 +209,7 @@ class Loader:
         self._put(state, Order(numbers), self._drops(state.name, replace), EnergyWatch(watch))
         return Session(cast("User", self), state.name, state.scale, mixture=state.mixture)
 
+    @whole
     def resort(self, name: str) -> None:
         """As `Session.resort`."""
         if saved := self.ask(f"LIST {name}").lines:
@@ -211,6 +218,7 @@ class Loader:
         state = self.state_of(name)
         self._put(state, Order(by_halves(state.places)), [(f"DROP {name}", b"")], self.known(name).watch)
 
+    @whole
     def restore(self, name: str, branch: str) -> int:
         """As `Session.restore`."""
         line = f"RESTORE {name} {branch}"
@@ -218,6 +226,7 @@ class Loader:
         known.order = known.branch_order(branch)
         return known.order.step_of(step)
 
+    @whole
     def state_of(self, name: str) -> State:
         """The whole state of a session, which is as it was then. What is owed to it is done first."""
         return state_of(self, name)

@@ -4,7 +4,7 @@ from __future__ import annotations
 import dataclasses
 import operator
 import os
-from typing import TYPE_CHECKING, Any, Iterator, List, NamedTuple, Optional, Sequence, Tuple, Union
+from typing import TYPE_CHECKING, Any, ContextManager, Iterator, List, NamedTuple, Optional, Sequence, Tuple, Union
 
 from . import arrays, ase_bridge, box, checkpoint, frames, going, heating, progress as bars, reading, sampling
 from .elements import Replacements, replaced, with_symbols
@@ -17,6 +17,7 @@ from .order import Order
 from .replies import fields, number_after, of_session, whole_number
 from .state import symbols_of
 from .thermo import Thermo, thermo
+from .threads import whole
 from .units import Scale
 
 if TYPE_CHECKING:
@@ -50,6 +51,7 @@ class Session:
         self.name = checked_name(name)
         self.mixture = mixture
         self.motion = motion
+        self.lock: ContextManager[object] = user.lock
         self._user = user
         self._given = scale
         self._pace = going.Pace()
@@ -116,8 +118,9 @@ class Session:
         """
         total, report = count_of(n, "a number of steps"), bars.reporter(progress, self.name)
         course = going.Course(self.name, total, report, WatchedRoad(self._user, self.name, total, piece))
-        return going.go([course], self._user.ask_all, self._pace, piece)[0]
+        return going.go([course], self._user.ask_all, self._pace, piece, self.lock)[0]
 
+    @whole
     def start(self, n: int) -> int:
         """Begins to go on by n steps more, and answers at once the step number that it is going to (`target`).
 
@@ -136,6 +139,7 @@ class Session:
         """Turns the motion back, and answers the new step number: the two frames are exchanged."""
         return self._number(f"REVERSE {self.name}", 2)
 
+    @whole
     def branch(self, name: str) -> int:
         """Saves the simulation under a name, and answers its step number."""
         step = self._number(f"BRANCH {self.name} {checked_name(name)}", 3)
@@ -146,15 +150,18 @@ class Session:
         """Goes back to what was saved, and answers its step number. It stays saved."""
         return self._user.restore(self.name, checked_name(name))
 
+    @whole
     def forget(self, name: str) -> None:
         """Gives up what was saved under a name."""
         self._ask(f"FORGET {self.name} {checked_name(name)}")
         self._user.known(self.name).branches.pop(name, None)
 
+    @whole
     def tug(self, atom: int, displacement: Sequence[int]) -> int:
         """Gives an atom a displacement of so many ring units (edge / 2^32) more for each step, along x, y and z."""
         return self._number(self._tug(atom, displacement), 3)
 
+    @whole
     def heat(self, temperature: float, seed: int = 0) -> float:
         """Gives the atoms velocities in place of those that they have, and returns the temperature that these are rounded to.
 
@@ -172,6 +179,7 @@ class Session:
         self._user.ask_rows([self._tug(atom, change) for atom, change in enumerate(changes) if any(change)])
         return self.measure().temperature
 
+    @whole
     def measure(self) -> Measurement:
         """Measures momentum, kinetic energy and potential energy."""
         return self.measured(self._user.ask(f"MEASURE {self.name}").words)
@@ -181,6 +189,7 @@ class Session:
         told = Measurement.of(of_session(f"MEASURE {self.name}", words)[2:], self._given)
         return dataclasses.replace(told, step=self.order.step_of(told.step))
 
+    @whole
     def place(self, atom: int) -> Tuple[int, int, int]:
         """The place of an atom, in ring units: whole numbers from 0 to 2^32 - 1."""
         number = self._number_of(atom)
@@ -215,10 +224,12 @@ class Session:
         with open(path, "w", encoding="ascii", newline="\n") as file:
             file.write(text)
 
+    @whole
     def symbols(self) -> List[str]:
         """The symbol of each atom."""
         return list(symbols_of(self._user, self.name))
 
+    @whole
     def to_ase(self, symbols: Optional[Replacements] = None) -> Any:
         """The frame as an `Atoms` of ASE, which has to be installed: positions in the periodic cell, step and time in `info`.
 
@@ -278,6 +289,7 @@ class Session:
             replaced(self.symbols(), symbols)
         sampling.write_trajectory(self, lambda: with_symbols(self._frame(), symbols), path, every, frames, progress)
 
+    @whole
     def saved(self) -> List[Saved]:
         """What is saved in it, in order of saving."""
         lines = self._user.ask(f"LIST {self.name}").lines
@@ -316,6 +328,7 @@ class Session:
         x, y, z = (operator.index(part) for part in displacement)
         return f"TUG {self.name} {self._number_of(atom)} {x} {y} {z}"
 
+    @whole
     def _frame(self) -> reading.Frame:
         """The frame as the server dumps it, with atoms, step and positions as they are here. Each line of an atom that comes
         in is of here."""
@@ -325,6 +338,7 @@ class Session:
         frame = reading.Frame(order.step_of(frame.step), order.for_user(frame.rows))
         return frames.in_box(frame, self.scale.edge) if order.on_ring else frame
 
+    @whole
     def _positions_of_frame(self) -> Tuple[int, Any]:
         """The step and the positions of the frame, with six decimals. They are read without its lines, if the box is the
         user's; asking may move a session to another box."""
@@ -337,6 +351,7 @@ class Session:
         frame = self._frame()
         return frame.step, frame.positions()
 
+    @whole
     def _frames_of_places(self, both: bool = False) -> Tuple[reading.Places, ...]:
         """The places of all atoms, and if both frames are asked for, those of the step before. All places come in here."""
         if self.order.on_ring:
@@ -352,6 +367,7 @@ class Session:
     def _ask(self, line: str) -> List[str]:
         return of_session(line, self._user.ask(line).words)
 
+    @whole
     def _number(self, line: str, index: int) -> int:
         """The step number that stands last in the reply, at this index of its words."""
         step = number_after(line, self._user.ask(line).words, index)

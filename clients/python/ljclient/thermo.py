@@ -51,5 +51,6 @@ def _measured(session: "Session", ask: Ask, is_last: bool) -> List[Measurement]:
     """What is measured here and a step ahead. At the last stop that step is undone."""
     measure, advance, reverse = (f"{verb} {session.name}" for verb in ("MEASURE", "ADVANCE", "REVERSE"))
     lines = [measure, f"{advance} 1", measure, *([reverse, f"{advance} 1", reverse] if is_last else [])]
-    replies = ask(lines)
-    return [session.measured(replies[at].words) for at in (0, 2)]
+    with session.lock:
+        replies = ask(lines)
+        return [session.measured(replies[at].words) for at in (0, 2)]

@@ -22,6 +22,7 @@ from .refusals import NoSession
 from .replies import fields, whole_number
 from .session import Row, Session
 from .state import Command, can_be_loaded
+from .threads import whole
 from .wire import Reply, Wire, checked_timeout
 
 MAX_ITEMS = 1_000_000
@@ -38,7 +39,10 @@ class User(Loader):
     """What a user has at a server: sessions, each under its name. `connect` and `run` give one.
 
     It is a context manager, which closes the connection at the end. What was loaded over `connect` stays at the server
-    for the next connection; what was loaded over `run` is gone with the program. One thread at a time may use it.
+    for the next connection; what was loaded over `run` is gone with the program.
+
+    Several threads may use it and its sessions: what each asks for is whole, and the others wait meanwhile. `advance`,
+    `sample`, `thermo` and `write_trajectory` leave it to others after each piece. `with user.lock:` makes several calls whole.
     """
 
     def __init__(
@@ -94,16 +98,17 @@ class User(Loader):
 
         `watch` is as in `load`, and the energy is compared with that of now.
         """
-        self.ask(f"LIST {checked_name(name)}")
-        scale = None
-        if edge is not None and sigma is not None:
-            scale = units.Scale.of(edge, sigma, h, epsilon=epsilon, mass=mass, dt=dt, weight=weight)
-        elif (edge, sigma, h, epsilon, mass, dt) != (None,) * 6:
-            raise ValueError("a scale is edge and sigma, with h or with epsilon, mass and dt")
-        take_up(self, name, scale, order)
-        known = self.known(name)
-        known.watch = EnergyWatch(watch)
-        return Session(self, name, known.scale, mixture=known.mixture)
+        with self.lock:
+            self.ask(f"LIST {checked_name(name)}")
+            scale = None
+            if edge is not None and sigma is not None:
+                scale = units.Scale.of(edge, sigma, h, epsilon=epsilon, mass=mass, dt=dt, weight=weight)
+            elif (edge, sigma, h, epsilon, mass, dt) != (None,) * 6:
+                raise ValueError("a scale is edge and sigma, with h or with epsilon, mass and dt")
+            take_up(self, name, scale, order)
+            known = self.known(name)
+            known.watch = EnergyWatch(watch)
+            return Session(self, name, known.scale, mixture=known.mixture)
 
     def advance(
         self,
@@ -128,8 +133,9 @@ class User(Loader):
         counts = [count_of(total, "a number of steps") for total in totals]
         roads = [WatchedRoad(self, name, count, piece) for name, count in zip(names, counts)]
         courses = [going.Course(*parts) for parts in zip(names, counts, bars.reporters(progress, names), roads)]
-        return going.go(courses, self.ask_all, going.Pace(), piece)
+        return going.go(courses, self.ask_all, going.Pace(), piece, self.lock)
 
+    @whole
     def sessions(self) -> List[Row]:
         """The sessions in order of loading: of each its name, its step, its atoms and how much is saved in it.
 
@@ -142,6 +148,7 @@ class User(Loader):
             rows.append(Row(name, self.known(name).order.step_of(step), atoms, branches))
         return rows
 
+    @whole
     def row(self, name: str) -> Row:
         """The line of the list of sessions that is this session's."""
         for row in self.sessions():
@@ -158,6 +165,7 @@ class User(Loader):
         """The replies to many command lines, of which many are under way at once. The first refusal is raised."""
         return self.ask_commands([(line, b"") for line in lines])
 
+    @whole
     def ask_commands(self, commands: Sequence[Command]) -> List[Reply]:
         """As `ask_all`, of commands with the bodies that they announce."""
         self._make_room(len(commands))
@@ -195,12 +203,14 @@ class User(Loader):
                 raise
             raise NoSession(refusal.command, meaning=LOST) from None
 
+    @whole
     def ask_text(self, line: str) -> Tuple[List[str], bytes]:
         """The words of the reply to a command line after `OK`, and the lines after them as they came. A refusal is raised."""
         self._make_room(1)
         with self._losses_told():
             return self._wire.ask_text(line)
 
+    @whole
     def ask_rows(self, lines: Sequence[str]) -> bytes:
         """The lines that many command lines are answered by, one for each, as they came. The first refusal is raised."""
         self._make_room(len(lines))
@@ -257,6 +267,7 @@ class User(Loader):
         """Whether the connection has ended."""
         return self._wire.closed
 
+    @whole
     def close(self) -> None:
         """Ends the connection, and the program of `run`. A command that still runs at a server runs on there, and steps that
         were started there are made when this user is connected again."""

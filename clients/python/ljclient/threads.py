@@ -1,0 +1,18 @@
+"""Several threads that use one user: what each of them asks for is whole, and one comes after the other."""
+from __future__ import annotations
+
+import functools
+from typing import Any, Callable, TypeVar, cast
+
+Method = TypeVar("Method", bound=Callable[..., Any])
+
+
+def whole(method: Method) -> Method:
+    """A method of a user or a session during which other threads wait that use the same user."""
+
+    @functools.wraps(method)
+    def alone(self: Any, *arguments: Any, **named: Any) -> Any:
+        with self.lock:
+            return method(self, *arguments, **named)
+
+    return cast(Method, alone)
