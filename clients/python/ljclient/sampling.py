@@ -40,11 +40,11 @@ def stops(session: "Session", every: int, count: int, progress: Progress, ahead:
 
     At each stop but the last, who uses this may have gone ahead by some steps already.
     """
-    report = bars.reporter(progress, session.name)
-    for number in range(count - 1):
-        yield number
-        made = every * number + ahead
-        session.advance(every - ahead, _onward(report, made, every * (count - 1)) if report else False)
+    with bars.reporter(progress, session.name) as report:
+        for number in range(count - 1):
+            yield number
+            made = every * number + ahead
+            session.advance(every - ahead, _onward(report, made, every * (count - 1)) if report else False)
     yield count - 1
 
 

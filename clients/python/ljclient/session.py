@@ -107,8 +107,8 @@ class Session:
 
         The steps are asked for in pieces of about a fifth of a second (or of `piece` steps), so an interrupt from the
         keyboard ends the run after a piece, and the time limit of the connection is one for each piece. Pieces change
-        nothing in the result. With `progress=True` a bar is shown on a terminal or in a notebook; a function in its place
-        is called with how many steps are done, and of how many.
+        nothing in the result. With `progress=True` a bar of tqdm, which has to be installed, is shown at a terminal or in a
+        notebook; a function in its place is called with how many steps are done, and of how many.
 
         The energy is measured at the start of a run of more than 500 steps, after 1,000, 2,000, 4,000, .. steps from there,
         and after each 20,000. There is an `EnergyWarning`, once, if that of an atom has changed by half an epsilon. What else
@@ -116,9 +116,10 @@ class Session:
 
         `User.advance` has several sessions go on at the same time.
         """
-        total, report = count_of(n, "a number of steps"), bars.reporter(progress, self.name)
-        course = going.Course(self.name, total, report, WatchedRoad(self._user, self.name, total, piece))
-        return going.go([course], self._user.ask_all, self._pace, piece, self.lock)[0]
+        total = count_of(n, "a number of steps")
+        with bars.reporter(progress, self.name) as report:
+            course = going.Course(self.name, total, report, WatchedRoad(self._user, self.name, total, piece))
+            return going.go([course], self._user.ask_all, self._pace, piece, self.lock)[0]
 
     @whole
     def start(self, n: int) -> int:

@@ -120,8 +120,8 @@ class User(Loader):
         """Has several sessions go on at the same time, and answers their new step numbers.
 
         n         how many steps each of them makes: one number for all, or a list of one for each
-        progress  with True a bar for each is shown on a terminal or in a notebook; a function in its place is called with
-                  the name of a session, how many of its steps are done, and of how many
+        progress  with True a bar of tqdm for each is shown at a terminal or in a notebook, as by `Session.advance`; a function
+                  in its place is called with the name of a session, how many of its steps are done, and of how many
         piece     as in `Session.advance`: so many steps of each are asked for at a time
 
         There is a warning of each session whose energy changes, as by `Session.advance`.
@@ -132,8 +132,9 @@ class User(Loader):
         names = [session.name for session in sessions]
         counts = [count_of(total, "a number of steps") for total in totals]
         roads = [WatchedRoad(self, name, count, piece) for name, count in zip(names, counts)]
-        courses = [going.Course(*parts) for parts in zip(names, counts, bars.reporters(progress, names), roads)]
-        return going.go(courses, self.ask_all, going.Pace(), piece, self.lock)
+        with bars.reporters(progress, names) as reports:
+            courses = [going.Course(*parts) for parts in zip(names, counts, reports, roads)]
+            return going.go(courses, self.ask_all, going.Pace(), piece, self.lock)
 
     @whole
     def sessions(self) -> List[Row]:

@@ -5,6 +5,7 @@ import pty
 import re
 import select
 import signal
+import struct
 import subprocess
 import sys
 import termios
@@ -19,8 +20,8 @@ ARGON = EXAMPLES / "argon_256.xyz"
 def environment(**words):
     """The environment of a prompt, which finds the client and the program, and no token and no history."""
     kept = {name: value for name, value in os.environ.items() if name != "LJSERVE_TOKEN"}
-    client = str(TOP / "clients" / "python")
-    return {**kept, "PYTHONPATH": client, "LJSERVE": PROGRAM, "LJCLIENT_HISTORY": os.devnull, **words}
+    path = os.pathsep.join([str(TOP / "clients" / "python"), *filter(None, [os.environ.get("PYTHONPATH")])])
+    return {**kept, "PYTHONPATH": path, "LJSERVE": PROGRAM, "LJCLIENT_HISTORY": os.devnull, **words}
 
 
 def begin_at_terminal():
@@ -30,17 +31,18 @@ def begin_at_terminal():
 
 
 class Terminal:
-    """A program whose standard streams are a terminal of its own."""
+    """A program whose standard streams are a terminal of its own, of so many columns."""
 
-    def __init__(self, words, env=None):
+    def __init__(self, words, env=None, columns=120):
         self.ours, theirs = pty.openpty()
-        env = {**os.environ, "TERM": "xterm", "COLUMNS": "120", "LINES": "40", "INPUTRC": "/dev/null", **(env or {})}
+        fcntl.ioctl(theirs, termios.TIOCSWINSZ, struct.pack("HHHH", 40, columns, 0, 0))
+        env = {**os.environ, "TERM": "xterm", "COLUMNS": str(columns), "LINES": "40", "INPUTRC": "/dev/null", **(env or {})}
         self.child = subprocess.Popen(
             words, stdin=theirs, stdout=theirs, stderr=theirs, env=env, start_new_session=True,
             preexec_fn=begin_at_terminal,
         )
         os.close(theirs)
-        self.shown = ""
+        self.written, self.shown = "", ""
 
     def type(self, text):
         os.write(self.ours, text.encode())
@@ -62,6 +64,7 @@ class Terminal:
                 data = os.read(self.ours, 1 << 16).decode()
             except OSError:
                 return False
+            self.written += data
             self.shown += re.sub(r"\033\[[?0-9;]*[a-zA-Z]|\r(?!\n)|\a", "", data).replace("\r\n", "\n")
         return True
 

@@ -1,156 +1,224 @@
-"""What is shown while a run goes on: on a terminal, in a notebook, and elsewhere nothing."""
+"""What is shown while a run goes on: bars at a terminal and in a notebook, and elsewhere nothing."""
 import contextlib
+import fcntl
 import io
 import os
 import pty
 import re
+import struct
 import subprocess
 import sys
+import termios
 import types
-import unittest
-from unittest import mock
+
+import pytest
 
 from ljclient import progress, run
-from support import PROGRAM, SECONDS, TOP, dimer
+from support import PROGRAM, SECONDS, dimer
+from terminals import ARGON, PROMPT, Terminal, environment
 
-SCRIPT = """
+try:
+    import tqdm
+except ImportError:
+    tqdm = None
+
+with_tqdm = pytest.mark.skipif(tqdm is None, reason="tqdm is not installed")
+LONG_NAME = "a-name-of-16-let"
+ONE = """
 import sys
 from ljclient import run
 with run(sys.argv[1]) as user:
     a = user.load("argon", "2\\n\\nAr 0 0 0\\nAr 1.5 0 0\\n", edge=256, sigma=1, h=131072)
     a.advance(40, progress=True, piece=10)
 """
+SEVERAL = """
+import sys
+from ljclient import run
+with run(sys.argv[1]) as user:
+    names = ["a", "a-name-of-16-let", "c"]
+    text, words = "2\\n\\nAr 0 0 0\\nAr 1.5 0 0\\n", {"edge": 256, "sigma": 1, "h": 131072}
+    user.advance([user.load(name, text, **words) for name in names], [40, 20, 30], progress=True, piece=10)
+"""
 
 
-class Terminal(io.StringIO):
+class Seen(io.StringIO):
+    """A stream that says that somebody sees it."""
+
     def isatty(self):
         return True
 
 
-class Bars(unittest.TestCase):
-    def advance(self, stream, **words):
-        """What a run of 40 steps in pieces of 10 writes to standard error and to standard output."""
-        out = io.StringIO()
-        with run(PROGRAM) as user, contextlib.redirect_stderr(stream), contextlib.redirect_stdout(out):
-            step = dimer(user).advance(40, piece=10, **words)
-        self.assertEqual(step, 40)
-        return stream.getvalue(), out.getvalue()
-
-    def test_a_terminal(self):
-        shown, out = self.advance(Terminal(), progress=True)
-        drawn = shown.split("\r\033[K")[1:]
-        self.assertEqual([re.search(r"(\d+) of 40 steps", one)[1] for one in drawn], ["0", "10", "20", "30", "40"])
-        self.assertEqual([re.search(r"\[(#*)(\.*)\]", one)[1] for one in drawn], ["#" * count for count in (0, 10, 20, 30, 40)])
-        self.assertTrue(all(one.startswith("a [") for one in drawn))
-        self.assertEqual(shown.count("\n"), 1)
-        self.assertTrue(shown.endswith(" s\n"))
-        self.assertIn("s left", drawn[1])
-        self.assertEqual(out, "")
-
-    def test_no_terminal(self):
-        self.assertEqual(self.advance(io.StringIO(), progress=True), ("", ""))
-
-    def test_not_wanted(self):
-        self.assertEqual(self.advance(Terminal()), ("", ""))
-
-    def test_a_function(self):
-        told = []
-        self.assertEqual(self.advance(Terminal(), progress=lambda *words: told.append(words)), ("", ""))
-        self.assertEqual(told, [(0, 40), (10, 40), (20, 40), (30, 40), (40, 40)])
-
-    def advance_two(self, stream, **words):
-        """What is written while one session makes 40 steps and another one 20 of them, in pieces of 10."""
-        with run(PROGRAM) as user, contextlib.redirect_stderr(stream):
-            steps = user.advance([dimer(user), dimer(user, "bcd")], [40, 20], piece=10, **words)
-        self.assertEqual(steps, [40, 20])
-        return stream.getvalue()
-
-    def test_two_lines_of_a_terminal(self):
-        shown = self.advance_two(Terminal(), progress=True)
-        drawn = shown.split("\033[1A")
-        self.assertEqual(len(drawn), 8)
-        self.assertEqual([one.count("\r\033[K") for one in drawn], [2] * 8)
-        self.assertEqual([one.count("\n") for one in drawn], [1] * 7 + [2])
-        told = [[int(number) for number in re.findall(r"(\d+) of \d+ steps", one)] for one in drawn]
-        self.assertEqual(told, [[0], [0, 0], [10, 0], [10, 10], [20, 10], [20, 20], [30, 20], [40, 20]])
-        first, second = drawn[-1].replace("\r\033[K", "").splitlines()
-        self.assertTrue(first.startswith("a   [" + "#" * 20 + "] 40 of 40 steps, ") and first.endswith(" s"), first)
-        self.assertTrue(second.startswith("bcd [" + "#" * 20 + "] 20 of 20 steps, ") and second.endswith(" s"), second)
-
-    def test_a_function_for_two(self):
-        told = []
-        self.assertEqual(self.advance_two(Terminal(), progress=lambda *words: told.append(words)), "")
-        wanted = [("a", 0, 40), ("bcd", 0, 20), ("a", 10, 40), ("bcd", 10, 20), ("a", 20, 40), ("bcd", 20, 20)]
-        self.assertEqual(told, [*wanted, ("a", 30, 40), ("a", 40, 40)])
-
-    def test_nobody_looks_at_two(self):
-        self.assertEqual((self.advance_two(io.StringIO(), progress=True), self.advance_two(Terminal())), ("", ""))
-
-    def test_no_standard_error(self):
-        with run(PROGRAM) as user, mock.patch.object(sys, "stderr", None):
-            self.assertEqual(dimer(user).advance(3, progress=True), 3)
-
-    def test_a_notebook(self):
-        shown, told = self.in_a_notebook(self.advance)
-        self.assertEqual(told, ("", ""))
-        self.assertEqual([kind for kind, _ in shown], ["display"] + ["update"] * 4)
-        self.assertIn("<progress value='20' max='40'>", shown[2][1])
-        self.assertIn("40 of 40 steps", shown[4][1])
-
-    def test_two_bars_in_a_notebook(self):
-        shown, told = self.in_a_notebook(self.advance_two)
-        self.assertEqual(told, "")
-        self.assertEqual([kind for kind, _ in shown], ["display"] * 2 + ["update"] * 6)
-        self.assertEqual([drawn.split(" ")[0] for _, drawn in shown], ["a", "bcd"] * 3 + ["a"] * 2)
-
-    def in_a_notebook(self, advance):
-        """What is displayed in a notebook, and what is written."""
-        shown = []
-
-        class ZMQInteractiveShell:
-            pass
-
-        class Handle:
-            def update(self, drawn):
-                shown.append(("update", drawn))
-
-        def display(drawn, display_id):
-            shown.append(("display", drawn))
-            return Handle()
-
-        notebook = types.ModuleType("IPython")
-        notebook.get_ipython = ZMQInteractiveShell
-        parts = types.ModuleType("IPython.display")
-        parts.HTML, parts.display = str, display
-        with mock.patch.dict(sys.modules, {"IPython": notebook, "IPython.display": parts}):
-            return shown, advance(Terminal(), progress=True)
-
-    def test_ipython_on_a_terminal_is_no_notebook(self):
-        shell = types.ModuleType("IPython")
-        shell.get_ipython = lambda: None
-        with mock.patch.dict(sys.modules, {"IPython": shell}):
-            self.assertIn("40 of 40 steps", self.advance(Terminal(), progress=True)[0])
-
-    def test_a_true_terminal(self):
-        ours, theirs = pty.openpty()
-        words = [sys.executable, "-c", SCRIPT, PROGRAM]
-        env = {**os.environ, "PYTHONPATH": str(TOP / "clients" / "python")}
-        child = subprocess.Popen(words, stdin=subprocess.DEVNULL, stdout=subprocess.PIPE, stderr=theirs, env=env)
-        os.close(theirs)
-        out, _ = child.communicate(timeout=SECONDS)
-        shown = os.read(ours, 1 << 16).decode()
-        os.close(ours)
-        self.assertEqual((child.returncode, out), (0, b""))
-        self.assertIn("argon [" + "#" * 20 + "." * 20 + "] 20 of 40 steps", shown)
+@pytest.fixture
+def user():
+    with run(PROGRAM) as user:
+        yield user
 
 
-class Clocks(unittest.TestCase):
-    def test_the_time_that_is_left(self):
-        with mock.patch.object(progress.time, "monotonic", side_effect=[100.0, 100.0, 103.0, 108.0]):
-            clock = progress.Clock()
-            # A quarter in 3 s leaves 9 s.
-            self.assertEqual([clock.left(0, 40), clock.left(10, 40), clock.left(40, 40)], ["", "9 s left", "8.0 s"])
+@pytest.fixture
+def seen(monkeypatch):
+    """A stream of 60 columns that somebody sees."""
+    monkeypatch.setenv("COLUMNS", "61")
+    monkeypatch.setenv("LINES", "41")
+    return Seen()
 
 
-if __name__ == "__main__":
-    unittest.main()
+@pytest.fixture
+def no_tqdm(monkeypatch):
+    """A Python without tqdm, which nobody has looked for yet."""
+    monkeypatch.setitem(sys.modules, "tqdm.auto", None)
+    for cached in (progress._tqdm, progress._tell):
+        cached.cache_clear()
+    yield
+    for cached in (progress._tqdm, progress._tell):
+        cached.cache_clear()
+
+
+def at_terminal(script, columns):
+    """What a script writes to its standard error, which is a terminal of so many columns."""
+    ours, theirs = pty.openpty()
+    fcntl.ioctl(theirs, termios.TIOCSWINSZ, struct.pack("HHHH", 40, columns, 0, 0))
+    words = [sys.executable, "-c", script, PROGRAM]
+    child = subprocess.Popen(words, stdin=subprocess.DEVNULL, stdout=subprocess.PIPE, stderr=theirs, env=environment())
+    os.close(theirs)
+    out, _ = child.communicate(timeout=SECONDS)
+    shown = os.read(ours, 1 << 16).decode()
+    os.close(ours)
+    assert (child.returncode, out) == (0, b"")
+    return shown
+
+
+def screen(shown, columns):
+    """The lines of a terminal to which this was written. What is longer than a line goes on in the next one."""
+    lines, row, column = {}, 0, 0
+    for part in re.findall(r"\x1b\[[AK]|[^\x1b]", shown):
+        if part == "\x1b[A":
+            row -= 1
+        elif part == "\x1b[K":
+            lines[row] = lines.get(row, "")[:column]
+        elif part == "\r":
+            column = 0
+        elif part == "\n":
+            row += 1
+        else:
+            if column == columns:
+                row, column = row + 1, 0
+            line = lines.get(row, "").ljust(column)
+            lines[row] = line[:column] + part + line[column + 1 :]
+            column += 1
+    return [lines[row].rstrip() for row in sorted(lines)]
+
+
+@with_tqdm
+@pytest.mark.parametrize("columns", [50, 80])
+def test_a_bar_is_one_line_of_the_terminal(columns):
+    (line,) = screen(at_terminal(ONE, columns), columns)
+    assert re.match(r"argon: 100%\|.*\| 40/40 \[", line)
+
+
+@with_tqdm
+@pytest.mark.parametrize("columns", [50, 80])
+def test_several_bars_are_a_line_each(columns):
+    lines = screen(at_terminal(SEVERAL, columns), columns)
+    assert [line.split(":")[0] for line in lines] == ["a".ljust(16), LONG_NAME, "c".ljust(16)]
+    assert [re.search(r"\| (\d+/\d+) \[", line)[1] for line in lines] == ["40/40", "20/20", "30/30"]
+
+
+@with_tqdm
+@pytest.mark.parametrize("columns", [50, 80])
+def test_the_bar_of_the_prompt_is_one_line(columns):
+    terminal = Terminal(PROMPT, environment(), columns)
+    try:
+        terminal.until("ljserve> ")
+        terminal.type(f"LOAD {LONG_NAME} {ARGON} 21.04 3.4 131072\r")
+        terminal.until(f"OK LOAD {LONG_NAME} 0 256\n")
+        begun = len(terminal.written)
+        terminal.type(f"ADVANCE {LONG_NAME} 900000\r")
+        for _ in range(3):
+            terminal.until(r"\d+/900000 \[")
+        written = terminal.written[begun:]
+        terminal.interrupt()
+        terminal.until(f"OK ADVANCE {LONG_NAME} ")
+    finally:
+        terminal.close()
+    drawn = [part for part in re.split(r"[\r\n]", written) if "/900000 [" in part]
+    assert len(drawn) >= 3
+    assert max(len(re.sub(r"\x1b\[\??\d*[a-zA-Z]", "", part)) for part in drawn) <= columns
+
+
+@with_tqdm
+def test_a_bar_is_drawn_as_the_run_goes_on(user, seen):
+    with contextlib.redirect_stderr(seen):
+        assert dimer(user).advance(40, piece=10, progress=True) == 40
+    drawn = seen.getvalue().split("\r")
+    assert "a:   0%|" in drawn[1] and "| 0/40 [" in drawn[1]
+    assert "a: 100%|" in drawn[-1] and "| 40/40 [" in drawn[-1]
+    assert max(len(line.rstrip("\n")) for line in drawn) <= 60
+
+
+@with_tqdm
+def test_an_error_ends_the_line_of_the_bar(user, seen, monkeypatch):
+    a = dimer(user)
+    ask, asked = user.ask_all, []
+    monkeypatch.setattr(user, "ask_all", lambda lines: (asked.append(lines), ask(lines) if len(asked) < 3 else 1 / 0)[1])
+    with pytest.raises(ZeroDivisionError), contextlib.redirect_stderr(seen):
+        a.advance(40, piece=10, progress=True)
+    assert re.search(r"\| 20/40 \[[^\r]*\]\n\Z", seen.getvalue())
+
+
+@with_tqdm
+def test_samples_have_one_bar(user, seen):
+    with contextlib.redirect_stderr(seen):
+        assert dimer(user).sample(every=10, frames=5, progress=True).steps == [0, 10, 20, 30, 40]
+    assert "| 40/40 [" in seen.getvalue()
+    assert seen.getvalue().count("\n") == 1
+
+
+def test_nobody_looks(user, seen):
+    with contextlib.redirect_stderr(seen):
+        assert dimer(user).advance(40, piece=10) == 40
+    for stream in (io.StringIO(), None):
+        pair = [user.session("a"), dimer(user, "b", replace=True)]
+        with contextlib.redirect_stderr(stream):
+            assert user.advance(pair, [20, 20], piece=10, progress=True)[1] == 20
+        assert stream is None or stream.getvalue() == ""
+    assert seen.getvalue() == ""
+
+
+def test_a_function_is_told(user, seen):
+    told = []
+    with contextlib.redirect_stderr(seen):
+        dimer(user).advance(40, piece=10, progress=lambda *words: told.append(words))
+    assert told == [(0, 40), (10, 40), (20, 40), (30, 40), (40, 40)]
+    assert seen.getvalue() == ""
+
+
+def test_a_function_is_told_of_two(user, seen):
+    told = []
+    pair = [dimer(user), dimer(user, "bcd")]
+    with contextlib.redirect_stderr(seen):
+        assert user.advance(pair, [40, 20], piece=10, progress=lambda *words: told.append(words)) == [40, 20]
+    begun = [("a", 0, 40), ("bcd", 0, 20), ("a", 10, 40), ("bcd", 10, 20), ("a", 20, 40), ("bcd", 20, 20)]
+    assert told == [*begun, ("a", 30, 40), ("a", 40, 40)]
+    assert seen.getvalue() == ""
+
+
+@with_tqdm
+def test_a_notebook_has_bars_though_its_streams_are_no_terminal(user, seen, monkeypatch):
+    class ZMQInteractiveShell:
+        config = {}
+
+    notebook = types.ModuleType("IPython")
+    notebook.get_ipython = ZMQInteractiveShell
+    monkeypatch.setitem(sys.modules, "IPython", notebook)
+    monkeypatch.setattr(seen, "isatty", lambda: False)
+    with contextlib.redirect_stderr(seen):
+        dimer(user).advance(40, piece=10, progress=True)
+    assert "| 40/40 [" in seen.getvalue()
+
+
+def test_without_tqdm_it_is_said_once_that_there_are_no_bars(user, seen, no_tqdm):
+    a, b = dimer(user), dimer(user, "b")
+    with contextlib.redirect_stderr(seen):
+        assert a.advance(40, progress=True) == 40
+        assert user.advance([a, b], 10, progress=True) == [50, 10]
+    assert seen.getvalue() == "ljclient shows no progress bars, since tqdm is not installed\n"

@@ -1,4 +1,5 @@
 """The prompt at a terminal: lines that are edited and completed, explanations, bars, and interrupts."""
+import importlib.util
 import os
 import re
 import tempfile
@@ -92,12 +93,13 @@ class AtATerminal(unittest.TestCase):
         terminal.type("REST\targ\tfi\t\r")
         terminal.until("OK RESTORE argon first 0\nljserve> ")
 
+    @unittest.skipUnless(importlib.util.find_spec("tqdm"), "tqdm is not installed")
     def test_an_advance_that_is_long(self):
         terminal = self.begin()
         terminal.until("ljserve> ")
         self.says(terminal, f"LOAD a {ARGON} 21.04 3.4 131072", "ljserve> ")
         terminal.type("ADVANCE a 900000\r")
-        terminal.until(r"a \[#*\.+\] \d+ of 900000 steps, \d+ s left")
+        terminal.until(r"a: +\d+%\|.*\| \d+/900000 \[")
         terminal.interrupt()
         shown = terminal.until("ljserve> ")
         found = re.search(r"OK ADVANCE a (\d+)\n", shown)

@@ -2,13 +2,11 @@
 from __future__ import annotations
 
 import re
-import sys
-import time
 from typing import List, TextIO, Tuple
 
 from ..errors import ClientError, Refused
 from ..going import MAX_STEPS
-from ..progress import TerminalBars
+from ..progress import reporter
 from ..session import Session
 from ..wire import Reply
 from . import loading
@@ -21,21 +19,6 @@ from .reading import PipeInput, TerminalInput
 
 PATIENCE = 0.5
 ADVANCE = re.compile(r"ADVANCE [A-Za-z0-9_-]{1,16} ([0-9]{1,7})\Z")
-
-
-class LateBar:
-    """A bar for a run, which is drawn where the run takes longer than a moment. It is open from then to the end of the run."""
-
-    def __init__(self, name: str, stream: TextIO):
-        self.is_open = False
-        self._bars = TerminalBars([name], stream)
-        self._begin = time.monotonic() + PATIENCE
-
-    def show(self, done: int, total: int) -> None:
-        """Draws how far the run is."""
-        if self.is_open or (time.monotonic() > self._begin and done < total):
-            self.is_open = done < total
-            self._bars.show(0, done, total)
 
 
 class Talk:
@@ -150,18 +133,14 @@ class TerminalTalk(Talk):
             self.tell(f"  {self.link.after_end}")
 
     def advance(self, name: str, steps: str) -> None:
-        """Goes on by some steps, with a bar. An interrupt from the keyboard ends it after a piece."""
-        bar = LateBar(name, sys.stderr)
+        """Goes on by some steps, with a bar if it takes a while. An interrupt from the keyboard ends it after a piece."""
         try:
-            step = Session(self.link.ready(), name).advance(int(steps), progress=bar.show)
+            with reporter(True, name, delay=PATIENCE) as report:
+                step = Session(self.link.ready(), name).advance(int(steps), progress=report or False)
             self.tell(f"OK ADVANCE {name} {step}")
         except KeyboardInterrupt:
-            bar.is_open = False
             self.tell("", "  interrupted: this is where it has come to")
             self.show(self.ask(f"ADVANCE {name} 0", b""))
-        finally:
-            if bar.is_open:
-                self.tell("")
 
 
 def is_advance(words: List[str]) -> bool:
