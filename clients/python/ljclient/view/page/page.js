@@ -2,6 +2,7 @@
 
 import { Box, RING, distance, placesOf } from "./box.js";
 import { Chart, History } from "./charts.js";
+import { listenToKeys } from "./keys.js";
 import { Message } from "./message.js";
 import { Talk } from "./talk.js";
 
@@ -206,16 +207,9 @@ const acts = {
   restore: () => goBack("restore", "Restored, as saved at"),
   restart: () => goBack("restart", "Back at the start:"),
 };
-const keys = { " ": "play", ".": "one", r: "reverse", e: "exact", s: "save", b: "restore", Home: "restart" };
 
 for (const [name, act] of Object.entries(acts)) part(name).addEventListener("click", act);
-document.addEventListener("keydown", (event) => {
-  const button = part(keys[event.key] ?? "");
-  const taken = event.target.matches("select, input") || (event.target.matches("button") && event.key === " ");
-  if (!button || taken || event.ctrlKey || event.metaKey || event.altKey) return;
-  event.preventDefault();
-  button.click();
-});
+listenToKeys(document, part("keys"), () => talk.isIdle);
 for (const name of ["depth", "thickness", "speed"]) part(name).addEventListener("input", slide);
 part("scene").addEventListener("change", (event) => load(Number(event.target.value)));
 matchMedia("(prefers-color-scheme: dark)").addEventListener("change", () => (fresh = true));
