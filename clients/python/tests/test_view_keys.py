@@ -18,7 +18,8 @@ COUNT = "window.pressed = []; document.addEventListener('click', event => presse
 
 
 def letter(key):
-    return {"key": key, "code": f"Key{key.upper()}", "windowsVirtualKeyCode": ord(key.upper()), "text": key, "modifiers": 8 * key.isupper()}
+    code, shift = ord(key.upper()), 8 * key.isupper()
+    return {"key": key, "code": f"Key{key.upper()}", "windowsVirtualKeyCode": code, "text": key, "modifiers": shift}
 
 
 class Keyboard:

@@ -7,6 +7,8 @@ const EDGE_OF_SLAB = 0.35; // over how many sigma an atom fades at the faces of 
 const SHADES = 32; // colours of atoms, by where they were at the start
 const NEARNESSES = 6; // steps of paleness
 const STRONGEST_PULL = 5; // in sigma
+const LONG_PRESS = 400; // by touch, in milliseconds
+const STILL = 10; // by how far a finger that is still may move, in pixels
 const STOPS = [[47, 98, 178], [66, 156, 171], [143, 178, 92], [231, 176, 70], [211, 92, 55]];
 
 export const leastImage = (difference) => difference - RING * Math.round(difference / RING);
@@ -77,6 +79,7 @@ export class Box {
     this.discs = new Discs(1, 1, "");
     this.tug = tug;
     this.pull = null;
+    this.press = null; // of a finger that may come to hold an atom
     this.depth = 0.5;
     this.thickness = 1.8;
     this.hears();
@@ -161,10 +164,21 @@ export class Box {
   }
 
   hears() {
-    this.canvas.addEventListener("pointerdown", (event) => this.take(event));
-    this.canvas.addEventListener("pointermove", (event) => this.move(event));
-    this.canvas.addEventListener("pointerup", () => this.letGo());
-    this.canvas.addEventListener("pointercancel", () => this.forget());
+    const listen = (type, act) => this.canvas.addEventListener(type, act, { passive: false });
+    listen("pointerdown", (event) => (event.pointerType === "touch" ? this.touch(event) : this.take(event)));
+    listen("pointermove", (event) => this.move(event));
+    listen("pointerup", () => this.letGo());
+    listen("pointercancel", () => this.forget());
+    for (const type of ["touchmove", "contextmenu"]) listen(type, (event) => this.held && event.preventDefault());
+  }
+
+  // A finger takes an atom if it stays for a while. Before, it may be on its way to scroll the page or to make it larger.
+  touch(event) {
+    this.forget();
+    if (!event.isPrimary) return;
+    const { pointerId, offsetX, offsetY } = event;
+    const timer = setTimeout(() => this.take({ pointerId, offsetX, offsetY }), LONG_PRESS);
+    this.press = { timer, left: offsetX, top: offsetY };
   }
 
   // The atom in front at a point of the canvas.
@@ -174,6 +188,7 @@ export class Box {
   }
 
   take(event) {
+    this.giveUp();
     if (!this.places) return;
     const hit = this.atomAt(event.offsetX, event.offsetY);
     if (!hit) return;
@@ -186,6 +201,7 @@ export class Box {
   }
 
   move(event) {
+    if (this.press && Math.hypot(event.offsetX - this.press.left, event.offsetY - this.press.top) > STILL) this.giveUp();
     if (!this.pull) return;
     const [dx, dy] = [event.offsetX - this.pull.left, event.offsetY - this.pull.top];
     const most = (STRONGEST_PULL / this.edge) * this.size;
@@ -195,13 +211,21 @@ export class Box {
   }
 
   letGo() {
+    this.giveUp();
     if (!this.pull) return;
     const { atom, dx, dy } = this.pull;
     this.forget();
     if (dx || dy) this.tug(atom, (dx / this.size) * this.edge, (-dy / this.size) * this.edge);
   }
 
+  // Ends the wait for a finger to take an atom.
+  giveUp() {
+    clearTimeout(this.press?.timer);
+    this.press = null;
+  }
+
   forget() {
+    this.giveUp();
     this.pull = null;
     this.canvas.classList.remove("holding");
     this.draw();
