@@ -23,7 +23,7 @@ FOLDER = Path(__file__).parent / "page"
 TYPES = {".html": "text/html", ".css": "text/css", ".js": "text/javascript", ".svg": "image/svg+xml"}
 FILES: Dict[str, Tuple[str, str]] = {
     "/" if name == "page.html" else f"/{name}": (name, TYPES[Path(name).suffix])
-    for name in ("page.html", "page.css", "page.js", "box.js", "charts.js", "keys.js", "message.js", "talk.js", "icon.svg")
+    for name in ("page.html", "page.css", "page.js", "box.js", "burst.js", "charts.js", "keys.js", "message.js", "talk.js", "icon.svg")
 }
 SESSION = "/session"
 # A page may load the files of this server, and nothing else; nothing may frame it.

@@ -1,7 +1,8 @@
 // Lines over the step number. The way back lies over the way there, if it is the same.
 
 const MOST_POINTS = 4000;
-const LEFT = 3.6, RIGHT = 0.8, TOP = 0.5, BOTTOM = 1.7; // margins, in letters
+const LEFT = 3.6, RIGHT = 0.8, TOP = 0.5, BOTTOM = 1.7; // margins, in letters; that on the left may be wider
+const MOST_STEPS = 5; // about so many labels of the steps, if there is room
 
 // What was seen: a row for each frame, with the step, the direction, whether it follows the row before, and the values.
 // Of a long history only some rows are kept, all equally many frames apart, and those at which a line begins, turns or ends.
@@ -45,6 +46,13 @@ export function ticks(low, high, wanted = 4) {
   return found.map((value) => Number(value.toPrecision(12)));
 }
 
+// A number in few letters: 12,000, but 1.2e6.
+export function label(value) {
+  const isShort = value === 0 || (Math.abs(value) >= 1e-4 && Math.abs(value) < 1e6);
+  const text = isShort ? value.toLocaleString("en", { maximumSignificantDigits: 12 }) : value.toExponential().replace("e+", "e");
+  return text.replaceAll("-", "−");
+}
+
 export class Chart {
   // `lines` are names of values, each with the colour that it has: a custom property of the page, by direction.
   constructor(canvas, lines, least) {
@@ -73,8 +81,9 @@ export class Chart {
     if (this.canvas.width !== across || this.canvas.height !== down) [this.canvas.width, this.canvas.height] = [across, down];
     this.pen.setTransform(scale, 0, 0, scale, 0, 0);
     this.pen.clearRect(0, 0, this.width, this.height);
-    this.letter = 0.78 * parseFloat(getComputedStyle(this.canvas).fontSize);
-    [this.left, this.right] = [LEFT * this.letter, this.width - RIGHT * this.letter];
+    const style = getComputedStyle(this.canvas);
+    this.letter = 0.78 * parseFloat(style.fontSize);
+    this.pen.font = `${this.letter}px ${style.fontFamily}`;
     [this.top, this.bottom] = [TOP * this.letter, this.height - BOTTOM * this.letter];
     this.steps = [0, 100];
     this.values = [...this.least];
@@ -83,6 +92,22 @@ export class Chart {
       for (const { value } of this.lines) this.values = [Math.min(this.values[0], row[value]), Math.max(this.values[1], row[value])];
     }
     this.values[1] += 0.06 * (this.values[1] - this.values[0]);
+    this.makeRoom();
+  }
+
+  // Finds which values and steps have a label, and leaves room for the widest.
+  makeRoom() {
+    this.marks = ticks(...this.values, 3);
+    this.left = Math.max(LEFT * this.letter, this.widest(this.marks) + this.letter);
+    this.right = this.width - RIGHT * this.letter;
+    for (let wanted = MOST_STEPS; wanted > 0; wanted--) {
+      this.stepMarks = ticks(...this.steps, wanted);
+      if (this.stepMarks.length * (this.widest(this.stepMarks) + 1.5 * this.letter) <= this.right - this.left) break;
+    }
+  }
+
+  widest(values) {
+    return Math.max(0, ...values.map((value) => this.pen.measureText(label(value)).width));
   }
 
   x(step) {
@@ -96,20 +121,20 @@ export class Chart {
   axes() {
     const pen = this.pen;
     const style = getComputedStyle(this.canvas);
-    pen.font = `${this.letter}px ${style.fontFamily}`;
     pen.fillStyle = style.getPropertyValue("--soft");
     pen.strokeStyle = style.getPropertyValue("--line");
     pen.lineWidth = 1;
     pen.textAlign = "right";
     pen.textBaseline = "middle";
-    for (const value of ticks(...this.values, 3)) {
+    for (const value of this.marks) {
       this.rule(this.y(value));
-      pen.fillText(value.toLocaleString("en").replace("-", "−"), this.left - 0.5 * this.letter, this.y(value));
+      pen.fillText(label(value), this.left - 0.5 * this.letter, this.y(value));
     }
     pen.textAlign = "center";
     pen.textBaseline = "top";
-    for (const step of ticks(...this.steps, 5)) {
-      pen.fillText(step.toLocaleString("en").replace("-", "−"), Math.min(this.x(step), this.width - 1.5 * this.letter), this.bottom + 0.4 * this.letter);
+    for (const step of this.stepMarks) {
+      const half = this.widest([step]) / 2;
+      pen.fillText(label(step), Math.max(half, Math.min(this.x(step), this.width - half)), this.bottom + 0.4 * this.letter);
     }
   }
 

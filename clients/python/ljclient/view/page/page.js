@@ -1,5 +1,6 @@
 // The page: its buttons, what is shown of each frame, and the frames that are asked for while it plays.
 
+import { BurstWatch, burstText } from "./burst.js";
 import { Box, RING, distance, placesOf } from "./box.js";
 import { Chart, History } from "./charts.js";
 import { listenToKeys } from "./keys.js";
@@ -27,13 +28,16 @@ let fresh = false; // whether what is shown has changed since it was drawn
 let stale = false; // whether numbers and lines have changed since they were shown
 let told = 0; // when they were
 let frames = []; // when the last frames were drawn
-const message = new Message(part("message"), () => ({ scene, frame: latest, direction: latest?.direction, saved: latest?.saved, playing }));
+const watch = new BurstWatch();
+const present = () => ({ scene, frame: latest, direction: latest?.direction, saved: latest?.saved, playing, hasBurst: watch.hasBurst });
+const message = new Message(part("message"), present);
+const warning = new Message(part("warning"), present);
 const talk = new Talk(heard, ended);
 
-function heard(answer) {
+function heard(answer, does) {
   if (answer.error) fail(answer.error);
   else if (answer.scene) begin(answer);
-  else if (typeof answer.atoms === "string") show(answer);
+  else if (typeof answer.atoms === "string") show(answer, does);
 }
 
 function fail(error) {
@@ -69,7 +73,7 @@ function begin(answer) {
   const step = scene.dt === null ? `${scene.reduced_dt.toFixed(4)} of the unit of time` : `${scene.dt.toFixed(2)} fs`;
   const title = scene.titles.length < 2 ? `${scene.titles[0]}: ` : "";
   part("about").textContent = `${title}${start.length / 3} atoms, the box is ${scene.edge.toFixed(2)} σ wide, a step is ${step}`;
-  show(answer);
+  show(answer, "load");
   message.say("Press Play.", NOW);
 }
 
@@ -84,8 +88,8 @@ function cut() {
   slide();
 }
 
-// Takes in a frame. One that has jumped does not follow the one before, as after Restore.
-function show(frame) {
+// Takes in a frame, and what led to it. One that has jumped does not follow the one before, as after Restore.
+function show(frame, does) {
   const places = placesOf(frame.atoms);
   box.places = places;
   const before = history.last;
@@ -97,7 +101,22 @@ function show(frame) {
   latest = frame;
   fresh = true;
   message.keep();
+  watchEnergy(does, row.total);
   if (!playing) tell();
+}
+
+// Says that the simulation has burst for as long as it has.
+function watchEnergy(does, energy) {
+  const hadBurst = watch.hasBurst;
+  watch.take(does, energy);
+  warning.keep();
+  if (watch.hasBurst && !hadBurst) warning.say(burstText(scene.dt), ["scene", "hasBurst"], "bad");
+}
+
+// Energies with two decimals, and large ones in few letters.
+function energyText(energy) {
+  const text = Math.abs(energy) < 1e5 ? energy.toFixed(2) : energy.toExponential(2).replace("e+", "e");
+  return text.replace("-", "−");
 }
 
 // Shows the numbers of the latest frame.
@@ -109,7 +128,7 @@ function tell() {
   part("time").dataset.direction = part("direction").textContent = frame.direction > 0 ? "forward" : "backward";
   part("step").textContent = frame.step.toLocaleString("en");
   part("distance").textContent = far === 0 ? "0" : far < 0.001 ? far.toExponential(1) : far.toFixed(3);
-  for (const name of ["kinetic", "potential", "total"]) part(name).textContent = row[name].toFixed(2).replace("-", "−");
+  for (const name of ["kinetic", "potential", "total"]) part(name).textContent = energyText(row[name]);
   part("temperature").textContent = scene.in_kelvin ? `${frame.temperature.toFixed(1)} K` : `${frame.temperature.toFixed(2)} ε/k`;
   part("restore").disabled = frame.saved === null || !talk.isOpen;
   part("restore").textContent = frame.saved === null ? "Restore" : `Restore step ${frame.saved.toLocaleString("en")}`;

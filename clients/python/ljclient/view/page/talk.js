@@ -1,14 +1,15 @@
 // The conversation with the program: each question is answered in its turn, over one WebSocket.
 
 export class Talk {
-  // `heard` is told each answer, and `ended` once that there will be no more.
+  // `heard` is told each answer and what was asked for, and `ended` once that there will be no more.
   constructor(heard, ended) {
-    this.waiting = [() => {}]; // the first message comes unasked
+    this.waiting = [{ does: "load" }]; // the first message comes unasked
     this.socket = new WebSocket(`ws://${location.host}/session`);
     this.socket.onmessage = (event) => {
       const answer = JSON.parse(event.data);
-      this.waiting.shift()?.(answer);
-      heard(answer);
+      const asked = this.waiting.shift();
+      asked?.resolve?.(answer);
+      heard(answer, asked?.does);
     };
     this.socket.onclose = () => ended();
   }
@@ -24,7 +25,7 @@ export class Talk {
   ask(question) {
     if (!this.isOpen) return Promise.resolve({});
     return new Promise((resolve) => {
-      this.waiting.push(resolve);
+      this.waiting.push({ does: question.do, resolve });
       this.socket.send(JSON.stringify(question));
     });
   }
