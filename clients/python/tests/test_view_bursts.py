@@ -12,6 +12,7 @@ pytestmark = pytest.mark.skipif(not CHROMIUM, reason="Chromium is not installed"
 
 PICTURES = os.environ.get("LJVIEW_PICTURES")  # a folder to put what the page looks like into, where somebody wants to look
 BURST = "The simulation has burst: the energy of an atom is more than 10 ε off its start, tugs aside."
+FRAME_IS_DRAWN = "new Promise(done => requestAnimationFrame(() => requestAnimationFrame(done))).then(() => true)"
 # A chart of its own, which tells what it writes and where: text, first and last pixel, and whether it is of a step.
 WRITTEN = """import('./charts.js').then(script => {
   const canvas = document.body.appendChild(document.createElement('canvas'));
@@ -46,6 +47,7 @@ def opened(browser, tmp_path):
         views.append(View(*([path, "--edge", 20] if atoms else []), *options))
         browser.open(f"http://{views[0].url}/")
         browser.wait_for("document.getElementById('message')?.textContent === 'Press Play.'")
+        browser.value(FRAME_IS_DRAWN)  # an atom can be taken where it was drawn
         return browser
 
     browser.faults.clear()
