@@ -106,6 +106,12 @@ class Browser:
     def open(self, url):
         self.ask("Page.navigate", url=url)
 
+    def leave(self):
+        """Leaves the page for an empty one, and forgets what it complained of, since its server may have ended."""
+        self.open("about:blank")
+        self.wait_for("location.href === 'about:blank'")
+        self.faults.clear()
+
     def in_scheme(self, scheme):
         """Shows the page as a system in a light or a dark scheme does."""
         self.ask("Emulation.setEmulatedMedia", features=[{"name": "prefers-color-scheme", "value": scheme}])

@@ -21,7 +21,7 @@ class InABrowser(unittest.TestCase):
     def setUp(self):
         self.view = View("--port", "0")
         self.addCleanup(self.view.end)
-        self.browser.faults.clear()
+        self.browser.leave()
         self.browser.open(f"http://{self.view.url}/")
         self.browser.wait_for("document.getElementById('about')?.textContent.includes('256 atoms')")
 

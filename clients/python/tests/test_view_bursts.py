@@ -50,11 +50,12 @@ def opened(browser, tmp_path):
         browser.value(FRAME_IS_DRAWN)  # an atom can be taken where it was drawn
         return browser
 
-    browser.faults.clear()
+    browser.leave()
     yield open_page
+    faults = list(browser.faults)
     for view in views:
         view.end()
-    assert browser.faults == []
+    assert faults == []
 
 
 # In units of sigma. The potential energy of 0.6 sigma is 4 (0.6^-12 - 0.6^-6) = 1,751 epsilon.

@@ -60,7 +60,7 @@ def keyboard(browser, tmp_path):
     paths = [tmp_path / name for name in ("one.xyz", "two.xyz")]
     for path in paths:
         path.write_text("2\n\nAr 0 0 0\nAr 1.5 0 0\n")
-    browser.faults.clear()
+    browser.leave()
     with View(*paths, "--edge", 20, "--h", 131072) as view:
         browser.open(f"http://{view.url}/")
         browser.wait_for("!window.pressed && document.getElementById('message')?.textContent === 'Press Play.'")

@@ -102,7 +102,7 @@ def shown(browser, tmp_path):
     """The page with both files, of which the first is shown."""
     for name, text in FILES.items():
         (tmp_path / name).write_text(text)
-    browser.faults.clear()
+    browser.leave()
     with View(*(tmp_path / name for name in FILES), *SCALE) as view:
         yield Shown(browser, view)
         assert browser.faults == []

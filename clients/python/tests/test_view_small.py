@@ -27,7 +27,7 @@ def page(browser, tmp_path):
     """A page of three atoms, which is as wide as a test says by `resize`."""
     path = tmp_path / "three.xyz"
     path.write_text(ATOMS)
-    browser.faults.clear()
+    browser.leave()
     with View(path, "--edge", 20, "--h", 131072) as view:
         browser.open(f"http://{view.url}/")
         browser.wait_for("document.getElementById('about')?.textContent.includes('3 atoms')")
