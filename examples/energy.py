@@ -1,14 +1,14 @@
 #!/usr/bin/env python3
 """Follows the energy of a melting crystal over 20,000 steps, for several step factors.
 
-Prints the total energy per atom, or draws it over the steps with --plot. It rises, the faster the longer the step is. The
-positions of the Störmer-Verlet form give velocities at half steps, so the kinetic energy at a step is the mean of those of
-the half steps before and after it.
+Prints the total energy per atom over the steps, or with --plot draws over the time how far it is from that at the start, as
+a share of it. It rises, the faster the longer the step is. The positions of the Störmer-Verlet form give velocities at half
+steps, so the kinetic energy at a step is the mean of those of the half steps before and after it.
 """
 import math
 import sys
 
-from shared import ATOMS, RING, hot_crystal, options_of, print_table, save_picture, user_of
+from shared import ATOMS, RING, TIME, hot_crystal, options_of, print_table, save_picture, user_of
 
 FACTORS = [32768, 131072, 524288, 1179648]
 STEPS = 20_000
@@ -27,12 +27,18 @@ def time_step(h):
     return math.sqrt(h / RING)
 
 
+def changes(energy):
+    """By how much each energy differs from the first, as a share of that."""
+    return [abs(one - energy[0]) / abs(energy[0]) for one in energy]
+
+
 def draw(axes, found):
     for h, (at, energy) in found.items():
-        axes.plot(at, energy, linewidth=1, label=f"h = {h:,}, Δt = {time_step(h):.4f}")
-    axes.set(xlabel="step", ylabel="energy per atom / ε", xlim=(0, None))
-    axes.set_title(f"Total energy of {ATOMS} atoms, by step factor")
-    axes.legend(loc="best", fontsize="small")
+        times = [step * time_step(h) for step in at]
+        axes.loglog(times[1:], changes(energy)[1:], linewidth=1, label=f"h = {h:,}, Δt = {time_step(h):.4f}")
+    axes.set(xlabel=TIME, ylabel="$|E - E_0|\\, /\\, |E_0|$")
+    axes.set_title(f"Change of the total energy E of {ATOMS} atoms, by step factor")
+    axes.legend(loc="upper left", fontsize="small")
 
 
 def print_energies(found):

@@ -25,7 +25,8 @@ import sys
 import tempfile
 from concurrent.futures import ProcessPoolExecutor
 
-from shared import EDGE, H, HEAT, RING, crystal, distance, ljclient, needed, print_table, pyplot, save_picture
+from shared import EDGE, H, HEAT, RING, TIME, add_plot, crystal, distance
+from shared import ljclient, needed, prepare_picture, print_table, save_picture
 
 RUNS, STEPS, PIECE, MELTING = 64, 700, 20, 1000
 NEAR, FAR = 1 / 256, 1 / 10
@@ -108,14 +109,14 @@ def draw(axes, runs):
         shown = [number for number, far in enumerate(line) if NEAR / 100 <= far <= 1]
         label = f"exp({rate:.2f} t), as between 1/256 and 1/10"
         axes.semilogy([times[number] for number in shown], [line[number] for number in shown], "--", color="tab:blue", label=label)
-    axes.set(xlabel="time / $\\sqrt{mσ^2/ε}$", ylabel="distance / σ", xlim=(0, times[-1]))
+    axes.set(xlabel=TIME, ylabel="distance / σ", xlim=(0, times[-1]))
     axes.set_title("How fast liquids with one tugged atom leave those without a tug")
     axes.legend(loc="lower right")
 
 
 def options_of(words):
     parser = argparse.ArgumentParser(description=__doc__, formatter_class=argparse.RawDescriptionHelpFormatter)
-    parser.add_argument("--plot", metavar="FILE", help="draw the picture into this file (needs matplotlib), such as x.png")
+    add_plot(parser)
     parser.add_argument("--runs", metavar="N", type=int, default=RUNS, help=f"how many liquids: {RUNS}")
     parser.add_argument("--steps", metavar="N", type=int, default=STEPS, help=f"how many steps after the tug: {STEPS}")
     parser.add_argument("--melting", metavar="N", type=int, default=MELTING, help=f"how many steps before it: {MELTING}")
@@ -126,8 +127,7 @@ def options_of(words):
     options = parser.parse_args(words)
     if min(options.runs, options.melting, options.processes) < 1 or options.steps < PIECE:
         parser.error(f"--steps is at least {PIECE}, and the other numbers are at least 1")
-    if options.plot:
-        pyplot()
+    prepare_picture(options.plot)
     return options
 
 

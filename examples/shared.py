@@ -24,12 +24,14 @@ DENSITY = 0.8442  # atoms per cube of sigma, with which argon is liquid just abo
 HEAT = 1.5  # the usual temperature of the crystal when it starts, half of which becomes potential energy
 EDGE = round((ATOMS / DENSITY) ** (1 / 3), 6)  # of the box, in sigma
 FACES = [(0, 0, 0), (0.5, 0.5, 0), (0.5, 0, 0.5), (0, 0.5, 0.5)]
+TIME = "time / $\\sqrt{mσ^2/ε}$"  # what the axis of a picture says
+ENDINGS = (".png", ".svg", ".pdf")  # of the files that pictures are drawn into
 
 
 def options_of(words, text, steps, piece):
     """The options of an example whose text this is, and which makes so many steps where none are said, piece by piece."""
     parser = argparse.ArgumentParser(description=text, formatter_class=argparse.RawDescriptionHelpFormatter)
-    parser.add_argument("--plot", metavar="FILE", help="draw the picture into this file (needs matplotlib), such as x.png")
+    add_plot(parser)
     parser.add_argument("--steps", metavar="N", type=int, default=steps, help=f"how many steps, a multiple of {piece}: {steps}")
     parser.add_argument("--server", metavar="HOST:PORT", help="a server to use; else the program runs for this alone")
     parser.add_argument("--user", metavar="NAME", help="who asks, as in the server's file of users")
@@ -41,8 +43,7 @@ def options_of(words, text, steps, piece):
         parser.error("--server needs --user")
     if options.server and not options.server.rpartition(":")[2].isdecimal():
         parser.error(f"{options.server} is no HOST:PORT")
-    if options.plot:
-        pyplot()
+    prepare_picture(options.plot)
     return options
 
 
@@ -51,6 +52,12 @@ class Refusal(argparse.Action):
 
     def __call__(self, parser, *_):
         parser.error(tokens.NOT_IN_COMMANDS)
+
+
+def add_plot(parser):
+    """The option that says where the picture goes."""
+    told = f"draw the picture into this file, as its ending says: {', '.join(ENDINGS)} (needs matplotlib)"
+    parser.add_argument("--plot", metavar="FILE", help=told)
 
 
 def add_token_file(parser):
@@ -166,10 +173,34 @@ def pyplot():
         sys.exit(f"--plot needs matplotlib: {error}, or leave out --plot")
 
 
+def prepare_picture(path):
+    """Ends the example and says why if a picture cannot be drawn into the file that is asked for, before anything is run."""
+    if path is None:
+        return
+    if os.path.splitext(path)[1].lower() not in ENDINGS:
+        stop(f"--plot {path}: the name of a picture ends with {', '.join(ENDINGS[:-1])} or {ENDINGS[-1]}")
+    is_new = not os.path.lexists(path)
+    try:
+        with open(path, "ab"):  # what stands there is kept until the picture is drawn
+            pass
+        if is_new:
+            os.remove(path)
+    except OSError as error:
+        stop(f"--plot {path}: {error.strerror}")
+    pyplot()
+
+
 def save_picture(draw, path):
     """Draws into a file."""
-    drawing = pyplot()
-    figure, axes = drawing.subplots(figsize=(7, 3.6), dpi=110, layout="constrained")
+    figure, axes = pyplot().subplots(figsize=(7, 3.6), dpi=110, layout="constrained")
     draw(axes)
-    figure.savefig(path)
+    save_figure(figure, path)
+
+
+def save_figure(figure, path):
+    """Writes a figure into a file. The example ends and says why if that fails."""
+    try:
+        figure.savefig(path)
+    except OSError as error:
+        stop(f"--plot {path}: {error.strerror}")
     print(f"drawn: {path}")

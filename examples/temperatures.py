@@ -27,7 +27,7 @@ def melt(user, steps=STEPS):
 
 def draw(axes, found):
     axes.plot([temperature for temperature, _, _ in found], [far for _, _, far in found], "o-", color="tab:red")
-    axes.set(xlabel="temperature at the end / ε", ylabel="distance from the crystal / σ", xlim=(0, None), ylim=(0, None))
+    axes.set(xlabel="temperature at the end: $k_B T / ε$", ylabel="distance from the crystal / σ", xlim=(0, None), ylim=(0, None))
     axes.set_title(f"Eight copies of {ATOMS} atoms")
 
 

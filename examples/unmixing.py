@@ -14,7 +14,7 @@ from collections import defaultdict
 from itertools import product
 from typing import Any, Dict, List, Sequence, Tuple
 
-from shared import DENSITY, H, RING, ljclient, options_of, print_table, pyplot, there_and_back, user_of
+from shared import DENSITY, H, RING, ljclient, options_of, print_table, pyplot, save_figure, there_and_back, user_of
 
 SIDE = 9  # atoms along each axis of the lattice, which is cubic
 ATOMS = SIDE**3
@@ -85,8 +85,8 @@ def draw_slice(axes: Any, frame: Frame, kinds: Sequence[int], title: str) -> Non
     for kind, colour in enumerate(COLOURS):
         inside = [place for place, other in zip(frame, kinds) if other == kind and place[2] * EDGE < SLICE * RING]
         xs, ys = ([place[axis] * EDGE / RING for place in inside] for axis in (0, 1))
-        axes.scatter(xs, ys, s=70, color=colour, edgecolor="white", linewidth=0.5)
-    axes.set(xlim=(0, EDGE), ylim=(0, EDGE), xticks=[], yticks=[], aspect="equal", title=title)
+        axes.scatter(xs, ys, s=70, color=colour, edgecolor="white", linewidth=0.5, label=f"species {SPECIES[kind]}")
+    axes.set(xlim=(0, EDGE), ylim=(0, EDGE), aspect="equal", xlabel="x / σ", ylabel="y / σ", title=title)
 
 
 def draw_shares(axes: Any, made: Sequence[int], shares: Sequence[float]) -> None:
@@ -95,21 +95,21 @@ def draw_shares(axes: Any, made: Sequence[int], shares: Sequence[float]) -> None
     axes.plot(made[: turn + 1], shares[: turn + 1], color="tab:red", label="there: it separates")
     axes.plot(made[turn:], shares[turn:], color="tab:blue", label="back: after REVERSE")
     axes.axvline(made[turn], color="gray", linestyle=":", linewidth=1)
-    axes.set(xlabel="steps made", xlim=(0, made[-1]), ylim=(0, None), title="Unlike among neighbours")
+    axes.set(xlabel="steps made", ylabel="share of unlike neighbours", xlim=(0, made[-1]), ylim=(0, None))
     axes.legend(loc="lower center")
 
 
 def draw(path: str, frames: Sequence[Frame], kinds: Sequence[int], made: Sequence[int], shares: Sequence[float]) -> None:
     """Draws slices of the box at the start and where the motion turns, and the shares beside them."""
     figure, (before, after, over) = pyplot().subplots(
-        1, 3, figsize=(9.6, 3.4), dpi=110, layout="constrained", gridspec_kw={"width_ratios": [1, 1, 1.35]}
+        1, 3, figsize=(9.6, 3.6), dpi=110, layout="constrained", gridspec_kw={"width_ratios": [1, 1, 1.35]}
     )
     turn = len(frames) // 2
     draw_slice(before, frames[0], kinds, "At the start, and at the end")
     draw_slice(after, frames[turn], kinds, f"After {made[turn]:,} steps")
     draw_shares(over, made, shares)
-    figure.savefig(path)
-    print(f"drawn: {path}")
+    before.legend(loc="upper left", bbox_to_anchor=(0, -0.2), borderaxespad=0, ncol=2)
+    save_figure(figure, path)
 
 
 def main(words: List[str]) -> int:
