@@ -35,6 +35,34 @@ def millionths(positions: Any) -> Any:
     return numpy.rint(positions * 10**6).astype(numpy.int64)
 
 
+def part_in_box(part: Any, nanos: int) -> Any:
+    """As `in_box`, of one coordinate of a place, in whole numbers of Python."""
+    return part * nanos // (RING * 1000)
+
+
+def in_box(places: Any, nanos: int) -> Any:
+    """How many millionths the server dumps of places in a box whose edge is so many 10^-9: `place * nanos / (2^32 * 1000)`, rounded
+    down. Whole numbers, as of places.
+
+    A place is below 2^32, and the edge has two halves of 32 bits. So each product is below 2^64, and so is their sum, since it
+    is at most the edge. An edge of more bits, which no server takes, is multiplied in whole numbers of Python.
+    """
+    if numpy is None:
+        return [tuple(part_in_box(part, nanos) for part in place) for place in places]
+    if nanos >= 2**64:
+        return part_in_box(places.astype(object), nanos)
+    parts = places.astype(numpy.uint64)
+    high, low, bits = (numpy.uint64(number) for number in (nanos >> 32, nanos % RING, 32))
+    return ((parts * high + (parts * low >> bits)) // numpy.uint64(1000)).astype(numpy.int64)
+
+
+def of_millionths(parts: Any) -> Any:
+    """Positions of so many millionths: an array of floats, or a list of tuples."""
+    if numpy is None:
+        return [tuple(part / 10**6 for part in each) for each in parts]
+    return (parts / 10**6).astype(numpy.float64, copy=False)
+
+
 def listed(places: Any) -> List[Any]:
     """Places as a list, whose numbers are those of Python."""
     return list(places.tolist() if hasattr(places, "tolist") else places)
@@ -45,14 +73,14 @@ def greatest(places: Any) -> int:
     return int(places.max() if hasattr(places, "max") else max(part for place in places for part in place))
 
 
-def picked(places: Any, numbers: Sequence[int]) -> Any:
-    """The places of these numbers, in their order."""
-    return places[list(numbers)] if hasattr(places, "tolist") else [places[number] for number in numbers]
-
-
 def stacked(things: List[Any]) -> Any:
     """Positions, or frames of coordinates, as one array with an axis more, or the list itself."""
     return things if numpy is None else numpy.array(things)
+
+
+def scaled(images: Any, unit: float) -> Any:
+    """Differences in this unit: an array of floats, or a list of tuples."""
+    return [tuple(part * unit for part in image) for image in images] if numpy is None else images * unit
 
 
 def least_images(places: Sequence[Any], others: Sequence[Any]) -> Any:

@@ -66,5 +66,5 @@ def atoms_of(symbols: Sequence[str], now: Places, before: Places, scale: Scale) 
         unit = scale.edge / (RING * scale.dt) * TIME_UNIT
         moved = arrays.least_images(now.places, before.places)
         atoms.set_masses([scale.mass] * len(symbols))
-        atoms.set_velocities([[part * unit for part in parts] for parts in moved])
+        atoms.set_velocities(arrays.scaled(moved, unit))
     return atoms

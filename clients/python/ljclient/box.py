@@ -27,7 +27,7 @@ class Seen(NamedTuple):
     def fits(self, edge: Number) -> bool:
         """Whether the atom would be dumped so in a box of this edge."""
         nanos = nano(edge)
-        return tuple(frames.millionths(part, nanos) for part in self.place) == self.dumped
+        return tuple(arrays.part_in_box(part, nanos) for part in self.place) == self.dumped
 
     def edge(self) -> str:
         """The edge of the box, with as many digits as are known. The atom is not at 0, where each edge fits."""

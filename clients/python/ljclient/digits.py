@@ -1,8 +1,8 @@
 """Whole numbers out of the bytes of many lines, which numpy reads all at once.
 
 A place is found by where it ends: before each end as many bytes are taken as the longest has, and those that stand before
-the number count for nothing. A position is found by its point. Sums are of floats, which are exact below 2^53, or below 2^24
-if they have 32 bits. Little memory is taken anew, since that costs as much as to compute.
+the number count for nothing. A position is found by its point. Sums of floats are exact below 2^53. Little memory is taken
+anew, since that costs as much as to compute.
 """
 from __future__ import annotations
 
@@ -12,9 +12,8 @@ from .arrays import numpy
 
 PLACE_DIGITS = 10
 DECIMALS = 6
-# The digits of an edge at most, and the blank before them.
-MOST_DIGITS = 8
-BLANK = (ord(" ") - ord("0")) % 256
+# The digits of an edge at most.
+MOST_DIGITS = 7
 
 
 def places(text: bytes, head: bytes) -> Optional[Any]:
@@ -37,64 +36,76 @@ def places(text: bytes, head: bytes) -> Optional[Any]:
 
 
 def positions(text: bytes, start: int, count: int) -> Optional[Any]:
+    """What `millionths` gives, by 10^6: numbers are what `float` gives, since those are whole numbers below 2^53."""
+    numbers = millionths(text, start, count)
+    if numbers is not None:
+        numbers /= 10**DECIMALS
+    return numbers
+
+
+def millionths(text: bytes, start: int, count: int) -> Optional[Any]:
     """The positions of the lines of a text from a start on, which are so many: of a symbol and three numbers of six decimals. An
-    array of shape (atoms, 3). Before the start there are 8 bytes at least.
+    array of shape (atoms, 3) of floats, which are whole numbers of millionths. Before the start there are 8 bytes at least.
 
     None if any line is something else, or if a symbol has a point, since numbers are found by theirs. Symbols are not looked at
-    further. Numbers are what `float` gives, since a whole number below 2^53 is divided by 10^6.
+    further.
     """
     data = numpy.frombuffer(text, dtype=numpy.uint8)
     found = data[start:] == ord(".")
     points = numpy.flatnonzero(found)
     points += start
-    blanks = numpy.count_nonzero(numpy.equal(data[start:], ord(" "), out=found))
-    if not count or not 3 * count == points.size == blanks or points[-1] + DECIMALS + 2 != data.size:
+    blanks = numpy.flatnonzero(numpy.equal(data[start:], ord(" "), out=found))
+    blanks += start
+    if not count or not 3 * count == points.size == blanks.size or points[-1] + DECIMALS + 2 != data.size:
         return None
-    whole, decimals = _whole_before(data, points), _decimals_after(data, points)
+    whole, decimals = _whole_between(data, blanks, points), _decimals_after(data, points)
     if whole is None or decimals is None:
         return None
-    millionths = whole.astype(numpy.float64)
-    millionths *= 10**DECIMALS
-    millionths += decimals.astype(numpy.float64)
-    millionths /= 10**DECIMALS
-    return millionths.reshape(-1, 3)
+    numbers = whole.astype(numpy.float64)
+    numbers *= 10**DECIMALS
+    numbers += decimals.astype(numpy.float64)
+    return numbers.reshape(-1, 3)
 
 
-def _whole_before(data: Any, points: Any) -> Optional[Any]:
-    """The whole numbers that stand before these points and after a blank. None if any is none, or is too long."""
-    sums, inside = numpy.zeros(points.size, dtype=numpy.float32), numpy.ones(points.size, dtype=bool)
-    at = points.copy()
-    for power in range(MOST_DIGITS):
-        at -= 1
-        digits = data[at]
-        digits -= ord("0")
-        is_digit = digits <= 9
-        if (inside & ~is_digit & (digits != BLANK)).any() or not (power or is_digit.all()):
-            return None
-        inside &= is_digit
-        if not inside.any():
-            return sums
-        digits *= inside
-        sums += digits * numpy.float32(10**power)
-    return None
+def _whole_between(data: Any, blanks: Any, points: Any) -> Optional[Any]:
+    """The whole numbers that stand between blanks and points. None if any is none, or is too long.
+
+    Eight bytes before a point are taken as one number, and those before its digits are made zeros.
+    """
+    lengths = points - blanks
+    lengths -= 1
+    if lengths.min() < 1 or lengths.max() > MOST_DIGITS:
+        return None
+    kept = numpy.array([0xFFFFFFFFFFFFFFFF << 64 - 8 * length & 0xFFFFFFFFFFFFFFFF for length in range(MOST_DIGITS + 1)], "<u8")
+    masks = kept[lengths]
+    eights = numpy.ndarray((data.size - 7,), dtype="<u8", buffer=data, strides=(1,))[points - 8]
+    eights &= masks
+    masks &= 0x3030303030303030
+    eights ^= masks
+    if ((eights + 0x0606060606060606 | eights) & 0xF0F0F0F0F0F0F0F0).any():
+        return None
+    return _numbers(eights)
 
 
 def _decimals_after(data: Any, points: Any) -> Optional[Any]:
     """The six decimals after each point as a whole number. None if any has others, or if the lines do not end after three.
 
-    Eight bytes are taken as one number: the point, six digits, and what is after them. Two digits are put together at once.
+    Eight bytes are taken as one number: the point, six digits, and what is after them.
     """
-    eights = numpy.ndarray((data.size - 7,), dtype="<u8", buffer=data, strides=(1,))[points]
-    after = (eights >> 56).reshape(-1, 3)
-    eights >>= 8
-    eights &= 0xFFFFFFFFFFFF
-    if ((eights & 0xF0F0F0F0F0F0) != 0x303030303030).any() or ((eights + 0x060606060606) & 0xF0F0F0F0F0F0 != 0x303030303030).any():
+    eights = numpy.ndarray((data.size - 7,), dtype="<u8", buffer=data, strides=(1,))[points].reshape(-1, 3)
+    eights ^= numpy.frombuffer(b".000000 .000000 .000000\n", dtype="<u8")
+    if ((eights + 0x0006060606060600 | eights) & 0xFFF0F0F0F0F0F0FF).any():
         return None
-    if any((after[:, column] != ord(letter)).any() for column, letter in enumerate("  \n")):
-        return None
-    eights -= 0x303030303030
+    eights <<= numpy.uint64(8)
+    return _numbers(eights).ravel()
+
+
+def _numbers(eights: Any) -> Any:
+    """The numbers of which these are the eight digits, the first in the lowest byte: two are put together, then four, then all."""
     eights = eights * 10 + (eights >> 8)
-    return (eights & 0xFF) * 10000 + (eights >> 16 & 0xFF) * 100 + (eights >> 32 & 0xFF)
+    eights &= 0x00FF00FF00FF00FF
+    eights = eights * 100 + (eights >> 16)
+    return (eights & 0xFFFF) * 10000 + (eights >> 32 & 0xFFFF)
 
 
 def _word_ends(data: Any, words: int) -> Optional[Any]:

@@ -31,4 +31,4 @@ def with_symbols(frame: Frame, replacements: Optional[Replacements]) -> Frame:
     if replacements is None:
         return frame
     names = replaced(frame.symbols(), replacements)
-    return Frame(frame.step, [f"{name} {row.split(' ', 1)[1]}" for name, row in zip(names, frame.rows)])
+    return Frame.of(frame.step, [f"{name} {row.split(' ', 1)[1]}" for name, row in zip(names, frame.rows)])

@@ -5,7 +5,7 @@ what DUMP tells and in what LOAD takes. In any other box each place takes a SHOW
 """
 from __future__ import annotations
 
-from typing import TYPE_CHECKING, Any, Sequence, Tuple
+from typing import TYPE_CHECKING, Any, List, Sequence, Tuple
 
 from . import arrays, reading
 from .errors import BadReply
@@ -50,7 +50,7 @@ def both_shown(user: "Loader", name: str, count: int) -> Tuple[Places, ...]:
 
 def dumped_places(user: "Loader", name: str) -> Tuple[Places, ...]:
     """The places of all atoms, of a session whose box shows each ring unit."""
-    return (on_ring(dumped(user, name)),)
+    return (Places(*_on_ring(name, *user.ask_text(f"DUMP {name}"))),)
 
 
 def both_dumped(user: "Loader", name: str) -> Tuple[Places, ...]:
@@ -60,26 +60,36 @@ def both_dumped(user: "Loader", name: str) -> Tuple[Places, ...]:
     return tuple(on_ring(reading.frame_of(name, reply)) for reply in replies[::2])
 
 
+def dumped_in_box(user: "Loader", name: str, edge: float) -> Frame:
+    """The user's frame of a session whose box shows each ring unit, as the server would dump it in a box of this edge."""
+    words, text = user.ask_text(f"DUMP {name}")
+    _, places = _on_ring(name, words, text)
+    return reading.frame_with(name, words, text, arrays.in_box(places, nano(edge)), user.known(name).order)
+
+
+def positions_in_box(user: "Loader", name: str, edge: float) -> Tuple[int, Any]:
+    """The step and the positions of the same frame."""
+    step, places = _on_ring(name, *user.ask_text(f"DUMP {name}"))
+    order = user.known(name).order
+    return order.step_of(step), order.for_user(arrays.of_millionths(arrays.in_box(places, nano(edge))))
+
+
 def on_ring(frame: Frame) -> Places:
     """The places that a frame tells whose box shows each ring unit."""
-    places = arrays.millionths(frame.positions())
+    return Places(frame.step, _checked(arrays.millionths(frame.positions())))
+
+
+def _on_ring(name: str, words: List[str], text: bytes) -> Tuple[int, Any]:
+    """The step and the places that a reply to `DUMP` tells, of such a frame."""
+    step, places = reading.millionths_of(name, words, text)
+    return step, _checked(places)
+
+
+def _checked(places: Any) -> Any:
+    """These places, which were told in a box that shows each ring unit. Raises BadReply if one is beyond it."""
     if arrays.greatest(places) >= RING:
         raise BadReply("a frame has a place that is not below the edge of the box")
-    return Places(frame.step, places)
-
-
-def millionths(part: int, nanos: int) -> int:
-    """The millionths of a coordinate that the server dumps for a place, in a box whose edge is so many 10^-9."""
-    return part * nanos // (RING * 1000)
-
-
-def in_box(frame: Frame, edge: float) -> Frame:
-    """A frame whose box shows each ring unit, as the server would dump it in a box of this edge, with six decimals."""
-    nanos, rows = nano(edge), []
-    for row, place in zip(frame.rows, arrays.listed(on_ring(frame).places)):
-        parts = (divmod(millionths(part, nanos), MILLION) for part in place)
-        rows.append(" ".join([row.split(" ")[0], *[f"{whole}.{rest:06}" for whole, rest in parts]]))
-    return Frame(frame.step, rows)
+    return places
 
 
 def text_on_ring(comment: str, symbols: Sequence[str], places: Sequence[Place]) -> bytes:

@@ -5,6 +5,7 @@ near each other in space are to be near each other in number too. Their order ch
 """
 from __future__ import annotations
 
+import functools
 from dataclasses import dataclass
 from typing import Any, List, Optional, Sequence, Tuple, TypeVar
 
@@ -52,7 +53,10 @@ class Order:
 
     def for_user(self, things: Any) -> Any:
         """What the server tells of each atom, in the user's order: an array of an array, else a list."""
-        return things if self.numbers is None else arrays.picked(things, self._of_as_many(things))
+        if self.numbers is None:
+            return things
+        numbers = self._of_as_many(things)
+        return things[self._indices] if hasattr(things, "tolist") else [things[number] for number in numbers]
 
     def for_server(self, things: Sequence[Thing]) -> Sequence[Thing]:
         """What the user tells of each atom, in the server's order."""
@@ -64,6 +68,11 @@ class Order:
     def step_of(self, step: int) -> int:
         """The user's number of a step of the server."""
         return self.step + self.direction * step
+
+    @functools.cached_property
+    def _indices(self) -> Any:
+        """The numbers as an array, made once: it takes longer than to put many arrays in order by it."""
+        return arrays.numpy.array(self.numbers)
 
     def _of_as_many(self, things: Sequence[Any]) -> Tuple[int, ...]:
         if self.numbers is None or len(self.numbers) != len(things):

@@ -3,10 +3,11 @@ from __future__ import annotations
 
 import functools
 import re
-from typing import Any, List, NamedTuple, Tuple
+from typing import Any, List, NamedTuple, Sequence, Tuple
 
-from . import arrays, digits
+from . import arrays, decimals, digits
 from .errors import BadReply
+from .order import Order
 from .replies import of_session, whole_number
 from .units import RING
 from .wire import Reply
@@ -25,14 +26,30 @@ class Places(NamedTuple):
 
 
 class Frame(NamedTuple):
-    """A frame of XYZ text: its step, and for each atom a line with its symbol and its position."""
+    """A frame of XYZ text: its step, and for each atom a line with its symbol and its position, line ends included."""
 
     step: int
-    rows: List[str]
+    lines: str
+
+    @staticmethod
+    def of(step: int, rows: Sequence[str]) -> "Frame":
+        """The frame of these lines, without line ends."""
+        return Frame(step, "\n".join([*rows, ""]))
+
+    @property
+    def rows(self) -> List[str]:
+        """The line of each atom, without line end."""
+        return self.lines.split("\n")[:-1]
+
+    def for_user(self, order: Order) -> "Frame":
+        """The frame with the numbers of atoms and steps that the user has."""
+        step = order.step_of(self.step)
+        return Frame(step, self.lines) if order.numbers is None else Frame.of(step, order.for_user(self.rows))
 
     def text(self, comment: str) -> str:
         """The frame as XYZ text with this comment."""
-        return "\n".join([str(len(self.rows)), comment, *self.rows, ""])
+        count = self.lines.count("\n")
+        return f"{count}\n{comment}\n{self.lines}"
 
     def symbols(self) -> List[str]:
         """The symbol of each atom."""
@@ -40,9 +57,8 @@ class Frame(NamedTuple):
 
     def positions(self) -> Any:
         """The position of each atom, with the six decimals that the server tells: an array, or a list of tuples."""
-        comment = "positions"
-        start = len(f"{len(self.rows)}\n{comment}\n")
-        return _positions_in(self.text(comment).encode(), start, len(self.rows))
+        head = "positions\n"
+        return _positions_in((head + self.lines).encode(), len(head), self.lines.count("\n"))
 
 
 @functools.lru_cache(maxsize=8)
@@ -85,16 +101,46 @@ def frame_of(name: str, reply: Reply) -> Frame:
     step, head = _head_of(name, reply.words, len(reply.lines))
     if "\n".join([*reply.lines[:2], ""]) != head:
         raise BadReply(f"{' '.join(reply.words)[:80]!r} is followed by {reply.lines[:2]!r}")
-    return Frame(step, reply.lines[2:])
+    return Frame.of(step, reply.lines[2:])
 
 
 def positions_of(name: str, words: List[str], text: bytes) -> Tuple[int, Any]:
     """The step and the positions that the reply to `DUMP` tells, by its words and the text of its lines."""
+    step, start, count = _begin_of(name, words, text)
+    return step, _positions_in(text, start, count)
+
+
+def millionths_of(name: str, words: List[str], text: bytes) -> Tuple[int, Any]:
+    """As `positions_of`, how many millionths each position is."""
+    step, start, count = _begin_of(name, words, text)
+    numbers = None if arrays.numpy is None else digits.millionths(text, start, count)
+    if numbers is None:
+        return step, arrays.millionths(_positions_in(text, start, count))
+    return step, numbers.astype(arrays.numpy.int64)
+
+
+def frame_with(name: str, words: List[str], text: bytes, millionths: Any, order: Order) -> Frame:
+    """The frame that `millionths_of` has read, with these positions in place of its own, and with the numbers of the user."""
+    if not text.isascii():
+        raise BadReply(f"{' '.join(words)[:80]!r} is followed by what is no text of the protocol")
+    step, start, _ = _begin_of(name, words, text)
+    lines = None if arrays.numpy is None else decimals.lines(text, start, millionths, order)
+    if lines is not None:
+        return Frame(order.step_of(step), lines.decode())
+    rows = []
+    for row, place in zip(text[start:].decode().split("\n"), arrays.listed(millionths)):
+        parts = (divmod(part, 10**6) for part in place)
+        rows.append(" ".join([row.split(" ")[0], *[f"{whole}.{rest:06}" for whole, rest in parts]]))
+    return Frame.of(step, rows).for_user(order)
+
+
+def _begin_of(name: str, words: List[str], text: bytes) -> Tuple[int, int, int]:
+    """The step that the reply to `DUMP` tells, where in its text the lines of atoms begin, and how many they are."""
     count = whole_number(words[-1])
     step, head = _head_of(name, words, count)
     if not text.startswith(head.encode()):
         raise BadReply(f"{' '.join(words)[:80]!r} is followed by {text[:40]!r}")
-    return step, _positions_in(text, len(head), count - 2)
+    return step, len(head), count - 2
 
 
 def _head_of(name: str, words: List[str], count: int) -> Tuple[int, str]:

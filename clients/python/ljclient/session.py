@@ -332,25 +332,24 @@ class Session:
     @whole
     def _frame(self) -> reading.Frame:
         """The frame as the server dumps it, with atoms, step and positions as they are here. Each line of an atom that comes
-        in is of here."""
+        in is of here. Asking may move a session to another box."""
         box.settle(self._user, self.name)
-        frame = frames.dumped(self._user, self.name)
-        order = self.order
-        frame = reading.Frame(order.step_of(frame.step), order.for_user(frame.rows))
-        return frames.in_box(frame, self.scale.edge) if order.on_ring else frame
+        if not self.order.on_ring:
+            frame = frames.dumped(self._user, self.name)
+            if not self.order.on_ring:
+                return frame.for_user(self.order)
+        return frames.dumped_in_box(self._user, self.name, self.scale.edge)
 
     @whole
     def _positions_of_frame(self) -> Tuple[int, Any]:
-        """The step and the positions of the frame, with six decimals. They are read without its lines, if the box is the
-        user's; asking may move a session to another box."""
+        """The step and the positions of the frame, with six decimals. They are read without its lines."""
         box.settle(self._user, self.name)
         if not self.order.on_ring:
             step, positions = frames.dumped_positions(self._user, self.name)
             order = self.order
             if not order.on_ring:
                 return order.step_of(step), order.for_user(positions)
-        frame = self._frame()
-        return frame.step, frame.positions()
+        return frames.positions_in_box(self._user, self.name, self.scale.edge)
 
     @whole
     def _frames_of_places(self, both: bool = False) -> Tuple[reading.Places, ...]:

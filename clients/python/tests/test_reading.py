@@ -48,7 +48,7 @@ class ByEither(unittest.TestCase):
         rows = [f"{symbol} {' '.join(words[at : at + 3])}" for at, symbol in zip(range(0, 3000, 3), symbols)]
         for kind in KINDS:
             with by(kind):
-                positions = reading.Frame(3, rows).positions()
+                positions = reading.Frame.of(3, rows).positions()
             self.assertEqual([float(part) for position in positions for part in position], [float(word) for word in words])
             self.assertEqual(isinstance(positions, list), kind is None)
 
