@@ -1,36 +1,77 @@
-"""Where a user's token comes from: a file, the environment, or a terminal. Never a command line, where others see it."""
+"""Where a user's token comes from: a file, the environment, or a terminal. Never a command line, where others see it.
+
+A token may have blanks, as on a slip, where it stands in groups that are easier to type. They are left out.
+"""
 from __future__ import annotations
 
 import getpass
 import os
+import sys
 from typing import Optional
 
 from .errors import ClientError
 
 VARIABLE = "LJSERVE_TOKEN"
 MAX_BYTES = 65_536
+LENGTH = 32
 NOT_IN_COMMANDS = f"a token is never said on the command line, where others see it: use --token-file FILE or {VARIABLE}"
+
+
+def without_blanks(token: str) -> str:
+    return "".join(token.split())
+
+
+def fault_of(token: str) -> Optional[str]:
+    """Why this is no token, if it is none. The token itself is not told."""
+    if token and not (token.isascii() and token.isalnum()):
+        return "a token has letters and digits alone"
+    return None if len(token) == LENGTH else f"a token has {LENGTH} letters and digits, and not {len(token)}"
 
 
 def token_of(name: str, path: Optional[str], is_terminal: bool) -> str:
     """The token of a user: of a file, of the environment, or of whoever sits at the terminal. ClientError if there is none."""
-    if path is not None:
-        return token_in(path, name)
-    if token := os.environ.get(VARIABLE, "").strip():
-        return token
-    if is_terminal:
-        return getpass.getpass(f"token of {name}: ").strip()
-    raise ClientError(f"there is no token: say --token-file FILE, or set {VARIABLE}")
+    token = stored_token(name, path)
+    if token is None and is_terminal:
+        return typed_token(name)
+    if token is None:
+        raise ClientError(f"there is no token: say --token-file FILE, or set {VARIABLE}")
+    return token
+
+
+def stored_token(name: str, path: Optional[str]) -> Optional[str]:
+    """The token of a user that a file or else the environment has, if there is one. ClientError if it is no token."""
+    token = without_blanks(os.environ.get(VARIABLE, "")) if path is None else token_in(path, name)
+    if path is None and not token:
+        return None
+    if fault := fault_of(token):
+        raise ClientError(f"{VARIABLE if path is None else path}: {fault}")
+    return token
+
+
+def typed_token(name: str) -> str:
+    """The token that somebody types, who is asked again where it is none."""
+    while True:
+        try:
+            token = without_blanks(getpass.getpass(f"token of {name}: "))
+        except EOFError:
+            print(file=sys.stderr)
+            raise ClientError("no token was typed") from None
+        fault = fault_of(token)
+        if fault is None:
+            return token
+        print(f"{fault}: type it again", file=sys.stderr, flush=True)
 
 
 def token_in(path: str, name: str) -> str:
-    """The token that a file has: its only word, or the second of the line that begins with this name."""
+    """The token that a file has: alone on a line, or the second word of the line that begins with this name."""
     try:
         with open(os.path.expanduser(path), encoding="utf-8", errors="replace") as file:
             lines = [line.split() for line in file.read(MAX_BYTES).splitlines() if not line.startswith("#")]
     except OSError as error:
         raise ClientError(f"cannot read {path}: {error.strerror or error}") from error
-    found = [words[1] for words in lines if len(words) > 1 and words[0] == name] or [words[0] for words in lines if len(words) == 1]
+    alone = [words for words in lines if len(words) == 1 or fault_of("".join(words)) is None]
+    found = [words[1] for words in lines if len(words) > 1 and words[0] == name and words not in alone]
+    found = found or ["".join(words) for words in alone]
     if not found:
         raise ClientError(f"{path} has no token of {name}")
     return found[0]

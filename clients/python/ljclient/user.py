@@ -23,6 +23,7 @@ from .replies import fields, whole_number
 from .session import Row, Session
 from .state import Command, can_be_loaded
 from .threads import whole
+from .tokens import without_blanks
 from .wire import Reply, Wire, checked_timeout
 
 MAX_ITEMS = 1_000_000
@@ -298,6 +299,7 @@ def dropped_by(commands: Sequence[Command]) -> Set[str]:
 def connect(host: str, port: int, name: str, token: str, *, timeout: float = 60.0) -> User:
     """A user's connection to `ljserve serve`.
 
+    token    as on a slip: blanks in it are left out
     timeout  how many seconds a connection, or the reply to a command, may take; then `TimedOut` is raised. A long
              `advance` goes in pieces, each of which is much shorter.
 
@@ -306,7 +308,8 @@ def connect(host: str, port: int, name: str, token: str, *, timeout: float = 60.
     """
     checked_name(name)
     checked_timeout(timeout)
-    if not (isinstance(token, str) and token.isascii() and token.isalnum()):
+    token = without_blanks(token) if isinstance(token, str) else ""
+    if not (token.isascii() and token.isalnum()):
         raise ValueError("a token is letters and digits")
 
     def open_wire() -> Wire:

@@ -51,7 +51,8 @@ def test_files_are_for_their_owner_alone_whatever_the_umask(tmp_path):
         os.umask(before)
     assert sorted(os.listdir(tmp_path)) == ["slips", "users"]
     assert (mode_of(tmp_path / "users"), mode_of(tmp_path / "slips")) == (0o600, 0o600)
-    assert re.findall("token   (.*)", (tmp_path / "slips").read_text()) == tokens_in(tmp_path / "users")
+    shown = re.findall("token   (.*)", (tmp_path / "slips").read_text())
+    assert [token.replace(" ", "") for token in shown] == tokens_in(tmp_path / "users")
     assert made(tmp_path, "--check", "users") == (0, "2 users\n", "")
 
 
@@ -59,7 +60,7 @@ def test_the_slips_follow_the_users_if_they_have_no_file(tmp_path):
     assert made(tmp_path, "ann", "--server", "räume:4000", "--out", "users") == (0, "", "")
     assert made(tmp_path, "--check", "users") == (0, "1 user\n", "")
     (token,) = tokens_in(tmp_path / "users")
-    assert f"#     token   {token}\n" in (tmp_path / "users").read_text()
+    assert f"#     token   {' '.join(re.findall('....', token))}\n" in (tmp_path / "users").read_text()
 
 
 @pytest.mark.parametrize("there", ["users", "slips"])
@@ -159,10 +160,11 @@ def test_a_token_that_is_not_there_is_told(tmp_path, words):
     other.write_text(GOOD.replace("ann", "ben"))
     assert example([*words, "--token-file", missing]) == (1, f"{name}: cannot read {missing}: No such file or directory\n")
     assert example([*words, "--token-file", str(other)]) == (1, f"{name}: {other} has no token of ann\n")
-    assert example(words, LJSERVE_TOKEN="two words") == (1, f"{name}: a token is letters and digits\n")
+    short = f"{name}: LJSERVE_TOKEN: a token has 32 letters and digits, and not 8\n"
+    assert example(words, LJSERVE_TOKEN="two words") == (1, short)
 
 
-@pytest.mark.parametrize("text", [TOKEN + "\n", "# users\n" + GOOD], ids=["alone", "users"])
+@pytest.mark.parametrize("text", [TOKEN + "\n", "aaaa " * 8, "# users\n" + GOOD], ids=["alone", "in groups", "users"])
 def test_the_examples_read_a_token_from_a_file(tmp_path, text):
     (tmp_path / "token").write_text(text)
     where = ["--token-file", str(tmp_path / "token")]

@@ -48,8 +48,10 @@ class Users(unittest.TestCase):
         for name, token, *_ in lines:
             self.assertRegex(token, r"\A[A-Za-z0-9]{32}\Z")
             self.assertNotRegex(token, "[0O1lI]")
-            self.assertIn(f"# {name} at 10.0.0.5:4000\n#\n#     token   {token}\n", out)
-            self.assertIn(f'connect("10.0.0.5", 4000, "{name}", "{token}")', out)
+            slip = out[out.index(f"# {name} at 10.0.0.5:4000\n#\n#     token   ") :]
+            groups = " ".join(re.findall("....", token))
+            self.assertIn(f"#     token   {groups}\n", slip)
+            self.assertIn(f'connect("10.0.0.5", 4000, "{name}",\n#                    "{groups}")', slip)
 
     def test_another_time_there_are_other_tokens(self):
         self.assertFalse(set(re.findall(r"\b\w{32}\b", told("3")[1])) & set(re.findall(r"\b\w{32}\b", told("3")[1])))
@@ -62,7 +64,8 @@ class Users(unittest.TestCase):
             ann, ben = [line.split() for line in out.splitlines()[1:]]
             self.assertEqual((status, ann[0], ben[0], ann[2:]), (0, "ann", "ben-2", ["2", "4096", "0"]))
             with open(slips) as file:
-                self.assertEqual(re.findall("token   (.*)", file.read()), [ann[1], ben[1]])
+                tokens = re.findall("token   (.*)", file.read())
+            self.assertEqual([token.replace(" ", "") for token in tokens], [ann[1], ben[1]])
             self.assertEqual(os.stat(slips).st_mode & 0o777, 0o600)
             status, out, err = told(*words)
             self.assertEqual((status, out), (1, ""))

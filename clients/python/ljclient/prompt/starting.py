@@ -6,10 +6,11 @@ import contextlib
 import os
 import sys
 import threading
-from typing import Iterator, List, NoReturn
+from typing import Callable, Iterator, List, NoReturn
 
 from ..errors import ClientError
-from ..tokens import NOT_IN_COMMANDS, token_of
+from ..refusals import Denied
+from ..tokens import NOT_IN_COMMANDS, stored_token, token_of, typed_token
 from ..user import User, connect, run
 from .dialogue import PipeTalk, TerminalTalk
 from .link import Link
@@ -19,12 +20,13 @@ from .reading import PipeInput, TerminalInput, line_editing
 SECONDS = 600.0
 SECONDS_OF_A_PROGRAM = 1_000_000.0
 SECONDS_UNTIL_WORD = 2.0
+TRIES = 3
 ABOUT = """\
 A prompt for the commands of the protocol. Without HOST:PORT it starts a program of its own, and what is loaded is gone when it
 ends. `help` lists the commands. With an input that is no terminal it writes the replies alone.
 
 The token is read from the file that --token-file names (the token alone, or a file of users), from the environment variable
-LJSERVE_TOKEN, or is asked for. `python3 -m ljclient view [FILE.xyz ..]` shows atoms in a browser.
+LJSERVE_TOKEN, or is asked for. Blanks in it are left out. `python3 -m ljclient view [FILE.xyz ..]` shows atoms in a browser.
 """
 
 
@@ -86,13 +88,28 @@ def link_of(options: argparse.Namespace, is_terminal: bool) -> Link:
         return Link(lambda: run(timeout=limit), after)
     address, name = options.server
     host, _, port = address.rpartition(":")
-    token = token_of(name, options.token_file, is_terminal)
 
-    def open_user() -> User:
-        with word_of_waiting(name):
-            return connect(host.strip("[]"), int(port), name, token, timeout=options.timeout or SECONDS)
+    def link_with(token: str) -> Link:
+        def open_user() -> User:
+            with word_of_waiting(name):
+                return connect(host.strip("[]"), int(port), name, token, timeout=options.timeout or SECONDS)
 
-    return Link(open_user, "The next command begins a new connection. If the server still runs, it still has the sessions.")
+        return Link(open_user, "The next command begins a new connection. If the server still runs, it still has the sessions.")
+
+    if is_terminal and stored_token(name, options.token_file) is None:
+        return link_by_typing(name, link_with)
+    return link_with(token_of(name, options.token_file, is_terminal))
+
+
+def link_by_typing(name: str, link_with: Callable[[str], Link]) -> Link:
+    """The connection with a token that is typed. One that the server denies may be typed again, `TRIES` times in all."""
+    for _ in range(TRIES - 1):
+        try:
+            return link_with(typed_token(name))
+        except Denied:
+            told = f"the server has no user {name} with this token: type it again, or press Ctrl-C if the name is another"
+            print(told, file=sys.stderr, flush=True)
+    return link_with(typed_token(name))
 
 
 def welcome(link: Link, where: str) -> List[str]:

@@ -1,0 +1,130 @@
+"""Tokens that somebody types from a slip: in groups, with mistakes, and with more than one try."""
+import re
+
+import pytest
+
+from ljclient import ClientError, connect, tokens
+from support import TOKEN, TOP, Server
+from terminals import PROMPT, Terminal, environment
+
+TYPED = "abcdefghijkmnpqrstuvwxyz23456789"
+GROUPS = "abcd efgh ijkm npqr stuv wxyz 2345 6789"
+LINES = f"abcd {TYPED} 8 16384 16\n"
+DENIED = "the server has no user ann with this token: type it again, or press Ctrl-C if the name is another\n"
+
+
+@pytest.fixture
+def begin():
+    """Begins a prompt of ann at a terminal, which is closed at the end."""
+    begun = []
+
+    def prompt(port):
+        begun.append(Terminal([*PROMPT, f"127.0.0.1:{port}", "ann"], environment()))
+        return begun[-1]
+
+    yield prompt
+    for terminal in begun:
+        terminal.close()
+
+
+def types(terminal, *typed):
+    """Types each word where a token is asked for. Returns what is shown in between."""
+    shown = []
+    for word in typed:
+        shown.append(terminal.until("token of ann: "))
+        terminal.type(word + "\r")
+    return "".join(shown)
+
+
+def test_a_token_is_typed_in_groups(begin):
+    with Server(lines=LINES.replace("abcd ", "ann ", 1)) as server:
+        terminal = begin(server.port)
+        types(terminal, f" {GROUPS}  ")
+        assert "Connected to" in terminal.until("ann> ")
+
+
+def test_a_mistyped_token_is_told_before_the_server_is_asked(begin):
+    with Server(connections=3) as server:
+        terminal = begin(server.port)
+        shown = types(terminal, TOKEN[1:], "", TOKEN + "a", TOKEN[1:] + "-", TOKEN)
+        terminal.until("ann> ")
+    told = re.findall("^(a token .*): type it again$", shown, re.M)
+    length = "a token has 32 letters and digits, and not "
+    assert told == [f"{length}31", f"{length}0", f"{length}33", "a token has letters and digits alone"]
+    assert TOKEN[1:] not in terminal.written
+
+
+def test_a_token_that_is_denied_is_asked_for_again(begin):
+    with Server() as server:
+        terminal = begin(server.port)
+        shown = types(terminal, "b" * 32, "c" * 31, "c" * 32, TOKEN)
+        terminal.until("ann> ")
+    assert shown.count(DENIED) == 2
+
+
+def test_the_third_token_that_is_denied_ends_the_prompt(begin):
+    with Server() as server:
+        terminal = begin(server.port)
+        assert types(terminal, "b" * 32, "c" * 32, "d" * 32).count(DENIED) == 2
+        status, shown = terminal.ended()
+    assert status == 1 and "ERR 01 DENIED" in shown and "token of" not in shown
+
+
+def test_nothing_is_typed(begin):
+    terminal = begin(1)
+    types(terminal, "\x04")
+    assert terminal.ended() == (1, "\nljclient: no token was typed\n")
+
+
+def test_a_stored_token_that_is_denied_is_not_asked_for():
+    with Server() as server:
+        terminal = Terminal([*PROMPT, f"127.0.0.1:{server.port}", "ann"], environment(LJSERVE_TOKEN="b" * 32))
+        try:
+            status, shown = terminal.ended()
+        finally:
+            terminal.close()
+    assert status == 1 and "ERR 01 DENIED" in shown and "token of" not in shown
+
+
+@pytest.mark.parametrize("name", ["ann", "abcd"])
+def test_a_token_in_groups_alone_in_a_file(tmp_path, name):
+    path = tmp_path / "token"
+    path.write_text(f"# mine\n{GROUPS}\n")
+    assert tokens.token_of(name, str(path), False) == TYPED
+
+
+def test_a_file_of_users_is_read_as_before(tmp_path):
+    path = tmp_path / "users"
+    path.write_text(f"ann {TOKEN} 8 16384 16\n{LINES}")
+    assert tokens.token_of("abcd", str(path), False) == TYPED
+    assert tokens.token_of("ann", str(path), False) == TOKEN
+
+
+def test_the_environment_has_a_token_in_groups(monkeypatch):
+    monkeypatch.setenv("LJSERVE_TOKEN", f" {GROUPS}\n")
+    assert tokens.token_of("ann", None, False) == TYPED
+
+
+@pytest.mark.parametrize("text, fault", [("b" * 31, "32 letters and digits, and not 31"), (f"ann {'!' * 32} 8 1 1", "digits alone")])
+def test_a_stored_token_of_the_wrong_shape_is_told_with_its_file(tmp_path, text, fault):
+    path = tmp_path / "users"
+    path.write_text(text)
+    with pytest.raises(ClientError, match=f"^{re.escape(str(path))}: .*{fault}$"):
+        tokens.token_of("ann", str(path), False)
+
+
+def test_connect_takes_the_groups_of_a_slip():
+    with Server(lines=LINES) as server, connect("127.0.0.1", server.port, "abcd", GROUPS) as user:
+        assert user.sessions() == []
+
+
+def test_the_python_of_a_slip_runs(tmp_path):
+    tool = {"__name__": "users"}
+    exec(compile((TOP / "tools" / "users").read_text(), "users", "exec"), tool)
+    with Server(lines=LINES) as server:
+        slip = tool["slip_of"](tool["User"]("abcd", TYPED), f"127.0.0.1:{server.port}")
+        names = {}
+        exec("\n".join(line.strip() for line in slip[slip.index("    from ljclient") :].splitlines()), names)
+        with names["user"] as user:
+            assert user.name == "abcd"
+    assert f"    token   {GROUPS}\n" in slip
