@@ -1,0 +1,66 @@
+"""Who is denied is shown as `denied` by `tools/watch`, while the connection is open and after."""
+import contextlib
+import re
+import socket
+
+import pytest
+
+from support import SECONDS, TOKEN, TOP, Server, peer, read_line
+from terminals import Terminal
+
+WATCH = str(TOP / "tools" / "watch")
+
+
+@contextlib.contextmanager
+def screen(port):
+    """What `watch` shows at a terminal, in front of a server at this port, and a connection to it."""
+    terminal = Terminal([WATCH, "127.0.0.1:0", f"127.0.0.1:{port}"])
+    try:
+        front = int(re.search(r":(\d+), for", terminal.until(r"listens on 127\.0\.0\.1:\d+, for"))[1])
+        with socket.create_connection(("127.0.0.1", front), SECONDS) as stream:
+            yield terminal, stream
+    finally:
+        terminal.close()
+
+
+def answers(reply):
+    """A peer that answers the first line so, and ends when the client does."""
+
+    def talk(connection, stop):
+        first = read_line(connection)
+        connection.sendall(reply)
+        assert not connection.recv(1 << 16), first
+
+    return talk
+
+
+@pytest.mark.parametrize("line, name", [(f"HELLO ann {'b' * 32}\n", "ann"), (f"{TOKEN}\n", "-")], ids=["hello", "no hello"])
+def test_denied_while_and_after(line, name):
+    with peer(answers(b"ERR 01 DENIED\n")) as port, screen(port) as (terminal, stream):
+        stream.sendall(line.encode())
+        terminal.until(rf"1 open\ndenied {name} +127\.0\.0\.1:\d+ [^\n]*  ERR 01 DENIED\n")
+        stream.close()
+        terminal.until(rf"denied {name} [^\n]*  ERR 01 DENIED\n0 open\n")
+
+
+def test_denied_before_its_first_line_is_whole():
+    """What a client sends after that is no second HELLO."""
+
+    def talk(connection, stop):
+        connection.sendall(b"ERR 01 DENIED\n")
+        while connection.recv(1 << 16):
+            pass
+
+    with peer(talk) as port, screen(port) as (terminal, stream):
+        terminal.until(r"1 open\ndenied - ")
+        stream.sendall(f"HELLO ann {TOKEN}".encode())
+        terminal.until("1 open\n")
+        terminal.until(r"1 open\ndenied - ")
+
+
+def test_who_is_let_in_or_waits_is_not_denied():
+    with Server() as server, screen(server.port) as (terminal, stream):
+        stream.sendall(f"HELLO ann {TOKEN}\n".encode())
+        terminal.until(r"1 open\nin +ann ")
+        stream.sendall(f"HELLO ann {TOKEN}\nSHOW a 0\n".encode())
+        terminal.until(r"1 open\nin +ann [^\n]*  ERR 10 NO_SESSION\n")
