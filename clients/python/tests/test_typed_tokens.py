@@ -10,6 +10,8 @@ from terminals import PROMPT, Terminal, environment
 TYPED = "abcdefghijkmnpqrstuvwxyz23456789"
 GROUPS = "abcd efgh ijkm npqr stuv wxyz 2345 6789"
 LINES = f"abcd {TYPED} 8 16384 16\n"
+TOOL = {"__name__": "users"}
+exec(compile((TOP / "tools" / "users").read_text(), "users", "exec"), TOOL)
 DENIED = "the server has no user ann with this token: type it again, or press Ctrl-C if the name is another\n"
 
 
@@ -119,12 +121,18 @@ def test_connect_takes_the_groups_of_a_slip():
 
 
 def test_the_python_of_a_slip_runs(tmp_path):
-    tool = {"__name__": "users"}
-    exec(compile((TOP / "tools" / "users").read_text(), "users", "exec"), tool)
     with Server(lines=LINES) as server:
-        slip = tool["slip_of"](tool["User"]("abcd", TYPED), f"127.0.0.1:{server.port}")
+        slip = TOOL["slip_of"](TOOL["User"]("abcd", TYPED), f"127.0.0.1:{server.port}")
         names = {}
         exec("\n".join(line.strip() for line in slip[slip.index("    from ljclient") :].splitlines()), names)
         with names["user"] as user:
             assert user.name == "abcd"
     assert f"    token   {GROUPS}\n" in slip
+
+
+def test_a_slip_says_how_to_come_by_the_client():
+    slip = TOOL["slip_of"](TOOL["User"]("abcd", TYPED), "192.0.2.10:4000")
+    folder = re.search("^    pip install (.*)$", slip, re.M)[1]
+    assert f"`export PYTHONPATH={folder}`" in slip and "the folder of ljserve" in slip
+    assert (TOP / folder / "pyproject.toml").is_file() and (TOP / folder / "ljclient").is_dir()
+    assert f' {folder} ' in re.search(r"^contents=\((.*)\)$", (TOP / "bin" / "release").read_text(), re.M)[1]
