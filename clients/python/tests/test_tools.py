@@ -5,6 +5,7 @@ import os
 import re
 import socket
 import subprocess
+import sys
 import tempfile
 import unittest
 
@@ -12,6 +13,7 @@ from ljclient import connect, refusals
 from support import EXAMPLES, PROGRAM, SECONDS, TOKEN, TOP, Server, dimer
 
 USERS = TOP / "tools" / "users"
+sys.path.append(str(USERS.parent))
 TOOL = {"__name__": "users"}
 exec(compile(USERS.read_text(), str(USERS), "exec"), TOOL)
 GOOD = f"ann {TOKEN} 8 16384 16\n"

@@ -1,5 +1,6 @@
 """Tokens that somebody types from a slip: in groups, with mistakes, and with more than one try."""
 import re
+import sys
 
 import pytest
 
@@ -7,11 +8,12 @@ from ljclient import ClientError, connect, tokens
 from support import TOKEN, TOP, Server
 from terminals import PROMPT, Terminal, environment
 
+sys.path.append(str(TOP / "tools"))
+from user_files import User, slip_of  # noqa: E402
+
 TYPED = "abcdefghijkmnpqrstuvwxyz23456789"
 GROUPS = "abcd efgh ijkm npqr stuv wxyz 2345 6789"
 LINES = f"abcd {TYPED} 8 16384 16\n"
-TOOL = {"__name__": "users"}
-exec(compile((TOP / "tools" / "users").read_text(), "users", "exec"), TOOL)
 DENIED = "the server has no user ann with this token: type it again, or press Ctrl-C if the name is another\n"
 
 
@@ -122,7 +124,7 @@ def test_connect_takes_the_groups_of_a_slip():
 
 def test_the_python_of_a_slip_runs(tmp_path):
     with Server(lines=LINES) as server:
-        slip = TOOL["slip_of"](TOOL["User"]("abcd", TYPED), f"127.0.0.1:{server.port}")
+        slip = slip_of(User("abcd", TYPED), f"127.0.0.1:{server.port}")
         names = {}
         exec("\n".join(line.strip() for line in slip[slip.index("    from ljclient") :].splitlines()), names)
         with names["user"] as user:
@@ -131,7 +133,7 @@ def test_the_python_of_a_slip_runs(tmp_path):
 
 
 def test_a_slip_says_how_to_come_by_the_client():
-    slip = TOOL["slip_of"](TOOL["User"]("abcd", TYPED), "192.0.2.10:4000")
+    slip = slip_of(User("abcd", TYPED), "192.0.2.10:4000")
     folder = re.search("^    pip install (.*)$", slip, re.M)[1]
     assert f"`export PYTHONPATH={folder}`" in slip and "the folder of ljserve" in slip
     assert (TOP / folder / "pyproject.toml").is_file() and (TOP / folder / "ljclient").is_dir()

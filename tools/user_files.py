@@ -1,0 +1,275 @@
+"""Files of users, their slips, and what is wrong with such a file: what `users` and `class` share."""
+import contextlib
+import os
+import re
+import secrets
+import shlex
+import stat
+import sys
+import tempfile
+from typing import Dict, Iterator, List, NamedTuple, Optional, Sequence, TextIO
+
+MAX_USERS = 64
+MAX_NUMBERS = {"sessions": 64, "atoms": 65536, "branches": 256}
+USUAL = [8, 16384, 16]
+TOKEN_LETTERS = "abcdefghijkmnpqrstuvwxyzABCDEFGHJKLMNPQRSTUVWXYZ23456789"
+TOKEN_LENGTH = 32
+GROUP = 4
+NAME = re.compile(rb"[A-Za-z0-9_-]{1,16}")
+TOKEN = re.compile(rb"[A-Za-z0-9]{32}")
+DIGITS = re.compile(rb"[0-9]{1,19}")
+
+
+class Fault(Exception):
+    """What is wrong with a file, or why it cannot be had."""
+
+
+class User(NamedTuple):
+    """A user who is made: a name and a token."""
+
+    name: str
+    token: str
+
+
+def new_users(names: Sequence[str]) -> List[User]:
+    """Users of these names, each with a token of its own."""
+    return [User(name, "".join(secrets.choice(TOKEN_LETTERS) for _ in range(TOKEN_LENGTH))) for name in names]
+
+
+def names_of(words: Sequence[str]) -> List[str]:
+    """The names that the words say: themselves, or those of so many students."""
+    if len(words) == 1 and words[0].isascii() and words[0].isdecimal():
+        count = int(words[0])
+        if not 1 <= count <= MAX_USERS:
+            raise ValueError(f"a server has 1 to {MAX_USERS} users, not {count}")
+        return [f"student{number:02}" for number in range(1, count + 1)]
+    if len(words) > MAX_USERS:
+        raise ValueError(f"a server has 1 to {MAX_USERS} users, not {len(words)}")
+    for place, word in enumerate(words):
+        if not NAME.fullmatch(word.encode("utf-8", "surrogateescape")):
+            raise ValueError(f"{word!r} is no name: 1 to 16 of A-Z a-z 0-9 _ -")
+        if word in words[:place]:
+            raise ValueError(f"the name {word} is said twice")
+    return list(words)
+
+
+def in_groups(token: str) -> str:
+    """A token as it is typed with fewer slips: in groups, with blanks that count for nothing."""
+    return " ".join(token[place : place + GROUP] for place in range(0, len(token), GROUP))
+
+
+def check_quota(quota: Sequence[int]) -> None:
+    """Raises ValueError if a user may not have so much."""
+    for number, (name, most) in zip(quota, MAX_NUMBERS.items()):
+        if not 0 <= number <= most:
+            raise ValueError(f"a user has 0 to {most} {name}, not {number}")
+
+
+def slip_of(user: User, server: str) -> str:
+    """What a user is handed out."""
+    host, _, port = server.rpartition(":")
+    return f"""\
+------------------------------------------------------------------------
+{user.name} at {server}
+
+    token   {in_groups(user.token)}
+
+The token is yours alone, and its blanks need not be typed.
+
+The client is in the folder of ljserve, and needs Python 3.9 or later. There, once:
+
+    pip install clients/python
+
+(or `export PYTHONPATH=clients/python` in each shell). Then a prompt, which asks for the token:
+
+    python3 -m ljclient {server} {user.name}
+
+or in Python:
+
+    from ljclient import connect
+    user = connect("{host.strip('[]')}", {port}, "{user.name}",
+                   "{in_groups(user.token)}")
+"""
+
+
+def text_of(users: Sequence[User], quota: Sequence[int], slips: Sequence[str]) -> str:
+    """The file of users, with these slips as comments."""
+    lines = ["# Users of a server: name, token, and the most sessions, atoms and saved simulations. Keep this file secret."]
+    lines += [" ".join([user.name, user.token, *map(str, quota)]) for user in users]
+    lines += ["#", "# The slips:"] if slips else []
+    lines += [f"# {line}".rstrip() for slip in slips for line in slip.splitlines()]
+    return "\n".join([*lines, ""])
+
+
+class Files(NamedTuple):
+    """Where the users and their slips are written. Without a file the users are printed, and the slips stand with the users."""
+
+    users: Optional[str]
+    slips: Optional[str]
+    may_replace: bool
+
+
+def make_users(names: Sequence[str], quota: Sequence[int], server: str, files: Files) -> None:
+    """Writes or prints a file of new users, with the slips in it or in a file of their own."""
+    users = new_users(names)
+    slips = [slip_of(user, server) for user in users]
+    text = text_of(users, quota, [] if files.slips else slips)
+    texts = {files.users: text, files.slips: "\n".join(slips)}
+    write_secrets({path: secret for path, secret in texts.items() if path is not None}, files.may_replace)
+    if files.users is None:
+        print(text, end="", flush=True)
+        warn_of_output(sys.stdout)
+
+
+def write_secrets(texts: Dict[str, str], may_replace: bool) -> None:
+    """Writes files that their owner alone can read: each of them whole, or none if one cannot be written."""
+    with contextlib.ExitStack() as stack:
+        ready = [(path, stack.enter_context(written(path, text))) for path, text in texts.items()]
+        new = []
+        try:
+            for path, temporary in ready:
+                put(temporary, path, may_replace)
+                new.append(path)
+        except Fault:
+            for path in [] if may_replace else new:
+                os.unlink(path)
+            raise
+
+
+@contextlib.contextmanager
+def written(path: str, text: str) -> Iterator[str]:
+    """The path of a new file with this text, beside the one that it is to become; gone at the end if it has not become it."""
+    try:
+        descriptor, temporary = tempfile.mkstemp(dir=os.path.dirname(path) or ".", prefix=".users-")
+    except OSError as error:
+        raise Fault(f"cannot write {path}: {error.strerror}") from error
+    try:
+        with os.fdopen(descriptor, "w", encoding="utf-8", errors="surrogateescape") as file:
+            file.write(text)
+            file.flush()
+            os.fsync(descriptor)
+        yield temporary
+    except OSError as error:
+        raise Fault(f"cannot write {path}: {error.strerror}") from error
+    finally:
+        with contextlib.suppress(FileNotFoundError):
+            os.unlink(temporary)
+
+
+def put(temporary: str, path: str, may_replace: bool) -> None:
+    """Gives a file its name, at once. One that has it already stays, unless it may be replaced."""
+    try:
+        if may_replace:
+            os.replace(temporary, path)
+        else:
+            os.link(temporary, path)
+    except FileExistsError:
+        raise Fault(f"{path} is there already: choose another name, or write it anew by --replace") from None
+    except OSError as error:
+        raise Fault(f"cannot write {path}: {error.strerror}") from error
+
+
+def openness_of(mode: int) -> str:
+    """What others than its owner can do with a file of this mode: nothing, `read`, `change`, or both."""
+    return " and ".join(word for word, bits in (("read", 0o044), ("change", 0o022)) if mode & bits)
+
+
+def warn_of_output(out: TextIO) -> None:
+    """Says if what was printed stands in a file that others can read."""
+    try:
+        status = os.fstat(out.fileno())
+    except (OSError, ValueError):
+        return
+    if stat.S_ISREG(status.st_mode) and openness_of(status.st_mode):
+        told = f"the mode of the file that these tokens were printed into lets others {openness_of(status.st_mode)} it"
+        print(f"users: {told}; write it by --out FILE", file=sys.stderr)
+
+
+class Checked:
+    """The users of a file, line by line, and what is wrong with each line. Tokens are not told."""
+
+    def __init__(self) -> None:
+        self.lines: Dict[bytes, int] = {}
+        self.faults: List[str] = []
+
+    def read(self, text: bytes) -> None:
+        """Reads the lines of a file."""
+        lines = text.split(b"\n")
+        if not lines[-1]:
+            lines.pop()
+        for number, line in enumerate(lines, 1):
+            cause = self.cause(number, line)
+            if cause:
+                self.faults.append(f"line {number}: {cause}")
+        if not self.lines and not self.faults:
+            self.faults.append(f"line {len(lines) + 1}: there is no user")
+
+    def cause(self, number: int, line: bytes) -> Optional[str]:
+        """Why a line is refused, if it is."""
+        words = [word for word in re.split(rb"[ \t]+", line) if word]
+        if line.startswith(b"#") or not words:
+            return None
+        return cause_of_words(words) or self.cause_of_name(number, words[0])
+
+    def cause_of_name(self, number: int, name: bytes) -> Optional[str]:
+        """Why there is no place for a user of this name, if there is none."""
+        if name in self.lines:
+            return f"the name {name.decode()} is that of line {self.lines[name]}"
+        if len(self.lines) == MAX_USERS:
+            return f"there are {MAX_USERS} users already, the most that a server has"
+        self.lines[name] = number
+        return None
+
+
+def cause_of_words(words: List[bytes]) -> Optional[str]:
+    """Why these words are no user, if they are none."""
+    if words[-1].endswith(b"\r"):
+        return "it ends as lines of Windows do (CR LF); `tr -d '\\r'` takes that away"
+    if words[0].startswith(b"\xef\xbb\xbf"):
+        return "the file begins with a byte order mark; save it as UTF-8 without one"
+    if len(words) != 5:
+        return f"it has {counted(len(words), 'word')}, and not 5: name, token, sessions, atoms, branches"
+    if not NAME.fullmatch(words[0]):
+        return "the name is not 1 to 16 of A-Z a-z 0-9 _ -"
+    return cause_of_token(words[1]) or cause_of_numbers(words[2:])
+
+
+def cause_of_token(token: bytes) -> Optional[str]:
+    """Why this is no token, if it is none."""
+    if len(token) != TOKEN_LENGTH:
+        size = "short" if len(token) < TOKEN_LENGTH else "long"
+        return f"the token is too {size}: it has {counted(len(token), 'character')}, and not {TOKEN_LENGTH}"
+    return None if TOKEN.fullmatch(token) else "the token has something else than letters and digits"
+
+
+def cause_of_numbers(words: List[bytes]) -> Optional[str]:
+    """Why these words are no quota, if they are none."""
+    for word, (name, most) in zip(words, MAX_NUMBERS.items()):
+        if not DIGITS.fullmatch(word):
+            return f"the number of {name} is no whole number"
+        if int(word) > most:
+            return f"{int(word)} {name} are more than {most}, the most that a user may have"
+    return None
+
+
+def counted(count: int, what: str) -> str:
+    return f"{count} {what}" + ("" if count == 1 else "s")
+
+
+def check(path: str, out: TextIO) -> int:
+    """Prints what is wrong with a file of users, or how many it has, and returns the exit status."""
+    try:
+        with open(path, "rb") as file:
+            text, mode = file.read(), os.fstat(file.fileno()).st_mode
+    except OSError as error:
+        raise Fault(f"cannot read {path}: {error.strerror}") from error
+    checked = Checked()
+    checked.read(text)
+    for fault in checked.faults:
+        print(f"{path}: {fault}", file=out)
+    if not checked.faults:
+        print(counted(len(checked.lines), "user"), file=out)
+    if stat.S_ISREG(mode) and openness_of(mode):
+        cure = f"`chmod 600 {shlex.quote(path)}` leaves it to its owner"
+        print(f"{path}: its mode lets others {openness_of(mode)} it, with all tokens; {cure}", file=out)
+    return 1 if checked.faults else 0
