@@ -113,9 +113,10 @@ class Board:
         with self._lock:
             return len({each.user for each in self._open if each.state == "in"})
 
-    def close(self) -> None:
-        """Lets nothing be written from now on."""
+    def close(self, text: str) -> None:
+        """Writes the last line, in place of those of open connections."""
         with self._lock:
+            self._write(f"{self._erased()}{clock(time.time())}  {text}\n")
             self._out = None
 
     def begins(self, connection: Connection) -> None:
@@ -272,6 +273,11 @@ def listener_at(address: Address) -> socket.socket:
     """A socket that listens."""
     family = socket.AF_INET6 if ":" in address[0] else socket.AF_INET
     return socket.create_server(address, family=family, backlog=128)
+
+
+def cause_of(error: OSError) -> str:
+    """Why an address cannot be listened on, without the address once more."""
+    return (error.strerror or str(error)).partition(" (while")[0]
 
 
 def make_room() -> None:

@@ -316,6 +316,8 @@ BLOCKS = {
         "LOAD a 4294.967296": commands_of_a_checkpoint,
     },
     "docs/CLASS.md": {
+        "tools/class": "clients/python/tests/test_class.py begins it, at ports that are free",
+        "22 users in": "clients/python/tests/test_class.py compares such lines, whose times and addresses differ",
         "tools/users 22": before_the_lesson,
         "tools/watch": "clients/python/tests/test_watch.py runs it, at ports that are free",
         "python3 -m ljclient 192.0.2.10": ELSEWHERE,
