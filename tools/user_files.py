@@ -123,6 +123,8 @@ def make_users(names: Sequence[str], quota: Sequence[int], server: str, files: F
 
 def write_secrets(texts: Dict[str, str], may_replace: bool) -> None:
     """Writes files that their owner alone can read: each of them whole, or none if one cannot be written."""
+    if may_replace:
+        texts = {replaceable(path): text for path, text in texts.items()}
     with contextlib.ExitStack() as stack:
         ready = [(path, stack.enter_context(written(path, text))) for path, text in texts.items()]
         new = []
@@ -134,6 +136,14 @@ def write_secrets(texts: Dict[str, str], may_replace: bool) -> None:
             for path in [] if may_replace else new:
                 os.unlink(path)
             raise
+
+
+def replaceable(path: str) -> str:
+    """The file to write anew, behind symbolic links. A device or a folder is a fault, since replacing it would destroy it."""
+    target = os.path.realpath(path)
+    if os.path.exists(target) and not os.path.isfile(target):
+        raise Fault(f"{path} is no regular file, and stays as it is: choose another name")
+    return target
 
 
 @contextlib.contextmanager

@@ -9,9 +9,10 @@ import math
 import os
 import re
 import zlib
-from typing import Dict, Iterator, List, Pattern, Sequence, Tuple, Union
+from typing import Dict, Iterator, List, Pattern, Sequence, Tuple
 
 from .errors import Damaged
+from .files import Path, write_whole
 from .mixture import MAX_WEIGHT, Mixture
 from .names import NAME, SYMBOL
 from .order import IN_SPACE, Place
@@ -30,22 +31,14 @@ MAX_SIGMA = RING // 5
 SPECIES = ("first", "second")
 CLASS = ("sigma", "ring", "h", "weight")
 UNITS = ("epsilon", "mass")
-Path = Union[str, "os.PathLike[str]"]
 
 
 def write(state: State, path: Path) -> None:
-    """Writes a state to a file. An older file of that name stays until the new one is whole."""
-    partial = f"{os.fspath(path)}.{os.getpid()}.part"
-    try:
-        with open(partial, "w", encoding="ascii", newline="\n") as file:
-            file.write(text_of(state))
-            file.flush()
-            os.fsync(file.fileno())
-        os.replace(partial, path)
-    except BaseException:
-        if os.path.exists(partial):
-            os.unlink(partial)
-        raise
+    """Writes a state to a file. An older file of that name stays until the new one is whole.
+
+    Raises ValueError if something is there that is no regular file, such as a device.
+    """
+    write_whole(path, text_of(state).encode("ascii"))
 
 
 def text_of(state: State) -> str:

@@ -18,13 +18,13 @@ from dataclasses import dataclass
 from typing import Any, Callable, ContextManager, Dict, Iterator, List, NamedTuple, Optional, Sequence, Tuple, Union
 
 from .errors import ConnectionLost, Damaged
+from .files import Path, write_whole
 from .session import Session
 from .user import Program, User, run
 
 # What is told of a worker that is gone: a class, or the name of one of Dask, which need not be installed.
 LOST = (BrokenExecutor, CancelledError, ConnectionLost)
 LOST_NAMES = ("KilledWorker", "CommClosedError")
-Path = Union[str, "os.PathLike[str]"]
 # An executor, or what makes one, or none.
 Pool = Union[Executor, Callable[[], Executor], None]
 # What was noted of each job that is done, by its number.
@@ -177,12 +177,7 @@ def _keep(place: str, done: int, notes: List[Any], sessions: Sequence[Session]) 
     files = [f"{place}.{done}.{number}.saved" for number in range(len(sessions))]
     for session, file in zip(sessions, files):
         session.save(file)
-    partial = f"{place}.{os.getpid()}.part"
-    with open(partial, "wb") as stream:
-        pickle.dump(Progress(done, notes, files), stream)
-        stream.flush()
-        os.fsync(stream.fileno())
-    os.replace(partial, f"{place}.notes")
+    write_whole(f"{place}.notes", pickle.dumps(Progress(done, notes, files)))
     for file in before.files if before is not None else []:
         if file not in files:
             pathlib.Path(file).unlink(missing_ok=True)

@@ -6,7 +6,7 @@ import dataclasses
 import threading
 from typing import TYPE_CHECKING, Any, Dict, Iterable, List, Optional, Sequence, Tuple, cast
 
-from . import checkpoint, units, xyz
+from . import checkpoint, files, units, xyz
 from .closeness import warn_of_close_atoms
 from .energy_watch import EnergyWatch, warn_of_large_steps
 from .errors import ClientError
@@ -182,7 +182,7 @@ class Loader:
     @whole
     def load_saved(
         self,
-        path: checkpoint.Path,
+        path: files.Path,
         name: Optional[str] = None,
         *,
         replace: bool = False,

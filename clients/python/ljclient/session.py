@@ -3,10 +3,9 @@ from __future__ import annotations
 
 import dataclasses
 import operator
-import os
 from typing import TYPE_CHECKING, Any, ContextManager, Iterator, List, NamedTuple, Optional, Sequence, Tuple, Union
 
-from . import arrays, ase_bridge, box, checkpoint, frames, going, heating, progress as bars, reading, sampling
+from . import arrays, ase_bridge, box, checkpoint, files, frames, going, heating, progress as bars, reading, sampling
 from .elements import Replacements, replaced, with_symbols
 from .energy_watch import WatchedRoad
 from .measurement import Measurement, known
@@ -219,7 +218,7 @@ class Session:
         frame = with_symbols(self._frame(), symbols)
         return frame.text(f"step {frame.step}")
 
-    def write(self, path: Union[str, "os.PathLike[str]"], symbols: Optional[Replacements] = None) -> None:
+    def write(self, path: files.Path, symbols: Optional[Replacements] = None) -> None:
         """Writes the frame to a file, as `dump` gives it."""
         text = self.dump(symbols)
         with open(path, "w", encoding="ascii", newline="\n") as file:
@@ -297,10 +296,11 @@ class Session:
         rows, known_of = [fields(line, 2) for line in lines], self._user.known(self.name)
         return [Saved(name, known_of.branch_order(name).step_of(whole_number(step))) for name, step in rows]
 
-    def save(self, path: checkpoint.Path) -> None:
+    def save(self, path: files.Path) -> None:
         """Writes the whole simulation to a file, from which `User.load_saved` goes on exactly, in another program too.
 
-        What was started is waited for, and what is saved by `branch` is not written. The scale has to be known.
+        What was started is waited for, and what is saved by `branch` is not written. The scale has to be known. An older file
+        stays until the new one is whole; where a path names a device, a folder or a FIFO, it is a ValueError.
         """
         checkpoint.write(self._user.state_of(self.name), path)
 

@@ -155,7 +155,7 @@ class Files(Saves):
             a.save(self.path / "none")
         a.save(self.path)
         whole = self.path.read_bytes()
-        with mock.patch.object(checkpoint.os, "replace", side_effect=OSError("no")), self.assertRaises(OSError):
+        with mock.patch.object(os, "replace", side_effect=OSError("no")), self.assertRaises(OSError):
             a.save(self.path)
         self.assertEqual((self.path.read_bytes(), os.listdir(self.path.parent)), (whole, ["a.saved"]))
 
