@@ -56,7 +56,8 @@ class Loader:
         name     the name of the session: 1 to 16 letters, digits, `_` or `-`
         source   the atoms: the path of an XYZ file, an open one, XYZ text, `Atoms` of ASE, a list of
                  `(symbol, x, y, z)`, or positions with `symbols`
-        edge     the edge of the cubic box, in the unit of the file; of `Atoms` in a cubic cell it is known
+        edge     the edge of the cubic box, in the unit of the file. Where it is not said, it is that of `Atoms` in a cubic cell,
+                 or of the cubic `Lattice` of extended XYZ. Where it is said, no cell and no Lattice is looked at
         sigma    the distance sigma, in the same unit, below a fifth of the edge
         h        the step factor: `dt^2 epsilon / (m sigma^2)` in units of 2^-32, a whole number from 1 to 16777216
 
@@ -83,11 +84,11 @@ class Loader:
         the energy changes (`Session.advance`). With `watch=False` there is none, and nothing is measured for it.
         """
         checked_name(name)
-        edge = _edge_of(edge, source)
+        frames = xyz.frames_of(source, before, symbols, pair)
+        edge = _edge_of(edge, source, frames)
         scale = units.Scale.of(edge, sigma, h, epsilon=epsilon, mass=mass, dt=dt)
         motion = motion_of(source, scale) if before is None and not pair else None
         words = f"{units.word(edge)} {units.word(sigma)} {units.word(scale.h)}"
-        frames = xyz.frames_of(source, before, symbols, pair)
         known = Known(scale, is_sorted=is_in_space(order), watch=EnergyWatch(watch))
         warn_of_close_atoms(frames, scale)
         if watch:
@@ -137,13 +138,13 @@ class Loader:
         epsilon  that of the first in electronvolt, and mass, where `Session.dt` and temperatures in kelvin are to be known
         """
         checked_name(name)
-        edge = _edge_of(edge, source)
+        frames = xyz.frames_of(source, before, symbols, pair)
+        edge = _edge_of(edge, source, frames)
         mixture = Mixture.of(
             edge, species, first=first, second=second, mixed=mixed, mass=mass, dt=dt, classes=classes, epsilon=epsilon
         )
         motion = motion_of(source, mixture.scale) if before is None and not pair else None
         words = f"{units.word(edge)} {mixture.words}"
-        frames = xyz.frames_of(source, before, symbols, pair)
         known = Known(mixture.scale, mixture, is_sorted=is_in_space(order), watch=EnergyWatch(watch))
         warn_of_close_atoms(frames, mixture.scale, mixture)
         if watch:
@@ -281,8 +282,8 @@ class Loader:
         raise NotImplementedError
 
 
-def _edge_of(edge: Optional[units.Number], source: Any) -> units.Number:
+def _edge_of(edge: Optional[units.Number], source: Any, frames: xyz.Frames) -> units.Number:
     """The edge of the box that was said, or that the source says itself."""
-    if edge is None and (edge := xyz.edge_of(source)) is None:
-        raise ValueError("say the edge of the box: edge=..")
+    if edge is None and (edge := xyz.edge_of(source, frames)) is None:
+        raise ValueError("say the edge of the box, edge=..: the atoms say no Lattice")
     return edge

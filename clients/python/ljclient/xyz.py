@@ -1,14 +1,18 @@
 """What a session can be loaded from, as the XYZ text that the server reads."""
 from __future__ import annotations
 
+import collections
+import contextlib
 import itertools
 import math
 import os
+import re
 from typing import Any, Iterable, Iterator, List, Optional, Sequence, Tuple, Union
 
 from . import ase_bridge
 
 MAX_BYTES = 1_048_576
+LATTICE = re.compile(rb'\bLattice\s*=\s*"([^"]*)"')
 Row = Tuple[str, float, float, float]
 Symbols = Union[str, Sequence[str], None]
 Frames = Tuple[str, bytes]
@@ -115,6 +119,42 @@ def _number(word: bytes) -> float:
     return number
 
 
-def edge_of(source: Any) -> Optional[float]:
-    """The edge of the box that a source says itself: `Atoms` of ASE in a cubic cell."""
-    return ase_bridge.edge_of(source) if ase_bridge.is_atoms(source) else None
+def edge_of(source: Any, frames: Frames) -> Optional[float]:
+    """The edge of the box that a source says itself: `Atoms` of ASE in a cubic cell, or a text with its `Lattice`."""
+    return ase_bridge.edge_of(source) if ase_bridge.is_atoms(source) else lattice_edge(frames)
+
+
+def lattice_edge(frames: Frames) -> Optional[float]:
+    """The edge of the box that the comment lines of extended XYZ text say. None if they say no Lattice.
+
+    Raises ValueError if the box is no cube along the axes.
+    """
+    mode, body = frames
+    comments = itertools.islice(_comments(body), 1 if mode == "rest" else 2)
+    found = next(filter(None, map(LATTICE.search, comments)), None)
+    if found is None:
+        return None
+    words = found[1].decode("latin-1")
+    try:
+        cell = [float(word) for word in words.split()]
+    except ValueError:
+        cell = []
+    if not is_cubic(cell):
+        raise ValueError(f'the atoms have Lattice="{words[:100]}", which is no cube along the axes: say the edge of the box, edge=..')
+    return cell[0]
+
+
+def _comments(body: bytes) -> Iterator[bytes]:
+    """The comment line of each frame of a text, as far as it has frames."""
+    lines = iter(body.split(b"\n"))
+    with contextlib.suppress(StopIteration, ValueError):
+        while True:
+            count = int(next(filter(None, map(bytes.split, lines)))[0])
+            yield next(lines)
+            collections.deque(itertools.islice(lines, count), maxlen=0)
+
+
+def is_cubic(cell: Sequence[float]) -> bool:
+    """Whether these are the nine numbers of a cell that is a cube along the axes."""
+    edge = cell[0] if len(cell) == 9 else 0.0
+    return edge > 0 and all(abs(part - edge * (place % 4 == 0)) <= 1e-9 * edge for place, part in enumerate(cell))

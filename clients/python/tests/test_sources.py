@@ -140,7 +140,7 @@ class WithAse(unittest.TestCase):
     def test_cells_that_are_not_cubic(self):
         for cell in ([10, 10, 11], [[10, 0, 0], [1, 10, 0], [0, 0, 10]], None):
             with self.assertRaisesRegex(ValueError, "not cubic"):
-                xyz.edge_of(ase.Atoms("Ar", cell=cell))
+                xyz.edge_of(ase.Atoms("Ar", cell=cell), ("rest", b""))
 
     def test_symbols_that_ase_does_not_know(self):
         with run(PROGRAM) as user:

@@ -13,7 +13,7 @@ from importlib import metadata
 from unittest import mock
 
 from ljclient.view import command, scenes, server, websocket
-from support import DIMER, EXAMPLES, SECONDS, TOP, interruptible, is_running
+from support import EXAMPLES, SECONDS, TOP, interruptible, is_running
 from viewing import View, children_of, command as command_of, file_of
 
 
@@ -125,14 +125,6 @@ class Options(unittest.TestCase):
     def test_a_port_that_is_taken(self):
         with View() as shown:
             self.assertIn("Address already in use", self.refused("--port", shown.port))
-
-    def test_the_edge_of_a_file(self):
-        cubes = {"52.6 0 0 0 52.6 0 0 0 52.6": 52.6}
-        others = dict.fromkeys(["5 0 0 0 5 0 0 0 6", "5 0 0 1 5 0 0 0 5", "-5 0 0 0 -5 0 0 0 -5", "5 5 5", "a", ""])
-        for cell, edge in {**cubes, **others}.items():
-            body = f'1\nstep=3 Lattice="{cell}" pbc="T T T"\nAr 0 0 0\n'
-            self.assertEqual(scenes.edge_in(body.encode()), edge)
-        self.assertIsNone(scenes.edge_in(DIMER.encode()))
 
     def test_only_a_browser_with_windows_is_opened(self):
         for browser, times in ((webbrowser.GenericBrowser("w3m"), 0), (webbrowser.BackgroundBrowser("firefox"), 1)):

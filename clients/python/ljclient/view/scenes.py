@@ -3,10 +3,9 @@ from __future__ import annotations
 
 import itertools
 import os
-import re
 from dataclasses import dataclass
 from decimal import Decimal
-from typing import Callable, Optional, Sequence
+from typing import Callable, Optional
 
 from .. import Scale, Session, User, heating, xyz
 from ..units import RING
@@ -65,31 +64,15 @@ def crystal(h: int, temperature: float, seed: int) -> Scene:
 
 
 def of_file(path: str, edge: Optional[float], scale_of: Callable[[float], Scale], temperature: float, seed: int) -> Scene:
-    """The atoms of an XYZ file. The edge is for a file that says no Lattice. ValueError if nobody says one."""
+    """The atoms of an XYZ file. The edge is for a file that says no cubic Lattice. ValueError if nobody says one."""
     body = xyz.body_of(path)
-    found = edge_in(body) or edge
+    try:
+        found = xyz.lattice_edge(("rest", body)) or edge
+    except ValueError:
+        found = edge
     if found is None:
         raise ValueError("the file says no cubic Lattice: say the edge of the box by --edge, in the unit of the file")
     return Scene(os.path.basename(path), body, scale_of(found), temperature, seed)
-
-
-def edge_in(body: bytes) -> Optional[float]:
-    """The edge of the cubic box that the comment line of an extended XYZ text says, if it says one."""
-    head = body[:4096].decode("latin-1").lstrip().split("\n")[:2]
-    found = re.search(r'Lattice="([^"]*)"', head[-1])
-    if found is None:
-        return None
-    try:
-        cell = [float(word) for word in found[1].split()]
-    except ValueError:
-        return None
-    return cell[0] if len(cell) == 9 and is_cubic(cell) else None
-
-
-def is_cubic(cell: Sequence[float]) -> bool:
-    """Whether the nine numbers of a cell are those of a cube along the axes."""
-    edge = cell[0]
-    return edge > 0 and all(abs(part - edge * (place % 4 == 0)) <= 1e-9 * edge for place, part in enumerate(cell))
 
 
 def edge_in_sigma(scale: Scale) -> float:
