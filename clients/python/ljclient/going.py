@@ -1,11 +1,11 @@
 """Sessions that go on by many steps, piece by piece: one alone, or several at the same time."""
 from __future__ import annotations
 
-import operator
 import threading
 import time
 from typing import Callable, ContextManager, Iterable, List, Optional, Protocol, Sequence, cast
 
+from .names import whole_of
 from .progress import Report
 from .replies import number_after
 from .wire import Reply
@@ -96,7 +96,7 @@ def go(courses: Sequence[Course], ask: Ask, pace: Pace, piece: Optional[int], lo
 
     Each piece is whole under the lock. Between two of them other threads may use the user.
     """
-    if piece is not None and operator.index(piece) < 1:
+    if piece is not None and whole_of(piece, "a piece") < 1:
         raise ValueError(f"a piece is 1 step at least, not {piece}")
     for course in courses:
         course.tell()

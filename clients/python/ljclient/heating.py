@@ -6,7 +6,8 @@ import random
 from typing import List, Tuple
 
 from .arrays import HALF
-from .units import Scale
+from .names import whole_of
+from .units import Scale, real_of
 
 Displacement = Tuple[int, ...]
 
@@ -17,11 +18,11 @@ def displacements(atoms: int, temperature: float, scale: Scale, seed: int) -> Li
     The temperature is in kelvin if the scale has epsilon, else in epsilon / k_B. Each axis of each atom is drawn from the same
     normal distribution; then the mean is taken away, and all are stretched alike to the temperature and rounded.
     """
-    if not (temperature >= 0 and math.isfinite(temperature)):
+    if not 0 <= real_of("a temperature", temperature) < math.inf:
         raise ValueError(f"a temperature is a number from 0 on, not {temperature!r}")
     if atoms == 1 and temperature > 0:
         raise ValueError("an atom alone has no motion without a net momentum")
-    drawn = random.Random(seed)
+    drawn = random.Random(whole_of(seed, "a seed"))
     parts = [[drawn.gauss(0, 1) for _ in range(3)] for _ in range(atoms)]
     means = [sum(axis) / atoms for axis in zip(*parts)]
     parts = [[part - mean for part, mean in zip(each, means)] for each in parts]

@@ -6,7 +6,7 @@ from dataclasses import dataclass, field
 from typing import List, Optional, Sequence, Tuple
 
 from .names import checked_symbol
-from .units import FULL_WEIGHT, Number, Scale, checked_positive, plain_float, word
+from .units import FULL_WEIGHT, Number, Scale, checked_positive, plain_float, real_of, word
 
 MAX_WEIGHT = 65_536
 Pair = Tuple[Number, float]
@@ -48,16 +48,19 @@ class Mixture:
         and Berthelot. Beside classes, `epsilon` (of the first one) and `mass` may be said.
         """
         symbols = checked_species(species)
+        if mass is not None:
+            mass = real_of("mass", mass, ": both species have one mass here")
         if classes is None:
             if first is None or second is None or mass is None or dt is None or epsilon is not None:
                 raise ValueError("say first= and second= (sigma, epsilon) with mass= and dt=, or classes= (sigma, h, weight)")
-            pairs = [first, lorentz_berthelot(first, second) if mixed is None else mixed, second]
+            first, second = checked_pair("first", first), checked_pair("second", second)
+            pairs = [first, lorentz_berthelot(first, second) if mixed is None else checked_pair("mixed", mixed), second]
             scales = _rounded(edge, symbols, pairs, mass, dt)
             return _made(symbols, [sigma for sigma, _ in pairs], scales)
         if (first, second, mixed, dt) != (None,) * 4:
             raise ValueError("classes= takes the place of first=, second=, mixed= and dt=")
-        if len(classes) != 3:
-            raise ValueError(f"a mixture has three classes of (sigma, h, weight), not {len(classes)}")
+        if len(classes) != 3 or not all(hasattr(each, "__len__") and len(each) == 3 for each in classes):
+            raise ValueError(f"a mixture has three classes of (sigma, h, weight), not {classes!r}")
         scales = [Scale.of(edge, sigma, h, weight=weight) for sigma, h, weight in classes]
         sigma, h, weight = classes[0]
         scales[0] = Scale.of(edge, sigma, h, epsilon=epsilon, mass=mass, weight=weight)
@@ -89,6 +92,15 @@ def checked_species(species: Sequence[str]) -> Tuple[str, str]:
     if first == second:
         raise ValueError(f"the two species have one symbol, {first!r}; `load` takes atoms that are all alike")
     return first, second
+
+
+def checked_pair(name: str, pair: Pair) -> Pair:
+    """Sigma and epsilon. Raises ValueError for what is not these two."""
+    try:
+        sigma, epsilon = pair
+    except (TypeError, ValueError):
+        raise ValueError(f"{name}= is (sigma, epsilon), not {pair!r}") from None
+    return sigma, epsilon
 
 
 def lorentz_berthelot(first: Pair, second: Pair) -> Pair:

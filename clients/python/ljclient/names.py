@@ -3,7 +3,7 @@ from __future__ import annotations
 
 import operator
 import re
-from typing import Any
+from typing import Any, Tuple
 
 NAME = re.compile(r"[A-Za-z0-9_-]{1,16}\Z")
 SYMBOL = re.compile(r"[!-~]{1,16}\Z")
@@ -23,9 +23,26 @@ def checked_symbol(symbol: Any) -> str:
     return symbol
 
 
+def whole_of(number: Any, what: str) -> int:
+    """A whole number of Python, of this or of one of numpy. Raises TypeError, which says what is wanted, for what is none."""
+    try:
+        return operator.index(number)
+    except TypeError:
+        raise TypeError(f"{what} is a whole number (int), not {number!r}") from None
+
+
+def displacement_of(displacement: Any) -> Tuple[int, int, int]:
+    """The three whole numbers of a displacement. Raises TypeError or ValueError, which says so, for what is none."""
+    try:
+        x, y, z = map(operator.index, displacement)
+    except (TypeError, ValueError) as error:
+        raise type(error)(f"a displacement is three whole numbers (int), in ring units along x, y and z, not {displacement!r}") from None
+    return x, y, z
+
+
 def count_of(number: Any, what: str) -> int:
     """A whole number that is not below zero."""
-    count = operator.index(number)
+    count = whole_of(number, what)
     if count < 0:
         raise ValueError(f"{what} is not below 0, but {count} is")
     return count

@@ -1,11 +1,11 @@
 """What a session tells on its way: its positions at every so many steps, in arrays or in a file."""
 from __future__ import annotations
 
-import operator
 import os
 from typing import TYPE_CHECKING, Any, Callable, Iterator, List, NamedTuple, Tuple, Union
 
 from . import arrays, progress as bars
+from .names import whole_of
 from .reading import Frame
 from .units import Scale
 
@@ -29,9 +29,9 @@ class Samples(NamedTuple):
 
 
 def checked_stops(every: Any, count: Any, what: str) -> None:
-    """Raises ValueError unless both are whole numbers above 0."""
+    """Raises TypeError or ValueError unless both are whole numbers above 0."""
     for number, name in ((every, "every"), (count, what)):
-        if operator.index(number) < 1:
+        if whole_of(number, name) < 1:
             raise ValueError(f"{name} is 1 at least, not {number}")
 
 

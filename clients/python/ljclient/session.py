@@ -2,7 +2,6 @@
 from __future__ import annotations
 
 import dataclasses
-import operator
 from typing import TYPE_CHECKING, Any, ContextManager, Iterator, List, NamedTuple, Optional, Sequence, Tuple, Union
 
 from . import arrays, ase_bridge, box, checkpoint, files, frames, going, heating, progress as bars, reading, sampling
@@ -11,7 +10,7 @@ from .energy_watch import WatchedRoad
 from .measurement import Measurement, known
 from .mixture import Mixture
 from .motion import Motion
-from .names import checked_name, count_of
+from .names import checked_name, count_of, displacement_of
 from .order import Order
 from .replies import fields, number_after, of_session, whole_number
 from .state import symbols_of
@@ -326,7 +325,7 @@ class Session:
 
     def _tug(self, atom: Any, displacement: Sequence[int]) -> str:
         """The command for a tug."""
-        x, y, z = (operator.index(part) for part in displacement)
+        x, y, z = displacement_of(displacement)
         return f"TUG {self.name} {self._number_of(atom)} {x} {y} {z}"
 
     @whole

@@ -12,7 +12,9 @@ import math
 import operator
 from dataclasses import dataclass
 from decimal import ROUND_HALF_UP, Decimal, InvalidOperation, localcontext
-from typing import Optional, TypedDict, Union
+from typing import Any, Optional, TypedDict, Union
+
+from .names import whole_of
 
 Number = Union[int, float, str, Decimal]
 
@@ -71,10 +73,24 @@ def step_factor(dt: float, sigma: float, epsilon: float, mass: float) -> int:
 
 
 def checked_positive(name: str, value: float) -> float:
-    """A number above 0. Raises ValueError for what is none."""
-    if not (value > 0 and math.isfinite(value)):
+    """A number above 0. Raises ValueError for what is none, and TypeError for what is no number."""
+    if not 0 < (number := real_of(name, value)) < math.inf:
         raise ValueError(f"{name} is a number above 0, not {value!r}")
-    return value
+    return number
+
+
+def real_of(name: str, value: Any, why: str = "") -> float:
+    """A number of Python, of this or of one of numpy. Raises TypeError or ValueError, which names it, for what is none."""
+    try:
+        return float(value)
+    except (TypeError, ValueError) as error:
+        raise type(error)(f"{name} is one number, not {value!r}{why}") from None
+
+
+def checked_length(name: str, value: Any) -> None:
+    """Raises TypeError if this is neither a number nor a text, which is sent as it is and may be refused."""
+    if not isinstance(value, str):
+        real_of(name, value)
 
 
 def nano(number: Number) -> int:
@@ -92,7 +108,10 @@ def word(number: Number) -> str:
         return number
     if isinstance(number, Decimal):
         return str(number)
-    return str(operator.index(number)) if hasattr(number, "__index__") else repr(float(number))
+    try:
+        return str(operator.index(number))  # type: ignore[arg-type]
+    except TypeError:
+        return repr(float(number))
 
 
 @dataclass(frozen=True)
@@ -128,16 +147,20 @@ class Scale:
         """The scale of these: h, or epsilon, mass and dt, of which h is the nearest whole number."""
         if (h is None) == (dt is None):
             raise ValueError("say either the step factor h, or the time step dt with epsilon and mass")
+        checked_length("edge", edge)
+        checked_length("sigma", sigma)
+        epsilon = None if epsilon is None else real_of("epsilon", epsilon)
+        mass = None if mass is None else real_of("mass", mass)
         if h is None:
             if epsilon is None or mass is None or dt is None:
                 raise ValueError("a time step dt in femtoseconds needs epsilon (electronvolt) and mass (dalton)")
-            h = step_factor(float(dt), plain_float(sigma), float(epsilon), float(mass))
+            h = step_factor(dt, plain_float(sigma), epsilon, mass)
         try:
             on_ring = nano(sigma) * RING // nano(edge)
         except (InvalidOperation, ValueError, ZeroDivisionError, OverflowError):
             on_ring = 0
         floats = plain_float(edge), plain_float(sigma)
-        return Scale(*floats, operator.index(h), epsilon, mass, on_ring, operator.index(weight))
+        return Scale(*floats, whole_of(h, "the step factor h"), epsilon, mass, on_ring, whole_of(weight, "a weight"))
 
     @property
     def reduced_dt(self) -> float:
@@ -175,7 +198,9 @@ class Scale:
 
 def plain_float(number: Number) -> float:
     """A number that is read back; nan where the server will refuse it."""
+    if not isinstance(number, str):
+        return float(number)
     try:
-        return float(str(number).lower().replace("d", "e"))
+        return float(number.lower().replace("d", "e"))
     except ValueError:
         return math.nan

@@ -44,15 +44,24 @@ def _bytes_of(source: Any, symbols: Symbols) -> bytes:
         return read.encode() if isinstance(read, str) else bytes(read)
     if ase_bridge.is_atoms(source):
         return text_of(zip(source.get_chemical_symbols(), source.get_positions()))
-    return text_of(_rows(list(source), symbols))
+    return text_of(_rows(_listed(source, "the atoms are a path, a file, a text, `Atoms` of ASE or a list"), symbols))
+
+
+def _listed(things: Any, wanted: str) -> List[Any]:
+    """A list of things. Raises TypeError, which says what is wanted, for what is none."""
+    try:
+        return list(things)
+    except TypeError:
+        raise TypeError(f"{wanted}, not {things!r}") from None
 
 
 def _rows(rows: List[Any], symbols: Symbols) -> List[Tuple[str, Sequence[float]]]:
     if symbols is None:
-        if not all(len(row) == 4 and isinstance(row[0], str) for row in rows):
-            raise ValueError("positions need symbols='Ar', or rows of (symbol, x, y, z)")
+        if not all(hasattr(row, "__len__") and len(row) == 4 and isinstance(row[0], str) for row in rows):
+            raise ValueError("positions need symbols='Ar', or rows of (symbol, x, y, z), whose symbols are strings")
         return [(row[0], row[1:]) for row in rows]
-    names = [symbols] * len(rows) if isinstance(symbols, str) else list(symbols)
+    wanted = "symbols= is a string, or a list of one for each atom"
+    names = [symbols] * len(rows) if isinstance(symbols, str) else _listed(symbols, wanted)
     if len(names) != len(rows):
         raise ValueError(f"there are {len(names)} symbols for {len(rows)} atoms")
     return list(zip(names, rows))
@@ -61,10 +70,14 @@ def _rows(rows: List[Any], symbols: Symbols) -> List[Tuple[str, Sequence[float]]
 def text_of(atoms: Iterable[Tuple[str, Sequence[float]]], comment: str = "ljclient") -> bytes:
     """A frame of XYZ text, which gives back each coordinate to the last digit."""
     lines = []
-    for symbol, (x, y, z) in atoms:
-        if symbol.split() != [symbol]:
-            raise ValueError(f"{symbol!r} is no symbol")
-        lines.append(f"{symbol} {float(x)!r} {float(y)!r} {float(z)!r}\n")
+    for number, (symbol, position) in enumerate(atoms):
+        if not (isinstance(symbol, str) and symbol.split() == [symbol]):
+            raise ValueError(f"a symbol is a word such as 'Ar', and that of atom {number} is {symbol!r}")
+        try:
+            x, y, z = map(float, position)
+        except (TypeError, ValueError) as error:
+            raise type(error)(f"a position is three numbers, and that of atom {number} is {position!r}") from None
+        lines.append(f"{symbol} {x!r} {y!r} {z!r}\n")
     return f"{len(lines)}\n{comment}\n{''.join(lines)}".encode()
 
 
@@ -140,7 +153,8 @@ def lattice_edge(frames: Frames) -> Optional[float]:
     except ValueError:
         cell = []
     if not is_cubic(cell):
-        raise ValueError(f'the atoms have Lattice="{words[:100]}", which is no cube along the axes: say the edge of the box, edge=..')
+        what = f'Lattice="{words[:100]}", which is no cube along the axes'
+        raise ValueError(f"the atoms have {what}: say the edge of the box, edge=..")
     return cell[0]
 
 

@@ -1,0 +1,123 @@
+"""What may be said as a number or as a symbol: numbers of numpy too, and clear errors for what is none."""
+import importlib.util
+import re
+
+import pytest
+
+from ljclient import Mixture, Scale, run
+from support import DIMER_SCALE, PROGRAM, dimer, listed
+
+numpy = importlib.import_module("numpy") if importlib.util.find_spec("numpy") else None
+with_numpy = pytest.mark.skipif(numpy is None, reason="numpy is not installed")
+ARGON = {"edge": 21.04, "sigma": 3.4, "epsilon": 0.01, "mass": 40.0, "dt": 2}
+PAIRS = {"edge": 21, "species": ("Ar", "Kr"), "first": (3.4, 0.01), "second": (3.6, 0.012), "mass": 40, "dt": 2}
+TWO = [[0, 0, 0], [1.5, 0, 0]]
+
+
+@pytest.fixture
+def user():
+    with run(PROGRAM) as user:
+        yield user
+
+
+def names(message):
+    """That a TypeError or a ValueError has this message."""
+    return pytest.raises((TypeError, ValueError), match=re.escape(message))
+
+
+@pytest.mark.parametrize("name", ["edge", "sigma", "epsilon", "mass", "dt"])
+@pytest.mark.parametrize("value", [(1, 2), [2]])
+def test_what_is_no_number_is_named(name, value):
+    with names(f"{name} is one number, not {value!r}"):
+        Scale.of(**{**ARGON, name: value})
+
+
+def test_a_mass_is_one_number_beside_h_too(user):
+    with names("mass is one number, not (1, 2)"):
+        dimer(user, epsilon=0.01, mass=(1, 2))
+    assert user.sessions() == []
+
+
+def test_a_mixture_has_one_mass():
+    with names("mass is one number, not (40, 84): both species have one mass here"):
+        Mixture.of(**{**PAIRS, "mass": (40, 84)})
+
+
+@pytest.mark.parametrize("said, told", [
+    ({"first": 3.4}, "first= is (sigma, epsilon), not 3.4"),
+    ({"second": (3.6, 0.012, 84)}, "second= is (sigma, epsilon), not (3.6, 0.012, 84)"),
+    ({"mixed": (3.5,)}, "mixed= is (sigma, epsilon), not (3.5,)"),
+    ({"first": (3.4, "deep")}, "epsilon is one number, not 'deep'"),
+])
+def test_a_pair_is_sigma_and_epsilon(said, told):
+    with names(told):
+        Mixture.of(**{**PAIRS, **said})
+
+
+@pytest.mark.parametrize("classes", [[(1, 4096)] * 3, [1, 2, 3], [(1, 4096, 256)] * 2])
+def test_a_class_is_sigma_and_h_and_weight(classes):
+    with names(f"three classes of (sigma, h, weight), not {classes!r}"):
+        Mixture.of(21, ("Ar", "Kr"), classes=classes)
+
+
+@pytest.mark.parametrize("act, told", [
+    (lambda a: a.advance(2.5), "a number of steps is a whole number (int), not 2.5"),
+    (lambda a: a.advance(2, piece="x"), "a piece is a whole number (int), not 'x'"),
+    (lambda a: a.place("1"), "an atom number is a whole number (int), not '1'"),
+    (lambda a: a.tug(1, (1, 2)), "a displacement is three whole numbers (int), in ring units along x, y and z, not (1, 2)"),
+    (lambda a: a.tug(1, (1.5, 2, 3)), "a displacement is three whole numbers (int)"),
+    (lambda a: a.tug(1, 5), "a displacement is three whole numbers (int)"),
+    (lambda a: a.heat("hot"), "a temperature is one number, not 'hot'"),
+    (lambda a: a.sample("x", 2), "every is a whole number (int), not 'x'"),
+    (lambda a: a.thermo(1, 2.0), "rows is a whole number (int), not 2.0"),
+])
+def test_what_is_no_number_of_a_session_is_named(user, act, told):
+    a = dimer(user)
+    with names(told):
+        act(a)
+    assert (a.step, listed(a.places())) == (0, [(0, 0, 0), (25165824, 0, 0)])
+
+
+def test_h_is_a_whole_number():
+    with names("the step factor h is a whole number (int), not '131072'"):
+        Scale.of(256, 1, "131072")
+
+
+@pytest.mark.parametrize("source, symbols, told", [
+    (TWO, 18, "symbols= is a string, or a list of one for each atom, not 18"),
+    (TWO, ["Ar", 18], "a symbol is a word such as 'Ar', and that of atom 1 is 18"),
+    (TWO, [None, 18], "a symbol is a word such as 'Ar', and that of atom 0 is None"),
+    ([(18, 0, 0, 0), (18, 1, 0, 0)], None, "positions need symbols='Ar', or rows of (symbol, x, y, z), whose symbols are strings"),
+    ([1, 2], None, "positions need symbols='Ar', or rows of (symbol, x, y, z)"),
+    ([[0, 0, 0], [1, 0]], "Ar", "a position is three numbers, and that of atom 1 is [1, 0]"),
+    ([["x", 0, 0]], "Ar", "a position is three numbers, and that of atom 0 is ['x', 0, 0]"),
+    (5, None, "the atoms are a path, a file, a text, `Atoms` of ASE or a list, not 5"),
+])
+def test_what_is_no_atom_is_named(user, source, symbols, told):
+    with names(told):
+        user.load("a", source, symbols=symbols, **DIMER_SCALE)
+    assert user.sessions() == []
+
+
+@with_numpy
+def test_numbers_of_numpy_are_numbers(user):
+    whole, real = numpy.int64, numpy.float64
+    scale = Scale.of(real(21.04), real(3.4), epsilon=real(0.01), mass=whole(40), dt=whole(2))
+    assert scale == Scale.of(**ARGON) and type(scale.mass) is float
+    assert Scale.of(whole(256), numpy.int32(1), whole(131072)) == Scale.of(256, 1, 131072)
+    assert Scale.of(numpy.array([256.0]), 1, 131072).edge == 256
+    a = user.load("a", numpy.array(TWO), symbols=numpy.array(["Ar", "Kr"]), edge=whole(256), sigma=real(1), h=whole(131072))
+    assert (a.symbols(), a.place(whole(1))) == (["Ar", "Kr"], (25165824, 0, 0))
+    assert a.tug(whole(1), numpy.array([1, 2, 3])) == 0
+    assert (a.advance(whole(2), piece=whole(1)), user.advance([a], whole(1)), a.start(whole(1))) == (2, [3], 4)
+    assert a.heat(real(1.0), seed=whole(3)) == a.heat(1, seed=3)
+    assert a.sample(whole(1), whole(2)).steps == [4, 5]
+
+
+@with_numpy
+def test_numbers_of_numpy_make_a_mixture():
+    real = numpy.float64
+    pairs = {"first": (real(3.4), real(0.01)), "second": numpy.array([3.6, 0.012]), "mass": numpy.int64(40), "dt": real(2)}
+    assert str(Mixture.of(**{**PAIRS, **pairs})) == str(Mixture.of(**PAIRS))
+    classes = numpy.array([(1, 4096, 256)] * 3)
+    assert Mixture.of(256, ("A", "B"), classes=classes).words == "A B 1 4096 256 1 4096 256 1 4096 256"
