@@ -63,6 +63,11 @@ class Session:
         return known(self._given)
 
     @property
+    def is_free(self) -> bool:
+        """Whether it can be asked for something at once: the connection is there, and no command is under way."""
+        return self._user.is_free
+
+    @property
     def order(self) -> Order:
         """How the server's numbers of atoms and steps stand to those here: `ask` and other connections see the server's."""
         return self._user.known(self.name).order
@@ -260,8 +265,8 @@ class Session:
         every, rows, progress  are as `every`, `frames` and `progress` of `sample`
 
         The kinetic energy is the mean of those half a step before and after, so a row is known when the session is a step
-        further. After the last row it stands at that row's step again. If the energy changes there is a warning, as by
-        `advance`.
+        further. After the last row it stands at that row's step again, and so it does if the rows are broken off, by an
+        error, an interrupt or `close()`. If the energy changes there is a warning, as by `advance`.
         """
         sampling.checked_stops(every, rows, "rows")
         known(self._given)

@@ -1,9 +1,12 @@
 """Energies and temperature of a session on its way, in rows."""
 from __future__ import annotations
 
+import contextlib
 from typing import TYPE_CHECKING, Callable, Iterator, List, NamedTuple
 
+from .errors import ClientError
 from .going import Ask
+from .interrupts import held
 from .measurement import Measurement
 from .sampling import Progress, checked_stops, stops
 
@@ -39,18 +42,44 @@ Look = Callable[[Thermo, int], None]
 
 
 def thermo(session: "Session", ask: Ask, look: Look, every: int, rows: int, progress: Progress) -> Iterator[Thermo]:
-    """The rows of a session on its way, each when it is there and was looked at."""
-    for number in stops(session, every, rows, progress, ahead=1):
-        here, after = _measured(session, ask, is_last=number + 1 == rows)
-        row = Thermo.of(here, after)
-        look(row, here.atoms)
-        yield row
+    """The rows of a session on its way, each when it is there and was looked at.
+
+    If they are broken off, the session is put back to the step of the last row.
+    """
+    ahead = None
+    try:
+        for number in stops(session, every, rows, progress, ahead=1):
+            is_last = number + 1 == rows
+            with held():
+                here, after = _measured(session, ask, is_last)
+                ahead = None if is_last else after.step
+            row = Thermo.of(here, after)
+            look(row, here.atoms)
+            yield row
+    finally:
+        if ahead is not None:
+            _put_back(session, ask, ahead)
+
+
+def _put_back(session: "Session", ask: Ask, ahead: int) -> None:
+    """Has a session that still stands a step ahead of its row, at this one, stand at the row.
+
+    If the connection or the session is gone, nothing is put back.
+    """
+    with session.lock, contextlib.suppress(ClientError):
+        if session.is_free and session.step == ahead:
+            ask(_step_back(session.name))
+
+
+def _step_back(name: str) -> List[str]:
+    """The commands that undo the last step of a session."""
+    return [f"REVERSE {name}", f"ADVANCE {name} 1", f"REVERSE {name}"]
 
 
 def _measured(session: "Session", ask: Ask, is_last: bool) -> List[Measurement]:
     """What is measured here and a step ahead. At the last stop that step is undone."""
-    measure, advance, reverse = (f"{verb} {session.name}" for verb in ("MEASURE", "ADVANCE", "REVERSE"))
-    lines = [measure, f"{advance} 1", measure, *([reverse, f"{advance} 1", reverse] if is_last else [])]
+    measure = f"MEASURE {session.name}"
+    lines = [measure, f"ADVANCE {session.name} 1", measure, *(_step_back(session.name) if is_last else [])]
     with session.lock:
         replies = ask(lines)
         return [session.measured(replies[at].words) for at in (0, 2)]

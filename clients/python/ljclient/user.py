@@ -269,6 +269,11 @@ class User(Loader):
         """Whether the connection has ended."""
         return self._wire.closed
 
+    @property
+    def is_free(self) -> bool:
+        """Whether the connection is there, and no command is under way."""
+        return not self._wire.closed and self._wire.is_idle
+
     @whole
     def close(self) -> None:
         """Ends the connection, and the program of `run`. A command that still runs at a server runs on there, and steps that

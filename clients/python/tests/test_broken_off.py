@@ -1,0 +1,123 @@
+"""Rows and frames of a session on its way that are broken off: nothing of what was had is lost, and each step is where it was.
+
+The places of the two atoms at each step are worked out by hand in test_sampling.
+"""
+import gc
+import signal
+from unittest import mock
+
+import pytest
+
+from ljclient import ClientError, run
+from support import PROGRAM, dimer, listed
+
+WAY = [[(0, 0, 0), (25165824, 0, 0)], [(589, 0, 0), (25165235, 0, 0)], [(1774, 0, 0), (25164050, 0, 0)]]
+
+
+@pytest.fixture
+def user():
+    with run(PROGRAM) as user:
+        yield user
+
+
+@pytest.fixture
+def a(user):
+    return dimer(user)
+
+
+def stands_at(a, step):
+    """Whether a session stands at a step, and goes on from there as one that was never broken off."""
+    if (a.step, listed(a.places())) != (step, WAY[step]):
+        return False
+    other = a._user.load("other", "2\ndimer\nAr 0 0 0\nAr 1.5 0 0\n", edge=256, sigma=1, h=131072, replace=True)
+    other.advance(step)
+    return a.advance(9) == other.advance(9) and a.measure() == other.measure() and listed(a.places()) == listed(other.places())
+
+
+def test_rows_that_are_closed_leave_the_session_at_the_last_one(a):
+    rows = a.thermo(every=2, rows=5)
+    assert [next(rows).step, next(rows).step] == [0, 2]
+    rows.close()
+    assert stands_at(a, 2)
+
+
+def test_a_loop_that_is_broken_off(a):
+    for _ in a.thermo(every=1, rows=5):
+        break
+    gc.collect()
+    assert stands_at(a, 0)
+
+
+def test_an_error_in_a_loop(a):
+    with pytest.raises(ZeroDivisionError):
+        for row in a.thermo(every=2, rows=5):
+            1 / (2 - row.step)
+    assert stands_at(a, 2)
+
+
+def test_an_error_on_the_way_to_the_next_row(a):
+    rows = a.thermo(every=2, rows=5)
+    next(rows)
+    with mock.patch.object(a, "advance", side_effect=ZeroDivisionError), pytest.raises(ZeroDivisionError):
+        next(rows)
+    assert stands_at(a, 0)
+
+
+def test_an_interrupt_while_a_row_is_measured(user, a):
+    ask_all, before = user.ask_all, signal.signal(signal.SIGINT, signal.default_int_handler)
+
+    def interrupted(lines):
+        replies = ask_all(lines)
+        signal.raise_signal(signal.SIGINT)
+        return replies
+
+    try:
+        with mock.patch.object(user, "ask_all", interrupted):
+            rows = a.thermo(every=2, rows=5)
+        with pytest.raises(KeyboardInterrupt):
+            next(rows)
+    finally:
+        signal.signal(signal.SIGINT, before)
+    assert stands_at(a, 0)
+
+
+def test_backward_too(a):
+    a.advance(3)
+    a.reverse()
+    rows = a.thermo(every=1, rows=3)
+    assert next(rows).step == 2
+    rows.close()
+    assert (a.step, listed(a.places())) == (2, WAY[2])
+    assert (a.advance(1), listed(a.places())) == (1, WAY[1])
+
+
+def test_a_session_that_has_gone_elsewhere_stays_there(a):
+    rows = a.thermo(every=2, rows=5)
+    next(rows)
+    a.advance(1)
+    rows.close()
+    assert (a.step, listed(a.places())) == (2, WAY[2])
+
+
+def test_nothing_is_sent_to_a_connection_that_is_gone(user, a):
+    rows = a.thermo(every=2, rows=5)
+    next(rows)
+    user.close()
+    with mock.patch.object(user, "ask_commands") as asked:
+        rows.close()
+    asked.assert_not_called()
+
+
+def test_a_session_that_is_dropped_is_no_error(a):
+    rows = a.thermo(every=2, rows=5)
+    next(rows)
+    a.drop()
+    rows.close()
+    with pytest.raises(ClientError):
+        a.measure()
+
+
+def test_all_rows_take_no_command_more(user, a):
+    with mock.patch.object(user._wire, "ask_all", wraps=user._wire.ask_all) as asked:
+        assert [row.step for row in a.thermo(every=1, rows=1)] == [0]
+    assert asked.call_count == 1
