@@ -36,7 +36,8 @@ def displacement_of(displacement: Any) -> Tuple[int, int, int]:
     try:
         x, y, z = map(operator.index, displacement)
     except (TypeError, ValueError) as error:
-        raise type(error)(f"a displacement is three whole numbers (int), in ring units along x, y and z, not {displacement!r}") from None
+        wanted = "a displacement is three whole numbers (int), in ring units along x, y and z"
+        raise type(error)(f"{wanted}, not {displacement!r}") from None
     return x, y, z
 
 

@@ -1,10 +1,10 @@
 """What a session tells on its way: its positions at every so many steps, in arrays or in a file."""
 from __future__ import annotations
 
-import os
 from typing import TYPE_CHECKING, Any, Callable, Iterator, List, NamedTuple, Tuple, Union
 
 from . import arrays, progress as bars
+from .files import Path
 from .names import whole_of
 from .reading import Frame
 from .units import Scale
@@ -13,7 +13,6 @@ if TYPE_CHECKING:
     from .session import Session
 
 Progress = Union[bool, bars.Report]
-Path = Union[str, "os.PathLike[str]"]
 
 
 class Samples(NamedTuple):
@@ -61,12 +60,12 @@ def sample(session: "Session", take: Callable[[], Tuple[int, Any]], every: int, 
 
 
 def write_trajectory(
-    session: "Session", take: Callable[[], Frame], path: Path, every: int, frames: int, progress: Progress
+    session: "Session", take: Callable[[], Frame], path: Path, every: int, frames: int, progress: Progress, append: bool
 ) -> None:
-    """Writes the frames of a session on its way, each when it is there, as extended XYZ."""
+    """Writes the frames of a session on its way, each when it is there, as extended XYZ: into a new file, or behind an old one."""
     checked_stops(every, frames, "frames")
     scale = session.scale
-    with open(path, "w", encoding="ascii", newline="\n") as file:
+    with open(path, "a" if append else "w", encoding="ascii", newline="\n") as file:
         for _ in stops(session, every, frames, progress):
             frame = take()
             file.write(frame.text(comment_of(scale, frame.step)))

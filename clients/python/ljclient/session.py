@@ -274,11 +274,12 @@ class Session:
 
     def write_trajectory(
         self,
-        path: sampling.Path,
+        path: files.Path,
         every: int,
         frames: int,
         progress: sampling.Progress = False,
         symbols: Optional[Replacements] = None,
+        append: bool = False,
     ) -> None:
         """Goes on, and writes frames to a file on the way, as extended XYZ: with Lattice, step and time.
 
@@ -286,12 +287,15 @@ class Session:
         symbols                  what is written in place of each symbol of the session, such as `{"A": "Ar", "B": "Kr"}`; it
                                  is a ValueError if one is left out. ASE reads names of elements alone, and B as boron
 
+        append                   writes behind what the file has, such as the frames of an earlier call; the first frame is the
+                                 present one all the same. Else a file that is there is written anew
+
         The file has each frame as soon as it is there. Times are in femtoseconds if epsilon and mass are known, else in units
         of `sigma sqrt(m / epsilon)`.
         """
         if symbols is not None:
             replaced(self.symbols(), symbols)
-        sampling.write_trajectory(self, lambda: with_symbols(self._frame(), symbols), path, every, frames, progress)
+        sampling.write_trajectory(self, lambda: with_symbols(self._frame(), symbols), path, every, frames, progress, append)
 
     @whole
     def saved(self) -> List[Saved]:

@@ -1,4 +1,4 @@
-"""Rows and frames of a session on its way that are broken off: nothing of what was had is lost, and each step is where it was.
+"""Rows and frames of a session on its way, in several parts or broken off: nothing is lost, and each step is where it was.
 
 The places of the two atoms at each step are worked out by hand in test_sampling.
 """
@@ -121,3 +121,15 @@ def test_all_rows_take_no_command_more(user, a):
     with mock.patch.object(user._wire, "ask_all", wraps=user._wire.ask_all) as asked:
         assert [row.step for row in a.thermo(every=1, rows=1)] == [0]
     assert asked.call_count == 1
+
+
+def test_frames_are_appended_to_a_file(a, tmp_path):
+    parts, whole = tmp_path / "parts.xyz", tmp_path / "whole.xyz"
+    a.write_trajectory(parts, every=1, frames=2, append=True)
+    a.advance(1)
+    a.write_trajectory(parts, every=1, frames=1, append=True)
+    other = dimer(a._user, "b")
+    other.write_trajectory(whole, every=1, frames=3)
+    assert parts.read_text() == whole.read_text() and len(whole.read_text().splitlines()) == 3 * 4
+    a.write_trajectory(parts, every=1, frames=1)
+    assert parts.read_text().splitlines() == whole.read_text().splitlines()[8:]
