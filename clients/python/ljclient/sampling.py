@@ -53,9 +53,21 @@ def _onward(report: bars.Report, made: int, total: int) -> bars.Report:
 
 
 def sample(session: "Session", take: Callable[[], Tuple[int, Any]], every: int, frames: int, progress: Progress) -> Samples:
-    """The frames of a session on its way, each as it is taken: with its step."""
+    """The frames of a session on its way, each as it is taken: with its step. If this is broken off, the session has them."""
     checked_stops(every, frames, "frames")
-    taken = [take() for _ in stops(session, every, frames, progress)]
+    taken: List[Tuple[int, Any]] = []
+    session.sampled = None
+    try:
+        for _ in stops(session, every, frames, progress):
+            taken.append(take())
+    except BaseException:
+        session.sampled = _samples_of(taken)
+        raise
+    return _samples_of(taken)
+
+
+def _samples_of(taken: List[Tuple[int, Any]]) -> Samples:
+    """Frames with their steps, put together."""
     return Samples([step for step, _ in taken], arrays.stacked([frame for _, frame in taken]))
 
 

@@ -36,6 +36,7 @@ class Session:
     scale    what its whole numbers mean (`units.Scale`), where that was said
     mixture  how its two species interact (`Mixture`), where `User.load_mix` has loaded it, else None
     motion   what its first velocities were rounded to (`Motion`), where this is what has loaded `Atoms` with velocities
+    sampled  the frames that `sample` had when its last call was broken off, else None
     """
 
     def __init__(
@@ -49,6 +50,7 @@ class Session:
         self.name = checked_name(name)
         self.mixture = mixture
         self.motion = motion
+        self.sampled: Optional[sampling.Samples] = None
         self.lock: ContextManager[object] = user.lock
         self._user = user
         self._given = scale
@@ -255,6 +257,8 @@ class Session:
         exact     places in ring units, which take a command for each atom. Else frames are positions in the unit of the file,
                   rounded down to six decimals, which take one command
         progress  as in `advance`
+
+        If it is broken off, by an interrupt or an error, `session.sampled` has the frames so far, as they would be returned.
         """
         take = (lambda: self._frames_of_places()[0]) if exact else self._positions_of_frame
         return sampling.sample(self, take, every, frames, progress)

@@ -133,3 +133,31 @@ def test_frames_are_appended_to_a_file(a, tmp_path):
     assert parts.read_text() == whole.read_text() and len(whole.read_text().splitlines()) == 3 * 4
     a.write_trajectory(parts, every=1, frames=1)
     assert parts.read_text().splitlines() == whole.read_text().splitlines()[8:]
+
+
+@pytest.mark.parametrize("exact", [False, True])
+def test_frames_of_a_sample_that_is_interrupted_are_kept(user, a, exact):
+    advance, left = a.advance, [1, 1]
+
+    def interrupted(n, progress=False):
+        if not left:
+            raise KeyboardInterrupt
+        left.pop()
+        return advance(n, progress)
+
+    with mock.patch.object(a, "advance", interrupted), pytest.raises(KeyboardInterrupt):
+        a.sample(every=1, frames=9, exact=exact)
+    whole = dimer(user, "b").sample(every=1, frames=3, exact=exact)
+    assert a.sampled.steps == [0, 1, 2] == whole.steps
+    assert [list(map(tuple, frame)) for frame in a.sampled.frames] == [list(map(tuple, frame)) for frame in whole.frames]
+    if exact:
+        assert [listed(frame) for frame in a.sampled.frames] == WAY
+    a.sample(every=1, frames=1)
+    assert a.sampled is None
+
+
+def test_a_sample_whose_connection_is_lost_before_its_first_frame(user, a):
+    user.close()
+    with pytest.raises(ClientError):
+        a.sample(every=1, frames=9)
+    assert (a.sampled.steps, len(a.sampled.frames)) == ([], 0)
