@@ -26,7 +26,7 @@ from .motion import Motion
 from .order import Order
 from .sampling import Samples
 from .session import Row, Saved, Session
-from .thermo import Thermo
+from .thermo import Thermo, ThermoInKelvin
 from .units import Scale
 from .user import User, connect, run
 
@@ -52,6 +52,7 @@ __all__ = [
     "Scale",
     "Session",
     "Thermo",
+    "ThermoInKelvin",
     "TimedOut",
     "User",
     "connect",

@@ -48,7 +48,7 @@ def elements_of(symbols: Sequence[str], species: Sequence[str], replacements: Op
         named = {*symbols, *species}
         raise ValueError(f"ASE knows no element {unknown[0]!r}: say an element for each symbol of the session, {wanted(named)}")
     if unknown:
-        raise ValueError(f"ASE knows no element {unknown[0]!r}, which symbols= says")
+        raise ValueError(f"ASE knows no element {unknown[0]!r}, which symbols= says: say the symbol of an element, such as 'Ar'")
     return names
 
 

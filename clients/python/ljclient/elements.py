@@ -11,8 +11,9 @@ Replacements = Mapping[str, str]
 
 
 def wanted(symbols: Iterable[str]) -> str:
-    """How the replacements of these symbols are said."""
-    return "symbols={" + ", ".join(f"{symbol!r}: .." for symbol in sorted(set(symbols))) + "}"
+    """How the replacements of these symbols are said, with argon for the first as an example."""
+    first, *others = sorted(set(symbols))
+    return "symbols={" + ", ".join([f"{first!r}: 'Ar'", *(f"{symbol!r}: .." for symbol in others)]) + "}"
 
 
 def replaced(symbols: Sequence[str], replacements: Replacements) -> List[str]:

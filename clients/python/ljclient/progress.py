@@ -9,7 +9,7 @@ from typing import Any, Callable, Dict, Iterator, List, Optional, Sequence, Unio
 
 from .interrupts import held
 
-MISSING = "ljclient shows no progress bars, since tqdm is not installed"
+MISSING = "ljclient shows no progress bars, since tqdm is not installed: `pip install tqdm`, or Debian's python3-tqdm"
 Report = Callable[[int, int], None]
 NamedReport = Callable[[str, int, int], None]
 

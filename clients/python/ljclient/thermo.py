@@ -7,7 +7,7 @@ from typing import TYPE_CHECKING, Callable, Iterator, List, NamedTuple
 from .errors import ClientError
 from .going import Ask
 from .interrupts import held
-from .measurement import Measurement
+from .measurement import Measurement, known
 from .sampling import Progress, checked_stops, stops
 
 if TYPE_CHECKING:
@@ -17,10 +17,13 @@ if TYPE_CHECKING:
 class Thermo(NamedTuple):
     """What a session is like at a step.
 
-    temperature  two thirds of the kinetic energy of an atom: in kelvin if epsilon was said, else in epsilon / k_B
+    temperature  two thirds of the kinetic energy of an atom, in epsilon / k_B; if epsilon was said, the row is a
+                 `ThermoInKelvin`, and the temperature in kelvin
     kinetic      the kinetic energy in epsilon: the mean of those half a step before and half a step after
     potential    the potential energy in epsilon
-    total        both together
+    total        both together, in epsilon
+
+    `str` tells it with its units.
     """
 
     step: int
@@ -34,7 +37,25 @@ class Thermo(NamedTuple):
         """The row of a step, by what was measured there and a step later."""
         kinetic = (here.kinetic_energy + after.kinetic_energy) / 2
         potential = here.potential_energy
-        return Thermo(here.step, here.temperature_at(kinetic), kinetic, potential, potential + kinetic)
+        kind = Thermo if known(here.scale).epsilon is None else ThermoInKelvin
+        return kind(here.step, here.temperature_at(kinetic), kinetic, potential, potential + kinetic)
+
+    def __str__(self) -> str:
+        return self._told("epsilon / k_B")
+
+    def _told(self, unit: str) -> str:
+        """The row as a line, with this unit of temperature."""
+        energies = f"kinetic {self.kinetic:.6g}, potential {self.potential:.6g} and total energy {self.total:.6g} epsilon"
+        return f"step {self.step}: temperature {self.temperature:.6g} {unit}; {energies}"
+
+
+class ThermoInKelvin(Thermo):
+    """A `Thermo` whose temperature is in kelvin. Its energies are in epsilon all the same."""
+
+    __slots__ = ()
+
+    def __str__(self) -> str:
+        return self._told("K")
 
 
 # What is told of a row, and of how many atoms.

@@ -62,6 +62,10 @@ class User(Loader):
         self._restart = restart
         self._tried_at = 0.0
 
+    def __repr__(self) -> str:
+        who = "run" if self.name is None else repr(self.name)
+        return f"User({who}, {'closed' if self.closed else f'sessions_seen={sorted(self.session_names)}'})"
+
     def __enter__(self) -> "User":
         return self
 

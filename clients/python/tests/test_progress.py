@@ -22,6 +22,7 @@ try:
 except ImportError:
     tqdm = None
 
+NO_TQDM = "ljclient shows no progress bars, since tqdm is not installed"
 with_tqdm = pytest.mark.skipif(tqdm is None, reason="tqdm is not installed")
 LONG_NAME = "a-name-of-16-let"
 ONE = """
@@ -221,4 +222,4 @@ def test_without_tqdm_it_is_said_once_that_there_are_no_bars(user, seen, no_tqdm
     with contextlib.redirect_stderr(seen):
         assert a.advance(40, progress=True) == 40
         assert user.advance([a, b], 10, progress=True) == [50, 10]
-    assert seen.getvalue() == "ljclient shows no progress bars, since tqdm is not installed\n"
+    assert seen.getvalue() == f"{NO_TQDM}: `pip install tqdm`, or Debian's python3-tqdm\n"

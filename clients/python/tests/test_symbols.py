@@ -14,7 +14,7 @@ ATOMS = "3\nmix\nB 0 0 0\nA 1.5 0 0\nA 3 0 0\n"
 LIKE = (1, 131072, 256)
 NOBLE = {"A": "Ar", "B": "Kr"}
 MEANT = ["Kr", "Ar", "Ar"]
-ALL_NAMED = r"symbols=\{'A': \.\., 'B': \.\.\}"
+ALL_NAMED = r"symbols=\{'A': 'Ar', 'B': \.\.\}"
 
 
 @pytest.fixture
@@ -60,7 +60,7 @@ def test_what_is_said_is_whole_and_names_elements(mix):
     for said, told in (
         ({"A": "Ar"}, f"nothing in place of 'B'.*{ALL_NAMED}"),
         ({}, f"nothing in place of 'B'.*{ALL_NAMED}"),
-        ({"A": "Ar", "B": "Kry"}, "ASE knows no element 'Kry', which symbols= says"),
+        ({"A": "Ar", "B": "Kry"}, "ASE knows no element 'Kry', which symbols= says: say the symbol of an element, such as 'Ar'"),
         ({"A": "Ar", "B": "K r"}, "1 to 16 printing characters, not 'K r'"),
         ({"A": "Ar", "B": 36}, "1 to 16 printing characters, not 36"),
         ("Ar", f"{ALL_NAMED}, not 'Ar'"),
