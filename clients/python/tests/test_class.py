@@ -220,6 +220,14 @@ def test_words_that_say_no_class(tmp_path, words, why):
     assert os.listdir(tmp_path) == []
 
 
+def test_a_link_from_slips_to_users_is_one_file(tmp_path):
+    (tmp_path / "users").write_text(GOOD)
+    (tmp_path / "slips.txt").symlink_to("users")
+    status, out, err = told(tmp_path, "2", "--replace", *HERE)
+    assert (status, out, err) == (2, "", "class: --out and --slips are one file\n")
+    assert (tmp_path / "users").read_text() == GOOD
+
+
 def test_help(tmp_path):
     status, out, err = told(tmp_path, "--help")
     assert (status, err) == (0, "") and "usage: class COUNT|NAME.." in out
