@@ -1,8 +1,9 @@
 /* Has reads or writes of a program fail, or take few bytes.
    A word as r7 says that the 7th read of a stream and all after it fail, w7 that the 7th write and all after it do, and
-   e7 that they take nothing. With a capital, as R7, that one call alone fails. FAILING is such a word for standard input and output, FAILING_CONNECTIONS has one for each
-   connection that is accepted, in their order. A read of such a stream gives MOST_READ bytes at most, and a write takes
-   MOST_WRITTEN. Connections whose word is -, or that have none, are left as they are, and so are other descriptors.
+   e7 that they take nothing. With a capital letter that one call alone fails. FAILING is such a word for standard input
+   and output, FAILING_CONNECTIONS has one for each connection that is accepted, in their order. A read of such a stream
+   gives MOST_READ bytes at most, and a write takes MOST_WRITTEN. Connections whose word is -, or that have none, are left
+   as they are, and so are other descriptors.
    Build: cc -shared -fPIC -o fail_streams.so fail_streams.c -ldl
    Use: LD_PRELOAD=./fail_streams.so FAILING=r7 PROGRAM */
 #define _GNU_SOURCE
