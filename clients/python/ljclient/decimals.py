@@ -90,5 +90,6 @@ def _decimal_pieces(numbers: Any) -> Any:
 def _tables() -> Tuple[Any, Any, Any]:
     """Of the numbers below 1000: their digits, how many they are, and their digits with zeros before them, three in all."""
     words, threes = [str(number) for number in range(1000)], [f"{number:03}" for number in range(1000)]
-    plain, filled = ([int.from_bytes(word.encode(), "little") for word in each] for each in (words, threes))
-    return numpy.array(plain, dtype=numpy.uint64), numpy.array([len(word) for word in words]), numpy.array(filled, dtype=numpy.uint64)
+    numbers = [[int.from_bytes(word.encode(), "little") for word in each] for each in (words, threes)]
+    plain, filled = (numpy.array(each, dtype=numpy.uint64) for each in numbers)
+    return plain, numpy.array([len(word) for word in words]), filled

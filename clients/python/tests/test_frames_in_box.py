@@ -1,4 +1,4 @@
-"""Frames that the server has in the box that shows each ring unit, told in the user's box: all atoms at once by numpy, and one by one.
+"""Frames that the server has in the box that shows each ring unit, told in the user's: all atoms at once by numpy, or one by one.
 
 What is expected comes from whole numbers of Python: `place * edge / 2^32`, rounded down to six decimals.
 """
@@ -144,7 +144,8 @@ def test_each_way_tells_what_the_server_would_dump(tmp_path, kind, way):
         assert session.dump() == "\n".join(["256", "step 300", *rows, ""])
         assert session.dump({"Ar": "X"}) == session.dump().replace("Ar", "X")
         steps, frames = session.sample(every=1, frames=1)
-        assert (steps, [tuple(map(float, each)) for each in frames[0]]) == ([300], [tuple(p / 10**6 for p in each) for each in wanted])
+        assert steps == [300]
+        assert [tuple(map(float, each)) for each in frames[0]] == [tuple(part / 10**6 for part in each) for each in wanted]
         assert isinstance(frames, list) == (kind is None)
         session.write_trajectory(tmp_path / "way.xyz", every=1, frames=1)
         assert (tmp_path / "way.xyz").read_text().splitlines()[2:] == rows
