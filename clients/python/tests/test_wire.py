@@ -298,7 +298,7 @@ class Interrupts(unittest.TestCase):
             user._wire.close()
 
     def test_words_of_connect(self):
-        for name, token in [("a b", TOKEN), ("ann", "a b"), ("ann", "a\n"), ("ann", "")]:
+        for name, token in [("a b", TOKEN), ("ann", "a-b"), ("ann", "é" * 32), ("ann", " \n"), ("ann", "")]:
             with self.assertRaises(ValueError):
                 connect("127.0.0.1", 1, name, token)
 
