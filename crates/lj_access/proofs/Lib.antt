@@ -1,3 +1,4 @@
 pub mod SameLemmas
 pub mod RowLemmas
 pub mod UserLemmas
+pub mod Passing

@@ -134,7 +134,8 @@ impl Directory {
         self.rows.iter().position(|row| row.is_of(name, token))
     }
 
-    fn can_enter(&self, ticket: &Ticket) -> bool
+    /// Whether the ticket may enter now.
+    pub(crate) fn can_enter(&self, ticket: &Ticket) -> bool
         ensures { IsTrue result
             ↔ IsSomeAnd (slice_get self.now ticket.now.user) (CanEnter ticket.now.number) }
     {

@@ -2,11 +2,13 @@
 #![tactic(auto)]
 
 mod directory;
+mod given_up;
 mod ticket;
 mod user;
 mod user_row;
 
 pub use directory::{Directory, MAX_USERS};
+pub use given_up::GivenUp;
 pub use lj_tile::Name;
 pub use ticket::{Denied, NotEntered, Ticket};
 pub use user::{TOKEN_BYTES, Token, User, is_named};
