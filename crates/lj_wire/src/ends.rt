@@ -58,7 +58,7 @@ pub trait Sink {
     // The bytes that have gone there, where they are known.
     ghost contents: { Self → Option (List ℕ) };
 
-    // How many writes have answered an error or taken nothing, where they are counted.
+    // How many writes have answered an error or taken nothing, and flushes an error, where they are counted.
     ghost faults: { Self → Option ℕ };
 
     /// Writes some bytes of the front of `bytes`, and answers how many. Each error is a fault, an
@@ -67,6 +67,12 @@ pub trait Sink {
         ensures bound { IfOk result (λ n. n ≤ length bytes.now) }
         ensures some { IfOk result (λ n. 0 < length bytes.now → 0 < n) }
         ensures bytes { WriteAppends (contents self.old) (contents self.new) result bytes.now }
+        ensures counted { OnOk result (faults self.new ≡ faults self.old) }
+        ensures risen { OnErr result (Rises (faults self.old) (faults self.new)) };
+
+    /// Sends what was written. An error is a fault, of which bytes that were written may be lost.
+    fn flush(&mut self) -> Result<(), WriteFault>
+        ensures kept { Keeps (contents self.old) (contents self.new) }
         ensures counted { OnOk result (faults self.new ≡ faults self.old) }
         ensures risen { OnErr result (Rises (faults self.old) (faults self.new)) };
 }
@@ -134,16 +140,6 @@ impl<R: Reads> CountedReading<R> {
     {
         let CountedReading { reader, errors: _ } = self;
         reader
-    }
-
-    /// Counts a fault of what has to come before a read, which is not asked for then.
-    pub fn note_fault(&mut self)
-        ensures kept { let left = ⟦<CountedReading<R> as Source>⟧.remaining in
-            left self.new ≡ left self.old }
-        ensures risen { let errors = ⟦<CountedReading<R> as Source>⟧.errors in
-            Rises (errors self.old) (errors self.new) }
-    {
-        let _fault = self.fault();
     }
 
     // Asks for one read, and counts an error.
@@ -214,6 +210,13 @@ impl<W: Write> Sink for Writing<W> {
             Err(_) => Err(WriteFault),
         }
     }
+
+    fn flush(&mut self) -> Result<(), WriteFault> {
+        match self.writer.flush() {
+            Ok(()) => Ok(()),
+            Err(_) => Err(WriteFault),
+        }
+    }
 }
 
 /// A writer whose faults are counted, up to `u64::MAX`. For each write and flush it asks once.
@@ -244,18 +247,6 @@ impl<W: Writes> CountedWriting<W> {
     {
         let CountedWriting { writer, faults: _ } = self;
         writer
-    }
-
-    /// Sends what was written.
-    pub fn flush(&mut self) -> Result<(), WriteFault>
-        ensures kept { let written = ⟦<CountedWriting<W> as Sink>⟧.contents in
-            Keeps (written self.old) (written self.new) }
-        ensures counted { let faults = ⟦<CountedWriting<W> as Sink>⟧.faults in
-            OnOk result (faults self.new ≡ faults self.old) }
-        ensures risen { let faults = ⟦<CountedWriting<W> as Sink>⟧.faults in
-            OnErr result (Rises (faults self.old) (faults self.new)) }
-    {
-        self.ask_flush()
     }
 
     // Asks for one flush, and counts a fault.
@@ -303,5 +294,9 @@ impl<W: Writes> Sink for CountedWriting<W> {
 
     fn write(&mut self, bytes: &[u8]) -> Result<usize, WriteFault> {
         self.ask(bytes)
+    }
+
+    fn flush(&mut self) -> Result<(), WriteFault> {
+        self.ask_flush()
     }
 }

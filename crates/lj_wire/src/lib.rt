@@ -5,6 +5,7 @@ mod asked;
 mod command_line;
 mod displacement;
 mod ends;
+mod held_writing;
 mod hello;
 mod item;
 mod laws;
@@ -21,6 +22,7 @@ pub use asked::{Asked, Reads, Writes};
 pub use ends::{
     CountedReading, CountedWriting, ReadFault, Reading, Sink, Source, WriteFault, Writing,
 };
+pub use held_writing::HeldWriting;
 pub use hello::{Hello, TOKEN_WORD_BYTES, TokenWord};
 pub use item::{Fault, Item};
 pub use laws::{

@@ -1,5 +1,5 @@
 //! The reader of a stream of lines and bodies.
-ghost use Rattle.std.specs.Prelude.{◌≡◌, [], IfOk, IfSome, IfNone, OnErr};
+ghost use Rattle.std.specs.Prelude.{◌≡◌, ◌↔◌, false, [], IfOk, IfSome, IfNone, OnErr};
 ghost use Rattle.std.specs.Io.KnownBytes.{prepend_known};
 ghost use Rattle.lj_wire.specs.declared.reader.phase.Phase.TheVariants.{Open};
 
@@ -15,6 +15,8 @@ use crate::ends::{ReadFault, Source};
 use crate::hello::Hello;
 use crate::item::{Fault, Item};
 use crate::limits::MAX_ITEMS;
+use crate::line::{split_line, words_in};
+use crate::verb::is_load;
 use greeting::read_hello;
 use items::read_item;
 pub use laws::{handed_are_all, handed_come_first, lost_is_marked};
@@ -132,6 +134,25 @@ impl<S: Source> LineReader<S> {
             }
             Phase::Over => Ok(None),
             Phase::Failed => Err(ReadFault),
+        }
+    }
+
+    /// Whether bytes were read that are in no item yet.
+    pub fn holds_bytes(&self) -> bool
+        ensures { result ≡ false ↔ (self.now.held ≡ []) }
+    {
+        !self.input.held().is_empty()
+    }
+
+    /// Whether the next item is among the bytes that are held: they have a whole line, of which no body follows. Of a LOAD the answer
+    /// is false.
+    pub fn holds_item(&self) -> bool {
+        let Some((line, _)) = split_line(self.input.held()) else {
+            return false;
+        };
+        match words_in(line).next() {
+            Some(word) => !is_load(word),
+            None => true,
         }
     }
 

@@ -1,5 +1,2 @@
-pub mod Outcomes
-pub mod Conversations
-pub mod Named
-pub mod Printed
+pub mod Exits
 pub mod Limits

@@ -1,25 +1,7 @@
--- What a user and a server may be given at the most, and the limits of other crates that are one.
+-- How many workers a server may be given, and how many connections it may accept.
 use Rattle.std.specs.Prelude.{◌≡◌, ◌^◌, refl}
-use Rattle.lj_access.specs.declared.directory.TheConstants.{MAX_USERS}
-use Rattle.lj_pool.specs.declared.pool.TheConstants.{MAX_OWED}
-use Rattle.lj_queue.specs.declared.hall.TheConstants.{USERS}
-use Rattle.lj_queue.specs.declared.queue_pool.TheConstants.{CONNECTIONS}
 use Rattle.lj_world.specs.declared.limits.TheConstants as world
-use Rattle.ljserve.specs.declared.option_limits.TheConstants.{MAX_ACCEPTED, MAX_QUOTA_ATOMS, MAX_QUOTA_BRANCHES}
-use Rattle.ljserve.specs.declared.option_limits.TheConstants.{MAX_QUOTA_SESSIONS, MAX_WORKERS}
-use Rattle.ljserve.specs.declared.serve.seats.TheConstants.{MAX_OPEN_CONNECTIONS}
-
--- a quota has at most 64 sessions
-most_sessions : MAX_QUOTA_SESSIONS ≡ 64
-most_sessions = refl
-
--- 65,536 atoms
-most_atoms : MAX_QUOTA_ATOMS ≡ 65536
-most_atoms = refl
-
--- and 256 branches
-most_branches : MAX_QUOTA_BRANCHES ≡ 256
-most_branches = refl
+use Rattle.ljserve.specs.declared.option_limits.TheConstants.{MAX_ACCEPTED, MAX_WORKERS}
 
 -- a server has at most 16 workers
 most_workers : MAX_WORKERS ≡ 16
@@ -32,23 +14,3 @@ most_workers_of_world = refl
 -- it accepts at most a million connections before it ends
 most_accepted : MAX_ACCEPTED ≡ 10 ^ 6
 most_accepted = refl
-
--- at most 64 of them are open at once
-most_open : MAX_OPEN_CONNECTIONS ≡ 64
-most_open = refl
-
--- they are as many as a schedule can name
-most_open_of_world : MAX_OPEN_CONNECTIONS ≡ world.MAX_CONNECTIONS
-most_open_of_world = refl
-
--- each of them can have an end of the pool with a queue
-end_for_each : MAX_OPEN_CONNECTIONS ≡ CONNECTIONS
-end_for_each = refl
-
--- that pool keeps the results of each user of a directory apart
-users_apart : USERS ≡ MAX_USERS
-users_apart = refl
-
--- an event posts as many tasks of a connection as an end of a pool may owe
-posted_as_owed : world.MAX_POSTED ≡ MAX_OWED
-posted_as_owed = refl

@@ -5,36 +5,31 @@ ghost use Rattle.std.specs.Prelude.{◌≡◌, ◌≢◌, ◌⊎◌, IfErr};
 ghost use Rattle.std.specs.Process.{exit_status};
 ghost use Rattle.clap.specs.Values.{kind_of};
 ghost use Rattle.clap.specs.declared.error.kind.ErrorKind.TheVariants.{OutOfMemory, InvalidValue};
-ghost use Rattle.ljserve.specs.Outcomes.{exit_of, usage_status, IsOfFile, IsOfServer};
+ghost use Rattle.ljserve.specs.Exits.{exit_of, usage_status, IsOfFile, IsOfServer};
 
 mod arguments;
-mod held_replies;
-mod input;
 mod option_limits;
-mod program_fault;
-mod replay;
-mod run;
-mod serve;
 
 use arguments::{Job, Service, no_text, parse_arguments};
 use clap::Error;
 use clap::error::ErrorKind;
-use input::read_users;
 use lj_quota::Quota;
-use lj_wire::{Asked, CountedWriting};
+use lj_serve::{Fault, read_users, replay, run, serve_on};
+use lj_wire::{Asked, CountedWriting, Sink};
 use log::sink::Discard;
 use log::{LevelFilter, Log, Logged};
-use program_fault::Fault;
-use replay::replay;
-use run::run;
-use serve::serve_on;
 use std::alloc::{AllocError, Global};
+use std::fs::File;
 use std::net::{Net, TcpListener, TcpStream};
+use std::os::fd::{AsRawFd, RawFd};
 use std::process::ExitCode;
 use std::rt::{Clock, Files};
 use std::sync::Wait;
 use std::thread::Threads;
 use std::{env, fs, io};
+
+/// The number of standard error.
+const LAST_STREAM: RawFd = 2;
 
 fn main(rt: HostRuntime) -> ExitCode {
     let words: Vec<String> = match words_of(&rt) {
@@ -45,6 +40,7 @@ fn main(rt: HostRuntime) -> ExitCode {
         Ok(Job::Run(quota)) => ended(&rt, run_input(&rt, quota)),
         Ok(Job::Replay(file)) => ended(&rt, replay_file(&rt, file)),
         Ok(Job::Serve(service)) => {
+            let _taken = take_closed_streams(&rt);
             let quiet = Logged::new(rt, LevelFilter::Off, Discard);
             ended(&rt, serve_users(&quiet, service))
         }
@@ -108,6 +104,21 @@ where
         Ok(()) => Ok(()),
         Err(_) => Err(Fault::Write),
     }
+}
+
+/// The standard streams that are closed, opened for reading from where nothing is. So no file and no socket of a server
+/// has the number of one, and a closed output cannot be written to.
+fn take_closed_streams(rt: &HostRuntime) -> [Option<File>; 3] {
+    [take_closed(rt), take_closed(rt), take_closed(rt)]
+}
+
+/// The first standard stream that is closed.
+fn take_closed(rt: &HostRuntime) -> Option<File> {
+    let file = File::open(rt, "/dev/null").ok()?;
+    if file.as_raw_fd() > LAST_STREAM {
+        return None;
+    }
+    Some(file)
 }
 
 /// The bytes of a file.

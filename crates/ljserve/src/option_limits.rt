@@ -1,13 +1,4 @@
-//! The most that an option of the command line, or a line of a user, may say.
-
-/// Sessions.
-pub const MAX_QUOTA_SESSIONS: u64 = 64;
-
-/// Atoms of all sessions together.
-pub const MAX_QUOTA_ATOMS: u64 = 65_536;
-
-/// Saved simulations of all sessions together.
-pub const MAX_QUOTA_BRANCHES: u64 = 256;
+//! The most that an option of the command line for a server may say.
 
 /// Threads of a server that compute.
 pub const MAX_WORKERS: u64 = 16;

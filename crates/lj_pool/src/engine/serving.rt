@@ -55,7 +55,8 @@ pub fn serve<R: Source, W: Sink, P: Pool>(
 }
 
 /// Answers the items of a reader that has handed out none, over a pool that owes nothing, from a user's state on. The
-/// state is handed back but where the pool was given up.
+/// state is handed back but where the pool was given up. The writer is flushed before
+/// more input is waited for, and not after the last reply.
 pub fn serve_lines<R: Source, W: Sink, P: Pool>(
     state: UserState,
     user: u8,
@@ -99,7 +100,8 @@ pub fn serve_lines<R: Source, W: Sink, P: Pool>(
             Ok(reply) => reply,
             Err(halt) => return given_up(owner, halt),
         };
-        if let Err(WriteFault) = put_reply(writer, &mut line, owner.state(), &reply) {
+        let flushes = ending.is_none() && !lines.holds_item();
+        if let Err(WriteFault) = put_reply(writer, &mut line, owner.state(), &reply, flushes) {
             return (Some(owner.into_state()), Served::WriteFault);
         }
         if let Some(served) = ending {

@@ -9,9 +9,33 @@ ghost use Rattle.lj_wire.specs.Texts.{text};
 use lj_session::{Reply, UserState};
 use lj_wire::{Line, Sink, WriteFault, last_line, put_all, put_reply_line};
 
-/// Writes the lines of a reply, which tells of the state after its command. Each is built in the room of `line`. After
-/// a fault the first bytes of them may have been written.
+/// Writes the lines of a reply, which tells of the state after its command, and flushes the writer where `flushes` is true. Each
+/// line is built in the room of `line`. After a fault the first bytes of them may have been written.
 pub(crate) fn put_reply<W: Sink>(
+    writer: &mut W,
+    line: &mut Line,
+    state: &UserState,
+    reply: &Reply,
+    flushes: bool,
+) -> Result<(), WriteFault>
+    requires settled { IsSettled state.now reply.now }
+    ensures written { OnOk result
+        (Appends (W.contents writer.old) (W.contents writer.new) (text (user_of state.now) reply.now)) }
+    ensures counted { OnOk result (W.faults writer.new ≡ W.faults writer.old) }
+    ensures begun { OnErr result ((n : ℕ) × (n ≤ length (text (user_of state.now) reply.now))
+        × Appends (W.contents writer.old) (W.contents writer.new)
+        (take n (text (user_of state.now) reply.now))) }
+    ensures risen { OnErr result (Rises (W.faults writer.old) (W.faults writer.new)) }
+{
+    put_lines(writer, line, state, reply)?;
+    if flushes {
+        writer.flush()?;
+    }
+    Ok(())
+}
+
+/// Writes the lines of a reply. After a fault the first bytes of them may have been written.
+fn put_lines<W: Sink>(
     writer: &mut W,
     line: &mut Line,
     state: &UserState,

@@ -1,0 +1,6 @@
+pub mod Outcomes
+pub mod Conversations
+pub mod Named
+pub mod Printed
+pub mod Limits
+pub mod Entries

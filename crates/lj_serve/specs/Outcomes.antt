@@ -1,0 +1,55 @@
+-- How a run comes out, and which fault of the program it is.
+use Rattle.std.specs.Prelude.{◌≡◌, ℕ, Result, Ok, Err}
+use Rattle.lj_pool.specs.declared.engine.served.Served.{Served}
+use Rattle.lj_pool.specs.declared.engine.served.Served.TheVariants.{End, Bye, Ended, ReadFault, WriteFault}
+use Rattle.lj_pool.specs.declared.engine.served.Served.TheVariants.{PoolClosed, TooManyStrays}
+use Rattle.lj_serve.specs.declared.input.text.TextFault.{TextFault}
+use Rattle.lj_serve.specs.declared.input.text.TextFault.TheVariants as texts
+use Rattle.lj_serve.specs.declared.program_fault.Fault.{Fault}
+use Rattle.lj_serve.specs.declared.program_fault.ReplayFault.{ReplayFault}
+use Rattle.lj_serve.specs.declared.program_fault.ReplayFault.TheVariants as replays
+use Rattle.lj_serve.specs.declared.program_fault.Fault.TheVariants.{Read, Write, Listen, Memory}
+use Rattle.lj_serve.specs.declared.program_fault.Fault.TheVariants.{Unreadable, ScheduleLine, UsersLine}
+
+-- what a run comes to that has ended so, and whose replies are written; its pool never gives up
+abbrev pub ComesTo : Served → Result (Unit {0}) Fault → Type 0
+ComesTo End outcome = outcome ≡ Ok tt
+ComesTo Bye outcome = outcome ≡ Ok tt
+ComesTo Ended outcome = outcome ≡ Ok tt
+ComesTo ReadFault outcome = outcome ≡ Err Read
+ComesTo WriteFault outcome = outcome ≡ Err Write
+ComesTo PoolClosed outcome = ⊥
+ComesTo TooManyStrays outcome = ⊥
+
+-- the exit status of a program that failed
+abbrev pub status_of : Fault → ℕ
+status_of Read = 1
+status_of Write = 1
+status_of Listen = 1
+status_of (Unreadable file) = 2
+status_of (ScheduleLine number) = 2
+status_of (UsersLine number) = 2
+status_of Memory = 3
+
+-- why a schedule is not replayed that is not read
+abbrev pub replay_fault_of : TextFault → ReplayFault
+replay_fault_of (texts.Line number) = replays.Line number
+replay_fault_of texts.Memory = replays.Memory
+
+-- the fault of a program whose schedule is not replayed
+abbrev pub fault_of_replay : ReplayFault → Fault
+fault_of_replay (replays.Line number) = ScheduleLine number
+fault_of_replay replays.Memory = Memory
+fault_of_replay replays.Write = Write
+
+-- why a server does not serve whose users are not read
+abbrev pub users_fault_of : TextFault → Fault
+users_fault_of (texts.Line number) = UsersLine number
+users_fault_of texts.Memory = Memory
+
+-- of this a run can fail
+abbrev pub IsOfRun : Fault → Type 0
+IsOfRun Read = Unit {0}
+IsOfRun Write = Unit {0}
+IsOfRun Memory = Unit {0}
+IsOfRun _ = ⊥

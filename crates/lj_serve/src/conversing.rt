@@ -1,0 +1,72 @@
+//! One user served over a reader and a writer.
+ghost use Rattle.std.specs.Prelude.{◌≡◌, IfErr};
+ghost use Rattle.lj_wire.specs.Ends.{Rises};
+ghost use Rattle.lj_serve.specs.Conversations.{Converses};
+ghost use Rattle.lj_serve.specs.Outcomes.{ComesTo, IsOfRun};
+ghost use Rattle.lj_pool.specs.declared.engine.served.Served.TheVariants.{PoolClosed, ReadFault, TooManyStrays, WriteFault};
+
+use crate::program_fault::Fault;
+use lj_pool::{InlinePool, Served, serve};
+use lj_quota::Quota;
+use lj_session::UserState;
+use lj_table::Table;
+use lj_wire::{Asked, CountedReading, HeldWriting, Sink, Source};
+use std::alloc::Global;
+use std::io::{Read, Write};
+
+/// The number of the one user.
+const ONLY_USER: u8 = 0;
+
+/// Answers the commands of `reader` on `writer`, as those of one user with this quota and no sessions, until the
+/// input or the connection ends. What was replied is written before more input is waited for.
+///
+/// # Errors
+/// `Memory` comes before anything is read.
+pub fn run<R: Read + Drop, W: Write + Drop>(
+    alloc: Global,
+    quota: Quota,
+    reader: R,
+    writer: W,
+) -> Result<(), Fault<'static>>
+    ensures { IfErr result IsOfRun }
+{
+    let source = CountedReading::new(Asked::reader(reader));
+    let sink = HeldWriting::new(alloc, Asked::writer(writer))?;
+    let (served, _, mut sink) = converse(alloc, quota, source, sink);
+    if served != Served::WriteFault && sink.flush().is_err() {
+        return Err(Fault::Write);
+    }
+    outcome(served)
+}
+
+/// Answers the items of a source on a sink, as those of one user with this quota and no sessions, until the input
+/// or the connection ends.
+fn converse<R: Source + Drop, W: Sink>(
+    alloc: Global,
+    quota: Quota,
+    source: R,
+    mut sink: W,
+) -> (Served, R, W)
+    ensures told { Converses result.0 quota (R.remaining source) (W.contents sink) (W.contents result.2) }
+    ensures read_fault { result.0 ≡ ReadFault → Rises (R.errors source) (R.errors result.1) }
+    ensures write_fault { result.0 ≡ WriteFault → Rises (W.faults sink) (W.faults result.2) }
+{
+    let mut pool = InlinePool::new(Table::new());
+    let state = UserState::new(alloc, quota);
+    let (_, served, source) = serve(alloc, state, ONLY_USER, source, &mut sink, &mut pool);
+    (served, source, sink)
+}
+
+/// What a run comes to that has ended so, and whose replies are written.
+fn outcome(served: Served) -> Result<(), Fault<'static>>
+    requires never_closed { served ≡ PoolClosed → ⊥ }
+    requires few_strays { served ≡ TooManyStrays → ⊥ }
+    ensures { ComesTo served result }
+{
+    match served {
+        Served::End | Served::Bye | Served::Ended => Ok(()),
+        Served::ReadFault => Err(Fault::Read),
+        Served::WriteFault => Err(Fault::Write),
+        Served::PoolClosed | Served::TooManyStrays => unreachable!(),
+    }
+}

@@ -1,0 +1,17 @@
+//! What the program does, as functions that take what they read and write: one user served over a reader and a writer,
+//! many users over TCP, and a schedule replayed; and the readers of users and of schedules.
+#![tactic(auto)]
+
+mod conversing;
+mod input;
+mod program_fault;
+mod quota_limits;
+mod replaying;
+mod serve;
+
+pub use conversing::run;
+pub use input::{TextFault, UsersFault, read_users};
+pub use program_fault::{Fault, ReplayFault};
+pub use quota_limits::{MAX_QUOTA_ATOMS, MAX_QUOTA_BRANCHES, MAX_QUOTA_SESSIONS};
+pub use replaying::replay;
+pub use serve::{Kept, MAX_OPEN_CONNECTIONS, serve_on};

@@ -1,0 +1,142 @@
+//! Why the program fails, what it tells then, and its exit status.
+ghost use Rattle.std.specs.Prelude.{◌≡◌};
+ghost use Rattle.lj_serve.specs.Outcomes.{status_of, fault_of_replay, replay_fault_of, users_fault_of};
+ghost use Rattle.lj_serve.specs.declared.program_fault.Fault.TheVariants.{Memory, Write};
+ghost use Rattle.lj_serve.specs.declared.program_fault.ReplayFault.TheVariants.{Memory as NoMemory, Write as WriteFailed};
+
+use crate::input::{TextFault, UsersFault};
+use lj_wire::WriteFault;
+use lj_world::OutOfMemory;
+use std::alloc::AllocError;
+use thiserror::Error;
+
+/// Why the program failed.
+#[derive(Clone, Copy, Debug, Error)]
+pub enum Fault<'a> {
+    /// The input could not be read.
+    #[error("read fault")]
+    Read,
+    /// The output could not be written or flushed.
+    #[error("write fault")]
+    Write,
+    /// The address cannot be listened on.
+    #[error("cannot listen")]
+    Listen,
+    /// A file of this name could not be read.
+    #[error("cannot read {0}")]
+    Unreadable(&'a str),
+    /// The first line of a schedule that is bad, counted from 1 with the lines of bodies.
+    #[error("schedule line {0}")]
+    ScheduleLine(u64),
+    /// The first line of the users that is bad, counted from 1.
+    #[error("users line {0}")]
+    UsersLine(u64),
+    /// There was no memory, or no thread for a worker.
+    #[error("no memory")]
+    Memory,
+}
+
+/// Why a schedule was not replayed.
+#[derive(Clone, Copy, Debug)]
+pub enum ReplayFault {
+    /// The first line that is bad, counted from 1 with the lines of bodies. Nothing was written.
+    Line(u64),
+    /// There was no memory. Nothing was written.
+    Memory,
+    /// The output could not be written.
+    Write,
+}
+
+impl Fault<'_> {
+    /// That of users who are not read.
+    pub fn of_users(fault: UsersFault) -> Self
+        ensures { result ≡ users_fault_of fault }
+    {
+        match fault {
+            UsersFault::Line(number) => Fault::UsersLine(number),
+            UsersFault::Memory => Fault::Memory,
+        }
+    }
+
+    /// The exit status of the program.
+    pub fn status(self) -> u8
+        ensures { result ≡ status_of self.entry }
+    {
+        match self {
+            Fault::Read | Fault::Write | Fault::Listen => 1,
+            Fault::Unreadable(_) | Fault::ScheduleLine(_) | Fault::UsersLine(_) => 2,
+            Fault::Memory => 3,
+        }
+    }
+}
+
+impl From<AllocError> for Fault<'_> {
+    ghost from_gives = { λ _ result. result ≡ Memory };
+
+    fn from(_error: AllocError) -> Self {
+        Fault::Memory
+    }
+}
+
+impl From<OutOfMemory> for Fault<'_> {
+    ghost from_gives = { λ _ result. result ≡ Memory };
+
+    fn from(_error: OutOfMemory) -> Self {
+        Fault::Memory
+    }
+}
+
+impl From<WriteFault> for Fault<'_> {
+    ghost from_gives = { λ _ result. result ≡ Write };
+
+    fn from(_fault: WriteFault) -> Self {
+        Fault::Write
+    }
+}
+
+impl From<ReplayFault> for Fault<'_> {
+    ghost from_gives = { λ fault result. result ≡ fault_of_replay fault };
+
+    fn from(fault: ReplayFault) -> Self {
+        match fault {
+            ReplayFault::Line(number) => Fault::ScheduleLine(number),
+            ReplayFault::Memory => Fault::Memory,
+            ReplayFault::Write => Fault::Write,
+        }
+    }
+}
+
+impl From<TextFault> for ReplayFault {
+    ghost from_gives = { λ fault result. result ≡ replay_fault_of fault };
+
+    fn from(fault: TextFault) -> ReplayFault {
+        match fault {
+            TextFault::Line(number) => ReplayFault::Line(number),
+            TextFault::Memory => ReplayFault::Memory,
+        }
+    }
+}
+
+impl From<AllocError> for ReplayFault {
+    ghost from_gives = { λ _ result. result ≡ NoMemory };
+
+    fn from(_error: AllocError) -> ReplayFault {
+        ReplayFault::Memory
+    }
+}
+
+impl From<OutOfMemory> for ReplayFault {
+    ghost from_gives = { λ _ result. result ≡ NoMemory };
+
+    fn from(_error: OutOfMemory) -> ReplayFault {
+        ReplayFault::Memory
+    }
+}
+
+impl From<WriteFault> for ReplayFault {
+    ghost from_gives = { λ _ result. result ≡ WriteFailed };
+
+    fn from(_fault: WriteFault) -> ReplayFault {
+        ReplayFault::Write
+    }
+}

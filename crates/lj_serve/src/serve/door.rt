@@ -1,0 +1,132 @@
+//! The door of a server, where tickets wait for the states of their users.
+ghost use Rattle.std.specs.Prelude.{◌≡◌, List, IfErr, OnErr, OnOk};
+ghost use Rattle.lj_access.specs.Passing.{PassesOver};
+ghost use Rattle.lj_access.specs.Rows.{Row};
+ghost use Rattle.lj_serve.specs.Entries.{ComesHome, IsReached};
+
+use crate::serve::clock::{end_of, left_until};
+use lj_access::{Denied, Directory, GivenUp, Ticket};
+use lj_session::UserState;
+use std::alloc::Global;
+use std::rt::Clock;
+use std::sync::{Condvar, CondvarTimeouts, Mutex, Wait};
+use std::time::Duration;
+
+/// What lies under the lock of a door.
+#[derive(Drop)]
+struct Hall {
+    directory: Directory,
+    given_up: GivenUp,
+    closed: bool,
+}
+
+/// A directory behind a lock. Each ticket waits until it may enter.
+#[derive(Drop)]
+pub struct Door {
+    hall: Mutex<Hall>,
+    /// A state came home, or the door was closed. Tickets wait for it.
+    moved: Condvar,
+}
+
+/// What has become of a ticket that waited for a while.
+#[derive(Drop)]
+pub enum Entry {
+    /// It has entered, and has the state of its user.
+    Entered(UserState),
+    /// No ticket enters any more.
+    Closed,
+    /// It waits on.
+    Waits,
+}
+
+impl Hall {
+    // Keeps a ticket that was given up. It is passed over at once, if its turn has come.
+    fn give_up(&mut self, ticket: Ticket) -> Result<(), Ticket>
+        ensures back { IfErr result (λ back. back ≡ ticket) }
+        ensures kept { OnErr result (self.new.directory ≡ self.old.directory) }
+        ensures passed { OnOk result (PassesOver ticket.user self.old.directory self.new.directory) }
+    {
+        let user = ticket.user();
+        self.given_up.keep(ticket)?;
+        self.given_up.pass(&mut self.directory, user);
+        Ok(())
+    }
+
+    // Takes a state home, and passes over the next tickets of its user that were given up.
+    fn leave(&mut self, ticket: Ticket, state: UserState)
+        ensures { (home : List Row) × ComesHome ticket state self.old.directory home
+            × PassesOver ticket.user home self.new.directory }
+    {
+        let user = ticket.user();
+        let _entered = self.directory.leave(ticket, state);
+        self.given_up.pass(&mut self.directory, user);
+    }
+}
+
+impl Door {
+    /// A door before a directory, at which nobody waits.
+    pub fn new(alloc: Global, directory: Directory) -> Door {
+        Door {
+            hall: Mutex::new(Hall {
+                directory,
+                given_up: GivenUp::new(alloc),
+                closed: false,
+            }),
+            moved: Condvar::new(),
+        }
+    }
+
+    /// The next ticket of the user with this name and this token.
+    ///
+    /// # Errors
+    /// No user has both, or all tickets of this user are granted.
+    pub fn hello<R: Wait>(&self, rt: &R, name: &[u8], token: &[u8]) -> Result<Ticket, Denied> {
+        self.hall.lock(rt).directory.hello(name, token)
+    }
+
+    /// Waits until the ticket may enter, for so long at the most.
+    pub fn wait<R: Wait + Clock>(&self, rt: &R, ticket: &Ticket, patience: Duration) -> Entry
+        ensures { IsReached result }
+    {
+        let end = end_of(rt, patience);
+        let mut hall = self.hall.lock(rt);
+        for _ in rt.forever() {
+            if hall.closed {
+                return Entry::Closed;
+            }
+            if let Some(state) = hall.directory.try_enter(ticket) {
+                return Entry::Entered(state);
+            }
+            let left = left_until(rt, end);
+            if left.is_zero() {
+                return Entry::Waits;
+            }
+            hall = self.moved.wait_timeout(rt, hall, left).0;
+        }
+        unreachable!()
+    }
+
+    /// Takes a ticket for which nobody waits any more, and passes it over once its turn has come.
+    ///
+    /// # Errors
+    /// There is no memory to keep it. It is handed back.
+    pub fn give_up<R: Wait>(&self, rt: &R, ticket: Ticket) -> Result<(), Ticket>
+        ensures { IfErr result (λ back. back ≡ ticket) }
+    {
+        self.hall.lock(rt).give_up(ticket)?;
+        self.moved.notify_all();
+        Ok(())
+    }
+
+    /// Takes a state home from the ticket that it was lent to, so that the user's next ticket may enter.
+    pub fn leave<R: Wait>(&self, rt: &R, ticket: Ticket, state: UserState) {
+        self.hall.lock(rt).leave(ticket, state);
+        self.moved.notify_all();
+    }
+
+    /// Closes the door: from now on no ticket enters.
+    pub fn close<R: Wait>(&self, rt: &R) {
+        self.hall.lock(rt).closed = true;
+        self.moved.notify_all();
+    }
+}

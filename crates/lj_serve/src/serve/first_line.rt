@@ -1,0 +1,60 @@
+//! Reads of a connection, whose first line has to come in time.
+
+use crate::serve::clock::{end_of, left_until};
+use std::cell::Cell;
+use std::io;
+use std::io::{ErrorKind, Read};
+use std::net::TcpStream;
+use std::rt::Clock;
+use std::time::Duration;
+
+/// How long a client may take for its first line.
+pub const FIRST_LINE_SECONDS: u64 = 30;
+
+/// When the first line of a connection has to be there; none once it is.
+#[derive(Drop)]
+pub struct Deadline {
+    end: Cell<Option<Duration>>,
+}
+
+impl Deadline {
+    /// So many seconds from now.
+    pub fn new<R: Clock>(rt: &R) -> Deadline {
+        Deadline {
+            end: Cell::new(end_of(rt, Duration::from_secs(FIRST_LINE_SECONDS))),
+        }
+    }
+
+    /// The first line is there: reads of the stream wait as long as they have to.
+    pub fn lift(&self, stream: &TcpStream) {
+        self.end.set(None);
+        let _ = stream.set_read_timeout(None);
+    }
+}
+
+/// A stream that is read until its deadline.
+#[derive(Drop)]
+pub struct Timed<'s, R> {
+    pub rt: &'s R,
+    pub stream: &'s TcpStream,
+    pub deadline: &'s Deadline,
+}
+
+impl<R: Clock> Read for Timed<'_, R> {
+    ghost use Rattle.std.specs.Prelude.{None};
+
+    ghost remaining = { λ _. None };
+
+    fn read(&mut self, buf: &mut [u8]) -> io::Result<usize> {
+        let end = self.deadline.end.get();
+        if end.is_some() {
+            let left = left_until(self.rt, end);
+            if left.is_zero() {
+                return Err(io::Error::from(ErrorKind::TimedOut));
+            }
+            self.stream.set_read_timeout(Some(left))?;
+        }
+        let mut stream = self.stream;
+        stream.read(buf)
+    }
+}

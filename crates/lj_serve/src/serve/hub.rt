@@ -1,0 +1,46 @@
+//! A pool of workers as a server has it.
+ghost use Rattle.std.specs.Prelude.{◌≡◌, None};
+ghost use Rattle.lj_wire.specs.declared.reader.phase.Phase.TheVariants.{Open};
+ghost use Rattle.lj_visit.specs.Visits.{IsVisit};
+
+use crate::serve::visitor::Visitor;
+use lj_table::Table;
+use lj_visit::Visited;
+use lj_wire::{LineReader, Sink, Source};
+use log::Log;
+use std::rt::Clock;
+use std::sync::Wait;
+
+/// Where the open tasks of a server are kept.
+#[derive(Clone, Copy)]
+pub enum Kept {
+    /// In a book behind a lock, with the results.
+    Lock,
+    /// In a queue that no lock guards.
+    Queue,
+}
+
+/// A pool over whose ends connections are served, and for which workers compute, each with tools of its own.
+pub trait Hub: Drop {
+    /// What a worker counts its results by.
+    type Tools: Send + Drop;
+
+    /// Answers a connection from its first line to its end, over an end of the pool.
+    fn visit<'s, R: Wait + Clock + Log, S: Source, W: Sink>(
+        &'s self,
+        visitor: &mut Visitor<'s, R>,
+        lines: &mut LineReader<S>,
+        writer: &mut W,
+    ) -> Visited
+        requires fresh { lines.old.items ≡ 0 }
+        requires at_work { lines.old.phase ≡ Open }
+        ensures { IsVisit result lines.old lines.new
+            (record { contents = W.contents writer.old; faults = W.faults writer.old })
+            (record { contents = W.contents writer.new; faults = W.faults writer.new }) None None };
+
+    /// Computes tasks until the pool is closed.
+    fn work<R: Wait>(&self, rt: &R, tools: Self::Tools, table: &Table) -> Self::Tools;
+
+    /// Closes the pool: from now on no task is computed.
+    fn close<R: Wait>(&self, rt: &R);
+}

@@ -1,0 +1,138 @@
+//! A pool behind a lock as a server has it.
+ghost use Rattle.std.specs.Prelude.{◌≡◌, ◌∷◌, [], None, IfOk, sum};
+ghost use Rattle.lj_visit.specs.Events.{Happens};
+ghost use Rattle.lj_visit.specs.Events.Event.{withdrawn};
+
+use crate::serve::hub::Hub;
+use crate::serve::visitor::Visitor;
+use lj_access::{Denied, Ticket};
+use lj_book::Counts;
+use lj_pool::{LockEnd, LockPool, Share, gather, work};
+use lj_session::Name;
+use lj_table::Table;
+use lj_visit::{Backend, Lent, Shut, UserEnd, Visited, visit};
+use lj_wire::{LineReader, Sink, Source, TokenWord};
+use lj_world::OutOfMemory;
+use log::{Log, info};
+use std::alloc::{AllocError, Global};
+use std::rt::Clock;
+use std::sync::Wait;
+use std::sync::ledger::{Blank, Ledger};
+
+/// A pool behind a lock.
+#[derive(Drop)]
+pub struct LockHub<L: Ledger> {
+    pool: LockPool<L>,
+}
+
+impl<L: Ledger> LockHub<L> {
+    /// An empty pool, with tools for each worker.
+    ///
+    /// # Errors
+    /// Out of memory.
+    pub fn new(
+        alloc: Global,
+        blank: Blank,
+        workers: usize,
+    ) -> Result<(LockHub<L>, Vec<Share<L>>), AllocError>
+        requires name { blank.name ≡ L.name }
+        requires parts { blank.parts ≡ L.parts }
+        requires one_each { blank.parts ≡ workers }
+    {
+        let (pool, shares) = LockPool::new(alloc, blank, workers)?;
+        Ok((LockHub { pool }, shares))
+    }
+
+    /// How many results the pool was given: the sum of the shares of all its workers. Notes what became of the tasks.
+    ///
+    /// # Errors
+    /// Out of memory if some shares are lost, since a worker had no thread.
+    pub fn gather<R: Wait + Log>(
+        self,
+        rt: &R,
+        workers: usize,
+        tools: Vec<Share<L>>,
+    ) -> Result<u64, OutOfMemory>
+        requires { workers ≡ L.parts }
+        ensures { IfOk result (λ total. total ≡ sum tools.items) }
+    {
+        if tools.len() != workers {
+            return Err(OutOfMemory);
+        }
+        let Counts {
+            posted,
+            fetched,
+            withdrawn,
+            ..
+        } = self.pool.counts(rt);
+        info!(rt; "the book: {posted} tasks posted, {fetched} fetched, {withdrawn} withdrawn");
+        Ok(gather(rt, &self.pool, tools))
+    }
+}
+
+/// What a visit is lent over a pool behind a lock.
+#[derive(Drop)]
+struct LockBackend<'v, 's, L: Ledger, R> {
+    visitor: &'v mut Visitor<'s, R>,
+    pool: &'s LockPool<L>,
+}
+
+impl<'s, L: Ledger, R: Wait + Clock + Log> Backend for LockBackend<'_, 's, L, R> {
+    type End = LockEnd<'s, L, R>;
+
+    ghost events = { λ _. None };
+
+    fn hello(&mut self, name: &Name, token: &TokenWord) -> Result<Ticket, Denied> {
+        self.visitor.hello(name, token)
+    }
+
+    fn enter(&mut self, ticket: Ticket, held: bool) -> Result<Lent, Shut> {
+        self.visitor.enter(ticket, held)
+    }
+
+    fn open(&mut self, user: u8) -> UserEnd<LockEnd<'s, L, R>> {
+        self.visitor.note_entry();
+        let pool = self.pool.end(self.visitor.rt);
+        UserEnd { pool, user }
+    }
+
+    fn finish(&mut self, end: UserEnd<LockEnd<'s, L, R>>)
+        ensures { Happens None None (withdrawn end.entry.user end.entry.pool.seen 0 ∷ []) }
+    {
+        self.pool.withdraw(self.visitor.rt, end.user);
+    }
+
+    fn leave(&mut self, lent: Lent) {
+        self.visitor.leave(lent);
+    }
+
+    fn close(&mut self) {
+        self.pool.close(self.visitor.rt);
+        self.visitor.door.close(self.visitor.rt);
+    }
+}
+
+impl<L: Ledger + Send> Hub for LockHub<L> {
+    type Tools = Share<L>;
+
+    fn visit<'s, R: Wait + Clock + Log, S: Source, W: Sink>(
+        &'s self,
+        visitor: &mut Visitor<'s, R>,
+        lines: &mut LineReader<S>,
+        writer: &mut W,
+    ) -> Visited {
+        let mut backend = LockBackend {
+            visitor,
+            pool: &self.pool,
+        };
+        visit(&mut backend, lines, writer)
+    }
+
+    fn work<R: Wait>(&self, rt: &R, tools: Share<L>, table: &Table) -> Share<L> {
+        work(rt, &self.pool, tools, &(), table)
+    }
+
+    fn close<R: Wait>(&self, rt: &R) {
+        self.pool.close(rt);
+    }
+}

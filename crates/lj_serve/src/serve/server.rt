@@ -1,0 +1,167 @@
+//! A server: threads of workers, and one thread for each connection.
+ghost use Rattle.std.specs.Prelude.{◌≡◌, ◌+◌, ◌≤◌, length};
+ghost use Rattle.lj_serve.specs.Named.{AreUsers};
+
+use crate::serve::connection::Server;
+use crate::serve::hub::{Hub, Kept};
+use crate::serve::lock_hub::LockHub;
+use crate::serve::queue_hub::QueueHub;
+use crate::serve::seats::MAX_OPEN_CONNECTIONS;
+use lj_access::{Directory, User};
+use lj_queue::{CONNECTIONS, QueueBlank, Room};
+use lj_world::OutOfMemory;
+use log::{Log, info};
+use std::alloc::Global;
+use std::marker::Brand;
+use std::net::TcpListener;
+use std::rt::Clock;
+use std::sync::Wait;
+use std::sync::ledger::{Blank, Ledger};
+use std::thread;
+use std::thread::Threads;
+use std::time::Duration;
+
+/// How long nothing is accepted after a connection that could not be, so that descriptors or memory may become
+/// free.
+const PAUSE_MILLIS: u64 = 100;
+
+/// Serves these users on a listener, with so many workers and the tasks kept so. Each connection is served in a
+/// thread of its own, at most 64 at once; one more is closed without a byte. After `connections`, with those that
+/// were closed so, no more are accepted. Returns how many tiles were computed for them, once all have ended.
+///
+/// # Errors
+/// Out of memory before anything is accepted, or no thread for a worker.
+pub fn serve_on<R: Threads + Wait + Clock + Log + Sync>(
+    rt: &R,
+    alloc: Global,
+    listener: &TcpListener,
+    users: Vec<User>,
+    workers: usize,
+    connections: u64,
+    kept: Kept,
+) -> Result<u64, OutOfMemory>
+    requires users { AreUsers users.items }
+    requires some { 1 ≤ length users.items }
+{
+    let directory = Directory::new(alloc, users)?;
+    let listening = Listening {
+        listener,
+        connections,
+    };
+    match kept {
+        Kept::Lock => {
+            let blank = Blank::new(workers as u64);
+            serve_by_lock::<Brand, R>(rt, alloc, blank, directory, workers, listening)
+        }
+        Kept::Queue => {
+            let blank = QueueBlank::new(alloc, workers as u64)?;
+            serve_by_queue::<Brand, R>(rt, alloc, blank, directory, workers, listening)
+        }
+    }
+}
+
+/// Where connections come from, and how many are accepted.
+#[derive(Clone, Copy)]
+struct Listening<'a> {
+    listener: &'a TcpListener,
+    connections: u64,
+}
+
+fn serve_by_lock<L: Ledger + Send + Sync, R: Threads + Wait + Clock + Log + Sync>(
+    rt: &R,
+    alloc: Global,
+    blank: Blank,
+    directory: Directory,
+    workers: usize,
+    listening: Listening<'_>,
+) -> Result<u64, OutOfMemory>
+    requires name { blank.name ≡ L.name }
+    requires parts { blank.parts ≡ L.parts }
+    requires one_each { blank.parts ≡ workers }
+{
+    let (hub, tools) = LockHub::<L>::new(alloc, blank, workers)?;
+    let server = Server::new(alloc, directory, hub);
+    let tools = run_workers(rt, &server, tools, listening)?;
+    server.hub.gather(rt, workers, tools)
+}
+
+fn serve_by_queue<L: Room + Send + Sync, R: Threads + Wait + Clock + Log + Sync>(
+    rt: &R,
+    alloc: Global,
+    blank: QueueBlank,
+    directory: Directory,
+    workers: usize,
+    listening: Listening<'_>,
+) -> Result<u64, OutOfMemory>
+    requires name { blank.name ≡ L.name }
+    requires parts { blank.parts ≡ L.parts }
+    requires one_each { blank.parts ≡ workers }
+    requires table { blank.table ≡ L.table }
+    requires passes { workers + CONNECTIONS ≡ L.passes }
+{
+    let (hub, tools) = QueueHub::<L>::new(alloc, blank, workers)?;
+    let server = Server::new(alloc, directory, hub);
+    let tools = run_workers(rt, &server, tools, listening)?;
+    server.hub.gather(rt, workers, tools)
+}
+
+/// Answers connections while workers compute, and then closes the pool. Returns the workers' tools; if a worker has
+/// no thread, nothing is accepted, and some tools are lost.
+fn run_workers<'a, H: Hub + Sync, R: Threads + Wait + Clock + Log + Sync>(
+    rt: &'a R,
+    server: &'a Server<H>,
+    tools: Vec<H::Tools>,
+    listening: Listening<'a>,
+) -> Result<Vec<H::Tools>, OutOfMemory> {
+    let count = tools.len();
+    let mut threads = Vec::with_capacity(server.alloc, count)?;
+    let mut done = Vec::with_capacity(server.alloc, count)?;
+    Ok(thread::scope(thread::scope_env(), rt, move |scope| {
+        for tools in tools {
+            if let Ok(worker) = scope.spawn(move || server.hub.work(rt, tools, &server.table)) {
+                let _ = threads.push(worker);
+            }
+        }
+        if threads.len() == count {
+            answer_all(rt, server, listening);
+        }
+        server.close(rt);
+        for worker in threads {
+            let _ = done.push(worker.join(rt));
+        }
+        done
+    }))
+}
+
+/// Accepts so many connections, and returns when all of them have ended.
+fn answer_all<'a, H: Hub + Sync, R: Threads + Wait + Clock + Log + Sync>(
+    rt: &'a R,
+    server: &'a Server<H>,
+    listening: Listening<'a>,
+) {
+    let Listening {
+        listener,
+        connections,
+    } = listening;
+    thread::scope(thread::scope_env(), rt, move |scope| {
+        for number in 0..connections {
+            let Ok((stream, from)) = listener.accept() else {
+                info!(rt; "connection {number}: not accepted");
+                thread::sleep(rt, Duration::from_millis(PAUSE_MILLIS));
+                continue;
+            };
+            let Some(seat) = server.seats.take() else {
+                info!(rt; "connection {number}: closed, since {MAX_OPEN_CONNECTIONS} others are open");
+                continue;
+            };
+            info!(rt; "connection {number}: from {from}");
+            let attended = scope.spawn(move || {
+                server.attend(rt, number, &stream);
+                drop(seat);
+            });
+            if attended.is_err() {
+                info!(rt; "connection {number}: closed, since it has no thread");
+            }
+        }
+    });
+}

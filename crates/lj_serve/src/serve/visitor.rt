@@ -1,0 +1,138 @@
+//! One visit at the door of a server.
+ghost use Rattle.std.specs.Prelude.{◌≡◌, IfOk};
+ghost use Rattle.lj_session.specs.UserState.{Reached};
+
+use crate::serve::door::{Door, Entry};
+use crate::serve::first_line::Deadline;
+use lj_access::{Denied, Ticket};
+use lj_session::Name;
+use lj_visit::{Lent, Shut, Visited};
+use lj_wire::TokenWord;
+use log::{Log, info};
+use std::io::ErrorKind;
+use std::net::TcpStream;
+use std::rt::Clock;
+use std::sync::Wait;
+use std::time::Duration;
+
+/// How long a ticket waits at the most before it is looked whether its client is still there.
+const LOOK_SECONDS: u64 = 1;
+
+/// How long such a look takes at the most, where the client has sent nothing.
+const LOOK_MILLIS: u64 = 1;
+
+/// A connection, and the door where it asks.
+#[derive(Drop)]
+pub struct Visitor<'s, R> {
+    pub rt: &'s R,
+    pub door: &'s Door,
+    pub stream: &'s TcpStream,
+    pub deadline: &'s Deadline,
+    pub number: u64,
+    pub name: Option<Name>,
+}
+
+impl<'s, R: Wait + Clock + Log> Visitor<'s, R> {
+    /// A visitor who has not asked yet.
+    pub fn new(
+        rt: &'s R,
+        door: &'s Door,
+        stream: &'s TcpStream,
+        deadline: &'s Deadline,
+        number: u64,
+    ) -> Self {
+        Visitor {
+            rt,
+            door,
+            stream,
+            deadline,
+            number,
+            name: None,
+        }
+    }
+
+    /// Asks for a ticket of the user with this name and this token. The first line is there then.
+    pub fn hello(&mut self, name: &Name, token: &TokenWord) -> Result<Ticket, Denied> {
+        self.deadline.lift(self.stream);
+        let asked = self.door.hello(self.rt, name.as_bytes(), token.as_bytes());
+        self.name = Some(name.copy());
+        asked
+    }
+
+    /// Waits until the ticket enters. Each second it is looked whether the client is still there, unless bytes of it are held.
+    pub fn enter(&mut self, ticket: Ticket, held: bool) -> Result<Lent, Shut>
+        ensures ticket { IfOk result (λ lent. lent.ticket ≡ ticket) }
+        ensures reached { IfOk result (λ lent. Reached lent.state) }
+    {
+        let mut ticket = ticket;
+        for _ in self.rt.forever() {
+            match self
+                .door
+                .wait(self.rt, &ticket, Duration::from_secs(LOOK_SECONDS))
+            {
+                Entry::Entered(state) => return Ok(Lent { ticket, state }),
+                Entry::Closed => return Err(Shut::Closed),
+                Entry::Waits => {}
+            }
+            if held || is_there(self.stream) {
+                continue;
+            }
+            match self.door.give_up(self.rt, ticket) {
+                Ok(()) => return Err(Shut::Gone),
+                Err(back) => ticket = back,
+            }
+        }
+        unreachable!()
+    }
+
+    /// Brings a state home.
+    pub fn leave(&self, lent: Lent) {
+        self.door.leave(self.rt, lent.ticket, lent.state);
+    }
+
+    /// Notes that the user was let in.
+    pub fn note_entry(&self) {
+        self.note("is in");
+    }
+
+    /// Notes how the connection has ended.
+    pub fn note_end(&self, visited: Visited) {
+        let number = self.number;
+        match visited {
+            Visited::NoLine => info!(self.rt; "connection {number}: ended before a line"),
+            Visited::Denied => info!(self.rt; "connection {number}: denied"),
+            Visited::ShutOut(Shut::Closed) => self.note("waited, and the server was closed"),
+            Visited::ShutOut(Shut::Gone) => self.note("was gone while it waited"),
+            Visited::NotWelcomed => self.note("was gone before it was let in"),
+            Visited::Attended(served) => {
+                if let Some(name) = &self.name {
+                    info!(self.rt; "connection {number}: {name} has left, {served:?}");
+                }
+            }
+        }
+    }
+
+    // Notes something of the user.
+    fn note(&self, what: &str) {
+        let number = self.number;
+        if let Some(name) = &self.name {
+            info!(self.rt; "connection {number}: {name} {what}");
+        }
+    }
+}
+
+/// Whether the client of a stream is still there: it has sent bytes that were not read yet, or may still send some.
+fn is_there(stream: &TcpStream) -> bool {
+    if stream
+        .set_read_timeout(Some(Duration::from_millis(LOOK_MILLIS)))
+        .is_err()
+    {
+        return false;
+    }
+    let peeked = stream.peek(&mut [0; 1]);
+    let _ = stream.set_read_timeout(None);
+    match peeked {
+        Ok(count) => count > 0,
+        Err(error) => error.kind() == ErrorKind::WouldBlock,
+    }
+}

@@ -1,0 +1,3 @@
+pub mod Happening
+pub mod Folding
+pub mod Admitting

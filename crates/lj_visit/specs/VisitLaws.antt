@@ -1,0 +1,83 @@
+-- Visits of one user, one after the other: what they say together.
+use Rattle.std.specs.Prelude.{◌≡◌, ◌≢◌, ℕ, Bool, List, [], ◌∷◌, ◌++◌, map, Some, ◌⊎◌}
+use Rattle.std.specs.List.{concat}
+use Rattle.lj_quota.specs.declared.Quota.{Quota}
+use Rattle.lj_session.specs.UserState.{UserState, empty_state, user_of}
+use Rattle.lj_wire.specs.declared.item.Item.{Item}
+use Rattle.lj_wire.specs.Streams.{AreMarks, Dialogue}
+use Rattle.lj_wire.specs.Told.{alone}
+use Rattle.lj_pool.specs.declared.engine.served.Served.{Served}
+use Rattle.lj_pool.specs.declared.engine.served.Served.TheVariants.{WriteFault}
+use Rattle.lj_pool.specs.Seen.{Seen, nothing_seen}
+use Rattle.lj_pool.specs.Served.{BreaksOff, IsServed}
+
+-- A visit whose state came home: how it ended, the state that was lent, what was read behind the first line and written behind
+-- OK HELLO, what its end of the pool has seen, and the state that came home.
+pub record Attendance : Type 0 where
+  pub served : Served
+  pub state : UserState
+  pub read : List ℕ
+  pub written : List ℕ
+  pub seen : Seen
+  pub next : UserState
+
+-- it was served so
+abbrev pub IsAttendance : Attendance → Type 0
+IsAttendance visit = IsServed visit.served visit.state visit.read visit.written nothing_seen visit.seen (Some visit.next)
+
+-- What was written is the dialogue of what was read, from the state that was lent.
+abbrev pub IsWhole : Attendance → Type 0
+IsWhole visit = Dialogue (user_of visit.state) visit.read visit.written (user_of visit.next)
+
+-- A write failed: what was written ends within the text of the last item that was answered.
+abbrev pub IsBroken : Attendance → Type 0
+IsBroken visit = BreaksOff (user_of visit.state) visit.read visit.written (user_of visit.next)
+
+-- Each visit is a whole dialogue, or one that a failed write has broken off.
+abbrev pub AttendedIsAnswered : Type 0
+AttendedIsAnswered = (visit : Attendance) → IsAttendance visit
+    → (visit.served ≢ WriteFault × IsWhole visit) ⊎ ((visit.served ≡ WriteFault) × IsBroken visit)
+
+-- the items of a visit's lines that were answered, with their marks; the last one too where a write failed within its text
+abbrev pub AnswersItems : Attendance → List Item → List Bool → Type 0
+AnswersItems visit items marks =
+    ((whole : IsWhole visit) × (visit.served ≢ WriteFault) × (items ≡ whole.items) × (marks ≡ whole.marks))
+    ⊎ ((broken : IsBroken visit) × (visit.served ≡ WriteFault)
+    × (items ≡ broken.reaches.progress.items ++ broken.item ∷ [])
+    × (marks ≡ broken.reaches.progress.marks ++ broken.mark ∷ []))
+
+-- the items of all visits that were answered, with their marks
+abbrev pub AnswersAll : List Attendance → List Item → List Bool → Type 0
+AnswersAll [] items marks = (items ≡ []) × (marks ≡ [])
+AnswersAll (visit ∷ visits) items marks =
+    (own : List Item) × (own_marks : List Bool) × (others : List Item) × (other_marks : List Bool)
+    × (items ≡ own ++ others) × (marks ≡ own_marks ++ other_marks)
+    × AnswersItems visit own own_marks × AnswersAll visits others other_marks
+
+-- from a state on, each state that is lent is the one that came home last, and this is the last of all
+abbrev pub Follow : UserState → List Attendance → UserState → Type 0
+Follow state [] last = state ≡ last
+Follow state (visit ∷ visits) last = (visit.state ≡ state) × IsAttendance visit × Follow visit.next visits last
+
+-- no write failed
+abbrev pub NoneFails : List Attendance → Type 0
+NoneFails [] = Unit {0}
+NoneFails (visit ∷ visits) = (visit.served ≢ WriteFault) × NoneFails visits
+
+-- what was written in all visits
+abbrev pub all_written : List Attendance → List ℕ
+all_written visits = concat (map (λ (visit : Attendance). visit.written) visits)
+
+-- The visits of a user, from its opening state on, lead to the state that all items answered lead to, folded alone. Where no
+-- write fails, what was written in all of them is what these items are answered alone.
+pub record IsOneFold (quota : Quota) (visits : List Attendance) (last : UserState) : Type 0 where
+  pub items : List Item
+  pub marks : List Bool
+  pub answers : AnswersAll visits items marks
+  pub are_marks : AreMarks marks (alone quota items marks).0
+  pub last_is : user_of last ≡ (alone quota items marks).1
+  pub written_is : NoneFails visits → all_written visits ≡ concat (alone quota items marks).0
+
+abbrev pub VisitsAreOneFold : Type 0
+VisitsAreOneFold = (quota : Quota) (visits : List Attendance) (last : UserState) → Follow (empty_state quota) visits last
+    → IsOneFold quota visits last

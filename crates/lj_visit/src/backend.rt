@@ -1,0 +1,87 @@
+//! What a visit is lent: who lets its user in, and the user's end of a pool.
+ghost use Rattle.std.specs.Prelude.{◌≡◌, ◌∷◌, [], ℕ, List, Option, IfOk, IfErr, OnErr};
+ghost use Rattle.lj_session.specs.UserState.{Reached};
+ghost use Rattle.lj_pool.specs.Seen.{nothing_seen};
+ghost use Rattle.lj_visit.specs.Events.{Event, Happens};
+ghost use Rattle.lj_visit.specs.Events.Event.{granted, denied, entered, shut_out, opened, withdrawn, left, closed};
+
+use lj_access::{Denied, Ticket};
+use lj_pool::Pool;
+use lj_session::{Name, UserState};
+use lj_wire::TokenWord;
+
+/// A user's state while a ticket has it.
+#[derive(Drop)]
+pub struct Lent {
+    pub ticket: Ticket,
+    pub state: UserState,
+}
+
+/// An end of a pool for the user of this number.
+#[derive(Drop)]
+pub struct UserEnd<P> {
+    pub pool: P,
+    pub user: u8,
+}
+
+/// Why a ticket did not enter.
+#[derive(Clone, Copy, PartialEq, Eq, Debug)]
+pub enum Shut {
+    /// No ticket enters any more.
+    Closed,
+    /// Its client was gone.
+    Gone,
+}
+
+/// What stands behind a connection, as one visit is lent it.
+pub trait Backend {
+    /// The pool of an end.
+    type End: Pool;
+
+    // What has happened here, in order, where it is known.
+    ghost events: { Self → Option (List Event) };
+
+    /// Grants a ticket to the user with this name and this token.
+    ///
+    /// # Errors
+    /// No user has both, or all tickets of this user are granted.
+    fn hello(&mut self, name: &Name, token: &TokenWord) -> Result<Ticket, Denied>
+        ensures granted { IfOk result (λ ticket. Happens (events self.old) (events self.new)
+            (granted name.now token.now ticket ∷ [])) }
+        ensures denied { OnErr result (Happens (events self.old) (events self.new)
+            (denied name.now token.now ∷ [])) };
+
+    /// Waits until the ticket enters, and lends it the state of its user. `held` tells whether bytes of the client were read
+    /// that are not yet answered.
+    ///
+    /// # Errors
+    /// No ticket enters any more, or the client has gone while the ticket waited. The ticket is given up then.
+    fn enter(&mut self, ticket: Ticket, held: bool) -> Result<Lent, Shut>
+        ensures ticket { IfOk result (λ lent. lent.ticket ≡ ticket) }
+        ensures reached { IfOk result (λ lent. Reached lent.state) }
+        ensures entered { IfOk result (λ lent. Happens (events self.old) (events self.new)
+            (entered ticket lent.state ∷ [])) }
+        ensures shut { IfErr result (λ why. Happens (events self.old) (events self.new)
+            (shut_out ticket why ∷ [])) };
+
+    /// Makes an end of the pool for the user of this number. Nothing is owed to it.
+    fn open(&mut self, user: u8) -> UserEnd<Self::End>
+        ensures user { result.user ≡ user }
+        ensures seen { ⟦<<Self as Backend>::End as Pool>⟧.seen result.pool ≡ nothing_seen }
+        ensures own { ⟦<<Self as Backend>::End as Pool>⟧.for_others result.pool user ≡ 0 }
+        ensures opened { Happens (events self.old) (events self.new) (opened user ∷ []) };
+
+    /// Takes an end back, and drops what the pool has of its user.
+    fn finish(&mut self, end: UserEnd<Self::End>)
+        ensures { Happens (events self.old) (events self.new) (withdrawn end.user
+            (⟦<<Self as Backend>::End as Pool>⟧.seen end.pool)
+            (⟦<<Self as Backend>::End as Pool>⟧.for_others end.pool end.user) ∷ []) };
+
+    /// Takes a state home from the ticket that it was lent to, whose user's next ticket may then enter.
+    fn leave(&mut self, lent: Lent)
+        ensures { Happens (events self.old) (events self.new) (left lent.ticket lent.state ∷ []) };
+
+    /// From now on no ticket enters, and no task is computed.
+    fn close(&mut self)
+        ensures { Happens (events self.old) (events self.new) (closed ∷ []) };
+}

@@ -1,0 +1,11 @@
+//! A connection of a user, from its first line to its end, as a function of what it is lent: who lets users in, a pool, a
+//! reader of lines and a writer.
+#![tactic(auto)]
+
+mod backend;
+mod visit_laws;
+mod visiting;
+
+pub use backend::{Backend, Lent, Shut, UserEnd};
+pub use visit_laws::{attended_is_answered, visits_are_one_fold};
+pub use visiting::{Visited, visit};

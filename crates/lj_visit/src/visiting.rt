@@ -1,0 +1,162 @@
+//! A connection, from its first line to its end.
+ghost use Rattle.std.specs.Prelude.{◌≡◌, ◌≤◌, ℕ, length, take, OnOk, OnErr};
+ghost use Rattle.std.specs.Io.KnownBytes.{Appends};
+ghost use Rattle.lj_wire.specs.declared.reader.phase.Phase.TheVariants.{Open};
+ghost use Rattle.lj_wire.specs.Ends.{Rises};
+ghost use Rattle.lj_visit.specs.declared.visiting.Visited.TheVariants.{Denied};
+ghost use Rattle.lj_visit.specs.Events.{Happens};
+ghost use Rattle.lj_visit.specs.Visits.{IsAdmission, IsServing, IsVisit, Tells, denied_line, events_closing, events_leaving, welcome_line};
+
+use crate::backend::{Backend, Lent, Shut};
+use lj_access::Ticket;
+use lj_pool::{Served, serve_lines};
+use lj_session::{Name, Refusal, UserState};
+use lj_wire::{
+    Hello, Line, LineReader, Sink, Source, WriteFault, put_all, put_refusal_line, put_welcome_line,
+};
+
+/// How a visit has ended.
+#[derive(Clone, Copy, PartialEq, Eq, Debug)]
+pub enum Visited {
+    /// No first line came.
+    NoLine,
+    /// The first line was no HELLO, or the user was not let in.
+    Denied,
+    /// The ticket did not enter.
+    ShutOut(Shut),
+    /// The user was gone before it was let in.
+    NotWelcomed,
+    /// The user's commands were answered.
+    Attended(Served),
+}
+
+/// Answers a connection: reads its first line, lets in whom that names, answers the lines that follow, and brings the user's
+/// state home.
+pub fn visit<B: Backend, S: Source, W: Sink>(
+    backend: &mut B,
+    lines: &mut LineReader<S>,
+    writer: &mut W,
+) -> Visited
+    requires fresh { lines.old.items ≡ 0 }
+    requires at_work { lines.old.phase ≡ Open }
+    ensures { IsVisit result lines.old lines.new
+        (record { contents = W.contents writer.old; faults = W.faults writer.old })
+        (record { contents = W.contents writer.new; faults = W.faults writer.new })
+        (B.events backend.old) (B.events backend.new) }
+{
+    let (name, token) = match lines.hello() {
+        Ok(Some(Hello::Asked { name, token })) => (name, token),
+        Ok(Some(Hello::Other)) => return deny(writer),
+        Ok(None) | Err(_) => return Visited::NoLine,
+    };
+    match backend.hello(&name, &token) {
+        Ok(ticket) => admit(backend, &name, ticket, lines, writer),
+        Err(_) => deny(writer),
+    }
+}
+
+/// Lets in the user of this name whose ticket this is, once it enters.
+fn admit<B: Backend, S: Source, W: Sink>(
+    backend: &mut B,
+    name: &Name,
+    ticket: Ticket,
+    lines: &mut LineReader<S>,
+    writer: &mut W,
+) -> Visited
+    requires fresh { lines.old.items ≡ 0 }
+    requires at_work { lines.old.phase ≡ Open }
+    ensures { IsAdmission result name.now ticket lines.old lines.new
+        (record { contents = W.contents writer.old; faults = W.faults writer.old })
+        (record { contents = W.contents writer.new; faults = W.faults writer.new })
+        (B.events backend.old) (B.events backend.new) }
+{
+    let lent = match backend.enter(ticket, lines.holds_bytes()) {
+        Ok(lent) => lent,
+        Err(why) => return Visited::ShutOut(why),
+    };
+    if welcome(writer, name).is_err() {
+        backend.leave(lent);
+        return Visited::NotWelcomed;
+    }
+    Visited::Attended(attend(backend, lent, lines, writer))
+}
+
+/// Answers the lines of a user to whom its state was lent, over an end of its own, and brings the state home.
+fn attend<B: Backend, S: Source, W: Sink>(
+    backend: &mut B,
+    lent: Lent,
+    lines: &mut LineReader<S>,
+    writer: &mut W,
+) -> Served
+    requires fresh { lines.old.items ≡ 0 }
+    requires at_work { lines.old.phase ≡ Open }
+    ensures { IsServing result lent.ticket lent.state lines.old lines.new
+        (record { contents = W.contents writer.old; faults = W.faults writer.old })
+        (record { contents = W.contents writer.new; faults = W.faults writer.new })
+        (B.events backend.old) (B.events backend.new) }
+{
+    let Lent { ticket, state } = lent;
+    let mut end = backend.open(ticket.user());
+    let (state, served) = serve_lines(state, end.user, lines, writer, &mut end.pool);
+    backend.finish(end);
+    bring_home(backend, ticket, state);
+    close_after(backend, served);
+    served
+}
+
+/// Brings a state home from the ticket that it was lent to, if there is one.
+fn bring_home<B: Backend>(backend: &mut B, ticket: Ticket, state: Option<UserState>)
+    ensures { Happens (B.events backend.old) (B.events backend.new) (events_leaving ticket state) }
+{
+    if let Some(state) = state {
+        backend.leave(Lent { ticket, state });
+    }
+}
+
+/// Closes all after too many strays.
+fn close_after<B: Backend>(backend: &mut B, served: Served)
+    ensures { Happens (B.events backend.old) (B.events backend.new) (events_closing served) }
+{
+    if let Served::TooManyStrays = served {
+        backend.close();
+    }
+}
+
+/// Tells a connection that it is let in as this user.
+fn welcome<W: Sink>(writer: &mut W, name: &Name) -> Result<(), WriteFault>
+    ensures written { OnOk result
+        (Appends (W.contents writer.old) (W.contents writer.new) (welcome_line name.now)) }
+    ensures counted { OnOk result (W.faults writer.new ≡ W.faults writer.old) }
+    ensures begun { OnErr result ((n : ℕ) × (n ≤ length (welcome_line name.now))
+        × Appends (W.contents writer.old) (W.contents writer.new) (take n (welcome_line name.now))) }
+    ensures risen { OnErr result (Rises (W.faults writer.old) (W.faults writer.new)) }
+{
+    let mut line = Line::new();
+    put_welcome_line(&mut line, name);
+    tell(writer, &line)
+}
+
+/// Tells a connection that it is not let in.
+fn deny<W: Sink>(writer: &mut W) -> Visited
+    ensures denied { result ≡ Denied }
+    ensures told { Tells denied_line
+        (record { contents = W.contents writer.old; faults = W.faults writer.old })
+        (record { contents = W.contents writer.new; faults = W.faults writer.new }) }
+{
+    let mut line = Line::new();
+    put_refusal_line(&mut line, Refusal::Denied);
+    let _ = tell(writer, &line);
+    Visited::Denied
+}
+
+/// Writes a line and sends it. After a fault the first bytes of it may have been written.
+fn tell<W: Sink>(writer: &mut W, line: &Line) -> Result<(), WriteFault>
+    ensures written { OnOk result (Appends (W.contents writer.old) (W.contents writer.new) line.now.items) }
+    ensures counted { OnOk result (W.faults writer.new ≡ W.faults writer.old) }
+    ensures begun { OnErr result ((n : ℕ) × (n ≤ length line.now.items)
+        × Appends (W.contents writer.old) (W.contents writer.new) (take n line.now.items)) }
+    ensures risen { OnErr result (Rises (W.faults writer.old) (W.faults writer.new)) }
+{
+    put_all(writer, line.as_slice())?;
+    writer.flush()
+}

@@ -1,0 +1,127 @@
+//! A writer of replies that are held back until they are flushed, or until there are many.
+ghost use Rattle.std.specs.Prelude.{◌≡◌, ◌<◌, ◌≤◌, Some, [], length, take, vec_len, vec_capacity, IfOk, OnOk, OnErr};
+ghost use Rattle.std.specs.Io.KnownBytes.{Appends, Keeps};
+ghost use Rattle.lj_wire.specs.Ends.{Rises};
+ghost use Rattle.lj_wire.specs.declared.held_writing.TheConstants.{MAX_HELD_BYTES};
+
+use crate::asked::Writes;
+use crate::ends::{CountedWriting, Sink, WriteFault};
+use std::alloc::{AllocError, Global};
+
+/// How many bytes are held back at most.
+const MAX_HELD_BYTES: usize = 65_536;
+
+/// A counted writer, and the bytes that are held back from it. The first `sent` of them have gone there; the others stay held
+/// after a fault, so that what was handed over is known.
+#[derive(Drop)]
+pub struct HeldWriting<W> {
+    outlet: CountedWriting<W>,
+    bytes: Vec<u8>,
+    sent: usize,
+    ghost within: { sent ≤ vec_len bytes },
+    ghost few: { vec_len bytes ≤ MAX_HELD_BYTES },
+    ghost room: { MAX_HELD_BYTES ≤ vec_capacity bytes },
+}
+
+impl<W: Writes> HeldWriting<W> {
+    /// Writes nothing.
+    ///
+    /// # Errors
+    /// Out of memory for the bytes that are held back.
+    pub fn new(alloc: Global, writer: W) -> Result<Self, AllocError>
+    where
+        W: Drop,
+        ensures contents { IfOk result
+            (λ held. Keeps (W.contents writer) (⟦<HeldWriting<W> as Sink>⟧.contents held)) }
+        ensures faults { IfOk result (λ held. ⟦<HeldWriting<W> as Sink>⟧.faults held ≡ Some 0) }
+    {
+        let bytes = Vec::with_capacity(alloc, MAX_HELD_BYTES)?;
+        Ok(HeldWriting {
+            outlet: CountedWriting::new(writer),
+            bytes,
+            sent: 0,
+        })
+    }
+
+    // Sends what is held back. What a fault leaves is held back still.
+    fn send(&mut self) -> Result<(), WriteFault>
+        ensures kept { let handed = ⟦<HeldWriting<W> as Sink>⟧.contents in
+            Keeps (handed self.old) (handed self.new) }
+        ensures none { OnOk result (self.new.bytes.items ≡ []) }
+        ensures counted { let faults = ⟦<HeldWriting<W> as Sink>⟧.faults in
+            OnOk result (faults self.new ≡ faults self.old) }
+        ensures risen { let faults = ⟦<HeldWriting<W> as Sink>⟧.faults in
+            OnErr result (Rises (faults self.old) (faults self.new)) }
+    {
+        while self.sent < self.bytes.len() {
+            let (_, rest) = self.bytes.as_slice().split_at(self.sent);
+            self.sent += self.outlet.write(rest)?;
+        }
+        self.sent = 0;
+        self.bytes.clear();
+        Ok(())
+    }
+
+    // Sends what is held back where there is no room for more.
+    fn make_room(&mut self) -> Result<(), WriteFault>
+        ensures kept { let handed = ⟦<HeldWriting<W> as Sink>⟧.contents in
+            Keeps (handed self.old) (handed self.new) }
+        ensures room { OnOk result (vec_len self.new.bytes < MAX_HELD_BYTES) }
+        ensures counted { let faults = ⟦<HeldWriting<W> as Sink>⟧.faults in
+            OnOk result (faults self.new ≡ faults self.old) }
+        ensures risen { let faults = ⟦<HeldWriting<W> as Sink>⟧.faults in
+            OnErr result (Rises (faults self.old) (faults self.new)) }
+    {
+        if self.bytes.len() < MAX_HELD_BYTES {
+            return Ok(());
+        }
+        self.send()
+    }
+
+    // Holds back as many of the bytes as there is room for, and answers how many.
+    fn hold(&mut self, bytes: &[u8]) -> usize
+        requires room { vec_len self.old.bytes < MAX_HELD_BYTES }
+        ensures bound { result ≤ length bytes.now }
+        ensures some { 0 < length bytes.now → 0 < result }
+        ensures held { let handed = ⟦<HeldWriting<W> as Sink>⟧.contents in
+            Appends (handed self.old) (handed self.new) (take result bytes.now) }
+        ensures counted { let faults = ⟦<HeldWriting<W> as Sink>⟧.faults in
+            faults self.new ≡ faults self.old }
+    {
+        let room = MAX_HELD_BYTES - self.bytes.len();
+        let (front, _) = bytes.split_at(bytes.len().min(room));
+        if self.bytes.extend_from_slice(front).is_err() {
+            unreachable!();
+        }
+        front.len()
+    }
+}
+
+impl<W: Writes> Sink for HeldWriting<W> {
+    ghost use Rattle.std.specs.Prelude.{drop};
+    ghost use Rattle.std.specs.Io.KnownBytes.{append_known};
+
+    // What was handed over: what has gone, and what is held back.
+    ghost contents = { λ held. append_known (⟦<CountedWriting<W> as Sink>⟧.contents held.outlet)
+        (drop held.sent held.bytes.items) };
+
+    ghost faults = { λ held. ⟦<CountedWriting<W> as Sink>⟧.faults held.outlet };
+
+    fn write(&mut self, bytes: &[u8]) -> Result<usize, WriteFault> {
+        self.make_room()?;
+        Ok(self.hold(bytes))
+    }
+
+    fn flush(&mut self) -> Result<(), WriteFault>
+        ensures kept { let handed = ⟦<HeldWriting<W> as Sink>⟧.contents in
+            Keeps (handed self.old) (handed self.new) }
+        ensures sent { OnOk result (self.new.bytes.items ≡ []) }
+        ensures counted { let faults = ⟦<HeldWriting<W> as Sink>⟧.faults in
+            OnOk result (faults self.new ≡ faults self.old) }
+        ensures risen { let faults = ⟦<HeldWriting<W> as Sink>⟧.faults in
+            OnErr result (Rises (faults self.old) (faults self.new)) }
+    {
+        self.send()?;
+        self.outlet.flush()
+    }
+}
