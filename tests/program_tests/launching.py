@@ -97,7 +97,7 @@ def versions_agree(setting: Setting) -> None:
     client = contents("clients", "python", "ljclient", "__init__.py")
     setting.expect("the client's version is the newest", f'__version__ = "{newest_version()}"\n'.encode() in client, newest)
     project = contents("clients", "python", "pyproject.toml")
-    setting.expect("and so is its package's", f'version = "{newest_version()}"\n'.encode() in project, newest)
+    setting.expect("which its package tells", b'version = {attr = "ljclient.__version__"}\n' in project, newest)
 
 
 def the_list_of_wrong_bodies_follows_the_edits(setting: Setting) -> None:

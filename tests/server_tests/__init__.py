@@ -1,5 +1,5 @@
 """Tests of a server from outside, for tests/server: each of them is a function of its setting."""
-from server_tests import answering, by_chance, endings, failing, faults, limits, sessions, turns
+from server_tests import answering, by_chance, endings, failing, faults, gone, limits, sessions, turns
 
 # Tests over each kind of pool.
 TESTS_OF_POOLS = (
@@ -7,6 +7,7 @@ TESTS_OF_POOLS = (
     *sessions.TESTS,
     *turns.TESTS,
     *limits.TESTS,
+    *gone.TESTS,
     *by_chance.TESTS,
     *endings.TESTS,
     *faults.TESTS,

@@ -86,6 +86,8 @@ def replies_come_before_more_is_asked_for(setting: Setting) -> None:
         (b"\n", b"ERR 03 SYNTAX\n"),
         (b"LOAD b 256 1 1 rest 12\n1\nc\n", b""),
         (b"X 0 0 0\n", b"OK LOAD b 0 1\n"),
+        (b"SHOW b 0\nLOAD c 256 1 1 rest 12\n1\nc\n", b"OK SHOW b 0 0 0 0 0\n"),
+        (b"X 0 0 0\n", b"OK LOAD c 0 1\n"),
     ]:
         client.says(item, reply)
     client.leaves()

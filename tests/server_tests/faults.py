@@ -95,6 +95,23 @@ def the_output_fails(setting: Setting) -> None:
             setting.expect(name, (status, err) == (1, WRITE_FAULT), (status, err))
 
 
+def close_streams() -> None:
+    for number in range(3):
+        os.close(number)
+
+
+def closed_streams_are_no_sockets(setting: Setting) -> None:
+    """No file and no socket of a server has the number of a stream that was closed as it began."""
+    server = setting.serve(user("A"), 1, stdin=None, stdout=None, stderr=None, preexec_fn=close_streams)
+    client = server.enter("A")
+    folder = f"/proc/{server.child.pid}/fd"
+    held = [os.readlink(os.path.join(folder, name)) for name in os.listdir(folder) if int(name) < 3]
+    setting.expect("closed streams are no sockets", held == [os.devnull] * 3, held)
+    client.leaves()
+    status, _, _ = server.ended()
+    setting.expect("all streams are closed", status == 1, status)
+
+
 def an_address_is_free_after_the_end(setting: Setting) -> None:
     server = setting.serve(user("A"), 1)
     server.enter("A").leaves()
@@ -113,6 +130,7 @@ def run_on(setting: Setting, port: int) -> Ended:
 
 TESTS = (
     the_output_fails,
+    closed_streams_are_no_sockets,
     an_address_is_free_after_the_end,
 )
 # These are of the words of a server, whatever its pool.

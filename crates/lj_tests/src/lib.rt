@@ -9,6 +9,10 @@ mod owing;
 #[cfg(test)]
 mod queues;
 #[cfg(test)]
+mod replays;
+#[cfg(test)]
+mod servers;
+#[cfg(test)]
 mod strays;
 #[cfg(test)]
 mod tasks;
@@ -16,5 +20,7 @@ mod tasks;
 mod tickets;
 #[cfg(test)]
 mod users;
+#[cfg(test)]
+mod visits;
 #[cfg(test)]
 mod worlds;

@@ -1,6 +1,7 @@
 //! Streams after which steps are owed to sessions: they are done for the next stream, over a pool that may be closed at any
 //! of its calls.
-ghost use Rattle.std.specs.Prelude.{◌≡◌, []};
+ghost use Rattle.std.specs.Prelude.{◌≡◌};
+ghost use Rattle.lj_pool.specs.Seen.{nothing_seen};
 
 use arrayvec::ArrayVec;
 use lj_pool::{InlinePool, NotPosted, Pool, Served, serve};
@@ -13,15 +14,15 @@ use std::alloc::{AllocGlobal, Global};
 
 /// A pool of no threads that is closed after so many calls. A poll hands out nothing then.
 #[derive(Drop)]
-struct ClosingPool {
+pub struct ClosingPool {
     inner: InlinePool,
     calls: u64,
     closed: bool,
 }
 
 impl ClosingPool {
-    fn new(calls: u64) -> ClosingPool
-        ensures { (⟦<ClosingPool as Pool>⟧.seen result).owed ≡ [] }
+    pub fn new(calls: u64) -> ClosingPool
+        ensures { ⟦<ClosingPool as Pool>⟧.seen result ≡ nothing_seen }
     {
         ClosingPool {
             inner: InlinePool::new(Table::new()),

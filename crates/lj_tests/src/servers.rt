@@ -1,0 +1,227 @@
+//! Servers over loopback sockets, with their clients in the same process.
+
+use lj_serve::{Kept, read_users, serve_on};
+use log::sink::Discard;
+use log::{LevelFilter, Log, Logged};
+use std::alloc::AllocGlobal;
+use std::io::{BufRead, BufReader, Read, Write};
+use std::net::{Net, SocketAddr, TcpListener, TcpStream};
+use std::rt::Clock;
+use std::sync::Wait;
+use std::test::Fail;
+use std::thread::Threads;
+use std::time::Duration;
+use std::{io, thread};
+
+/// The users of each server, as a file has them.
+const USERS: &str = "# name, token, sessions, atoms, branches
+A aaaaaaaaaaaaaaaaaaaaaaaaaaaaaaaa 4 100 4
+
+B bbbbbbbbbbbbbbbbbbbbbbbbbbbbbbbb 4 64 4
+";
+
+const WORKERS: usize = 2;
+
+const HELLO: &str = "HELLO A aaaaaaaaaaaaaaaaaaaaaaaaaaaaaaaa\n";
+
+const LOAD: &str = "LOAD a 256 1 131072 rest 28\n2\ndimer\nAr 0 0 0\nAr 1.5 0 0\n";
+
+/// How long a client waits for a reply.
+const PATIENCE_SECONDS: u64 = 20;
+
+/// How many connections count at once.
+const COUNTING: u64 = 8;
+
+/// What a server and its clients have: memory, threads that wait, a clock, notes, and sockets.
+trait Host: AllocGlobal
+    + Threads
+    + Wait
+    + Clock
+    + Log
+    + Net<Listener = TcpListener, Stream = TcpStream> {}
+
+impl<
+    R: AllocGlobal + Threads + Wait + Clock + Log + Net<Listener = TcpListener, Stream = TcpStream>,
+> Host for R {}
+
+/// What clients do.
+#[derive(Clone, Copy)]
+enum Scene {
+    /// One user has one step computed.
+    Step,
+    /// One user comes a second time before its first connection ends, and two are denied.
+    ComeBack,
+    /// One user loads two atoms, and then eight connections at once tug one of them.
+    Count,
+}
+
+impl Scene {
+    /// How many connections there are.
+    fn connections(self) -> u64 {
+        match self {
+            Scene::Step => 1,
+            Scene::ComeBack => 4,
+            Scene::Count => 1 + COUNTING,
+        }
+    }
+
+    /// All that the clients are told.
+    fn play<R: Host>(self, rt: &R, address: SocketAddr) -> io::Result<String> {
+        let mut told = String::new(rt.alloc());
+        match self {
+            Scene::Step => {
+                let said = [HELLO, LOAD, "ADVANCE a 1\nBYE\n"];
+                hear_out(connect(rt, address, &said)?, &mut told)?;
+            }
+            Scene::ComeBack => come_back(rt, address, &mut told)?,
+            Scene::Count => count(rt, address, &mut told)?,
+        }
+        Ok(told)
+    }
+}
+
+/// A connection on which this was said.
+fn connect<R: Host>(rt: &R, address: SocketAddr, said: &[&str]) -> io::Result<TcpStream> {
+    let mut stream = TcpStream::connect(rt, address)?;
+    stream.set_read_timeout(Some(Duration::from_secs(PATIENCE_SECONDS)))?;
+    for words in said {
+        stream.write_all(words.as_bytes())?;
+    }
+    Ok(stream)
+}
+
+/// Adds all that a connection is told until its end.
+fn hear_out<S: Read + Drop>(mut stream: S, told: &mut String) -> io::Result<()> {
+    stream.read_to_string(told)?;
+    Ok(())
+}
+
+/// The first connection is in while the others come. It leaves last but one.
+fn come_back<R: Host>(rt: &R, address: SocketAddr, told: &mut String) -> io::Result<()> {
+    let first = connect(rt, address, &[HELLO, LOAD, "TUG a 0 5 0 0\n"])?;
+    let mut replies = BufReader::new(rt.alloc(), &first)?;
+    for _ in 0..3 {
+        replies.read_line(told)?;
+    }
+    let second = connect(rt, address, &[HELLO, "MEASURE a\nBYE\n"])?;
+    let wrong_token = "HELLO A bbbbbbbbbbbbbbbbbbbbbbbbbbbbbbbb\n";
+    hear_out(connect(rt, address, &[wrong_token])?, told)?;
+    let no_user = "HELLO C aaaaaaaaaaaaaaaaaaaaaaaaaaaaaaaa\n";
+    hear_out(connect(rt, address, &[no_user])?, told)?;
+    let mut writer = &first;
+    writer.write_all(b"BYE\n")?;
+    hear_out(replies, told)?;
+    hear_out(second, told)
+}
+
+/// What the eight are told comes in the order of their counts.
+fn count<R: Host>(rt: &R, address: SocketAddr, told: &mut String) -> io::Result<()> {
+    hear_out(connect(rt, address, &[HELLO, LOAD, "BYE\n"])?, told)?;
+    let mut open = Vec::new(rt.alloc());
+    for _ in 0..COUNTING {
+        open.push(connect(rt, address, &[HELLO, "TUG a 0 1 0 0\nMEASURE a\nBYE\n"])?)?;
+    }
+    for replies in in_order(rt, open)? {
+        told.push_str(&replies)?;
+    }
+    Ok(())
+}
+
+/// What these connections are told, in the order of the texts.
+fn in_order<R: Host>(rt: &R, open: Vec<TcpStream>) -> io::Result<Vec<String>> {
+    let mut all = Vec::new(rt.alloc());
+    for stream in open {
+        let mut told = String::new(rt.alloc());
+        hear_out(stream, &mut told)?;
+        all.push(told)?;
+    }
+    all.sort()?;
+    Ok(all)
+}
+
+/// Serves so many connections. How many tiles were computed, if the users are read and there is memory.
+fn serve<R: Host + Sync>(
+    rt: &R,
+    listener: &TcpListener,
+    connections: u64,
+    kept: Kept,
+) -> Option<u64> {
+    let users = read_users(rt.alloc(), USERS.as_bytes()).ok()?;
+    serve_on(rt, rt.alloc(), listener, users, WORKERS, connections, kept).ok()
+}
+
+/// Serves the clients of a scene. How many tiles were computed, and all that the clients were told.
+fn play<R: Host + Sync>(rt: &R, scene: Scene, kept: Kept) -> io::Result<(Option<u64>, String)> {
+    let listener = TcpListener::bind(rt, "127.0.0.1:0")?;
+    let address = listener.local_addr()?;
+    let listening = &listener;
+    let (tiles, told) = thread::join(
+        rt,
+        move || serve(rt, listening, scene.connections(), kept),
+        move || scene.play(rt, address),
+    );
+    Ok((tiles, told?))
+}
+
+#[test]
+fn a_server_answers_how_many_tiles_were_computed(rt: HostRuntime) -> Result<(), Fail> {
+    let quiet = Logged::new(rt, LevelFilter::Off, Discard);
+    for kept in [Kept::Lock, Kept::Queue] {
+        let (tiles, told) = play(&quiet, Scene::Step, kept)?;
+        assert_eq!(quiet; tiles, Some(1));
+        assert_eq!(quiet;
+            told.as_str(),
+            "OK HELLO A\nOK LOAD a 0 2\nOK ADVANCE a 1\nOK BYE\n"
+        );
+    }
+    Ok(())
+}
+
+/// The second connection of a user waits, and finds the state as the first one left it.
+#[test]
+fn a_user_that_comes_back_finds_its_state(rt: HostRuntime) -> Result<(), Fail> {
+    let quiet = Logged::new(rt, LevelFilter::Off, Discard);
+    let expected = "OK HELLO A\nOK LOAD a 0 2\nOK TUG a 0 0\n\
+        ERR 01 DENIED\nERR 01 DENIED\nOK BYE\n\
+        OK HELLO A\nOK MEASURE a 0 2 5 0 0 25 -5349132\nOK BYE\n";
+    for kept in [Kept::Lock, Kept::Queue] {
+        let (tiles, told) = play(&quiet, Scene::ComeBack, kept)?;
+        assert_eq!(quiet; tiles, Some(1));
+        assert_eq!(quiet; told.as_str(), expected);
+    }
+    Ok(())
+}
+
+/// No two of eight connections at once are lent the state, so each finds one tug more.
+#[test]
+fn connections_of_one_user_count_in_turn(rt: HostRuntime) -> Result<(), Fail> {
+    let quiet = Logged::new(rt, LevelFilter::Off, Discard);
+    for kept in [Kept::Lock, Kept::Queue] {
+        let (tiles, told) = play(&quiet, Scene::Count, kept)?;
+        assert_eq!(quiet; tiles, Some(COUNTING));
+        assert_eq!(quiet; told.as_str(), counted(&quiet)?.as_str());
+    }
+    Ok(())
+}
+
+/// What is told if they do: the momentum is n and the kinetic number n² after n tugs.
+fn counted(rt: &impl AllocGlobal) -> io::Result<String> {
+    let mut told = String::new(rt.alloc());
+    told.push_str("OK HELLO A\nOK LOAD a 0 2\nOK BYE\n")?;
+    for (n, square) in [
+        (1, 1),
+        (2, 4),
+        (3, 9),
+        (4, 16),
+        (5, 25),
+        (6, 36),
+        (7, 49),
+        (8, 64),
+    ] {
+        let measured = format!(in rt.alloc(); "OK MEASURE a 0 2 {n} 0 0 {square} -5349132\n")?;
+        told.push_str("OK HELLO A\nOK TUG a 0 0\n")?;
+        told.push_str(&measured)?;
+        told.push_str("OK BYE\n")?;
+    }
+    Ok(told)
+}

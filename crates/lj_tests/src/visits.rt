@@ -1,0 +1,342 @@
+//! Visits over a backend that notes what happens to it: what a connection is told, and what is asked for it, in order.
+ghost use Rattle.std.specs.Prelude.{◌≡◌, ◌++◌, ◌∷◌, []};
+
+use crate::owing::ClosingPool;
+use crate::users::users;
+use arrayvec::{ArrayString, ArrayVec};
+use lj_access::{Denied, Directory, Ticket};
+use lj_pool::{Pool, Served};
+use lj_quota::Quota;
+use lj_session::{Name, UserState};
+use lj_visit::{Backend, Lent, Shut, UserEnd, Visited, visit};
+use lj_wire::{LineReader, Reading, Sink, TokenWord, WriteFault, Writing};
+use std::alloc::AllocGlobal;
+use std::fmt;
+use std::fmt::Write;
+use std::marker::Model;
+use std::process::Abort;
+use std::test::Fail;
+
+/// What has happened to a backend. A state that entered was made of its quota, and has no sessions.
+#[derive(Drop)]
+enum Fact {
+    Granted(Name, Vec<u8>, u8, u32),
+    Denied(Name, Vec<u8>),
+    Entered(u8, u32, Quota),
+    ShutOut(Ticket, Shut),
+    Opened(u8),
+    Withdrawn(UserEnd<ClosingPool>),
+    Left(Lent),
+    Closed,
+}
+
+/// One of these, which stands for an event.
+#[derive(Drop)]
+struct Note {
+    fact: Fact,
+}
+
+impl Model for Note {
+    ghost use Rattle.lj_session.specs.UserState.{empty_state};
+    ghost use Rattle.lj_visit.specs.Events.{Event};
+    ghost use Rattle.lj_visit.specs.Events.Event.{granted, denied, entered, shut_out, opened, withdrawn, left, closed};
+    ghost use Rattle.lj_tests.specs.declared.visits.Fact.TheVariants.{Granted, Denied, Entered, ShutOut, Opened, Withdrawn, Left, Closed};
+
+    ghost Value = { Event };
+
+    ghost view = { λ note. elim note.fact as (λ _. Event) [
+      | Granted name token user number ↦ granted name token.items (record { user = user; number = number })
+      | Denied name token ↦ denied name token.items
+      | Entered user number quota ↦ entered (record { user = user; number = number }) (empty_state quota)
+      | ShutOut ticket why ↦ shut_out ticket why
+      | Opened user ↦ opened user
+      | Withdrawn end ↦ withdrawn end.user (⟦<ClosingPool as Pool>⟧.seen end.pool) 0
+      | Left lent ↦ left lent.ticket lent.state
+      | Closed ↦ closed
+    ] };
+}
+
+/// Notes, a line each.
+type Text = ArrayString<256>;
+
+/// Writes a note as a line.
+fn put_note(text: &mut Text, note: &Note) -> fmt::Result {
+    match &note.fact {
+        Fact::Granted(name, _, user, number) => writeln!(text, "granted {name} {user} {number}"),
+        Fact::Denied(name, _) => writeln!(text, "denied {name}"),
+        Fact::Entered(user, number, _) => writeln!(text, "entered {user} {number}"),
+        Fact::ShutOut(ticket, why) => {
+            writeln!(
+                text,
+                "shut out {} {} {why:?}",
+                ticket.user(),
+                ticket.number()
+            )
+        }
+        Fact::Opened(user) => writeln!(text, "opened {user}"),
+        Fact::Withdrawn(end) => writeln!(text, "withdrawn {}", end.user),
+        Fact::Left(lent) => {
+            let Lent { ticket, state } = lent;
+            writeln!(
+                text,
+                "left {} {} {}",
+                ticket.user(),
+                ticket.number(),
+                state.len()
+            )
+        }
+        Fact::Closed => writeln!(text, "closed"),
+    }
+}
+
+/// Lets users in, or shuts each of their tickets out. Its ends are closed after so many calls.
+#[derive(Drop)]
+struct FakeBackend<'t, R> {
+    rt: &'t R,
+    directory: Directory,
+    shut: Option<Shut>,
+    calls: u64,
+    notes: Vec<Note>,
+}
+
+impl<R: Abort + AllocGlobal> FakeBackend<'_, R> {
+    fn note(&mut self, note: Note)
+        ensures { self.new.notes.items ≡ self.old.notes.items ++ note ∷ [] }
+    {
+        self.notes
+            .push(note)
+            .ok()
+            .expect(self.rt, "room for a note");
+    }
+
+    fn bytes(&self, word: &[u8]) -> Vec<u8>
+        ensures { result.items ≡ word.now }
+    {
+        Vec::from_slice(self.rt.alloc(), word)
+            .ok()
+            .expect(self.rt, "room for a word")
+    }
+}
+
+impl<R: Abort + AllocGlobal> Backend for FakeBackend<'_, R> {
+    type End = ClosingPool;
+
+    ghost use Rattle.std.specs.Prelude.{Some};
+    ghost use Rattle.lj_visit.specs.Events.{Happens};
+    ghost use Rattle.lj_visit.specs.Events.Event.{withdrawn};
+
+    ghost events = { λ fake. Some fake.notes.items };
+
+    fn hello(&mut self, name: &Name, token: &TokenWord) -> Result<Ticket, Denied> {
+        let word = self.bytes(token.as_bytes());
+        match self.directory.hello(name.as_bytes(), token.as_bytes()) {
+            Ok(ticket) => {
+                self.note(Note {
+                    fact: Fact::Granted(name.copy(), word, ticket.user(), ticket.number()),
+                });
+                Ok(ticket)
+            }
+            Err(denied) => {
+                self.note(Note {
+                    fact: Fact::Denied(name.copy(), word),
+                });
+                Err(denied)
+            }
+        }
+    }
+
+    fn enter(&mut self, ticket: Ticket, _held: bool) -> Result<Lent, Shut> {
+        if let Some(why) = self.shut {
+            self.note(Note {
+                fact: Fact::ShutOut(ticket, why),
+            });
+            return Err(why);
+        }
+        let quota = Quota::USUAL;
+        let state = UserState::new(self.rt.alloc(), quota);
+        let _sessions = state.len();
+        self.note(Note {
+            fact: Fact::Entered(ticket.user(), ticket.number(), quota),
+        });
+        Ok(Lent { ticket, state })
+    }
+
+    fn open(&mut self, user: u8) -> UserEnd<ClosingPool> {
+        self.note(Note {
+            fact: Fact::Opened(user),
+        });
+        UserEnd {
+            pool: ClosingPool::new(self.calls),
+            user,
+        }
+    }
+
+    fn finish(&mut self, end: UserEnd<ClosingPool>)
+        ensures { Happens (Some self.old.notes.items) (Some self.new.notes.items)
+            (withdrawn end.user (⟦<ClosingPool as Pool>⟧.seen end.pool) 0 ∷ []) }
+    {
+        self.note(Note {
+            fact: Fact::Withdrawn(end),
+        });
+    }
+
+    fn leave(&mut self, lent: Lent) {
+        self.note(Note {
+            fact: Fact::Left(lent),
+        });
+    }
+
+    fn close(&mut self) {
+        self.note(Note { fact: Fact::Closed });
+    }
+}
+
+/// A backend of the users A and B.
+fn backend<R: Abort + AllocGlobal>(
+    rt: &R,
+    shut: Option<Shut>,
+    calls: u64,
+) -> Result<FakeBackend<'_, R>, Fail> {
+    Ok(FakeBackend {
+        rt,
+        directory: Directory::new(rt.alloc(), users(rt)?)?,
+        shut,
+        calls,
+        notes: Vec::new(rt.alloc()),
+    })
+}
+
+/// Its notes, a line each.
+fn text_of<R>(backend: &FakeBackend<'_, R>) -> Result<Text, fmt::Error> {
+    let mut text = Text::new();
+    for note in &backend.notes {
+        put_note(&mut text, note)?;
+    }
+    Ok(text)
+}
+
+/// A connection: what it sends, whether its ticket is shut out, and after how many calls its end is closed; what it is told,
+/// what is noted, and how it has ended.
+struct Case {
+    input: &'static str,
+    shut: Option<Shut>,
+    calls: u64,
+    told: &'static str,
+    notes: &'static str,
+    visited: Visited,
+}
+
+/// A connection that sends nothing.
+const SILENT: Case = Case {
+    input: "",
+    shut: None,
+    calls: u64::MAX,
+    told: "",
+    notes: "",
+    visited: Visited::NoLine,
+};
+
+const OTHER: Case = Case {
+    input: "LIST\n",
+    told: "ERR 01 DENIED\n",
+    visited: Visited::Denied,
+    ..SILENT
+};
+
+const WRONG: Case = Case {
+    input: "HELLO A 00000000000000000000000000000001\nLIST\n",
+    notes: "denied A\n",
+    ..OTHER
+};
+
+/// Two atoms 1.5 sigma apart go on by a step.
+const STEP: &str = "HELLO B 00000000000000000000000000000000\n\
+    LOAD a 256 1 131072 rest 28\n2\ndimer\nAr 0 0 0\nAr 1.5 0 0\nADVANCE a 1\nBYE\n";
+
+const CLOSED: Case = Case {
+    input: STEP,
+    shut: Some(Shut::Closed),
+    notes: "granted B 1 0\nshut out 1 0 Closed\n",
+    visited: Visited::ShutOut(Shut::Closed),
+    ..SILENT
+};
+
+const GONE: Case = Case {
+    input: STEP,
+    shut: Some(Shut::Gone),
+    notes: "granted B 1 0\nshut out 1 0 Gone\n",
+    visited: Visited::ShutOut(Shut::Gone),
+    ..SILENT
+};
+
+const STEPPING: Case = Case {
+    input: STEP,
+    told: "OK HELLO B\nOK LOAD a 0 2\nOK ADVANCE a 1\nOK BYE\n",
+    notes: "granted B 1 0\nentered 1 0\nopened 1\nwithdrawn 1\nleft 1 0 1\n",
+    visited: Visited::Attended(Served::Bye),
+    ..SILENT
+};
+
+/// The state does not come home from an end that was closed before its tasks were done.
+const CUT_OFF: Case = Case {
+    calls: 0,
+    told: "OK HELLO B\nOK LOAD a 0 2\n",
+    notes: "granted B 1 0\nentered 1 0\nopened 1\nwithdrawn 1\n",
+    visited: Visited::Attended(Served::PoolClosed),
+    ..STEPPING
+};
+
+const CASES: [Case; 7] = [SILENT, OTHER, WRONG, CLOSED, GONE, STEPPING, CUT_OFF];
+
+#[test]
+fn a_visit_asks_for_no_more_than_it_may(rt: HostRuntime) -> Result<(), Fail> {
+    for case in &CASES {
+        let mut backend = backend(&rt, case.shut, case.calls)?;
+        let mut lines = LineReader::new(rt.alloc(), Reading::new(case.input.as_bytes()));
+        let mut writer = Writing::new(ArrayVec::<u8, 256>::new());
+        let visited = visit(&mut backend, &mut lines, &mut writer);
+        assert_eq!(rt; visited, case.visited);
+        assert_eq!(rt; writer.into_inner().as_slice(), case.told.as_bytes());
+        assert_eq!(rt; text_of(&backend)?.as_str(), case.notes);
+    }
+    Ok(())
+}
+
+/// A sink whose writes all fail.
+#[derive(Drop)]
+struct LostSink {
+    faults: u64,
+}
+
+impl Sink for LostSink {
+    ghost use Rattle.std.specs.Prelude.{Some, []};
+
+    ghost contents = { λ _. Some [] };
+
+    ghost faults = { λ sink. Some sink.faults };
+
+    fn write(&mut self, _bytes: &[u8]) -> Result<usize, WriteFault> {
+        self.faults = self.faults.saturating_add(1);
+        Err(WriteFault)
+    }
+
+    fn flush(&mut self) -> Result<(), WriteFault> {
+        Ok(())
+    }
+}
+
+/// The state comes home from a user that cannot be welcomed, and no end is made for it.
+#[test]
+fn a_user_that_is_not_welcomed_leaves_at_once(rt: HostRuntime) -> Result<(), Fail> {
+    let mut backend = backend(&rt, None, u64::MAX)?;
+    let mut lines = LineReader::new(rt.alloc(), Reading::new(STEP.as_bytes()));
+    let mut writer = LostSink { faults: 0 };
+    let visited = visit(&mut backend, &mut lines, &mut writer);
+    assert_eq!(rt; visited, Visited::NotWelcomed);
+    assert_eq!(rt;
+        text_of(&backend)?.as_str(),
+        "granted B 1 0\nentered 1 0\nleft 1 0 0\n"
+    );
+    assert!(rt; writer.faults > 0);
+    Ok(())
+}

@@ -1,0 +1,125 @@
+"""Clients that go away while their connections wait, and clients that take long to say who they are."""
+import time
+
+from server_tests.limits import let_in
+from server_tests.setting import Setting
+from server_tests.words import hello, measured, user, welcome
+from shared.loads import LOAD, LOADED, liquid, tiles_of_step
+from shared.serving import MAX_OPEN
+
+# How many seconds a client has for its first line, and how long a connection may stay silent here after it.
+FIRST_LINE = 30
+SILENCE = 40
+# Within so many seconds a connection that waits has looked whether its client is there.
+LOOKED = 5
+
+
+def clients_that_are_gone_give_up_their_places(setting: Setting) -> None:
+    """One user connects 63 times and gives up each time, while its first connection is in; another one finds a place."""
+    server = setting.serve(user("A") + user("B"), MAX_OPEN + 100)
+    first = server.enter("A")
+    first.says(LOAD, LOADED)
+    for _ in range(MAX_OPEN - 1):
+        client = server.connect()
+        client.send(hello("A"))
+        client.close()
+    other = let_in(setting, server, "B")
+    other.says(LOAD, LOADED)
+    other.leaves()
+    first.says(b"TUG a 0 5 0 0\n", b"OK TUG a 0 0\n")
+    first.leaves()
+    last = server.enter("A")
+    last.says(b"LIST\nMEASURE a\n", b"OK LIST 1\na 0 2 0\n" + measured(5))
+    last.leaves()
+    server.finish(tiles=1)
+
+
+def each_way_to_go_gives_up_the_place(setting: Setting) -> None:
+    server = setting.serve(user("A"), 6)
+    first = server.enter("A")
+    half_closed, reset, here = [server.connect() for _ in range(3)]
+    for client in (half_closed, reset, here):
+        client.send(hello("A"))
+        setting.expect("a connection waits", client.is_quiet(0.1))
+    half_closed.half_close()
+    reset.reset()
+    start = time.monotonic()
+    half_closed.is_told_last(b"")
+    spent = time.monotonic() - start
+    setting.expect("a client that sends no more gives up its place", spent < LOOKED, spent)
+    setting.expect("the one that is there waits on", here.is_quiet(0))
+    first.leaves()
+    here.is_told(welcome("A"))
+    here.says(b"LIST\n", b"OK LIST 0\n")
+    here.leaves()
+    server.finish(tiles=0)
+
+
+def commands_sent_with_hello_are_done(setting: Setting) -> None:
+    server = setting.serve(user("A"), 4)
+    first = server.enter("A")
+    gone = server.connect()
+    gone.send(hello("A") + LOAD)
+    setting.expect("a connection waits", gone.is_quiet(0.1))
+    gone.close()
+    time.sleep(LOOKED / 2)
+    first.says(b"LIST\n", b"OK LIST 0\n")
+    first.leaves()
+    last = server.enter("A")
+    last.says(b"LIST\n", b"OK LIST 1\na 0 2 0\n")
+    last.leaves()
+    server.finish(tiles=0)
+
+
+def a_first_line_comes_in_time_or_not_at_all(setting: Setting) -> None:
+    """A client that says nothing and one that sends a byte a second are closed after half a minute without a byte; one that was
+    let in may stay silent for longer, and so may one that waits."""
+    server = setting.serve(user("A"), 5)
+    first = server.enter("A")
+    waiting = server.connect()
+    waiting.send(hello("A"))
+    silent, slow = server.connect(), server.connect()
+    start = time.monotonic()
+    for byte in b"HELLO " + b"x" * FIRST_LINE:
+        if time.monotonic() - start > FIRST_LINE + LOOKED or not slow.is_quiet(1):
+            break
+        slow.send(bytes([byte]))
+    for client in (silent, slow):
+        client.is_told_last(b"")
+    spent = time.monotonic() - start
+    setting.expect("they are closed after half a minute", FIRST_LINE - 1 < spent < FIRST_LINE + LOOKED, spent)
+    time.sleep(max(0.0, SILENCE - spent))
+    setting.expect("the next connection waits on", waiting.is_quiet(0))
+    first.says(b"LIST\n", b"OK LIST 0\n")
+    first.leaves()
+    waiting.is_told(welcome("A"))
+    waiting.leaves()
+    server.finish(tiles=0)
+
+
+def what_is_left_when_a_connection_ends_is_dropped(setting: Setting) -> None:
+    """Each of many connections has a step begun and leaves at once. A worker that is woken then finds nothing of it to compute,
+    but in the few cases in which it comes before the connection has ended."""
+    rounds = 60
+    server = setting.serve(user("A"), rounds + 1, workers=1)
+    first = server.enter("A")
+    first.says(liquid(256), b"OK LOAD a 0 256\n")
+    first.leaves()
+    for number in range(1, rounds + 1):
+        client = server.connect()
+        client.send(hello("A") + b"START a 1\nBYE\n")
+        client.is_told_last(welcome("A") + f"OK START a {number}\nOK BYE\n".encode())
+        time.sleep(0.1)
+    status, out, err = server.ended()
+    tiles = int(out.split()[-2])
+    setting.expect("the server ends well", (status, err) == (0, b""), (status, err))
+    setting.expect("much of what was left is not computed", tiles < rounds * tiles_of_step(256) * 3 // 4, tiles)
+
+
+TESTS = (
+    clients_that_are_gone_give_up_their_places,
+    each_way_to_go_gives_up_the_place,
+    commands_sent_with_hello_are_done,
+    what_is_left_when_a_connection_ends_is_dropped,
+    a_first_line_comes_in_time_or_not_at_all,
+)
