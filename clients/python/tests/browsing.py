@@ -9,11 +9,10 @@ import tempfile
 import time
 import urllib.request
 
-from ljclient.view import websocket
 from support import SECONDS
+from web_sockets import WebSocket
 
 CHROMIUM = shutil.which("chromium") or shutil.which("chromium-browser") or shutil.which("google-chrome")
-MOST = 1 << 26
 
 
 class Browser:
@@ -56,8 +55,7 @@ class Browser:
         port = int(told.read_text().split("\n")[0])
         with urllib.request.urlopen(f"http://127.0.0.1:{port}/json/list", timeout=SECONDS) as pages:
             page = next(each for each in json.load(pages) if each["type"] == "page")
-        path = "/" + page["webSocketDebuggerUrl"].split("/", 3)[3]
-        return websocket.connect("127.0.0.1", port, path, {}, SECONDS, MOST)
+        return WebSocket(page["webSocketDebuggerUrl"])
 
     def ask(self, method, **words):
         """The result of a method of the protocol. What the page complains of meanwhile is kept in `faults`."""
@@ -93,6 +91,14 @@ class Browser:
     def mouse(self, what, x, y):
         held = int(what != "mouseReleased")
         self.ask("Input.dispatchMouseEvent", type=what, x=x, y=y, button="left", buttons=held, clickCount=1)
+
+    def type(self, text):
+        """Types letters into what has the focus. A tab goes to the next field, and a carriage return is Enter."""
+        for letter in text:
+            key = {"\t": "Tab", "\r": "Enter"}.get(letter, letter)
+            words = {"key": key, "code": key, "windowsVirtualKeyCode": ord(letter.upper())}
+            self.ask("Input.dispatchKeyEvent", type="keyDown", text=letter, **words)
+            self.ask("Input.dispatchKeyEvent", type="keyUp", **words)
 
     def wait_for(self, text, seconds=4 * SECONDS):
         """Waits until an expression holds in the page."""

@@ -16,12 +16,41 @@ from support import EXAMPLES, PROGRAM, SECONDS, TOP
 PROMPT = [sys.executable, "-m", "ljclient"]
 ARGON = EXAMPLES / "argon_256.xyz"
 
+# A program whose session `a` goes on by what is asked at once, but for what was started: SHOW waits for that until
+# a file is there.
+SLOW = """\
+import os, sys, time
+step, answered = 0, 0
+for line in sys.stdin:
+    verb, *words = line.split()
+    if verb in ("ADVANCE", "START"):
+        step += int(words[1])
+        answered += 1
+        if answered == {last}:
+            sys.exit(3)
+    while verb == "SHOW" and not os.path.exists("go"):
+        time.sleep(0.01)
+        if os.path.exists("end"):
+            sys.exit(3)
+    told = {{"LIST": "LIST 1\\na %d 2 0" % step, "SHOW": "SHOW a %d 0 1 2 3" % step, "BYE": "BYE"}}
+    print("OK", told.get(verb, "%s a %d" % (verb, step)), flush=True)
+"""
+
+
+def slow_program(folder, last=0):
+    """Such a program in a folder. It ends at the last of so many commands that ask for steps, if that is above 0."""
+    path = folder / "ljserve"
+    path.write_text(f"#!{sys.executable}\n" + SLOW.format(last=last))
+    path.chmod(0o755)
+    return str(path)
+
 
 def environment(**words):
-    """The environment of a prompt, which finds the client and the program, and no token and no history."""
+    """The environment of a prompt, which finds the client and the program, and no token and no history. Its terminal has plain
+    lines, unless the words say otherwise."""
     kept = {name: value for name, value in os.environ.items() if name != "LJSERVE_TOKEN"}
     path = os.pathsep.join([str(TOP / "clients" / "python"), *filter(None, [os.environ.get("PYTHONPATH")])])
-    return {**kept, "PYTHONPATH": path, "LJSERVE": PROGRAM, "LJCLIENT_HISTORY": os.devnull, **words}
+    return {**kept, "PYTHONPATH": path, "LJSERVE": PROGRAM, "LJCLIENT_HISTORY": os.devnull, "TERM": "dumb", **words}
 
 
 def begin_at_terminal():
@@ -33,13 +62,13 @@ def begin_at_terminal():
 class Terminal:
     """A program whose standard streams are a terminal of its own, of so many columns."""
 
-    def __init__(self, words, env=None, columns=120):
+    def __init__(self, words, env=None, columns=120, cwd=None):
         self.ours, theirs = pty.openpty()
         fcntl.ioctl(theirs, termios.TIOCSWINSZ, struct.pack("HHHH", 40, columns, 0, 0))
         env = {**os.environ, "TERM": "xterm", "COLUMNS": str(columns), "LINES": "40", "INPUTRC": "/dev/null", **(env or {})}
         self.child = subprocess.Popen(
-            words, stdin=theirs, stdout=theirs, stderr=theirs, env=env, start_new_session=True,
-            preexec_fn=begin_at_terminal,
+            words, stdin=theirs, stdout=theirs, stderr=theirs, env=env, cwd=cwd,
+            start_new_session=True, preexec_fn=begin_at_terminal,
         )
         os.close(theirs)
         self.written, self.shown = "", ""

@@ -1,8 +1,6 @@
-"""The prompt at a terminal: lines that are edited and completed, explanations, bars, and interrupts."""
+"""The prompt at a terminal of plain lines: explanations, bars, and interrupts."""
 import importlib.util
-import os
 import re
-import tempfile
 import unittest
 
 from support import EXAMPLES, TOKEN, Server
@@ -43,14 +41,6 @@ class AtATerminal(unittest.TestCase):
         self.assertEqual(self.says(terminal, "ADVANCE a 2", "ljserve> "), "OK ADVANCE a 2\nljserve> ")
         self.assertEqual(self.says(terminal, "SHOW a 0", "ljserve> "), "OK SHOW a 2 0 1774 0 0\nljserve> ")
 
-    def test_a_text_that_is_pasted(self):
-        terminal = self.begin()
-        terminal.until("ljserve> ")
-        stream = (EXAMPLES / "dimer.txt").read_text().replace("\n", "\r")
-        terminal.type(f"\033[200~{stream}\033[201~\r")
-        for line in (EXAMPLES / "dimer.replies").read_text().splitlines():
-            terminal.until(re.escape(line) + "\n")
-
     def test_a_load_that_is_not_as_it_should_be_is_not_sent(self):
         terminal = self.begin()
         terminal.until("ljserve> ")
@@ -78,20 +68,6 @@ class AtATerminal(unittest.TestCase):
             told = self.says(terminal, line, "ljserve> ")
             self.assertTrue(told.startswith(f"{reply}\n  "), told)
             self.assertIn(words, told)
-
-    def test_completion(self):
-        terminal = self.begin()
-        terminal.until("ljserve> ")
-        terminal.type(f"LOAD argon {str(ARGON)[:-9]}\t\t")
-        terminal.until("argon_256.xyz")
-        terminal.type("\x15")
-        self.says(terminal, f"LOAD argon {ARGON} 21.04 3.4 131072", "OK LOAD argon 0 256\nljserve> ")
-        terminal.type("MEA\targ\t\r")
-        self.assertIn("OK MEASURE argon 0 256 0 0 0 0 ", terminal.until("ljserve> "))
-        terminal.type("bran\targ\tfirst\r")
-        terminal.until("OK BRANCH argon first 0\nljserve> ")
-        terminal.type("REST\targ\tfi\t\r")
-        terminal.until("OK RESTORE argon first 0\nljserve> ")
 
     @unittest.skipUnless(importlib.util.find_spec("tqdm"), "tqdm is not installed")
     def test_an_advance_that_is_long(self):
@@ -160,25 +136,6 @@ class AtATerminal(unittest.TestCase):
             second.until("waiting: another connection of ann is open")
             first.type("exit\r")
             second.until("ann> ")
-
-    def test_history(self):
-        with tempfile.TemporaryDirectory() as folder:
-            path = os.path.join(folder, "history")
-            terminal = self.begin(LJCLIENT_HISTORY=path)
-            terminal.until("ljserve> ")
-            for line in (f"HELLO ann {TOKEN}", "LIST"):
-                self.says(terminal, line, "ljserve> ")
-            terminal.type("\x1b[A\r")
-            terminal.until("OK LIST 0\nljserve> ")
-            terminal.type("\x04")
-            self.assertEqual(terminal.ended()[0], 0)
-            with open(path) as file:
-                self.assertEqual(file.read().split(), ["LIST"])
-            self.assertEqual(os.stat(path).st_mode & 0o777, 0o600)
-            terminal = self.begin(LJCLIENT_HISTORY=path)
-            terminal.until("ljserve> ")
-            terminal.type("\x1b[A\r")
-            terminal.until("OK LIST 0\nljserve> ")
 
 
 if __name__ == "__main__":

@@ -4,10 +4,11 @@ import json
 import re
 import unittest
 
+from web_sockets import Refused  # first, since without aiohttp these tests are skipped
 from ljclient import run, units
-from ljclient.view import server, websocket
+from ljclient.view import server
 from support import DIMER, EXAMPLES, PROGRAM, RING, SECONDS
-from viewing import Page, View, file_of, places_of
+from viewing import Page, Stream, View, file_of, places_of
 
 ARGON = [EXAMPLES / "argon_256.xyz", "--edge", "21.04"]
 SCALE = ["--edge", "256", "--sigma", "1", "--h", "131072"]
@@ -20,6 +21,8 @@ class Asked(unittest.TestCase):
     def setUpClass(cls):
         cls.view = View()
         cls.addClassCleanup(cls.view.end)
+        stays = cls.view.page()  # without a page the view ends
+        cls.addClassCleanup(stays.close)
 
     def get(self, path, **headers):
         connection = http.client.HTTPConnection("127.0.0.1", self.view.port, timeout=SECONDS)
@@ -30,7 +33,7 @@ class Asked(unittest.TestCase):
 
     def test_the_files_of_the_page(self):
         for path, (name, kind) in server.FILES.items():
-            status, told, body = self.get(path)
+            status, told, body = self.get(f"/{path}")
             self.assertEqual((status, told), (200, f"{kind}; charset=utf-8"))
             self.assertEqual(body, (server.FOLDER / name).read_bytes())
 
@@ -38,7 +41,7 @@ class Asked(unittest.TestCase):
         named = re.findall(r'(?:src|href)="([^"]+)"', (server.FOLDER / "page.html").read_text())
         for script in server.FOLDER.glob("*.js"):
             named += re.findall(r'from "\./([^"]+)"', script.read_text())
-        self.assertEqual({f"/{name}" for name in named} | {"/"}, set(server.FILES))
+        self.assertEqual({*named, ""}, set(server.FILES))
 
     def test_no_other_file(self):
         for path in ("/server.py", "/../server.py", "/%2e%2e/server.py", "//etc/passwd", "/page.html/"):
@@ -53,13 +56,13 @@ class Asked(unittest.TestCase):
     def test_no_other_page_is_answered(self):
         for origin in ("http://example.org", "null", f"https://{self.view.url}", "http://127.0.0.1:1"):
             self.assertEqual(self.get("/", Origin=origin)[::2], (403, b"Origin is another page"))
-            with self.assertRaisesRegex(websocket.Broken, "403"):
+            with self.assertRaisesRegex(Refused, "403"):
                 self.view.page(Origin=origin)
 
     def test_a_session_is_for_a_page(self):
-        with self.assertRaisesRegex(websocket.Broken, "403"):
+        with self.assertRaisesRegex(Refused, "403"):
             Page(self.view.port, {})
-        with self.assertRaisesRegex(websocket.Broken, "403"):
+        with self.assertRaisesRegex(Refused, "403"):
             self.view.page(Host="example.org")
         self.assertEqual(self.get("/session", Origin=f"http://{self.view.url}")[0], 400)
 
@@ -78,14 +81,39 @@ class Asked(unittest.TestCase):
             self.assertNotEqual(places_of(one.ask("frame", steps=1)), places_of(other.ask("frame", steps=1)))
             self.assertEqual(places_of(tugged), places_of(other.ask("restart")))
 
+    def test_messages_as_a_browser_may_send_them(self):
+        """In two frames with a ping between, which is answered first; a pong that nobody asked for; a close, which is answered."""
+        with Stream(self.view) as stream:
+            self.assertIn(stream.ACCEPTED, stream.head)
+            stream.send(0x01, b'{"do": "frame",')
+            stream.send(0x89, b"Hello")
+            stream.send(0x80, b' "steps": 1}')
+            self.assertEqual(stream.receive(), (0x8A, b"Hello"))
+            self.assertEqual(json.loads(stream.receive()[1])["step"], 1)
+            stream.send(0x8A, b"")
+            stream.send(0x81, b'{"do": "frame", "steps": 1}')
+            self.assertEqual(json.loads(stream.receive()[1])["step"], 2)
+            stream.send(0x88, b"\x03\xe8")
+            self.assertEqual(stream.receive()[0], 0x88)
+
     def test_what_is_no_message(self):
-        for data in (b"\x81\x00", b"\x82\x80abcd", b"\x80\x80abcd", b"\x81\xff" + b"\xff" * 8, b"\x81\x81aaaa\x9e"):
-            page = self.view.page()
-            page.channel._connection.sendall(data)
-            self.assertIsNone(page.channel.receive())
-            page.close()
+        """Bytes that are no text, a message that goes on and has not begun, text that is no UTF-8, and a kind that is none."""
+        for first, data in ((0x82, b"abcd"), (0x80, b"abcd"), (0x81, b"\xff"), (0x83, b"")):
+            with Stream(self.view) as stream:
+                stream.send(first, data)
+                told = stream.receive()
+                self.assertTrue(told is None or told[0] == 0x88, told)
+                self.assertIsNone(stream.receive())
         with self.view.page() as page:
             self.assertEqual(page.ask("frame", steps=1)["step"], 1)
+
+    def test_a_message_is_not_too_long(self):
+        with self.view.page() as page:
+            page.channel.send("x" * (server.MAX_MESSAGE + 1))
+            self.assertIsNone(page.channel.receive())
+        with self.view.page() as page:
+            page.channel.send("x" * (server.MAX_MESSAGE - 1))
+            self.assertEqual(list(json.loads(page.channel.receive())), ["error"])
 
 
 class Told(unittest.TestCase):
@@ -158,6 +186,38 @@ class Told(unittest.TestCase):
         self.assertEqual(page.ask("restart")["atoms"], page.first["atoms"])
         self.assertEqual(page.ask("frame", steps=1)["step"], 1)
 
+    def test_the_places_of_a_step_and_of_the_one_before(self):
+        page = self.dimer()
+        page.ask("frame", steps=1)
+        told = page.ask("speeds")
+        self.assertEqual([places_of(told, frame)[0] for frame in ("before", "now")], [(0, 0, 0), (589, 0, 0)])
+        self.assertEqual(page.ask("frame", steps=1)["step"], 2)
+
+    def test_a_second_run_of_two_atoms(self):
+        """Atom 0 goes one unit further. A step later that unit is doubled, and the push is that of the same bin."""
+        page = self.dimer()
+        told = page.ask("second", on=True)
+        self.assertEqual(told["second"], told["atoms"])
+        told = page.ask("frame", steps=1)
+        self.assertEqual([places_of(told, run)[0][0] for run in ("atoms", "second")], [589, 590])
+        told = page.ask("reverse")
+        self.assertEqual(told["second"], told["atoms"])
+        self.assertNotIn("second", page.ask("second", on=False))
+        page.ask("second", on=True)
+        self.assertNotIn("second", page.ask("restart"))
+
+    def test_a_second_run_comes_back(self):
+        """It begins on the way and goes far away, and time turned back leads both to where it began."""
+        page = self.page()
+        begun = page.ask("frame", steps=100)
+        page.ask("second", on=True)
+        away = page.ask("frame", steps=600)
+        apart = [a != b for a, b in zip(places_of(away), places_of(away, "second"))]
+        self.assertTrue(all(apart))
+        page.ask("reverse")
+        back = page.ask("frame", steps=599)
+        self.assertEqual((back["step"], back["atoms"], back["second"]), (100, begun["atoms"], begun["atoms"]))
+
     def test_it_is_the_trajectory_of_the_file(self):
         page = self.page(*ARGON)
         told = page.ask("frame", steps=150)
@@ -168,6 +228,29 @@ class Told(unittest.TestCase):
             measured = argon.measure()
         self.assertAlmostEqual(told["temperature"], measured.temperature)
         self.assertAlmostEqual(told["potential"], measured.potential_energy / 256)
+
+    def test_the_crystal_is_begun_anew(self):
+        """4 atoms for each of 3 cells along each axis. A step of 0.001 has the step factor 4295, and 4295 stands for 0.00100001."""
+        page = self.page()
+        self.assertEqual(page.first["scene"]["settings"]["sizes"], [108, 256, 500, 864, 1372, 2048, 2916, 4000])
+        told = page.ask("load", scene=0, atoms=108, temperature=0.7, dt=0.001)
+        self.assertEqual((len(places_of(told)), told["scene"]["settings"]["atoms"]), (108, 108))
+        self.assertEqual(told["scene"]["reduced_dt"], (4295 / RING) ** 0.5)
+        self.assertAlmostEqual(page.ask("frame", steps=1)["temperature"], 0.7, places=3)
+        for words in (
+            *({"atoms": atoms} for atoms in (0, 107, 32, 5324, 108.5, "108", True, None)),
+            *({"dt": dt} for dt in (0, -1, 1, 1e-9, "x", None)),
+            *({"temperature": temperature} for temperature in (-1, 1e11, "x", None, True)),
+        ):
+            self.assertEqual(list(page.ask("load", scene=0, **words)), ["error"], words)
+        self.assertEqual((page.ask("frame", steps=1)["step"], len(places_of(page.ask("frame", steps=0)))), (2, 108))
+
+    def test_a_file_is_begun_anew(self):
+        page = self.page(*ARGON)
+        self.assertEqual(page.first["scene"]["settings"]["sizes"], [256])
+        told = page.ask("load", scene=0, temperature=90, dt=2)
+        self.assertAlmostEqual(told["scene"]["dt"], 2.000109, places=6)
+        self.assertAlmostEqual(told["temperature"], 90, places=3)
 
     def test_several_files(self):
         page = self.page(*ARGON, EXAMPLES / "argon_4000.xyz")

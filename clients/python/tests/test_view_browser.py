@@ -62,7 +62,7 @@ class InABrowser(unittest.TestCase):
         self.play_to(300, "<=")
         self.browser.wait_for("getComputedStyle(document.getElementById('arrow')).transform.startsWith('matrix(-1, ')")
         self.assertEqual(self.angle(), 180)
-        self.picture("view")
+        self.picture("on_the_way_back")
         self.browser.click("play")
         self.browser.wait_for("document.getElementById('step').textContent === '0'")
         self.browser.wait_for("document.getElementById('play').textContent === 'Play'")
@@ -153,6 +153,25 @@ class InABrowser(unittest.TestCase):
         self.assertLess(len(steps), 4001)
         self.assertEqual((steps[0], max(steps), steps[-1]), (0, 10001, 2))
         self.assertLess(max(abs(one - other) for one, other in zip(steps, steps[1:])), 20)
+
+    def test_lines_begin_at_the_first_frame(self):
+        """Of a session at a server that may be any step. At least a hundred steps are shown, and earlier ones if they are there."""
+        chart = "new script.Chart(document.createElement('canvas'), [], [0, 1])"
+        for steps, per, wanted in (
+            ([0], 1, [0, 100]), ([0, 400, 8], 1, [0, 400]), ([101000], 1, [101000, 101100]),
+            ([101000, 102384], 1, [101000, 102384]), ([2000, 1500], 1, [1500, 2100]), ([2000, 2400], 0.5, [1000, 1200]),
+        ):
+            rows = str([{"step": step} for step in steps])
+            shown = self.of_script("charts.js", f"{{ const chart = {chart}; chart.per = {per}; return chart.stepsOf({rows}); }}")
+            self.assertEqual(shown, wanted)
+
+    def test_no_time_is_told_before_there_is_one(self):
+        told = "getComputedStyle(document.getElementById('clock'), '::before').content"
+        self.assertEqual(self.browser.value(told), '"\u00b7 "')
+        was = self.browser.text("clock")
+        self.addCleanup(self.browser.value, f"document.getElementById('clock').textContent = '{was}'")
+        self.browser.value("document.getElementById('clock').textContent = ''")
+        self.assertEqual(self.browser.value(told), "none")
 
     def test_the_program_ends_with_the_page(self):
         self.browser.open("about:blank")

@@ -82,7 +82,7 @@ def test_a_burst_is_said_with_what_helps_for_as_long_as_it_is_true(opened):
     page.click("play")
     told = warning_is(page, BURST)
     page.click("play")
-    assert told == f"{BURST} Begin the view with a smaller step (--h)."
+    assert told == f"{BURST} Begin anew with a smaller step than 0.03412 τ."
     page.click("exact")
     page.wait_for("document.getElementById('message').textContent.startsWith('0 of 256')")
     assert page.text("warning") == told
@@ -104,7 +104,7 @@ def test_a_burst_is_said_with_what_helps_for_as_long_as_it_is_true(opened):
 def test_femtoseconds_are_named_where_they_were_said(opened):
     page = opened(CLOSE, "--sigma", 1, "--dt", 30)
     page.click("play")
-    assert warning_is(page, BURST) == f"{BURST} Begin the view with a smaller step (--dt, which is 30 fs)."
+    assert warning_is(page, BURST) == f"{BURST} Begin anew with a smaller step than 30 fs."
 
 
 def test_a_tug_is_no_burst(opened):

@@ -81,8 +81,8 @@ def test_each_key_presses_its_button_once_wherever_the_focus_is(keyboard, focus)
     keyboard.browser.click("save")
     keyboard.browser.wait_for("!document.getElementById('restore').disabled")
     keyboard.pressed()
-    keys = [SPACE, POINT, letter("r"), letter("e"), letter("s"), letter("b"), HOME]
-    for key, name in zip(keys, ["play", "one", "reverse", "exact", "save", "restore", "restart"]):
+    keys = [SPACE, POINT, letter("r"), letter("e"), letter("s"), letter("b"), letter("d"), HOME]
+    for key, name in zip(keys, ["play", "one", "reverse", "exact", "save", "restore", "second", "restart"]):
         keyboard.focus(focus)
         keyboard.press(key)
         assert keyboard.pressed() == [name]
@@ -137,7 +137,7 @@ def test_a_question_mark_shows_the_keys(keyboard, closes):
     keyboard.press(QUESTION)
     assert keyboard.browser.value(LIST_IS_OPEN)
     names = keyboard.browser.value("[...document.querySelectorAll('#keys dt')].map(each => each.textContent)")
-    assert names == ["Space", ".", "R", "E", "S", "B", "Home", "Enter", "?"]
+    assert names == ["Space", ".", "R", "E", "S", "B", "D", "Home", "Enter", "?"]
     keyboard.press(closes)
     keyboard.browser.wait_for(f"!{LIST_IS_OPEN}")
     assert keyboard.pressed() == []

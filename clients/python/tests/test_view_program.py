@@ -12,7 +12,8 @@ import webbrowser
 from importlib import metadata
 from unittest import mock
 
-from ljclient.view import command, scenes, server, websocket
+from web_sockets import Refused  # first, since without aiohttp these tests are skipped
+from ljclient.view import command, pages, scenes, server
 from support import EXAMPLES, SECONDS, TOP, interruptible, is_running
 from viewing import View, children_of, command as command_of, file_of
 
@@ -42,7 +43,7 @@ class Ends(unittest.TestCase):
         shown = self.view()
         shown.page().close()
         with shown.page():
-            time.sleep(server.GRACE_SECONDS + 0.5)
+            time.sleep(pages.GRACE_SECONDS + 0.5)
             self.assertIsNone(shown.child.poll())
         self.assertEqual(shown.child.wait(SECONDS), 0)
 
@@ -51,23 +52,23 @@ class Ends(unittest.TestCase):
         with shown.page() as one:
             with shown.page():
                 self.assertEqual(len(children_of(shown.child.pid)), 2)
-            time.sleep(server.GRACE_SECONDS + 0.5)
+            time.sleep(pages.GRACE_SECONDS + 0.5)
             self.assertEqual(one.ask("frame", steps=1)["step"], 1)
             self.assertEqual(len(children_of(shown.child.pid)), 1)
 
     def test_not_too_many_pages(self):
         shown = self.view()
-        pages = [shown.page() for _ in range(server.MAX_PAGES)]
-        with self.assertRaisesRegex(websocket.Broken, "503"):
+        opened = [shown.page() for _ in range(pages.MAX_PAGES)]
+        with self.assertRaisesRegex(Refused, "503"):
             shown.page()
-        self.assertEqual(pages[0].ask("frame", steps=1)["step"], 1)
-        for page in pages:
+        self.assertEqual(opened[0].ask("frame", steps=1)["step"], 1)
+        for page in opened:
             page.close()
         self.assertEqual(shown.child.wait(SECONDS), 0)
 
     def test_it_waits_for_its_first_page(self):
         shown = self.view()
-        time.sleep(server.GRACE_SECONDS + 0.5)
+        time.sleep(pages.GRACE_SECONDS + 0.5)
         self.assertIsNone(shown.child.poll())
 
     def test_an_interrupt_ends_it(self):
@@ -121,6 +122,16 @@ class Options(unittest.TestCase):
         self.assertIn("are for the atoms of a file", self.refused("--edge", 10, status=2))
         self.assertIn("--temperature is not below 0", self.refused("--temperature", -1, status=2))
         self.assertIn("--port is from 0 to 65535", self.refused("--port", 65536, status=2))
+
+    def test_without_aiohttp_it_is_told_what_to_install(self):
+        with tempfile.TemporaryDirectory() as folder:
+            pathlib.Path(folder, "aiohttp.py").write_text("raise ModuleNotFoundError('No module', name='aiohttp')\n")
+            words = command_of()
+            words["env"]["PYTHONPATH"] += f":{folder}"
+            words["env"]["PYTHONPATH"] = ":".join(reversed(words["env"]["PYTHONPATH"].split(":")))
+            done = subprocess.run(**words, capture_output=True, timeout=SECONDS)
+        self.assertEqual((done.returncode, done.stdout), (1, ""))
+        self.assertEqual(done.stderr, f"view: {command.MISSING}\n")
 
     def test_a_port_that_is_taken(self):
         with View() as shown:

@@ -123,10 +123,25 @@ def test_a_tap_tugs_nothing(page):
 
 
 @pytest.mark.parametrize("scheme", ["light", "dark"])
-def test_what_it_looks_like(page, scheme):
-    """For somebody who looks: what is tested is that nothing complains."""
-    page.in_scheme(scheme)
-    for width, height in ((390, 844), (850, 800), (1280, 800)):
-        resize(page, width, height)
-        picture(page, f"{width}_{scheme}")
-    page.in_scheme("light")
+def test_what_it_looks_like(browser, scheme):
+    """For somebody who looks: what is tested is that nothing complains, and that nothing overflows while all is shown."""
+    browser.leave()
+    with View() as view:
+        browser.in_scheme(scheme)
+        browser.open(f"http://{view.url}/")
+        browser.wait_for("document.getElementById('message')?.textContent === 'Press Play.'")
+        browser.click("second")
+        browser.value("document.getElementById('play').click()")
+        browser.wait_for("Number(document.getElementById('step').textContent.replaceAll(',', '')) >= 600")
+        browser.value("document.getElementById('play').click()")
+        for width, height in ((320, 700), (390, 844), (850, 800), (1280, 800)):
+            resize(browser, width, height)
+            picture(browser, f"{width}_{scheme}")
+        browser.value("document.querySelectorAll('#charts input').forEach(box => box.checked || box.click())")
+        for width, height in ((320, 2600), (390, 2400), (850, 1400), (1280, 1300)):
+            resize(browser, width, height)
+            picture(browser, f"{width}_{scheme}_all")
+            assert browser.value("document.documentElement.scrollWidth") <= width
+        browser.ask("Emulation.clearDeviceMetricsOverride")
+        browser.in_scheme("light")
+        assert browser.faults == []

@@ -5,12 +5,11 @@ import os
 import pathlib
 import subprocess
 import sys
+import socket
 import tempfile
 
-from ljclient.view import websocket
 from support import PROGRAM, SECONDS, TOP
-
-MOST = 1 << 24
+from web_sockets import WebSocket
 
 
 def file_of(case, text, name="atoms.xyz"):
@@ -34,7 +33,9 @@ class View:
 
     def __init__(self, *words):
         self.child = subprocess.Popen(**command(*words), stdout=subprocess.PIPE, stderr=subprocess.PIPE)
-        self.url = self.child.stdout.readline().partition("http://")[2].split("/")[0]
+        self.said = self.child.stdout.readline()
+        self.url, _, path = self.said.partition("http://")[2].split(" ")[0].partition("/")
+        self.path = f"/{path}"
         if not self.url:
             self.end()
             raise AssertionError("the view does not begin")
@@ -42,7 +43,7 @@ class View:
 
     def page(self, **headers):
         """A page that is opened in it, as a browser would."""
-        return Page(self.port, {"Origin": f"http://{self.url}", **headers})
+        return Page(self.port, {"Origin": f"http://{self.url}", **headers}, self.path)
 
     def end(self):
         """Ends the program. Returns its status, and what it wrote to standard error."""
@@ -61,13 +62,19 @@ class View:
 class Page(contextlib.AbstractContextManager):
     """A page's WebSocket: what it asks, and what it is told first."""
 
-    def __init__(self, port, headers):
-        self.channel = websocket.connect("127.0.0.1", port, "/session", headers, SECONDS, MOST)
-        self.first = json.loads(self.channel.receive())
+    def __init__(self, port, headers, path="/"):
+        self.channel = WebSocket(f"ws://127.0.0.1:{port}{path}session", headers)
+        self.first = self.receive()
+
+    def send(self, what, **words):
+        self.channel.send(json.dumps({"do": what, **words}))
+
+    def receive(self):
+        return json.loads(self.channel.receive())
 
     def ask(self, what, **words):
-        self.channel.send(json.dumps({"do": what, **words}))
-        return json.loads(self.channel.receive())
+        self.send(what, **words)
+        return self.receive()
 
     def close(self):
         self.channel.close()
@@ -76,9 +83,42 @@ class Page(contextlib.AbstractContextManager):
         self.close()
 
 
-def places_of(answer):
+class Stream(contextlib.AbstractContextManager):
+    """The bytes of a page's WebSocket, of which each is written by hand."""
+
+    KEY, ACCEPTED = "dGhlIHNhbXBsZSBub25jZQ==", b"s3pPLMBiTxaQ9kYGzzhZRbK+xOo="
+
+    def __init__(self, view):
+        self.connection = socket.create_connection(("127.0.0.1", view.port), SECONDS)
+        words = {"Host": view.url, "Origin": f"http://{view.url}", "Connection": "Upgrade", "Upgrade": "websocket"}
+        words.update({"Sec-WebSocket-Version": "13", "Sec-WebSocket-Key": self.KEY})
+        lines = "".join(f"{name}: {value}\r\n" for name, value in words.items())
+        self.connection.sendall(f"GET /session HTTP/1.1\r\n{lines}\r\n".encode())
+        self.reader = self.connection.makefile("rb")
+        self.head = b"".join(iter(self.reader.readline, b"\r\n"))
+        self.receive()
+
+    def send(self, first, data, mask=b"\x37\xfa\x21\x3d"):
+        """Sends a frame of less than 126 bytes, masked, whose first byte says its kind and whether it is the last."""
+        masked = bytes(byte ^ mask[k % 4] for k, byte in enumerate(data))
+        self.connection.sendall(bytes([first, 0x80 | len(data)]) + mask + masked)
+
+    def receive(self):
+        """The first byte of the next frame, and what it holds. None at the end."""
+        head = self.reader.read(2)
+        if len(head) < 2:
+            return None
+        length = head[1] if head[1] < 126 else int.from_bytes(self.reader.read(2 if head[1] == 126 else 8), "big")
+        return head[0], self.reader.read(length)
+
+    def __exit__(self, *_):
+        self.reader.close()
+        self.connection.close()
+
+
+def places_of(answer, run="atoms"):
     """The places of an answer's frame. A coordinate has six decimals, and the last of them is one ring unit."""
-    rows = (line.split(" ")[1:] for line in answer["atoms"].split("\n"))
+    rows = (line.split(" ")[1:] for line in answer[run].split("\n"))
     return [tuple(int(word.replace(".", "")) for word in row) for row in rows]
 
 

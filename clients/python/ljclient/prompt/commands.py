@@ -1,7 +1,7 @@
 """The commands of the protocol as one table, from which help, completion and explanations are made."""
 from __future__ import annotations
 
-from typing import Dict, List, NamedTuple, Tuple
+from typing import Dict, List, NamedTuple, Optional, Tuple
 
 XYZ_FAULTS = (30, 31, 32, 33, 34, 35)
 MODES = ("rest", "pair")
@@ -148,6 +148,59 @@ COMMANDS = (
     Command("BYE", "OK BYE", (), "Ends the connection, and the prompt.", ("> BYE", "OK BYE")),
 )
 
+
+class Own(NamedTuple):
+    """What is said at the prompt alone: the words, what it does, and an example."""
+
+    usage: str
+    does: str
+    example: Tuple[str, ...] = ()
+
+    @property
+    def name(self) -> str:
+        return self.usage.split()[0]
+
+
+OWN = (
+    Own(
+        "LOAD s FILE dt=.. SUBSTANCE [rest|pair]",
+        "Loads a file in physical units: the substance is argon, or sigma=, epsilon= and mass=. A number without a unit is in "
+        "angstrom, electronvolt, dalton or femtoseconds; K, kJ/mol, kcal/mol, nm and ps are units too. The edge of the box is "
+        "that of Lattice in the file, or edge=.",
+        (
+            *("> LOAD argon argon_256.xyz edge=21.04 dt=2fs argon", "OK LOAD argon 0 256"),
+            "  edge 21.04, sigma 3.4, h 3706, and the time step 2.000109 fs",
+        ),
+    ),
+    Own(
+        "SHOW s i..j",
+        "Shows the places of the atoms i to j.",
+        ("> SHOW a 0..1", "OK SHOW a 0 0 0 0 0", "OK SHOW a 0 1 25165824 0 0"),
+    ),
+    Own(
+        "DUMP s > FILE",
+        "Writes the frame into an XYZ file, in place of one that is there.",
+        ("> DUMP a > a.xyz", "  2 atoms at step 0 are in a.xyz"),
+    ),
+    Own(
+        "save s FILE",
+        "Writes the whole simulation into a file, to the bit, but for what BRANCH has saved. Of a session that was not loaded "
+        "here its scale is said too, as in `save a a.saved edge=21.04 dt=2fs argon` or with sigma= and h=.",
+        ("> save a a.saved", "  a at step 0 is in a.saved"),
+    ),
+    Own(
+        "load_saved FILE [s]",
+        "Goes on from such a file, exactly. Steps are counted on.",
+        (
+            *("> save a a.saved", "  a at step 0 is in a.saved"),
+            *("> load_saved a.saved b", "  b goes on at step 0, with 2 atoms"),
+        ),
+    ),
+    Own(".read FILE", "Does what each line of a file says, up to one that is refused. What follows ` #` is a comment."),
+    Own("help [COMMAND]", "Tells of one command; `help 10` and `help NO_SESSION` of a refusal."),
+    Own("exit", "Ends the prompt, as BYE and Ctrl-D do."),
+)
+
 WORDS: Dict[str, str] = {
     "s": "the name of a session: 1 to 16 letters, digits, `_` or `-`",
     "b": "the name under which a simulation is saved: 1 to 16 letters, digits, `_` or `-`",
@@ -163,7 +216,10 @@ WORDS: Dict[str, str] = {
     "s3 h3 e3": "those of two atoms Q",
     "rest": "`rest` starts at rest, at the first frame; `pair` from two frames one step apart, the earlier one first",
     "count": "how many bytes of XYZ text follow the line",
-    "FILE": "an XYZ file in place of the count; in quotes if it has blanks",
+    "FILE": "a file; in quotes if its name has blanks",
+    "i..j": "the numbers of the first atom and of the last one, such as 0..9",
+    "dt=..": "the time step in fs, such as dt=2fs",
+    "SUBSTANCE": "argon, or sigma=, epsilon= and mass=",
 }
 
 
@@ -177,8 +233,23 @@ def names() -> List[str]:
     return list(dict.fromkeys(command.name for command in COMMANDS))
 
 
+def first_words() -> List[str]:
+    """What a line may begin with at the prompt."""
+    return list(dict.fromkeys([*names(), *(own.name for own in OWN)]))
+
+
+def command_of(word: str) -> Optional[str]:
+    """The command that a word says, in capitals or not."""
+    return next((name for name in first_words() if name.lower() == word.lower()), None)
+
+
 def words_of(usage: str) -> List[Tuple[str, str]]:
     """The words of a usage after the first, several together where they belong together, each with what it means."""
     padded = f" {usage.replace('[rest|pair]', 'rest')} "
     found = [(padded.index(f" {word} "), word) for word in WORDS if f" {word} " in padded]
     return [(word, WORDS[word]) for _, word in sorted(found)]
+
+
+def own_of(name: str) -> List[Own]:
+    """What is said at the prompt alone, and begins with this word."""
+    return [own for own in OWN if own.name.lower() == name.lower()]

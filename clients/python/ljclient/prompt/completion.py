@@ -3,50 +3,63 @@ from __future__ import annotations
 
 import glob
 import os
-from typing import Any, Callable, List, Optional, Sequence
+from typing import List, Optional, Sequence, Set
 
-from ..errors import ClientError
+from ..errors import ClientError, TimedOut
 from ..user import User
-from .commands import MODES, forms_of, names
+from .commands import MODES, command_of, first_words
+from .physical import UNITS, substances
+from .shapes import usages, wrong_words
 
-LOCAL = ("help", "exit")
-
+PATIENCE = 1.0
 
 def candidates(before: Sequence[str], word: str, user: Optional[User]) -> List[str]:
     """What a word may be, after the words before it in the line."""
-    known = [name.lower() if word[:1].islower() else name for name in names()]
+    known = [name.lower() if word[:1].islower() else name for name in first_words()]
     if not before:
-        return fitting([*known, *LOCAL], word)
-    first = before[0].upper()
-    if first == "HELP" and len(before) == 1:
         return fitting(known, word)
-    forms = forms_of(first)
-    if forms and forms[0].with_file:
-        return of_load(before, word)
-    kinds = [form.usage.split()[len(before)] for form in forms if len(before) < len(form.usage.split())]
-    return fitting(names_at(kinds[-1], first, before, user), word) if kinds else []
+    command = command_of(before[0])
+    if command in ("LOAD", "LOADMIX"):
+        return of_load(command, before, word)
+    possible = [usage for usage in usages(command or "") if not wrong_words([*before, ""], usage, is_whole=False)]
+    kinds = {kind for usage in possible for kind in usage.split()[len(before) : len(before) + 1]}
+    if "[COMMAND]" in kinds:
+        return fitting(known, word)
+    if "FILE" in kinds:
+        return files(word)
+    return fitting(names_at({kind.strip("[]") for kind in kinds}, command or "", before, user), word)
 
 
-def of_load(before: Sequence[str], word: str) -> List[str]:
-    """What a word of a LOAD may be: a file, or how the atoms start."""
+def of_load(command: str, before: Sequence[str], word: str) -> List[str]:
+    """What a word of a LOAD may be: a file, a quantity or a substance, or how the atoms start."""
     if len(before) == 2:
         return files(word)
-    modes = fitting(MODES, word) if word and len(before) > 4 else []
-    return modes or (files(word) if before[-1] in MODES else [])
+    if not word or len(before) < 3:
+        return files(word) if before[-1] in MODES else []
+    physical = [*substances(), *(f"{name}=" for name in UNITS)] if command == "LOAD" else []
+    found = [*fitting(MODES, word), *(each.replace("= ", "=") for each in fitting(physical, word))]
+    return found or (files(word) if before[-1] in MODES else [])
 
 
-def names_at(kind: str, first: str, before: Sequence[str], user: Optional[User]) -> List[str]:
+def names_at(kinds: Set[str], command: str, before: Sequence[str], user: Optional[User]) -> List[str]:
     """The names that are there: of sessions, or of what is saved in the session that the line names."""
     if user is None or user.closed:
         return []
     try:
-        if kind == "s":
-            return [row.name for row in user.sessions()]
-        if kind == "b" and first != "BRANCH":
-            return [saved.name for saved in user.session(before[1]).saved()]
+        with user.on_wait(give_up):
+            if "s" in kinds:
+                return [row.name for row in user.sessions()]
+            if "b" in kinds and command != "BRANCH":
+                return [saved.name for saved in user.session(before[1]).saved()]
     except (ClientError, ValueError):
         pass
     return []
+
+
+def give_up(command: str, silent: float) -> None:
+    """Waits no longer for names than somebody who types."""
+    if silent > PATIENCE:
+        raise TimedOut(f"`{command}` is not answered yet")
 
 
 def files(word: str) -> List[str]:
@@ -60,16 +73,3 @@ def files(word: str) -> List[str]:
 def fitting(known: Sequence[str], word: str) -> List[str]:
     """Those that begin so, each with the blank that follows it."""
     return [f"{each} " for each in known if each.startswith(word)]
-
-
-def completer(readline: Any, user: Callable[[], Optional[User]]) -> Callable[[str, int], Optional[str]]:
-    """What the library of line editing asks for the next completion of a word."""
-    found: List[str] = []
-
-    def complete(word: str, state: int) -> Optional[str]:
-        if state == 0:
-            before = readline.get_line_buffer()[: readline.get_begidx()].split()
-            found[:] = candidates(before, word, user())
-        return found[state] if state < len(found) else None
-
-    return complete

@@ -1,15 +1,17 @@
 """Refusals in words: what each means, and what there is in place of what was asked for."""
 from __future__ import annotations
 
-import difflib
 from typing import List
 
 from ..errors import ClientError, Refused
-from ..refusals import BranchExists, Command, NoAtom, NoBranch, NoSession, Syntax
+from ..refusals import BranchExists, Command, Edge, Exists, NoAtom, NoBranch, NoSession, Sigma, StepFactor, StepRange, Syntax, Weight
 from ..user import User
-from .commands import names
-from .loading import usages, words_of
+from .commands import first_words
+from .loading import words_of
+from .shapes import usage_for, usages, wrong_words
 
+OF_A_WORD = (Syntax, Edge, Sigma, StepFactor, StepRange, Weight)
+CLOSE = 0.65
 MAX_NAMES = 12
 MAX_TEXT = 60
 
@@ -18,6 +20,8 @@ def explained(refusal: Refused, user: User, path: str = "", body: bytes = b"") -
     """The lines that explain a refusal; `path` and `body` are those of a file that was loaded."""
     lines = [refusal.meaning or "a refusal that this client does not know"]
     words = words_of(refusal.command)
+    if isinstance(refusal, OF_A_WORD) and words:
+        lines += [str(wrong) for wrong in wrong_words(words, usage_for(words))[:1]]
     if isinstance(refusal, Syntax) and words:
         lines += [f"as it should be: {usage}" for usage in usages(words[0])]
     if isinstance(refusal, Command) and words:
@@ -38,7 +42,10 @@ def lost(names: List[str]) -> List[str]:
 
 def meant(word: str) -> List[str]:
     """The commands that are written nearly as this word."""
-    near = difflib.get_close_matches(word.upper(), names(), 2)
+    import difflib  # It takes long to import, and is seldom needed.
+
+    known = {name.upper(): name for name in first_words()}
+    near = [known[found] for found in difflib.get_close_matches(word.upper(), known, 2, CLOSE)]
     return [f"is {' or '.join(near)} meant? `help` lists the commands" if near else "`help` lists the commands"]
 
 
@@ -57,6 +64,8 @@ def there_is(refusal: Refused, user: User, words: List[str]) -> List[str]:
         return []
     if isinstance(refusal, NoSession):
         return [listed("sessions", [row.name for row in user.sessions()])]
+    if isinstance(refusal, Exists):
+        return [f"`DROP {words[1]}` gives it up, or say another name"]
     if isinstance(refusal, (NoBranch, BranchExists)):
         return [listed(f"saved in {words[1]}", [saved.name for saved in user.session(words[1]).saved()])]
     if isinstance(refusal, NoAtom):

@@ -2,65 +2,86 @@
 from __future__ import annotations
 
 import textwrap
-from typing import List, Optional
+from typing import List, Optional, Tuple
 
 from .. import refusals  # noqa: F401 (it fills the table of refusals)
 from ..errors import Refused
-from .commands import COMMANDS, Command, forms_of, words_of
+from .commands import COMMANDS, OWN, Command, Own, forms_of, own_of, words_of
+from .explaining import meant
 
 WIDTH = 100
-HERE = (
-    ("help COMMAND", "tells of one command; `help 10` and `help NO_SESSION` of a refusal"),
-    ("exit", "ends the prompt, as BYE and Ctrl-D do"),
-)
+INDENT = " " * 15
 KEYS = (
     "Tab completes commands, names and files. The arrow keys go through what was typed before.",
     "Ctrl-C ends a long ADVANCE after a piece. Commands may be typed in small letters.",
 )
 
 
-def help_on(word: str) -> List[str]:
-    """The lines that `help` tells: of all commands where no word is said."""
+def help_on(word: str, width: int = WIDTH) -> List[str]:
+    """The lines that `help` tells, of so many columns at most: of all commands where no word is said."""
     if not word:
-        return overview()
-    if forms := forms_of(word.upper()):
-        return on_command(forms)
+        return overview(width)
+    forms, own = forms_of(word.upper()), own_of(word)
+    if forms or own:
+        return [*on_command(forms, width), *on_own(own, width, bool(forms))]
     refusal = refusal_named(word)
-    return on_refusal(word) if refusal is None else [f"ERR {refusal.number:02} {refusal.name}: {refusal.meaning}"]
+    text = on_refusal(word) if refusal is None else f"ERR {refusal.number:02} {refusal.name}: {refusal.meaning}"
+    return wrapped(text, "", "  ", width)
 
 
-def overview() -> List[str]:
+def overview(width: int) -> List[str]:
     """A line for each form of each command."""
     rows = [(command.with_file or command.usage, command.does) for command in COMMANDS]
-    lines, indent = [], " " * 15
-    for usage, does in [*rows, *HERE]:
-        is_short = len(usage) < len(indent)
-        lines += [] if is_short else [usage]
-        lines += wrapped(does, usage.ljust(len(indent)) if is_short else indent, indent)
-    return [*lines, "", *KEYS]
+    lines: List[str] = []
+    for usage, does in [*rows, *((own.usage, own.does) for own in OWN)]:
+        is_short = len(usage) < len(INDENT)
+        lines += [] if is_short else wrapped(usage, "", "  ", width)
+        lines += wrapped(does, usage.ljust(len(INDENT)) if is_short else INDENT, INDENT, width)
+    return [*lines, "", *(line for text in KEYS for line in wrapped(text, "", "", width))]
 
 
-def on_command(forms: List[Command]) -> List[str]:
+def on_command(forms: List[Command], width: int) -> List[str]:
     """What a command does, its words, its reply and its refusals, for each of its forms."""
     lines: List[str] = []
     for form in forms:
         lines += [""] if lines else []
-        lines += [usage for usage in (form.usage, form.with_file) if usage]
-        lines += wrapped(form.does, "  ", "  ")
-        lines += [f"    {word:<10} {meaning}" for word, meaning in words_of(f"{form.usage} {form.with_file}")]
+        for usage in filter(None, (form.usage, form.with_file)):
+            lines += wrapped(usage, "", "    ", width)
+        lines += wrapped(form.does, "  ", "  ", width)
+        lines += table([(f"{word:<10}", meaning) for word, meaning in words_of(f"{form.usage} {form.with_file}")], width)
         lines += [f"  Reply: {form.reply}"]
         kinds = [Refused.by_number[number] for number in form.refusals]
-        lines += ["  Refusals, after 02 and 03 of the line itself, in the order in which they are tested:"] if kinds else []
-        lines += [f"    {kind.number:02} {kind.name:<15} {kind.meaning}" for kind in kinds]
-        lines += wrapped(form.order, "    ", "    ")
+        if kinds:
+            text = "Refusals, after 02 and 03 of the line itself, in the order in which they are tested:"
+            lines += wrapped(text, "  ", "  ", width)
+        lines += table([(f"{kind.number:02} {kind.name:<15}", kind.meaning) for kind in kinds], width)
+        lines += wrapped(form.order, "    ", "    ", width)
         lines += ["  Example:" if form.with_file else "  Example, with the session of `help LOAD`:"]
-        lines += [f"    {line}" for line in form.example]
+        lines += [part for line in form.example for part in wrapped(line, "    ", "        ", width)]
     return lines
 
 
-def wrapped(text: str, first: str, indent: str) -> List[str]:
-    """A text as lines of 100 columns at most, of which the first begins with something else than the others."""
-    return textwrap.wrap(text, WIDTH, initial_indent=first, subsequent_indent=indent)
+def table(rows: List[Tuple[str, str]], width: int) -> List[str]:
+    """Words, each with what it means behind it."""
+    return [line for word, meaning in rows for line in wrapped(meaning, f"    {word} ", " " * (5 + len(word)), width)]
+
+
+def on_own(forms: List[Own], width: int, follows: bool) -> List[str]:
+    """What is said at the prompt alone and begins with one word, after what the protocol has of it."""
+    lines: List[str] = []
+    for form in forms:
+        lines += [""] if lines or follows else []
+        lines += wrapped(form.usage, "", "    ", width) + wrapped(form.does, "  ", "  ", width)
+        lines += ["  Example, with the session of `help LOAD`:"] if form.example else []
+        lines += [part for line in form.example for part in wrapped(line, "    ", "        ", width)]
+    return lines
+
+
+def wrapped(text: str, first: str, indent: str, width: int) -> List[str]:
+    """A text as lines of so many columns at most, of which the first begins with something else than the others."""
+    return textwrap.wrap(
+        text, width, initial_indent=first, subsequent_indent=indent, break_long_words=False, break_on_hyphens=False
+    )
 
 
 def refusal_named(word: str) -> "Optional[type[Refused]]":
@@ -71,6 +92,6 @@ def refusal_named(word: str) -> "Optional[type[Refused]]":
     return None
 
 
-def on_refusal(word: str) -> List[str]:
+def on_refusal(word: str) -> str:
     """What is told of a word that is neither a command nor a refusal."""
-    return [f"There is no command and no refusal {word}: `help` lists the commands."]
+    return f"There is no command and no refusal {word}: {meant(word)[0]}"

@@ -13,7 +13,6 @@ class Link:
         self._open = open_user
         self.user = open_user()
         self.after_end = after_end
-        self.is_settled = True
         self._had: Set[str] = set()
         self._lost: List[str] = []
 
@@ -34,7 +33,7 @@ class Link:
 
     def settled_user(self) -> Optional[User]:
         """The user, where no reply is awaited that nobody came for: it can be asked without a wait."""
-        return self.user if self.is_settled and not self.user.closed else None
+        return self.user if self.user.is_free else None
 
     def close(self) -> None:
         """Takes leave."""

@@ -9,9 +9,7 @@ from typing import List, NamedTuple, Optional
 from ..wire import MAX_COMMAND
 from ..xyz import MAX_BYTES
 from .commands import MODES, forms_of
-
-COUNT = re.compile(r"[0-9]{1,7}\Z")
-DECIMAL = re.compile(r"(?=.{1,40}\Z)[+-]?([0-9]+\.?[0-9]*|\.[0-9]+)([eEdD][+-]?[0-9]{1,3})?\Z")
+from .shapes import DECIMAL, is_count
 
 
 class Fault(Exception):
@@ -46,11 +44,6 @@ def count_of_words(name: str) -> int:
     return len(forms_of(name)[0].usage.split())
 
 
-def is_count(word: str) -> bool:
-    """Whether a word is a count of bytes that the server takes."""
-    return bool(COUNT.match(word)) and int(word) <= MAX_BYTES
-
-
 def size_of_body(line: str) -> int:
     """How many bytes the server reads after a line as its body: none where the line says no count, or is too long."""
     words = words_of(line)
@@ -79,6 +72,17 @@ def quoted_words(line: str) -> List[str]:
         return words_of(line)
 
 
+def without_comment(line: str) -> str:
+    """A line without what follows a `#` that stands before a word, outside of quotes."""
+    quote = ""
+    for place, mark in enumerate(line):
+        if mark == "#" and not quote and not line[:place][-1:].strip():
+            return line[:place]
+        if mark in ("'", '"') and quote in ("", mark):
+            quote = "" if quote else mark
+    return line
+
+
 def read_body(path: str) -> bytes:
     """The bytes of an XYZ file. Raises Fault where it cannot be read, or has more than the server takes."""
     try:
@@ -95,7 +99,3 @@ def line_of(load: FromFile, body: bytes) -> str:
     """The command of the protocol for a load from a file."""
     return " ".join([*load.words, str(len(body))])
 
-
-def usages(name: str) -> List[str]:
-    """The ways in which a command may be said, with a file first."""
-    return [usage for form in forms_of(name) for usage in (form.with_file, form.usage) if usage]

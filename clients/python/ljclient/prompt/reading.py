@@ -1,16 +1,15 @@
-"""Where lines come from: a terminal, at which they are edited, or any other input."""
+"""Where lines come from: a terminal, a file that is read there, or any other input."""
 from __future__ import annotations
 
+import io
 import os
 from collections import deque
-from typing import Any, BinaryIO, Callable, Deque, List, Optional
+from typing import BinaryIO, Callable, Deque, List, Optional, Protocol
 
-from ..user import User
-from .completion import completer
 from .loading import Fault
 
 MAX_BYTES_OF_LINE = 65_536
-MAX_HISTORY = 1000
+MAX_FILES = 8
 
 
 class PipeInput:
@@ -37,88 +36,111 @@ class PipeInput:
         return body
 
 
-class TerminalInput:
-    """Lines of somebody at a terminal. Several that come at once, since they were pasted, are taken one after the other."""
+class Reader(Protocol):
+    """Who reads what is typed at a terminal."""
 
-    def __init__(self, prompt: str, remember: Callable[[str], None]):
+    def command(self, prompt: str) -> str:
+        """The next line, or several that were pasted. EOFError at the end, KeyboardInterrupt for an interrupt."""
+
+    def text(self, prompt: str) -> str:
+        """The next line of a text that follows a command."""
+
+    def remember(self, line: str) -> None:
+        """Keeps a command, to be typed again."""
+
+
+class PlainReader:
+    """Lines as the terminal itself has them edited: without hints, completion and history."""
+
+    def command(self, prompt: str) -> str:
+        return input(prompt)
+
+    def text(self, prompt: str) -> str:
+        return input(prompt)
+
+    def remember(self, line: str) -> None:
+        pass
+
+
+class FileLines(PipeInput):
+    """The lines of a file that is read at a prompt."""
+
+    def __init__(self, path: str):
+        try:
+            with open(os.path.expanduser(path), "rb") as file:
+                super().__init__(io.BytesIO(file.read()))
+        except OSError as error:
+            raise Fault(f"cannot read {path}: {error.strerror or error}") from error
+        self.path = path
+        self.number = 0
+
+    def line(self) -> Optional[str]:
+        self.number += 1
+        return super().line()
+
+    def body(self, size: int) -> bytes:
+        body = super().body(size)
+        self.number += body.count(b"\n")
+        return body
+
+
+class TerminalInput:
+    """Lines of somebody at a terminal. Several that come at once, since they were pasted, are taken one after the other, and so
+    are those of a file that is read."""
+
+    def __init__(self, prompt: str, reader: Reader, show: Callable[[str], None]):
         self._prompt = prompt
-        self._remember = remember
+        self._reader = reader
+        self._show = show
         self._pasted: Deque[str] = deque()
+        self._files: List[FileLines] = []
 
     def line(self) -> Optional[str]:
         """The next line. None at the end of the input."""
+        while self._files:
+            line = self._files[-1].line()
+            if line is not None:
+                self._show(f"{self._prompt}{line}")
+                return line
+            self._files.pop()
         try:
-            line = self._next(self._prompt)
+            line = self._next(self._reader.command, self._prompt)
         except EOFError:
             return None
-        self._remember(line)
+        self._reader.remember(line)
         return line
 
     def body(self, size: int) -> bytes:
         """The bytes of the next lines; what follows them in the last one is a line of its own."""
+        if self._files:
+            return self._files[-1].body(size)
         body = b""
         while len(body) < size:
             try:
-                body += self._next(f"{size - len(body)} bytes more> ").encode() + b"\n"
+                body += self._next(self._reader.text, f"{size - len(body)} bytes more> ").encode() + b"\n"
             except EOFError:
                 raise Fault("the text is not whole") from None
         if rest := body[size:].decode(errors="replace").rstrip("\n"):
             self._pasted.appendleft(rest)
         return body[:size]
 
+    def read_file(self, path: str) -> None:
+        """Takes the next lines from a file. Raises Fault if that cannot be, or if files read one another without an end."""
+        if len(self._files) == MAX_FILES:
+            raise Fault(f"{path} would be the {MAX_FILES + 1}th file that is read by another one")
+        self._files.append(FileLines(path))
+
+    def stop_files(self) -> List[str]:
+        """Reads no file any more, and tells where it was left."""
+        told = [f"{self._files[-1].path} is left at line {self._files[-1].number}"] if self._files else []
+        self._files.clear()
+        return told
+
     def forget(self) -> None:
         """Drops what was pasted and is not yet taken."""
         self._pasted.clear()
 
-    def _next(self, prompt: str) -> str:
+    def _next(self, read: Callable[[str], str], prompt: str) -> str:
         if not self._pasted:
-            self._pasted.extend(input(prompt).split("\n"))
+            self._pasted.extend(read(prompt).split("\n"))
         return self._pasted.popleft()
-
-
-class History:
-    """What was typed before: kept in a file from one time to the next, but for lines that have a token."""
-
-    def __init__(self, readline: Any, path: str):
-        self._readline = readline
-        self._path = path
-        readline.set_auto_history(False)
-        readline.set_history_length(MAX_HISTORY)
-        try:
-            readline.read_history_file(path)
-        except OSError:
-            pass
-
-    def add(self, line: str) -> None:
-        """Remembers a line, once where it comes again."""
-        last = self._readline.get_history_item(self._readline.get_current_history_length())
-        if line.split() and line.split()[0].upper() != "HELLO" and line != last:
-            self._readline.add_history(line)
-
-    def save(self) -> None:
-        """Writes the file, for its owner alone. Where that cannot be, there is none."""
-        try:
-            os.close(os.open(self._path, os.O_CREAT | os.O_WRONLY, 0o600))
-            self._readline.write_history_file(self._path)
-        except OSError:
-            pass
-
-
-def history_path() -> str:
-    """The file of what was typed: the one that LJCLIENT_HISTORY names, else one in the home folder."""
-    return os.environ.get("LJCLIENT_HISTORY") or os.path.expanduser("~/.ljclient_history")
-
-
-def line_editing(user: Callable[[], Optional[User]]) -> Optional[History]:
-    """Has lines edited and completed, and remembers them. None where this Python has no library for that."""
-    try:
-        import readline
-    except ImportError:
-        return None
-    readline.set_completer_delims(" \t")
-    readline.set_completer(completer(readline, user))
-    is_libedit = "libedit" in (readline.__doc__ or "")
-    bindings: List[str] = ["bind ^I rl_complete"] if is_libedit else ["tab: complete", "set show-all-if-ambiguous on"]
-    for binding in bindings:
-        readline.parse_and_bind(binding)
-    return History(readline, history_path())

@@ -1,7 +1,7 @@
 """A live view for teaching: one page in the browser, with atoms that move, and a time that turns.
 
-`python3 -m ljclient view [FILE.xyz ..]` serves it on 127.0.0.1 alone and opens it; `python3 -m ljclient.view` is the same.
-The program ends when the page is closed.
+`python3 -m ljclient view [HOST:PORT NAME] [FILE.xyz ..]` serves it on 127.0.0.1 alone and opens it; `python3 -m ljclient.view` is
+the same. The program ends when the page is closed. With `--listen` a class has it, until the program is ended.
 """
 from .command import main
 

@@ -3,37 +3,54 @@ from __future__ import annotations
 
 import argparse
 import functools
+import importlib
 import sys
 import threading
 import webbrowser
-from typing import Any, Callable, List, Optional, Sequence
+from pathlib import Path
+from types import ModuleType
+from typing import Any, Callable, List, Optional, Sequence, cast
 
 from .. import ClientError, Scale, User, run, units
+from ..names import checked_name
+from ..tokens import stored_token
+from .access import Access, for_this_machine, with_a_secret
+from .addresses import Address, address_in
+from .own import OwnSessions
 from .scenes import Scene, crystal, of_file
-from .server import Server
+from .talk import Choice
+from .users import Account, AtServer, Programs, Users
 
 H = 131072
 HEAT = 1.5
+MISSING = "the page is served by aiohttp, which is not installed: `pip install aiohttp`, or Debian's python3-aiohttp"
+USAGE = "python3 -m ljclient view [HOST:PORT NAME] [FILE.xyz ..] [OPTION ..]"
 TEXT = """Shows atoms in motion on a page of the browser: play, one step, time turned back, tugs, and what they lead to.
 
 Without a file it shows a crystal of 256 atoms that melts. Atoms of a file are argon with a time step of 10 fs, in angstrom,
-if nothing else is said. Atoms begin at rest, or with random velocities of --temperature."""
+if nothing else is said. Atoms begin at rest, or with random velocities of --temperature.
+
+With HOST:PORT NAME it shows the sessions that this user has at a server, beside the crystal or the files. The token is read
+from --token-file or from LJSERVE_TOKEN, or typed into the page. What a session was loaded with is said by --edge, --sigma and
+--h, or typed into the page. The server is left ten seconds after the last page stopped playing, so that the user's prompt
+gets in."""
 
 
 def main(arguments: List[str]) -> int:
     """Serves the page on 127.0.0.1 until it is closed. Returns the status of the process."""
     options = options_of(arguments)
     try:
-        open_user = functools.partial(run, options.program)
-        scenes = scenes_of(options)
-        try_all(scenes, open_user)
-        server = Server(options.port, scenes, open_user)
+        server_module = imported_server()
+        users, choice = users_of(options), choice_of(options)
+        access = access_of(options)
+        server = server_module.Server(access, choice, users)
     except (ClientError, OSError, ValueError) as error:
         print(f"view: {error}", file=sys.stderr)
         return 1
-    print(f"The page is at {server.url} and the program ends when it is closed.", flush=True)
+    end = "by Ctrl-C" if access.is_open else "when it is closed"
+    print(f"The page is at {access.url} and the program ends {end}.", flush=True)
     if options.browser:
-        threading.Thread(target=open_browser, args=[server.url], daemon=True).start()
+        threading.Thread(target=open_browser, args=[access.url], daemon=True).start()
     try:
         server.run()
     except KeyboardInterrupt:
@@ -41,11 +58,22 @@ def main(arguments: List[str]) -> int:
     return 0
 
 
+def imported_server() -> ModuleType:
+    """The module that serves the page. ClientError, which says what to install, if it cannot be had."""
+    try:
+        return importlib.import_module("ljclient.view.server")
+    except ModuleNotFoundError as error:
+        if (error.name or "").partition(".")[0] != "aiohttp":
+            raise
+        raise ClientError(MISSING) from None
+
+
 def options_of(arguments: List[str]) -> argparse.Namespace:
     """The options of the command. It ends with status 2 if they are wrong."""
     form = argparse.RawTextHelpFormatter
-    reader = argparse.ArgumentParser("python3 -m ljclient view", description=TEXT, formatter_class=form)
+    reader = argparse.ArgumentParser("view", USAGE, TEXT, formatter_class=form, allow_abbrev=False)
     reader.add_argument("files", metavar="FILE.xyz", nargs="*", help="atoms as XYZ text, a choice of the page for each file")
+    reader.add_argument("--token-file", metavar="FILE", help="a file with the user's token")
     reader.add_argument("--edge", type=float, help="edge of the cubic box, for files that say no Lattice")
     reader.add_argument("--temperature", type=float, help="of the first velocities, in kelvin (with --h in epsilon / k_B)")
     reader.add_argument("--seed", type=int, default=1, help="of the random numbers for them (1)")
@@ -55,19 +83,61 @@ def options_of(arguments: List[str]) -> argparse.Namespace:
     reader.add_argument("--dt", type=float, help="the time step, in femtoseconds (10)")
     reader.add_argument("--h", type=int, help=f"the step factor, with which units are reduced ({H} for the crystal)")
     reader.add_argument("--port", type=int, default=0, help="the port on 127.0.0.1 (one that is free)")
+    reader.add_argument("--listen", metavar="ADDRESS:PORT", help="for a class: let others have the page, by a link with a secret")
+    reader.add_argument("--address", metavar="HOST", help="this machine as others reach it, where the one that is found is another")
     reader.add_argument("--program", help="the program, as ljclient.run takes it")
     reader.add_argument("--no-browser", dest="browser", action="store_false", help="only say where the page is")
     options = reader.parse_intermixed_args(arguments)
+    options.server = None
+    if options.files and (address := address_in(options.files[0])) and not Path(options.files[0]).exists():
+        if len(options.files) < 2:
+            reader.error("NAME is missing: who asks, as in the server's file of users")
+        options.server, options.files = (address, options.files[1]), options.files[2:]
+    elif options.token_file is not None:
+        reader.error("--token-file is for HOST:PORT NAME")
     if options.temperature is not None and not 0 <= options.temperature < float("inf"):
         reader.error("--temperature is not below 0")
     if not 0 <= options.port <= 65535:
         reader.error("--port is from 0 to 65535")
+    if options.listen is not None and address_in(options.listen) is None:
+        reader.error("--listen is an ADDRESS:PORT, such as 0.0.0.0:8000")
+    if options.listen is not None and options.port:
+        reader.error("--listen says the port: leave --port out")
+    if options.listen is None and options.address is not None:
+        reader.error("--address is for --listen")
     physical = [options.epsilon, options.mass, options.dt]
     if options.h is not None and physical != [None] * 3:
         reader.error("--h stands in place of --epsilon, --mass and --dt")
-    if not options.files and [options.edge, options.sigma, *physical] != [None] * 5:
+    if not options.files and options.server is None and [options.edge, options.sigma, *physical] != [None] * 5:
         reader.error("--edge, --sigma, --epsilon, --mass and --dt are for the atoms of a file")
     return options
+
+
+def access_of(options: argparse.Namespace) -> Access:
+    """Who may have the page. Raises OSError or ClientError if it cannot be served there."""
+    if options.listen is None:
+        return for_this_machine(options.port)
+    return with_a_secret(cast(Address, address_in(options.listen)), options.address)
+
+
+def users_of(options: argparse.Namespace) -> Users:
+    """Whose sessions are shown. Raises ClientError if a server cannot be reached, or denies the user."""
+    if options.server is None:
+        return Programs(functools.partial(run, options.program))
+    address, name = options.server
+    account = Account(address, checked_name(name), stored_token(name, options.token_file))
+    account.check()
+    return AtServer(account)
+
+
+def choice_of(options: argparse.Namespace) -> Choice:
+    """What pages can show. At a server these are the user's sessions too. Raises ClientError, OSError or ValueError."""
+    scenes = scenes_of(options)
+    if options.server is None:
+        try_all(scenes, functools.partial(run, options.program))
+        return Choice(scenes)
+    words = [options.sigma, options.epsilon, options.mass, options.dt, options.h]
+    return Choice(scenes, OwnSessions(options.edge, None if words == [None] * 5 else scale_of(options)))
 
 
 def scenes_of(options: argparse.Namespace) -> List[Scene]:
@@ -107,7 +177,7 @@ def try_all(scenes: Sequence[Scene], open_user: Callable[[], User]) -> None:
     with open_user() as user:
         for scene in scenes:
             try:
-                scene.begin(user)
+                scene.begin(user, "view")
             except (ClientError, ValueError) as error:
                 raise ClientError(f"{scene.title}: {error}") from error
 

@@ -1,21 +1,24 @@
 """What a page can show: the atoms of a file, or a crystal, with the scale and the heat that they begin with."""
 from __future__ import annotations
 
+import dataclasses
 import itertools
+import math
 import os
 from dataclasses import dataclass
 from decimal import Decimal
-from typing import Callable, Optional
+from typing import Callable, List, Optional
 
 from .. import Scale, Session, User, heating, xyz
-from ..units import RING
+from ..units import MAX_STEP_FACTOR, RING
+from .wishes import Answer, Wish, real_in
 
-NAME = "view"
 # With this edge a ring unit is a millionth, which is the last digit of what DUMP tells: a frame has the places themselves.
 EXACT_EDGE = "4294.967296"
 MILLION = 10**6
 DENSITY = 0.8442
-CELLS = 4
+# Of the crystal along each axis. With fewer the box would not be five sigma wide, and with more there would be too many atoms.
+CELLS, FEWEST_CELLS, MOST_CELLS = 4, 3, 10
 FACES = ((0.0, 0.0, 0.0), (0.5, 0.5, 0.0), (0.5, 0.0, 0.5), (0.0, 0.5, 0.5))
 
 
@@ -28,6 +31,7 @@ class Scene:
     scale        what whole numbers mean
     temperature  that of the first velocities: in kelvin if epsilon is known, else in epsilon / k_B. With 0 they are at rest
     seed         of the random numbers that these velocities are drawn with
+    is_crystal   whether it is the crystal, of which there may be more atoms or fewer
     """
 
     title: str
@@ -35,32 +39,85 @@ class Scene:
     scale: Scale
     temperature: float = 0.0
     seed: int = 1
+    is_crystal: bool = False
 
-    def begin(self, user: User) -> Session:
+    @property
+    def atoms(self) -> int:
+        """How many atoms there are, as the first word says. 0 if that is no number, and then the program refuses them."""
+        words = self.body.split(None, 1)
+        return int(words[0]) if words and words[0].isdigit() else 0
+
+    @property
+    def dt(self) -> float:
+        """The time step, in femtoseconds if epsilon and mass are known, else in `sigma sqrt(m / epsilon)`."""
+        return self.scale.reduced_dt if self.scale.dt is None else self.scale.dt
+
+    def settings(self) -> Answer:
+        """What a page can begin it anew with, as it is now, and of how many atoms there may be a crystal."""
+        sizes = [len(FACES) * cells**3 for cells in range(FEWEST_CELLS, MOST_CELLS + 1)] if self.is_crystal else [self.atoms]
+        return {"temperature": self.temperature, "dt": self.dt, "atoms": self.atoms, "sizes": sizes}
+
+    def changed(self, wish: Wish) -> "Scene":
+        """The scene with the temperature, the time step and the number of atoms that a wish says, as far as it says them.
+
+        ValueError for a temperature below 0 or at which an atom would move by half the box in a step, for a time step of
+        which there is no step factor, and for a number of atoms of which there is no crystal.
+        """
+        scene = self
+        if self.is_crystal and "atoms" in wish and wish["atoms"] != self.atoms:
+            cells = round((real_in(wish, "atoms") / len(FACES)) ** (1 / 3))
+            if not FEWEST_CELLS <= cells <= MOST_CELLS or len(FACES) * cells**3 != wish["atoms"]:
+                raise ValueError(f"there is no crystal of {wish['atoms']} atoms")
+            scene = crystal(self.scale.h, self.temperature, self.seed, cells)
+        if "dt" in wish:
+            scene = dataclasses.replace(scene, scale=scale_at(scene.scale, real_in(wish, "dt")))
+        if "temperature" in wish:
+            scene = dataclasses.replace(scene, temperature=real_in(wish, "temperature"))
+        scene.displacements()
+        return scene
+
+    def displacements(self) -> List[heating.Displacement]:
+        """The first displacement of each atom. An atom alone begins at rest, and so do all without a temperature."""
+        if not self.temperature or self.atoms < 2:
+            return []
+        return heating.displacements(self.atoms, self.temperature, self.scale, self.seed)
+
+    def begin(self, user: User, name: str) -> Session:
         """Loads the atoms in place of those that are there, so that each coordinate of DUMP is a place to the bit.
 
         They are loaded twice: with the scale of the file, which rounds them to places, and then these places as they are.
         An atom alone begins at rest. ValueError for a temperature at which an atom would move by half the box in a step.
         """
-        loaded = user.load(NAME, self.body, edge=self.scale.edge, sigma=self.scale.sigma, h=self.scale.h, replace=True)
+        moved = self.displacements()
+        loaded = user.load(name, self.body, edge=self.scale.edge, sigma=self.scale.sigma, h=self.scale.h, replace=True)
         places, symbols = loaded.places(), loaded.symbols()
         rows = [(symbol, *(int(part) / MILLION for part in place)) for symbol, place in zip(symbols, places)]
         sigma = Decimal(self.scale.sigma_on_ring) / MILLION
-        session = user.load(NAME, rows, edge=EXACT_EDGE, sigma=sigma, h=self.scale.h, replace=True, watch=False)
-        if self.temperature and len(rows) > 1:
-            moved = heating.displacements(len(rows), self.temperature, self.scale, self.seed)
-            user.ask_all(f"TUG {NAME} {atom} {x} {y} {z}" for atom, (x, y, z) in enumerate(moved))
+        session = user.load(name, rows, edge=EXACT_EDGE, sigma=sigma, h=self.scale.h, replace=True, watch=False)
+        user.ask_all(f"TUG {name} {atom} {x} {y} {z}" for atom, (x, y, z) in enumerate(moved))
         return session
 
 
-def crystal(h: int, temperature: float, seed: int) -> Scene:
-    """A face-centred cubic crystal of 256 atoms, as dense as liquid argon, in reduced units."""
-    atoms = len(FACES) * CELLS**3
+def scale_at(scale: Scale, dt: float) -> Scale:
+    """The scale with the step factor nearest to a time step, in femtoseconds if the scale has epsilon and mass. ValueError if
+    there is none."""
+    unit = 1.0 if scale.dt is None else scale.dt / scale.reduced_dt
+    h = round((dt / unit) ** 2 * RING) if 0 < dt < math.inf else 0
+    if not 1 <= h <= MAX_STEP_FACTOR:
+        shortest, longest = (unit * math.sqrt(limit / RING) for limit in (1, MAX_STEP_FACTOR))
+        raise ValueError(f"a step is from {shortest:.2g} to {longest:.3g}{'' if scale.dt is None else ' fs'}, not {dt:g}")
+    return dataclasses.replace(scale, h=h)
+
+
+def crystal(h: int, temperature: float, seed: int, cells: int = CELLS) -> Scene:
+    """A face-centred cubic crystal, as dense as liquid argon, in reduced units: of 256 atoms if nothing else is said."""
+    atoms = len(FACES) * cells**3
     edge = round((atoms / DENSITY) ** (1 / 3), 6)
-    corners = itertools.product(range(CELLS), repeat=3)
-    sites = [[(i + part) * edge / CELLS for i, part in zip(corner, face)] for corner in corners for face in FACES]
+    corners = itertools.product(range(cells), repeat=3)
+    sites = [[(i + part) * edge / cells for i, part in zip(corner, face)] for corner in corners for face in FACES]
     body = xyz.text_of((("Ar", site) for site in sites), "face-centred cubic")
-    return Scene("A crystal that melts" if temperature else "A crystal", body, Scale.of(edge, 1, h), temperature, seed)
+    title = "A crystal that melts" if temperature else "A crystal"
+    return Scene(title, body, Scale.of(edge, 1, h), temperature, seed, is_crystal=True)
 
 
 def of_file(path: str, edge: Optional[float], scale_of: Callable[[float], Scale], temperature: float, seed: int) -> Scene:

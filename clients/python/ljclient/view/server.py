@@ -1,191 +1,158 @@
-"""Serves the page on 127.0.0.1, and gives each page that is open a program and a session of its own.
+"""Serves the page by aiohttp, and answers each page that is open.
 
-A page is open for as long as its WebSocket is. Host and Origin of each request are those of this address: so no page of
-another site, and no name that leads here, can ask for anything.
+A page is open for as long as its WebSocket is. Host and Origin of each request are those of this address, or the path has the
+secret of the link: so no page of another site, and no name that leads here, can ask for anything.
 """
 from __future__ import annotations
 
+import asyncio
 import contextlib
-import json
-import sys
-import threading
-from http.server import BaseHTTPRequestHandler, ThreadingHTTPServer
+import importlib
+import itertools
+import signal
 from pathlib import Path
-from typing import Any, Callable, Dict, Iterator, Optional, Sequence, Set, Tuple
+from typing import Any, Dict, Optional, Sequence, Tuple
 
-from .. import ClientError, User
-from . import websocket
-from .scenes import Scene
-from .stage import Stage
+from .access import Access
+from .conversation import converse
+from .pages import END_SECONDS, MAX_PAGES, MAX_PAGES_OF_A_CLASS, Pages
+from .talk import Choice, Talk
+from .users import Users
 
-ADDRESS = "127.0.0.1"
+# A module that may be missing is imported by its name, so that types are the same where it is installed and where not.
+web: Any = importlib.import_module("aiohttp.web")
+
 FOLDER = Path(__file__).parent / "page"
 TYPES = {".html": "text/html", ".css": "text/css", ".js": "text/javascript", ".svg": "image/svg+xml"}
 FILES: Dict[str, Tuple[str, str]] = {
-    "/" if name == "page.html" else f"/{name}": (name, TYPES[Path(name).suffix])
-    for name in ("page.html", "page.css", "page.js", "box.js", "burst.js", "charts.js", "keys.js", "message.js", "talk.js", "icon.svg")
+    "" if path.name == "page.html" else path.name: (path.name, TYPES[path.suffix])
+    for path in sorted(FOLDER.iterdir())
+    if path.suffix in TYPES
 }
-SESSION = "/session"
+SESSION = "session"
+MAX_MESSAGE = 1 << 16
+NONE = "'none'"
+FAREWELL_SECONDS = 2.0
 # A page may load the files of this server, and nothing else; nothing may frame it.
 POLICY = "; ".join(
     [f"{kind}-src 'self'" for kind in ("script", "style", "img")]
     + [f"{kind} 'none'" for kind in ("default-src", "base-uri", "form-action", "frame-ancestors")]
 )
-MAX_PAGES = 8
-GRACE_SECONDS = 2.0
-END_SECONDS = 5.0
-OpenUser = Callable[[], User]
 
 
-class Pages:
-    """The pages that are open now."""
+class Server:
+    """The page, for those who may ask for it. One that others may have stays until it is ended."""
 
-    def __init__(self) -> None:
-        self._open: Set[websocket.Channel] = set()
-        self._changed = threading.Condition()
-        self._has_begun = False
-
-    @contextlib.contextmanager
-    def one_more(self, channel: websocket.Channel) -> Iterator[None]:
-        """Counts a page for as long as it is open."""
-        with self._changed:
-            self._has_begun = True
-            self._open.add(channel)
-            self._changed.notify_all()
-        try:
-            yield
-        finally:
-            with self._changed:
-                self._open.discard(channel)
-                self._changed.notify_all()
-
-    def has_room(self) -> bool:
-        """Whether a page more may be opened."""
-        return len(self._open) < MAX_PAGES
-
-    def wait_until_gone(self) -> None:
-        """Waits until there were pages and all are gone, for longer than it takes to load one again."""
-        with self._changed:
-            gone = False
-            while not gone:
-                self._changed.wait_for(lambda: self._has_begun and not self._open)
-                gone = not self._changed.wait_for(lambda: bool(self._open), GRACE_SECONDS)
-
-    def close(self) -> None:
-        """Ends the connections of all pages, and waits until their sessions are given up."""
-        with self._changed:
-            for channel in self._open:
-                channel.hang_up()
-            self._changed.wait_for(lambda: not self._open, END_SECONDS)
-
-
-class Server(ThreadingHTTPServer):
-    """The page at a port of this machine alone; with port 0 at one that is free."""
-
-    daemon_threads = True
-
-    def __init__(self, port: int, scenes: Sequence[Scene], open_user: OpenUser):
-        super().__init__((ADDRESS, port), Handler)
-        self.scenes = scenes
-        self.open_user = open_user
-        self.pages = Pages()
-        self.hosts = [f"{name}:{self.server_port}" for name in (ADDRESS, "localhost")]
-        self.sockets = [f"ws://{host}" for host in self.hosts]
-
-    @property
-    def url(self) -> str:
-        """Where the page is."""
-        return f"http://{ADDRESS}:{self.server_port}/"
+    def __init__(self, access: Access, choice: Choice, users: Users):
+        self._access = access
+        self._choice = choice
+        self._users = users
+        self._numbers = itertools.count(1)
+        self._pages: Pages
 
     def run(self) -> None:
-        """Serves until all pages are gone, or until an interrupt from the keyboard, which is raised."""
-        thread = threading.Thread(target=self.serve_forever, daemon=True)
-        thread.start()
+        """Serves until all pages are gone, or until an interrupt from the keyboard."""
+        asyncio.run(self._serve())
+
+    async def _serve(self) -> None:
+        self._pages = Pages(MAX_PAGES_OF_A_CLASS if self._access.is_open else MAX_PAGES)
+        app = web.Application()
+        app.router.add_get("/{path:.*}", self._answer)
+        runner = web.AppRunner(app, access_log=None)
+        await runner.setup()
+        await web.SockSite(runner, self._access.listener).start()
         try:
-            self.pages.wait_until_gone()
+            await (until_signalled() if self._access.is_open else first_of(self._pages.until_gone(), until_signalled()))
         finally:
-            self.shutdown()
-            self.pages.close()
-            self.server_close()
+            await self._pages.close()
+            await self._users.close()
+            with contextlib.suppress(asyncio.TimeoutError):
+                await asyncio.wait_for(runner.cleanup(), END_SECONDS)
 
-
-    def handle_error(self, request: Any, address: Any) -> None:
-        """A browser that goes away within a request is no error."""
-        if not isinstance(sys.exc_info()[1], OSError):
-            super().handle_error(request, address)
-
-
-class Handler(BaseHTTPRequestHandler):
-    """Answers one connection of a browser."""
-
-    server: Server
-    protocol_version = "HTTP/1.1"
-    disable_nagle_algorithm = True
-    timeout = 30.0
-
-    def do_GET(self) -> None:
+    async def _answer(self, request: Any) -> Any:
         """A file of the page, or the page's session."""
-        if (refused := self._refusal()) is not None:
-            self._say(403, "text/plain", refused.encode())
-        elif self.path == SESSION:
-            self._begin()
-        elif self.path in FILES:
-            name, kind = FILES[self.path]
-            self._say(200, kind, (FOLDER / name).read_bytes())
-        else:
-            self._say(404, "text/plain", b"there is no such page")
+        path, host = self._access.path_of(request.path), request.headers.get("Host", "")
+        if (refused := self._access.refusal(host, request.headers.get("Origin"), path == SESSION)) is not None:
+            return said(403, refused)
+        if path == SESSION:
+            return await self._begun(request)
+        if path not in FILES:
+            return said(404, "there is no such page")
+        name, kind = FILES[path]
+        return told(200, kind, (FOLDER / name).read_bytes(), self._access.sockets(host))
 
-    def _refusal(self) -> Optional[str]:
-        """Why a request is not answered. Only pages of this server may ask, and only by its own address."""
-        host, origin = self.headers.get("Host", ""), self.headers.get("Origin")
-        if host not in self.server.hosts:
-            return "Host is not the address of this page"
-        if origin is None:
-            return "a session is for a page of this server" if self.path == SESSION else None
-        return None if origin == f"http://{host}" else "Origin is another page"
-
-    def _say(self, status: int, kind: str, body: bytes) -> None:
-        self._send_head(
-            status,
-            ("Content-Type", f"{kind}; charset=utf-8"),
-            ("Content-Length", str(len(body))),
-            ("Content-Security-Policy", f"{POLICY}; connect-src {' '.join(self.server.sockets)}"),
-            ("X-Content-Type-Options", "nosniff"),
-            ("Cache-Control", "no-store"),
-        )
-        self.wfile.write(body)
-
-    def _send_head(self, status: int, *headers: Tuple[str, str]) -> None:
-        self.send_response(status)
-        for name, value in headers:
-            self.send_header(name, value)
-        self.end_headers()
-
-    def _begin(self) -> None:
+    async def _begun(self, request: Any) -> Any:
         """Agrees to a WebSocket, and answers the page until it is gone."""
-        key = self.headers.get("Sec-WebSocket-Key")
-        if key is None or self.headers.get("Upgrade", "").lower() != "websocket":
-            return self._say(400, "text/plain", b"a session is asked for by a WebSocket")
-        if not self.server.pages.has_room():
-            return self._say(503, "text/plain", f"{MAX_PAGES} pages are open already".encode())
-        accepted = websocket.accepted(key)
-        self._send_head(101, ("Upgrade", "websocket"), ("Connection", "Upgrade"), ("Sec-WebSocket-Accept", accepted))
-        self.close_connection = True
-        self.connection.settimeout(None)
-        channel = websocket.Channel(self.connection, self.rfile, masks=False)
-        with self.server.pages.one_more(channel), contextlib.suppress(OSError, websocket.Broken):
-            self._play(channel)
+        page = web.WebSocketResponse(max_msg_size=MAX_MESSAGE, compress=False, timeout=FAREWELL_SECONDS)
+        if not page.can_prepare(request):
+            return said(400, "a session is asked for by a WebSocket")
+        if not self._pages.has_room():
+            return said(503, f"{self._pages.most} pages are open already")
+        await page.prepare(request)
+        with self._pages.one_more(page):
+            await self._play(page)
+        return page
 
-    def _play(self, channel: websocket.Channel) -> None:
-        """Answers a page, each message in its turn."""
-        with contextlib.ExitStack() as stack:
-            try:
-                stage = Stage(stack.enter_context(self.server.open_user()), self.server.scenes)
-            except ClientError as error:
-                return channel.send(json.dumps({"error": str(error)}))
-            channel.send(stage.answer('{"do": "load", "scene": 0}'))
-            while (message := channel.receive()) is not None:
-                channel.send(stage.answer(message))
+    async def _play(self, page: Any) -> None:
+        """Answers a page, each message in its turn. One that goes meanwhile is no error."""
+        talk = Talk(self._choice, next(self._numbers))
+        connection = self._users.enter()
+        try:
+            with contextlib.suppress(ConnectionError):
+                await converse(Messages(page), connection, talk, self._users)
+        finally:
+            await self._users.leave(connection, talk)
 
-    def log_message(self, format: str, *words: object) -> None:
-        """Nothing is told of requests."""
+
+def said(status: int, text: str) -> Any:
+    """A line of text."""
+    return told(status, "text/plain", text.encode(), ())
+
+
+def told(status: int, kind: str, body: bytes, sockets: Sequence[str]) -> Any:
+    """A file, and where it may ask for a session."""
+    headers = {
+        "Content-Type": f"{kind}; charset=utf-8",
+        "Content-Security-Policy": f"{POLICY}; connect-src {' '.join(sockets) or NONE}",
+        "X-Content-Type-Options": "nosniff",
+        "Referrer-Policy": "no-referrer",
+        "Cache-Control": "no-store",
+    }
+    return web.Response(status=status, body=body, headers=headers)
+
+
+class Messages:
+    """The messages of text of a page, until it is gone."""
+
+    def __init__(self, page: Any):
+        self._page = page
+
+    async def tell(self, text: str) -> None:
+        """Sends a message. ConnectionError if the page is gone."""
+        await self._page.send_str(text)
+
+    async def heard(self) -> Optional[str]:
+        """The next message, or None if there is none any more."""
+        message = await self._page.receive()
+        return str(message.data) if message.type is web.WSMsgType.TEXT else None
+
+
+async def first_of(*things: Any) -> None:
+    """Waits for the first of several things, and gives up the others."""
+    tasks = [asyncio.ensure_future(thing) for thing in things]
+    try:
+        await asyncio.wait(tasks, return_when=asyncio.FIRST_COMPLETED)
+    finally:
+        for task in tasks:
+            task.cancel()
+
+
+async def until_signalled() -> None:
+    """Waits for an interrupt from the keyboard or a request to end. One that is ignored, as under nohup, stays so."""
+    signalled = asyncio.Event()
+    loop = asyncio.get_running_loop()
+    for number in (signal.SIGINT, signal.SIGTERM):
+        if signal.getsignal(number) is not signal.SIG_IGN:
+            with contextlib.suppress(NotImplementedError):
+                loop.add_signal_handler(number, signalled.set)
+    await signalled.wait()

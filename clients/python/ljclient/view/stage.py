@@ -1,36 +1,61 @@
-"""The session of one page: what the page may ask of it, and what it is told.
+"""One session that pages show: what they may ask of it, and what they are told.
 
-A message is an object with the word `do`, and so is each answer: the frame as it then is, or an `error` in plain words.
+Each answer has the frame as it then is. Steps are those of the server, and the direction is that in which they count.
 """
 from __future__ import annotations
 
-import json
-from typing import Any, Callable, Dict, List, Optional, Sequence, Tuple
+from typing import Any, Callable, Dict, List, NamedTuple, Optional, Tuple
 
-from .. import ClientError, Measurement, Session, User
-from ..replies import whole_numbers
-from .scenes import NAME, Scene, edge_in_sigma
+from .. import ClientError, Measurement, Scale, Session, User
+from ..refusals import NoSession
+from ..replies import number_after, whole_numbers
+from ..units import RING
+from .scenes import edge_in_sigma
+from .second import SecondRun
+from .wishes import Answer, Wish, is_whole, number_in
 
-Answer = Dict[str, Any]
-Wish = Dict[str, Any]
 MAX_STEPS = 1000
 MAX_TUG = (1 << 31) - 1
-START, KEPT = "start", "kept"
+START, KEPT = "view-start", "view-kept"
+NAMES = {START: "start", KEPT: "kept"}
+MILLION = 10**6
+METRES_PER_SECOND = 1e5  # of an angstrom per femtosecond
+
+
+class Lost(ClientError):
+    """The session is gone, or another one has its name."""
+
+
+class Moment(NamedTuple):
+    """A step, and the direction in which steps count there."""
+
+    step: int
+    direction: int
 
 
 class Stage:
-    """A session of a user, in which one scene is played after the other."""
+    """A session at a user's, as pages show it.
 
-    def __init__(self, user: User, scenes: Sequence[Scene]):
+    name      of the session
+    scale     what its whole numbers mean
+    is_exact  whether DUMP tells its places to the bit
+    second    the name that a second run beside it has
+    is_own    whether somebody else has loaded it
+    """
+
+    def __init__(self, user: User, name: str, scale: Scale, is_exact: bool, second: str, is_own: bool = False):
+        self.name = name
+        self.scale = scale
+        self.is_lost = False
+        self._is_exact = is_exact
+        self._is_own = is_own
+        self._second = SecondRun(name, second)
         self._user = user
-        self._scenes = scenes
-        self._scene = scenes[0]
-        self._session: Session
         self._places: Dict[str, List[Tuple[int, ...]]] = {}
-        self._saved: Dict[str, Tuple[int, int]] = {}
-        self._step, self._direction = 0, 1
+        self._saved: Dict[str, Moment] = {}
+        self._now = self._found(user)
+        self.save(START)
         self._acts: Dict[str, Callable[[Wish], Answer]] = {
-            "load": lambda wish: self.load(number_in(wish, "scene", 0, len(self._scenes) - 1)),
             "frame": lambda wish: self.advance(number_in(wish, "steps", 0, MAX_STEPS)),
             "reverse": lambda _: self.reverse(),
             "tug": lambda wish: self.tug(number_in(wish, "atom", 0, len(self._places[START]) - 1), wish.get("by")),
@@ -38,111 +63,157 @@ class Stage:
             "restore": lambda _: self.restore(KEPT),
             "restart": lambda _: self.restore(START),
             "exact": lambda _: self.compare(),
+            "speeds": lambda _: self.both(),
+            "second": lambda wish: self.begin_second() if wish.get("on") is True else self.end_second(),
         }
 
-    def answer(self, message: str) -> str:
-        """The answer to a message of the page. One that cannot be done changes nothing."""
-        try:
-            wish = json.loads(message)
-            act = self._acts.get(str(wish.get("do"))) if isinstance(wish, dict) else None
-            if act is None:
-                raise ValueError("that is nothing that can be done")
-            return json.dumps(act(wish))
-        except (ClientError, ValueError, RecursionError) as error:
-            return json.dumps({"error": str(error)})
+    def answer(self, user: User, wish: Wish) -> Answer:
+        """The answer to what a page wishes. What cannot be done changes nothing, and raises ClientError or ValueError."""
+        act = self._acts.get(str(wish.get("do")))
+        if act is None:
+            raise ValueError("that is nothing that can be done")
+        jumped = self._take_up(user)
+        return {**act(wish), **jumped}
 
-    def load(self, number: int) -> Answer:
-        """Begins with a scene. The answer says what it is like, beside its first frame."""
-        scene = self._scenes[number]
-        self._session = scene.begin(self._user)
-        self._scene = scene
-        self._places, self._saved = {}, {}
-        self._step, self._direction = 0, 1
-        frame = self.save(START)
-        return {**frame, "scene": {"number": number, "titles": [each.title for each in self._scenes], **self._likeness()}}
+    def shown(self, user: User) -> Answer:
+        """What a page is told first: the present frame, and what the session is like."""
+        self._take_up(user)
+        return {**self.advance(0), "likeness": self._likeness()}
+
+    def leave(self, user: User) -> None:
+        """Gives up what was saved for the pages, and the second run."""
+        self._second.end(user)
+        self._take_up(user)
+        user.ask_all(f"FORGET {self.name} {name}" for name in self._left())
 
     def advance(self, steps: int) -> Answer:
         """Goes on by so many steps, in whichever direction time runs."""
-        frame = self._frame(f"ADVANCE {NAME} {steps}")
-        self._step += self._direction * steps
-        return {**frame, **self._when()}
+        frame = self._frame(*self._second.goes_on(steps), f"ADVANCE {self.name} {steps}")
+        return {**frame, **self._when(self._now.direction)}
 
     def reverse(self) -> Answer:
         """Turns the motion back, which exchanges the two frames and so goes back by one step."""
-        frame = self._frame(f"REVERSE {NAME}")
-        self._direction = -self._direction
-        self._step += self._direction
-        return {**frame, **self._when()}
+        frame = self._frame(*self._second.turns(), f"REVERSE {self.name}")
+        return {**frame, **self._when(-self._now.direction)}
 
     def tug(self, atom: int, by: Any) -> Answer:
         """Gives an atom so many ring units more for each step, along x, y and z."""
         if not (isinstance(by, list) and len(by) == 3 and all(is_whole(part, -MAX_TUG, MAX_TUG) for part in by)):
             raise ValueError("a tug is by three whole numbers of ring units")
         x, y, z = by
-        return {**self._frame(f"TUG {NAME} {atom} {x} {y} {z}"), **self._when()}
+        return {**self._frame(f"TUG {self.name} {atom} {x} {y} {z}"), **self._when(self._now.direction)}
 
     def save(self, name: str) -> Answer:
         """Saves the simulation, in place of what was saved before."""
-        frees = [f"FORGET {NAME} {name}"] if name in self._saved else []
-        frame = self._frame(*frees, f"BRANCH {NAME} {name}")
+        frees = [f"FORGET {self.name} {name}"] if name in self._left() else []
+        frame = self._frame(*frees, f"BRANCH {self.name} {name}")
         self._places[name] = self._present()
-        self._saved[name] = self._step, self._direction
-        return {**frame, **self._when()}
+        self._saved[name] = self._now
+        return {**frame, **self._when(self._now.direction)}
 
     def restore(self, name: str) -> Answer:
-        """Goes back to what was saved."""
+        """Goes back to what was saved. A second run ends."""
         if name not in self._saved:
             raise ValueError("nothing is saved yet")
-        frame = self._frame(f"RESTORE {NAME} {name}")
-        self._step, self._direction = self._saved[name]
-        return {**frame, **self._when(), "jumped": True}
+        self._second.end(self._user)
+        frame = self._frame(f"RESTORE {self.name} {name}")
+        return {**frame, **self._when(self._saved[name].direction), "jumped": True}
 
     def compare(self) -> Answer:
         """How many atoms have the very places that they had at the start, and when it was saved."""
         present = self._present()
-        same = {name: sum(one == other for one, other in zip(present, places)) for name, places in self._places.items()}
-        return {"same": same, "atoms": len(present), **self._when()}
+        same = {
+            NAMES[name]: sum(one == other for one, other in zip(present, places)) for name, places in self._places.items()
+        }
+        return {"same": same, "atoms": len(present), **self._when(self._now.direction)}
+
+    def both(self) -> Answer:
+        """The places now and one step before, of which speeds are told. The motion is turned back and turned again."""
+        now, _, before, _ = self._user.ask_all([f"DUMP {self.name}", f"REVERSE {self.name}"] * 2)
+        return {"now": "\n".join(now.lines[2:]), "before": "\n".join(before.lines[2:])}
+
+    def begin_second(self) -> Answer:
+        """Begins a second run beside this one, in place of one that is there."""
+        symbols = [line.split(" ")[0] for line in self._user.ask(f"DUMP {self.name}").lines[2:]]
+        if self._is_own and len(set(symbols)) > 1:
+            raise ValueError("a second run is for atoms of one species: of two the server does not tell how they interact")
+        self._second.begin(self._user, self.scale, symbols, self._is_exact)
+        return self.advance(0)
+
+    def end_second_of(self, user: User) -> None:
+        """Gives up the second run, since the session itself will be given up."""
+        self._second.end(user)
+
+    def end_second(self) -> Answer:
+        """Gives up the second run."""
+        self._second.end(self._user)
+        return self.advance(0)
 
     def _present(self) -> List[Tuple[int, ...]]:
         """The places of all atoms, each asked for on its own."""
-        return [tuple(map(int, place)) for place in self._session.places()]
+        return [tuple(map(int, place)) for place in Session(self._user, self.name).places()]
 
     def _frame(self, *commands: str) -> Answer:
         """What these commands lead to: all places and what is measured, asked for at once."""
-        *_, dumped, measured = self._user.ask_all([*commands, f"DUMP {NAME}", f"MEASURE {NAME}"])
+        shows = [f"DUMP {self.name}", f"MEASURE {self.name}", *self._second.shown()]
+        dumped, measured, *second = self._user.ask_all([*commands, *shows])[len(commands) :]
         step, atoms, x, y, z, kinetic, potential = whole_numbers(measured.words[2:], 7)
-        told = Measurement(step, atoms, (x, y, z), kinetic, potential, self._scene.scale)
+        told = Measurement(step, atoms, (x, y, z), kinetic, potential, self.scale)
+        self._now = self._now._replace(step=step)
         return {
             "atoms": "\n".join(dumped.lines[2:]),
             "kinetic": told.kinetic_energy / atoms,
             "potential": told.potential_energy / atoms,
             "temperature": told.temperature,
+            **self._second.told(second[0].lines if second else None),
         }
 
-    def _when(self) -> Answer:
-        """The step and the direction of time, and at which step the simulation was saved."""
-        return {"step": self._step, "direction": self._direction, "saved": self._saved.get(KEPT, (None,))[0]}
+    def _when(self, direction: int) -> Answer:
+        """The step and the direction of time, which is this, and at which step the simulation was saved."""
+        self._now = self._now._replace(direction=direction)
+        saved = self._saved.get(KEPT)
+        return {"step": self._now.step, "direction": direction, "saved": saved and saved.step}
+
+    def _take_up(self, user: User) -> Answer:
+        """Finds the session again over another connection. Meanwhile somebody else may have gone on with it."""
+        if user is self._user and not self.is_lost:
+            return {}
+        self._user = user
+        self.is_lost = True
+        self._second.end(user)
+        self._now = self._found(user)
+        left = self._left()
+        if START not in left:
+            raise Lost(f"{self.name} was loaded anew: choose it again")
+        self._saved = {name: moment for name, moment in self._saved.items() if name in left}
+        self._places = {name: places for name, places in self._places.items() if name in left}
+        self.is_lost = False
+        return {"jumped": True}
+
+    def _found(self, user: User) -> Moment:
+        """The step at which the session is, and the direction. Turned twice it is as it was."""
+        line = f"REVERSE {self.name}"
+        try:
+            before, now = (number_after(line, reply.words, 2) for reply in user.ask_all([line, line]))
+        except NoSession:
+            raise Lost(f"the server no longer has {self.name}: choose other atoms") from None
+        return Moment(now, now - before)
+
+    def _left(self) -> List[str]:
+        """Which of the names that pages save under are taken."""
+        lines = self._user.ask(f"LIST {self.name}").lines
+        return [line.split(" ")[0] for line in lines if line.split(" ")[0] in NAMES]
 
     def _likeness(self) -> Answer:
-        """What a page must know of the scene, to draw it and to tug its atoms."""
-        scale = self._scene.scale
+        """What a page must know of the session, to draw it and to tug its atoms."""
+        scale = self.scale
         return {
             "edge": edge_in_sigma(scale),
             "sigma": scale.sigma_on_ring,
+            "unit": MILLION if self._is_exact else RING / scale.edge,
+            "exact": self._is_exact,
             "reduced_dt": scale.reduced_dt,
             "dt": scale.dt,
+            "speed": None if scale.dt is None else scale.sigma * scale.reduced_dt / scale.dt * METRES_PER_SECOND,
             "in_kelvin": scale.epsilon is not None,
         }
-
-
-def is_whole(number: Any, least: int, most: int) -> bool:
-    """Whether this is a whole number within a range."""
-    return isinstance(number, int) and not isinstance(number, bool) and least <= number <= most
-
-
-def number_in(wish: Wish, word: str, least: int, most: int) -> int:
-    """The number that a wish has under a word. ValueError if it is none within the range."""
-    number: Optional[Any] = wish.get(word)
-    if not is_whole(number, least, most):
-        raise ValueError(f"{word} is a whole number from {least} to {most}")
-    return int(number)  # type: ignore[arg-type]

@@ -4,6 +4,7 @@ export const RING = 2 ** 32;
 const RADIUS = 0.5; // of an atom, in sigma
 const SMALLEST = 3; // of a radius, in pixels
 const EDGE_OF_SLAB = 0.35; // over how many sigma an atom fades at the faces of the slab
+const SECOND = 0.35; // how strong the rings of the second run are
 const SHADES = 32; // colours of atoms, by where they were at the start
 const NEARNESSES = 6; // steps of paleness
 const STRONGEST_PULL = 5; // in sigma
@@ -13,13 +14,13 @@ const STOPS = [[47, 98, 178], [66, 156, 171], [143, 178, 92], [231, 176, 70], [2
 
 export const leastImage = (difference) => difference - RING * Math.round(difference / RING);
 
-// The places of a frame in ring units. A coordinate is told in millionths of a unit that has a million of them.
-export function placesOf(lines) {
+// The places of a frame in ring units, of which a coordinate of 1 has so many.
+export function placesOf(lines, unit = 1e6) {
   const rows = lines.split("\n");
   const places = new Float64Array(3 * rows.length);
   rows.forEach((row, atom) => {
     const words = row.split(" ");
-    for (let axis = 0; axis < 3; axis++) places[3 * atom + axis] = Math.round(Number(words[1 + axis]) * 1e6);
+    for (let axis = 0; axis < 3; axis++) places[3 * atom + axis] = Math.round(Number(words[1 + axis]) * unit);
   });
   return places;
 }
@@ -88,6 +89,7 @@ export class Box {
   // Begins with atoms that have these places at the start.
   begin(places, edge, sigma) {
     this.places = places;
+    this.second = null; // the places of a second run
     this.edge = edge;
     this.sigma = sigma;
     this.shades = Array.from({ length: places.length / 3 }, (_, atom) => Math.floor((places[3 * atom] / RING) * SHADES));
@@ -99,19 +101,18 @@ export class Box {
   }
 
   // The atoms of the slab, the farthest first: number, centre on the canvas, and how far they have faded.
-  slab() {
+  slab(places = this.places) {
     const atoms = [];
     const half = this.thickness / 2;
-    for (let atom = 0; 3 * atom < this.places.length; atom++) {
-      const z = (leastImage(this.places[3 * atom + 2] - this.depth * RING) / RING) * this.edge;
+    for (let atom = 0; 3 * atom < places.length; atom++) {
+      const z = (leastImage(places[3 * atom + 2] - this.depth * RING) / RING) * this.edge;
       const alpha = Math.min(1, (half + EDGE_OF_SLAB - Math.abs(z)) / EDGE_OF_SLAB);
-      if (alpha > 0) atoms.push({ atom, z, alpha, x: (this.places[3 * atom] / RING) * this.size, y: (1 - this.places[3 * atom + 1] / RING) * this.size });
+      if (alpha > 0) atoms.push({ atom, z, alpha, x: (places[3 * atom] / RING) * this.size, y: (1 - places[3 * atom + 1] / RING) * this.size });
     }
     return atoms.sort((one, other) => one.z - other.z);
   }
 
   draw() {
-    if (!this.places) return;
     const scale = window.devicePixelRatio || 1;
     this.size = this.canvas.clientWidth;
     const pixels = Math.round(this.size * scale);
@@ -121,9 +122,11 @@ export class Box {
     this.pen.globalAlpha = 1;
     this.pen.fillStyle = paper;
     this.pen.fillRect(0, 0, this.size, this.size);
+    if (!this.places) return;
     this.radius = Math.max(SMALLEST, (RADIUS / this.edge) * this.size);
     if (!this.discs.fit(this.radius, scale, paper)) this.discs = new Discs(this.radius, scale, paper);
     for (const each of this.slab()) this.drawAtom(each);
+    if (this.second) this.drawSecond();
     if (this.pull) this.drawPull();
     this.pen.globalAlpha = 1;
   }
@@ -134,6 +137,20 @@ export class Box {
     const disc = this.discs.of(this.shades[atom], Math.round(near * NEARNESSES));
     this.pen.globalAlpha = alpha;
     for (const [left, top] of this.images(x, y)) this.pen.drawImage(disc, left - this.discs.half, top - this.discs.half, 2 * this.discs.half, 2 * this.discs.half);
+  }
+
+  // The atoms of the second run, as pale rings over those of the first.
+  drawSecond() {
+    this.pen.strokeStyle = getComputedStyle(this.canvas).color;
+    this.pen.lineWidth = 1.2;
+    for (const { alpha, x, y } of this.slab(this.second)) {
+      this.pen.globalAlpha = SECOND * alpha;
+      for (const [left, top] of this.images(x, y)) {
+        this.pen.beginPath();
+        this.pen.arc(left, top, this.radius, 0, 2 * Math.PI);
+        this.pen.stroke();
+      }
+    }
   }
 
   images(x, y) {

@@ -23,7 +23,8 @@ export class BurstWatch {
 }
 
 // What is said of it, and what helps.
-export function burstText(dt) {
-  const option = dt === null ? "--h" : `--dt, which is ${Number(dt.toPrecision(4))} fs`;
-  return `The simulation has burst: the energy of an atom is more than ${FAR} ε off its start, tugs aside. Begin the view with a smaller step (${option}).`;
+export function burstText({ dt, reduced_dt, settings }) {
+  const step = dt === null ? `${Number(reduced_dt.toPrecision(4))} τ` : `${Number(dt.toPrecision(4))} fs`;
+  const help = settings ? `Begin anew with a smaller step than ${step}.` : `Load it with a smaller step than ${step}.`;
+  return `The simulation has burst: the energy of an atom is more than ${FAR} ε off its start, tugs aside. ${help}`;
 }

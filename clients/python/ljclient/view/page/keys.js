@@ -8,6 +8,7 @@ const KEYS = [
   { key: "e", name: "E", button: "exact", does: "compare all places" },
   { key: "s", name: "S", button: "save", does: "save" },
   { key: "b", name: "B", button: "restore", does: "back to what was saved" },
+  { key: "d", name: "D", button: "second", does: "a second run, or its end" },
   { key: "home", name: "Home", button: "restart", does: "start again" },
 ];
 const FIELDS = "textarea, input:not([type=range]), [contenteditable]";

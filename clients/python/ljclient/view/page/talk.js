@@ -1,12 +1,15 @@
 // The conversation with the program: each question is answered in its turn, over one WebSocket.
 
 export class Talk {
-  // `heard` is told each answer and what was asked for, and `ended` once that there will be no more.
-  constructor(heard, ended) {
+  // `heard` is told each answer and what was asked for, `waits` what an answer waits for, and `ended` once that there will be no more.
+  constructor(heard, waits, ended) {
     this.waiting = [{ does: "load" }]; // the first message comes unasked
-    this.socket = new WebSocket(`ws://${location.host}/session`);
+    const scheme = location.protocol === "https:" ? "wss:" : "ws:";
+    this.socket = new WebSocket(`${scheme}//${location.host}${location.pathname}session`);
     this.socket.onmessage = (event) => {
       const answer = JSON.parse(event.data);
+      waits(answer.waits ?? "");
+      if (answer.waits) return;
       const asked = this.waiting.shift();
       asked?.resolve?.(answer);
       heard(answer, asked?.does);

@@ -1,0 +1,127 @@
+"""Lines that are edited by prompt_toolkit: hints of the words to come, completion, and a history."""
+from __future__ import annotations
+
+import importlib
+import shutil
+import textwrap
+from typing import Any, AsyncIterator, Callable, Iterator, List, Optional, Tuple
+
+from ..user import User
+from ..wire import MAX_COMMAND
+from . import hinting
+from .completion import candidates
+from .history import Lines
+
+# Modules that may be missing are imported by their names, so that types are the same where they are installed and where not.
+completion: Any = importlib.import_module("prompt_toolkit.completion")
+filters: Any = importlib.import_module("prompt_toolkit.filters")
+history: Any = importlib.import_module("prompt_toolkit.history")
+lexers: Any = importlib.import_module("prompt_toolkit.lexers")
+processors: Any = importlib.import_module("prompt_toolkit.layout.processors")
+shortcuts: Any = importlib.import_module("prompt_toolkit.shortcuts")
+styles: Any = importlib.import_module("prompt_toolkit.styles")
+
+STYLE = {"hint": "ansibrightblack", "bottom-toolbar": "noreverse ansibrightblack", "wrong": "ansired underline"}
+MAX_TOLD = 3
+
+
+class History(history.History):  # type: ignore[misc]
+    """What was typed before. A line is added by `Editor.remember` alone, so that a text that was typed is not."""
+
+    def __init__(self, lines: Lines):
+        super().__init__()
+        self._lines = lines
+
+    async def load(self) -> AsyncIterator[str]:
+        for line in reversed(self._lines.lines):
+            yield line
+
+    def get_strings(self) -> List[str]:
+        return self._lines.lines
+
+    def append_string(self, string: str) -> None:
+        pass
+
+    def load_history_strings(self) -> Iterator[str]:
+        return reversed(self._lines.lines)
+
+    def store_string(self, string: str) -> None:
+        pass
+
+
+class Completer(completion.Completer):  # type: ignore[misc]
+    """Commands, sessions, what is saved in them, and files."""
+
+    def __init__(self, user: Callable[[], Optional[User]]):
+        self._user = user
+
+    def get_completions(self, document: Any, event: Any) -> Iterator[Any]:
+        text = document.text_before_cursor
+        before, _, word = text.rpartition(" ")
+        for found in candidates(before.split(), word, self._user()):
+            yield completion.Completion(found, -len(word), display=found.rstrip().rsplit("/", 1)[-1] or found)
+
+
+class Lexer(lexers.Lexer):  # type: ignore[misc]
+    """Marks the word of a line that is wrong."""
+
+    def lex_document(self, document: Any) -> Callable[[int], List[Tuple[str, str]]]:
+        wrong = hinting.wrong_of(document.text) if is_line(document.text) else None
+        parts = marked(document.text, wrong.place) if wrong else None
+        return lambda number: parts or [("", document.lines[number])]
+
+
+def is_line(text: str) -> bool:
+    """Whether a text may be a command."""
+    return len(text) <= MAX_COMMAND and "\n" not in text
+
+
+def marked(text: str, place: int) -> List[Tuple[str, str]]:
+    """A line in parts, of which the word at this place is marked."""
+    start = end = 0
+    for word in text.split()[: place + 1]:
+        start = text.index(word, end)
+        end = start + len(word)
+    return [("", text[:start]), ("class:wrong", text[start:end]), ("", text[end:])]
+
+
+class Editor:
+    """Reads lines at a terminal."""
+
+    def __init__(self, lines: Lines, user: Callable[[], Optional[User]]):
+        self._lines = lines
+        hint = processors.AfterInput(lambda: [("class:hint", hinting.words_to_come(self._typed()))])
+        at_end = filters.Condition(lambda: self._session.default_buffer.document.is_cursor_at_the_end)
+        self._session: Any = shortcuts.PromptSession(
+            history=History(lines),
+            completer=Completer(user),
+            complete_while_typing=False,
+            complete_style=shortcuts.CompleteStyle.READLINE_LIKE,
+            lexer=Lexer(),
+            input_processors=[processors.ConditionalProcessor(hint, ~filters.is_done & at_end)],
+            bottom_toolbar=lambda: told(hinting.told(self._typed())),
+            style=styles.Style.from_dict(STYLE),
+            enable_suspend=True,
+            reserve_space_for_menu=0,
+        )
+        self._texts: Any = shortcuts.PromptSession(history=history.DummyHistory())
+
+    def command(self, prompt: str) -> str:
+        return str(self._session.prompt(prompt))
+
+    def text(self, prompt: str) -> str:
+        return str(self._texts.prompt(prompt))
+
+    def remember(self, line: str) -> None:
+        self._lines.add(line)
+
+    def _typed(self) -> str:
+        """The line as far as it is typed; nothing of a text that was pasted, or of what is too long for a command."""
+        text = str(self._session.default_buffer.document.text_before_cursor)
+        return text if is_line(text) else ""
+
+
+def told(text: str) -> str:
+    """A text as the last lines of the terminal."""
+    columns = shutil.get_terminal_size().columns
+    return "\n".join(textwrap.wrap(text, columns - 1, max_lines=MAX_TOLD, placeholder=" .."))

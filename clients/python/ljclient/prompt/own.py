@@ -1,0 +1,111 @@
+"""What is said at the prompt alone: many atoms in one SHOW, frames in files, and simulations saved in files."""
+from __future__ import annotations
+
+import functools
+import os
+from typing import Callable, Dict, List, Optional
+
+from ..files import write_whole
+from ..refusals import NoAtom
+from ..user import User
+from .loading import Fault, quoted_words
+from .physical import load_of, scale_of
+from .sessions import renumbered, session_of
+from .shapes import RANGE, wrong_words
+
+# Does something, and returns the lines that tell of it.
+Deed = Callable[[User], List[str]]
+
+
+def deed_of(line: str) -> Optional[Deed]:
+    """What a line asks for, if it is said at the prompt alone. Raises Fault if it is not said as it should be."""
+    words = quoted_words(line)
+    if load := load_of(line):
+        return load.perform
+    if words[:1] == ["DUMP"] and any(word.startswith(">") for word in words[2:3]):
+        return lambda user: dump(user, spread(words))
+    if words[:1] == ["SHOW"] and any(map(RANGE.match, words[2:3])):
+        return lambda user: show(user, checked(words, "SHOW s i..j"))
+    saving = SAVING.get(words[0].lower()) if words else None
+    return functools.partial(saving, words=words) if saving else None
+
+
+def spread(words: List[str]) -> List[str]:
+    """The words of a DUMP into a file, which may stand at the `>` itself."""
+    parts = [words[2][:1], words[2][1:]] if len(words[2]) > 1 else [words[2]]
+    return checked([*words[:2], *parts, *words[3:]], "DUMP s > FILE")
+
+
+def checked(words: List[str], usage: str) -> List[str]:
+    """These words. Raises Fault, which names the word that is wrong, if they are not of this usage."""
+    if wrong := wrong_words(words, usage):
+        raise Fault(f"{wrong[0]}; it is said as `{usage}`")
+    return words
+
+
+def dump(user: User, words: List[str]) -> List[str]:
+    """Writes the frame of a session into a file."""
+    _, name, _, path = words
+    text = session_of(user, name).dump()
+    write(path, text.encode())
+    count, comment, *_ = text.split("\n")
+    return [f"  {count} atoms at {comment} are in {path}"]
+
+
+def write(path: str, data: bytes) -> None:
+    """Writes a file. Raises Fault if that cannot be."""
+    try:
+        write_whole(os.path.expanduser(path), data)
+    except OSError as error:
+        raise Fault(f"cannot write {path}: {error.strerror or error}") from error
+    except ValueError as error:
+        raise Fault(str(error)) from error
+
+
+def show(user: User, words: List[str]) -> List[str]:
+    """The places of several atoms."""
+    _, name, atoms = words
+    first, last = map(int, atoms.split(".."))
+    if first > last:
+        raise Fault(f"`{atoms}`: the first atom is not after the last one")
+    session = session_of(user, name)
+    if last >= session.atoms:
+        raise NoAtom(f"SHOW {name} {last}")
+    order = session.order
+    replies = user.ask_all([f"SHOW {name} {order.number_of(atom)}" for atom in range(first, last + 1)])
+    shown = [renumbered(reply, ["SHOW", name, str(atom)], order) for atom, reply in enumerate(replies, first)]
+    return ["OK " + " ".join(reply.words) for reply in shown]
+
+
+def save(user: User, words: List[str]) -> List[str]:
+    """Writes a whole simulation into a file."""
+    checked(words[:3], "save s FILE")
+    _, name, path, *said = words
+    row = user.row(name)
+    try:
+        if said:
+            user.session(name, **scale_of(said))
+        elif user.known(name).scale is None:
+            example = f"`save {name} {path} edge=21.04 dt=2fs argon`"
+            raise Fault(f"the scale of {name} is not known here: say it too, as in {example}, or with edge=, sigma= and h=")
+        session_of(user, name).save(os.path.expanduser(path))
+    except OSError as error:
+        raise Fault(f"cannot write {path}: {error.strerror or error}") from error
+    except ValueError as error:
+        raise Fault(str(error)) from error
+    left = ", but not what BRANCH has saved" if row.branches else ""
+    return [f"  {name} at step {row.step} is in {path}{left}"]
+
+
+def load_saved(user: User, words: List[str]) -> List[str]:
+    """Goes on from a file that `save` has written."""
+    checked(words, "load_saved FILE [s]")
+    try:
+        session = user.load_saved(os.path.expanduser(words[1]), *words[2:])
+    except OSError as error:
+        raise Fault(f"cannot read {words[1]}: {error.strerror or error}") from error
+    row = user.row(session.name)
+    return [f"  {row.name} goes on at step {row.step}, with {row.atoms} atoms"]
+
+
+SAVING: Dict[str, Callable[[User, List[str]], List[str]]] = {"save": save, "load_saved": load_saved}

@@ -1,0 +1,162 @@
+"""What a prompt waits for, told to whoever sits there: the command, and about how far its session is."""
+from __future__ import annotations
+
+import contextlib
+import time
+from typing import Callable, Dict, Iterator, List, NamedTuple, Optional
+
+from ..errors import shown
+from ..interrupts import held
+from ..progress import Report, reporter
+from ..user import User
+from .loading import words_of
+
+# These are answered at once, whatever is started.
+AT_ONCE = ("LIST", "START", "FORGET", "LOAD", "LOADMIX")
+PATIENCE = 0.5
+PATIENCE_BESIDE_A_BAR = 3.0
+# A bar that is drawn at once, and says nothing where it cannot be drawn.
+DELAY = 0.001
+Tell = Callable[[str], None]
+
+
+class Run(NamedTuple):
+    """Steps that were started: the step that they lead to, how many they are, and since when they are made."""
+
+    target: int
+    steps: int
+    since: float
+
+
+class Waits:
+    """Tells what is waited for, where a reply takes longer than a moment.
+
+    No reply tells how far a session on its way is, so that comes from the time that its earlier steps have taken. A server makes
+    steps at any time, and a program of its own makes them while a reply is awaited.
+    """
+
+    def __init__(self, tell: Tell):
+        self._tell = tell
+        self._runs: Dict[str, Run] = {}
+        self._seconds_per_step: Dict[str, float] = {}
+        self._ended_at = 0.0
+        self._typed = ""
+        # The command, as it was typed, whose reply an interrupt has left.
+        self._left = ""
+        self._is_one = True
+        self._is_sent = False
+        self._is_told = False
+        self._report: Optional[Report] = None
+        self._drawn = 0
+        self._bars = contextlib.ExitStack()
+
+    @contextlib.contextmanager
+    def during(self, user: User, typed: str, is_one: bool) -> Iterator[None]:
+        """Waits for what an earlier command has left, and then tells what is waited for within the block: for the command that
+        was typed, or for the first of several that it needs."""
+        self._typed, self._is_one, self._is_sent = typed, is_one, False
+        if user.name is None:
+            self._leave_out(time.monotonic() - self._ended_at)
+        try:
+            with self._bars, user.on_wait(self._tick):
+                user.catch_up()
+                self._end_bar()
+                self._left, self._is_sent = "", True
+                yield
+                if self._report:
+                    self._report(self._drawn, self._drawn)
+                self._end_bar()
+        finally:
+            self._ended_at = time.monotonic()
+
+    def interrupted(self, user: User) -> List[str]:
+        """What an interrupt leaves: told where a command is still to be answered."""
+        self._end_bar()
+        if not user.unanswered:
+            return ["interrupted"]
+        after = self._after(user.unanswered[0])
+        if not self._is_sent:
+            return [f"`{shown(self._typed)}` was not sent: `{self.awaited}` is still to be answered{after}"]
+        self._left = self._typed
+        if not self._is_one:
+            return [f"interrupted: `{self.awaited}` is given up. What it has asked for is waited for next{after}"]
+        return [f"interrupted: `{self.awaited}` is still to be answered{after}. What is typed next waits for it"]
+
+    @property
+    def awaited(self) -> str:
+        """The command whose reply is awaited, as it was typed."""
+        return shown(self._typed if self._is_sent or not self._left else self._left)
+
+    def note_pace(self, name: str, steps: int, seconds: float) -> None:
+        """Notes how long steps of a session have taken."""
+        if steps > 0:
+            self._seconds_per_step[name] = seconds / steps
+
+    def knows_pace(self, name: str) -> bool:
+        """Whether the time of a step of this session is known, or cannot be measured now, since steps are started."""
+        return name in self._seconds_per_step or name in self._runs
+
+    def are_started(self, name: str) -> bool:
+        """Whether steps of this session were started that nobody has waited for."""
+        return name in self._runs
+
+    def note_start(self, name: str, steps: int, target: int) -> None:
+        """Notes that a session goes on by so many steps more."""
+        now = time.monotonic()
+        run = self._runs.get(name, Run(target, 0, now))
+        self._runs[name] = Run(target, run.steps + steps, run.since)
+
+    def note_answer(self, line: str) -> None:
+        """Notes that a command was answered, so that its session is there, or is another one."""
+        verb, *words = words_of(line)
+        if words and verb not in ("START", "FORGET", "LIST"):
+            self._runs.pop(words[0], None)
+        if words and verb in ("LOAD", "LOADMIX", "DROP"):
+            self._seconds_per_step.pop(words[0], None)
+
+    def _leave_out(self, seconds: float) -> None:
+        """Leaves out a time in which no steps were made."""
+        self._runs = {name: run._replace(since=run.since + seconds) for name, run in self._runs.items()}
+
+    def _run_of(self, command: str) -> Optional[Run]:
+        """The steps that a command waits for, if it does."""
+        verb, *words = words_of(command)
+        return self._runs.get(words[0]) if words and verb not in AT_ONCE else None
+
+    def _after(self, command: str) -> str:
+        """When a command is answered, as far as that is known."""
+        run = self._run_of(command)
+        return f", when {words_of(command)[1]} is at step {run.target}" if run else ""
+
+    def _tick(self, command: str, silent: float) -> None:
+        """Tells once what is waited for, and draws about how far its session is."""
+        run = self._run_of(command)
+        if silent < (PATIENCE if run or not self._has_bar else PATIENCE_BESIDE_A_BAR):
+            return
+        with held():
+            if not self._is_told:
+                self._is_told = True
+                self._tell(f"waiting for the reply to `{self.awaited}`{self._after(command)} (Ctrl-C ends the wait)")
+            if run:
+                self._draw(words_of(command)[1], run)
+
+    @property
+    def _has_bar(self) -> bool:
+        """Whether the command that was typed shows itself how far it is."""
+        return self._is_sent and words_of(self._typed)[:1] == ["ADVANCE"]
+
+    def _draw(self, name: str, run: Run) -> None:
+        """Draws about how many of the steps are made, if the time of a step is known. At most all but one, since it is a guess."""
+        seconds = self._seconds_per_step.get(name)
+        if seconds is None or not run.steps:
+            return
+        if self._report is None:
+            self._report = self._bars.enter_context(reporter(True, f"{name}, about", DELAY))
+        done = int((time.monotonic() - run.since) / max(seconds, 1e-9))
+        self._drawn = run.steps
+        if self._report:
+            self._report(min(done, run.steps - 1), run.steps)
+
+    def _end_bar(self) -> None:
+        self._bars.close()
+        self._report, self._is_told = None, False

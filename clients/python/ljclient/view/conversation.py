@@ -1,0 +1,92 @@
+"""The conversation with a page, message by message: who is let in, what is asked, and what the page waits for."""
+from __future__ import annotations
+
+import asyncio
+import json
+from typing import Any, Callable, Optional, Protocol
+
+from .. import ClientError, User
+from ..refusals import Denied
+from .connection import Connection
+from .talk import Talk
+from .users import AtServer, NoToken, Users
+
+SECONDS_UNTIL_WORD = 1.0
+
+
+class Page(Protocol):
+    """The messages of a page."""
+
+    async def tell(self, text: str) -> None:
+        """Sends a message."""
+
+    async def heard(self) -> Optional[str]:
+        """The next message, or None at the end."""
+
+
+async def converse(page: Page, connection: Connection, talk: Talk, users: Users) -> None:
+    """Answers a page until it is gone. If its user cannot be had at all, that is told, and is the end."""
+    try:
+        first = await begun(page, connection, talk, users)
+    except ClientError as error:
+        return await page.tell(json.dumps({"error": str(error)}))
+    if first is None:
+        return
+    await page.tell(first)
+    while (message := await page.heard()) is not None:
+        await page.tell(await answered(page, connection, users, lambda user: talk.answer(user, str(message))))
+
+
+async def begun(page: Page, connection: Connection, talk: Talk, users: Users) -> Optional[str]:
+    """What the page is told first. It is asked for the token if nobody has said one. None if it is gone meanwhile."""
+    while True:
+        try:
+            return await done(page, connection, users, talk.begin)
+        except (NoToken, Denied) as refusal:
+            if not isinstance(users, AtServer) or not await token_is_said(page, users, isinstance(refusal, Denied)):
+                return None
+
+
+async def token_is_said(page: Page, users: AtServer, is_denied: bool) -> bool:
+    """Asks a page for the token until it says one. False if it is gone meanwhile."""
+    account = users.account
+    account.token = None
+    why: Optional[str] = f"the server has no user {account.name} with this token: type it again" if is_denied else ""
+    while why is not None:
+        await page.tell(json.dumps(account.asks(why)))
+        if (message := await page.heard()) is None:
+            return False
+        why = None if account.token else account.take(token_in(message))
+    return True
+
+
+def token_in(message: str) -> Any:
+    """The token that a message says, or None."""
+    try:
+        wish = json.loads(message)
+    except (ValueError, RecursionError):
+        return None
+    return wish.get("token") if isinstance(wish, dict) else None
+
+
+async def answered(page: Page, connection: Connection, users: Users, act: Callable[[User], str]) -> str:
+    """The answer to a message. That the user cannot be had is one, too."""
+    try:
+        return await done(page, connection, users, act)
+    except ClientError as error:
+        return json.dumps({"error": str(error)})
+
+
+async def done(page: Page, connection: Connection, users: Users, act: Callable[[User], str]) -> str:
+    """What is returned by something that is done with the user. If that has to get in first, and it takes long, the page is told
+    what it waits for."""
+    if connection.is_open:
+        return await connection.do(act)
+    task = asyncio.ensure_future(connection.do(act))
+    try:
+        await asyncio.wait([task], timeout=SECONDS_UNTIL_WORD)
+        if not task.done() and (text := users.waits()) is not None:
+            await page.tell(json.dumps({"waits": text}))
+        return await task
+    finally:
+        task.cancel()

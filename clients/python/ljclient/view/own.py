@@ -1,0 +1,89 @@
+"""The sessions that a user has at a server, whoever loaded them. All pages of the user share them."""
+from __future__ import annotations
+
+import contextlib
+import itertools
+from typing import Callable, Dict, List, Optional
+
+from .. import Scale, User, box
+from ..frames import RING_EDGE
+from ..units import MAX_STEP_FACTOR, RING
+from .stage import Lost, Stage
+from .wishes import Answer, Wish
+
+# Sessions that the view has loaded itself.
+PREFIX = "view-"
+FAULT = f"edge and sigma are numbers, sigma is below a fifth of the edge, and h is a whole number from 1 to {MAX_STEP_FACTOR}"
+
+
+class Unknown(Exception):
+    """What a session's whole numbers mean is not known.
+
+    edge  the edge of its box, as far as its atoms tell it
+    why   what is wrong with what was said, if anything was
+    """
+
+    def __init__(self, name: str, edge: str, why: str = ""):
+        super().__init__(name, edge, why)
+        self.name, self.edge, self.why = name, edge, why
+
+    def asks(self) -> Answer:
+        """What a page is asked."""
+        return {"asks": "scale", "session": self.name, "edge": self.edge, "why": self.why}
+
+
+class OwnSessions:
+    """The sessions of a user, each with the pages that show it.
+
+    edge      of the boxes, if the command line says it
+    scale_of  the scale of a box of this edge, if the command line says what it needs
+    """
+
+    def __init__(self, edge: Optional[float], scale_of: Optional[Callable[[float], Scale]]):
+        self._edge = edge
+        self._scale_of = scale_of
+        self._numbers = itertools.count(1)
+        self._stages: Dict[str, Stage] = {}
+        self._watched: Dict[str, int] = {}
+
+    def names(self, user: User) -> List[str]:
+        """The sessions that are there, in order of loading."""
+        names = [line.split(" ")[0] for line in user.ask("LIST").lines]
+        return [name for name in names if not name.startswith(PREFIX)]
+
+    def stage(self, user: User, name: str, wish: Wish) -> Stage:
+        """The session of this name, for a page more. Raises `Unknown` if nobody has said its scale, or a wrong one."""
+        if name not in self._stages or self._stages[name].is_lost:
+            seen = box.seen_atom(user, name)
+            is_exact = seen.fits(RING_EDGE)
+            edge = RING_EDGE if is_exact else seen.edge()
+            scale = self._said(name, edge, wish)
+            if not seen.fits(scale.edge):
+                raise Unknown(name, edge, f"{name} is in a box whose edge is about {edge}")
+            self._stages[name] = Stage(user, name, scale, is_exact, f"{PREFIX}own-{next(self._numbers)}", is_own=True)
+        self._watched[name] = self._watched.get(name, 0) + 1
+        return self._stages[name]
+
+    def leave(self, user: User, name: str) -> None:
+        """Has a page less show a session. With the last one, what was saved for pages is given up."""
+        self._watched[name] -= 1
+        if self._watched[name] == 0:
+            with contextlib.suppress(Lost):
+                self._stages.pop(name).leave(user)
+
+    def _said(self, name: str, edge: str, wish: Wish) -> Scale:
+        """The scale that the page says, or else the command line."""
+        words = [wish.get(word) for word in ("edge", "sigma", "h")]
+        try:
+            if words != [None] * 3:
+                edge_said, sigma, h = (str(word).strip() for word in words)
+                scale = Scale.of(edge_said, sigma, int(h))
+            elif self._scale_of is not None:
+                scale = self._scale_of(float(edge) if self._edge is None else self._edge)
+            else:
+                raise Unknown(name, edge)
+        except (TypeError, ValueError):
+            raise Unknown(name, edge, FAULT) from None
+        if not (0 < scale.sigma_on_ring < RING // 5 and 0 < scale.h <= MAX_STEP_FACTOR):
+            raise Unknown(name, edge, FAULT)
+        return scale

@@ -1,0 +1,59 @@
+"""A second run beside a session: the same simulation, but for one atom that goes one ring unit further in each step."""
+from __future__ import annotations
+
+from typing import List, Optional
+
+from .. import Scale, User, arrays, frames
+from ..order import Order
+from ..refusals import NoSession
+from ..state import State
+from .wishes import Answer
+
+ATOM = 0
+
+
+class SecondRun:
+    """The second run of a session, if there is one.
+
+    first  the name of the session
+    name   that of the second run
+    """
+
+    def __init__(self, first: str, name: str):
+        self.first = first
+        self.name = name
+        self.is_there = False
+
+    def begin(self, user: User, scale: Scale, symbols: List[str], is_exact: bool) -> None:
+        """Loads the simulation as the first session has it now, and pushes one atom by the least that there is."""
+        both = frames.both_dumped(user, self.first) if is_exact else frames.both_shown(user, self.first, len(symbols))
+        places, before = (arrays.listed(frame.places) for frame in both)
+        state = State(self.name, scale, None, 0, 1, symbols, places, before)
+        self.end(user)
+        user.ask_commands([state.command(Order()), (f"TUG {self.name} {ATOM} 1 0 0", b"")])
+        self.is_there = True
+
+    def end(self, user: User) -> None:
+        """Gives it up. Another connection may have done so already."""
+        if self.is_there:
+            self.is_there = False
+            try:
+                user.ask(f"DROP {self.name}")
+            except NoSession:
+                pass
+
+    def goes_on(self, steps: int) -> List[str]:
+        """The commands by which it goes on while the first session does."""
+        return [f"START {self.name} {steps}"] if self.is_there else []
+
+    def turns(self) -> List[str]:
+        """The commands by which its motion is turned back."""
+        return [f"REVERSE {self.name}"] if self.is_there else []
+
+    def shown(self) -> List[str]:
+        """The commands that tell its atoms."""
+        return [f"DUMP {self.name}"] if self.is_there else []
+
+    def told(self, lines: Optional[List[str]]) -> Answer:
+        """Its atoms, for a page."""
+        return {} if lines is None else {"second": "\n".join(lines[2:])}

@@ -1,0 +1,114 @@
+"""What one page asks for, and what it is answered: which atoms it shows, and what is done with them."""
+from __future__ import annotations
+
+import json
+from dataclasses import dataclass
+from typing import List, Optional, Sequence
+
+from .. import ClientError, User
+from .own import OwnSessions, Unknown
+from .scenes import Scene
+from .stage import Lost, Stage
+from .wishes import Answer, Wish, number_in
+
+
+@dataclass(frozen=True)
+class Choice:
+    """What pages can show.
+
+    scenes  that are loaded for a page
+    own     the sessions that the user has at a server, if it is one
+    """
+
+    scenes: Sequence[Scene]
+    own: Optional[OwnSessions] = None
+
+
+class Talk:
+    """The conversation with a page. It begins with the first of the user's sessions, or else with the first scene.
+
+    number  of the page, which is in the name of the session that is loaded for it
+    """
+
+    def __init__(self, choice: Choice, number: int):
+        self._choice = choice
+        self._loaded = f"view-{number}"
+        self._stage: Optional[Stage] = None
+        self._shared = ""
+        self._has_loaded = False
+
+    def begin(self, user: User) -> str:
+        """What the page is told first."""
+        names = self._own_names(user)
+        return self._answered(user, {"do": "load", "session": names[0]} if names else {"do": "load", "scene": 0})
+
+    def answer(self, user: User, message: str) -> str:
+        """The answer to a message. One that cannot be done changes nothing."""
+        try:
+            wish = json.loads(message)
+        except (ValueError, RecursionError) as error:
+            return json.dumps({"error": str(error)})
+        return self._answered(user, wish if isinstance(wish, dict) else {})
+
+    def end(self, user: User) -> None:
+        """Gives up what was loaded and saved for the page."""
+        self._leave(user)
+        if self._has_loaded:
+            user.ask_all([f"DROP {self._loaded}"])
+
+    def _answered(self, user: User, wish: Wish) -> str:
+        try:
+            if wish.get("do") == "load":
+                return json.dumps(self._load(user, wish))
+            if self._stage is None:
+                raise ValueError("there are no atoms yet")
+            return json.dumps(self._stage.answer(user, wish))
+        except Unknown as unknown:
+            return json.dumps({**unknown.asks(), "choice": self._choices(user)})
+        except Lost as error:
+            return json.dumps({"error": str(error), "lost": True, "choice": self._choices(user)})
+        except (ClientError, ValueError) as error:
+            return json.dumps({"error": str(error)})
+
+    def _load(self, user: User, wish: Wish) -> Answer:
+        """Begins with other atoms. The answer says what they are like, beside their first frame."""
+        session = wish.get("session")
+        if session is None:
+            number = number_in(wish, "scene", 0, len(self._choice.scenes) - 1)
+            scene = self._choice.scenes[number].changed(wish)
+            self._leave(user)
+            self._stage = self._staged(user, scene)
+            chosen = {"number": number, "session": None, "title": scene.title, "settings": scene.settings()}
+        else:
+            name = str(session)
+            if self._choice.own is None or name not in self._own_names(user):
+                raise ValueError(f"there is no session {name}")
+            stage = self._choice.own.stage(user, name, wish)
+            self._leave(user)
+            self._stage, self._shared = stage, name
+            chosen = {"number": None, "session": name, "title": name, "settings": None}
+        assert self._stage is not None
+        first = self._stage.shown(user)
+        return {**first, "scene": {**chosen, **self._choices(user), **first.pop("likeness")}}
+
+    def _staged(self, user: User, scene: Scene) -> Stage:
+        """A scene, loaded for this page."""
+        self._has_loaded = True
+        scene.begin(user, self._loaded)
+        return Stage(user, self._loaded, scene.scale, True, f"{self._loaded}-2")
+
+    def _leave(self, user: User) -> None:
+        """Has the page show no atoms any more."""
+        stage, shared = self._stage, self._shared
+        self._stage, self._shared = None, ""
+        if shared and self._choice.own is not None:
+            self._choice.own.leave(user, shared)
+        elif stage is not None:
+            stage.end_second_of(user)
+
+    def _own_names(self, user: User) -> List[str]:
+        return [] if self._choice.own is None else self._choice.own.names(user)
+
+    def _choices(self, user: User) -> Answer:
+        """What else there is to choose."""
+        return {"titles": [scene.title for scene in self._choice.scenes], "sessions": self._own_names(user)}

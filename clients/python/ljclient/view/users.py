@@ -1,0 +1,143 @@
+"""Whose sessions pages show: those of a program of its own for each page, or those of one user at a server for all."""
+from __future__ import annotations
+
+import asyncio
+import contextlib
+from dataclasses import dataclass
+from typing import List, Optional, Protocol
+
+from .. import ClientError, User, connect
+from ..ends import SocketEnds
+from ..errors import TimedOut
+from ..tokens import fault_of, without_blanks
+from .addresses import Address
+from .connection import PATIENCE, Connection, OpenUser
+from .talk import Talk
+from .wishes import Answer
+
+SECONDS = 600.0
+SECONDS_OF_A_TRY = 2.0
+
+
+class NoToken(ClientError):
+    """Nobody has said the user's token yet."""
+
+
+class Users(Protocol):
+    """Where the sessions of pages are."""
+
+    def enter(self) -> Connection:
+        """The connection of a page more."""
+
+    async def leave(self, connection: Connection, talk: Talk) -> None:
+        """Has a page be gone."""
+
+    async def close(self) -> None:
+        """Has all pages be gone."""
+
+    def waits(self) -> Optional[str]:
+        """What a page is told for which nothing was heard for a while, if there is anything."""
+
+
+class Programs:
+    """Each page has a program of its own, with which its sessions are gone."""
+
+    def __init__(self, open_user: OpenUser):
+        self._open_user = open_user
+
+    def enter(self) -> Connection:
+        return Connection(self._open_user)
+
+    async def leave(self, connection: Connection, talk: Talk) -> None:
+        await connection.close()
+
+    async def close(self) -> None:
+        """Nothing is left to be closed."""
+
+    def waits(self) -> Optional[str]:
+        return None
+
+
+@dataclass
+class Account:
+    """A user at a server.
+
+    address  where the server listens
+    name     of the user
+    token    if it is known
+    """
+
+    address: Address
+    name: str
+    token: Optional[str] = None
+
+    def open(self, seconds: float = SECONDS) -> User:
+        """The user's connection. It waits for so long if another one is open."""
+        if self.token is None:
+            raise NoToken(f"the token of {self.name} was not said")
+        return connect(*self.address, self.name, self.token, timeout=seconds)
+
+    def take(self, token: object) -> Optional[str]:
+        """Takes a token that was typed. Returns what is wrong with it, if it is none."""
+        typed = without_blanks(token) if isinstance(token, str) else ""
+        if (fault := fault_of(typed)) is None:
+            self.token = typed
+        return fault
+
+    def asks(self, why: str) -> Answer:
+        """What a page is asked if the token is not known, or is none."""
+        return {"asks": "token", "name": self.name, "why": why}
+
+    def check(self) -> None:
+        """Raises ClientError if there is no server, or if it denies the token. That another connection is open is no fault."""
+        if self.token is None:
+            SocketEnds(*self.address, SECONDS_OF_A_TRY).close()
+            return
+        with contextlib.suppress(TimedOut):
+            self.open(SECONDS_OF_A_TRY).close()
+
+
+class AtServer:
+    """All pages share one connection of a user, which is given up if none of them has asked for anything for a while."""
+
+    def __init__(self, account: Account):
+        self.account = account
+        self._connection: Optional[Connection] = None
+        self._gone: List[Talk] = []
+
+    def enter(self) -> Connection:
+        if self._connection is None:
+            self._connection = Connection(self._open, PATIENCE)
+        return self._connection
+
+    async def leave(self, connection: Connection, talk: Talk) -> None:
+        """Has what was loaded for the page be given up, at once if the user is in, or else when the view ends."""
+        self._gone.append(talk)
+        if connection.is_open:
+            await connection.do(self._give_up)
+
+    async def close(self) -> None:
+        """Gives up what pages have left at the server, if the user gets in soon, and takes leave."""
+        if self._connection is None:
+            return
+        with contextlib.suppress(asyncio.TimeoutError, ClientError):
+            if self._gone and self.account.token is not None:
+                await asyncio.wait_for(self._connection.do(self._give_up), SECONDS_OF_A_TRY)
+            await asyncio.wait_for(self._connection.close(), SECONDS_OF_A_TRY)
+
+    def waits(self) -> Optional[str]:
+        if self._connection is None or self._connection.is_open:
+            return None
+        name = self.account.name
+        return f"{name} is in by another connection, such as a prompt or a notebook. This page goes on when that one has ended."
+
+    def _open(self) -> User:
+        user = self.account.open()
+        self._give_up(user)
+        return user
+
+    def _give_up(self, user: User) -> None:
+        """Gives up what pages that are gone have left."""
+        while self._gone:
+            with contextlib.suppress(ClientError):
+                self._gone.pop().end(user)

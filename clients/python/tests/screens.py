@@ -1,0 +1,79 @@
+"""A program in a real terminal, tmux, and what its screen shows."""
+import re
+import shutil
+import subprocess
+import tempfile
+import time
+
+import pytest
+
+from support import SECONDS
+
+needs_tmux = pytest.mark.skipif(shutil.which("tmux") is None, reason="tmux is not installed")
+
+
+class Screen:
+    """A program in a terminal of so many columns. The screen is what somebody sees who types."""
+
+    def __init__(self, words, env, columns=80, rows=40, cwd=None):
+        self._folder = tempfile.TemporaryDirectory()
+        self._socket = f"{self._folder.name}/tmux"
+        self._env = env
+        size = ["-x", str(columns), "-y", str(rows)]
+        self._tmux("new-session", "-d", *size, *(["-c", str(cwd)] if cwd else []), *words, ";", "set", "remain-on-exit", "on")
+
+    def _tmux(self, *words):
+        command = ["tmux", "-S", self._socket, "-f", "/dev/null", *words]
+        return subprocess.run(command, env=self._env, capture_output=True, text=True, timeout=SECONDS, check=True).stdout
+
+    def type(self, text):
+        self._tmux("send-keys", "-l", text)
+
+    def press(self, *keys):
+        """Presses keys by their names of tmux, such as Enter, Tab, Up or C-c."""
+        self._tmux("send-keys", *keys)
+
+    def paste(self, text):
+        """Pastes a text as terminals do, with marks around it if the program asks for them."""
+        self._tmux("set-buffer", text)
+        self._tmux("paste-buffer", "-p")
+
+    def lines(self):
+        """The lines of the screen from the first to the last that has something."""
+        return self._tmux("capture-pane", "-p").rstrip().split("\n")
+
+    def colours(self):
+        """The screen with its colours as escape sequences."""
+        return self._tmux("capture-pane", "-p", "-e")
+
+    def until(self, wanted):
+        """The lines of the screen, once this is found in them."""
+        end = time.monotonic() + SECONDS
+        while not re.search(wanted, "\n".join(lines := self.lines()), re.S | re.M):
+            if time.monotonic() > end:
+                raise AssertionError(f"{wanted!r} is not in\n" + "\n".join(lines))
+            time.sleep(0.05)
+        return lines
+
+    def says(self, line, wanted):
+        """Types a line, and returns the screen once this is found behind it."""
+        self.type(line)
+        self.press("Enter")
+        return self.until(wanted)
+
+    def ended(self):
+        """The exit status of the program, once it has ended."""
+        end = time.monotonic() + SECONDS
+        while len(told := self._tmux("display", "-p", "#{pane_dead} #{pane_dead_status}").split()) < 2:
+            assert time.monotonic() < end, "the program has not ended"
+            time.sleep(0.05)
+        return int(told[1])
+
+    def close(self):
+        subprocess.run(["tmux", "-S", self._socket, "kill-server"], capture_output=True, timeout=SECONDS)
+        self._folder.cleanup()
+
+
+def joined(lines):
+    """The text of some lines as one line. A word that a terminal has broken would have a blank in it."""
+    return " ".join(" ".join(lines).split())

@@ -1,0 +1,106 @@
+"""What the prompt tells while it waits: for what, how far that is, and what an interrupt leaves."""
+import importlib.util
+import re
+
+import pytest
+
+from support import DIMER
+from terminals import PROMPT, Terminal, environment, slow_program
+
+with_tqdm = pytest.mark.skipif(not importlib.util.find_spec("tqdm"), reason="tqdm is not installed")
+
+
+@pytest.fixture
+def begin(tmp_path):
+    """Begins a prompt over a slow program, which ends at the last of so many steps that are asked for."""
+    begun = []
+
+    def prompt(last=0):
+        begun.append(Terminal(PROMPT, environment(LJSERVE=slow_program(tmp_path, last)), cwd=tmp_path))
+        begun[-1].until("ljserve> ")
+        return begun[-1]
+
+    yield prompt
+    for terminal in begun:
+        terminal.close()
+
+
+def says(terminal, line, wanted="ljserve> "):
+    """Types a line, and returns what is shown up to what is wanted, without the line itself."""
+    terminal.type(line + "\r")
+    terminal.until(re.escape(line) + "\n")
+    return terminal.until(wanted)
+
+
+def test_what_is_waited_for_is_told(begin, tmp_path):
+    terminal = begin()
+    assert says(terminal, "START a 900000") == "OK START a 900000\nljserve> "
+    told = "waiting for the reply to `SHOW a 0`, when a is at step 900000"
+    says(terminal, "SHOW a 0", re.escape(told))
+    terminal.interrupt()
+    left = "`SHOW a 0` is still to be answered, when a is at step 900000"
+    assert f"\n  interrupted: {left}. What is typed next waits for it\n" in terminal.until("ljserve> ")
+    says(terminal, "LIST", re.escape(told))
+    terminal.interrupt()
+    assert f"\n  `LIST` was not sent: {left}\n" in terminal.until("ljserve> ")
+    says(terminal, "LIST", re.escape(told))
+    (tmp_path / "go").touch()
+    assert terminal.until("ljserve> ").endswith("OK LIST 1\na 900000 2 0\nljserve> ")
+    assert says(terminal, "SHOW a 0") == "OK SHOW a 900000 0 1 2 3\nljserve> "
+
+
+@with_tqdm
+def test_a_wait_has_a_bar(begin, tmp_path):
+    terminal = begin()
+    says(terminal, "START a 900000")
+    says(terminal, "SHOW a 0", r"a, about: +\d+%\|.*\| \d+/899984 \[")
+    (tmp_path / "go").touch()
+    shown = terminal.until("OK SHOW a 900000 0 1 2 3\nljserve> ")
+    assert re.search(r"a, about: 100%\|.*\| 899984/899984 \[", shown)
+
+
+def test_a_wait_without_started_steps_is_told_too(begin, tmp_path):
+    terminal = begin()
+    says(terminal, "SHOW a 0", re.escape("waiting for the reply to `SHOW a 0` (Ctrl-C ends the wait)"))
+    (tmp_path / "go").touch()
+    terminal.until("OK SHOW a 0 0 1 2 3\nljserve> ")
+
+
+def test_the_command_is_named_as_it_was_typed(begin):
+    terminal = begin(last=2)
+    told = " ".join(says(terminal, "ADVANCE a 1000000").split())
+    assert "; `ADVANCE a 1000000` was not answered" in told
+    assert told.count("`ADVANCE") == 1
+
+
+def test_what_takes_several_commands_is_given_up(begin, tmp_path):
+    terminal = begin()
+    says(terminal, "SHOW a 0..1", "waiting for the reply to `SHOW a 0..1`")
+    terminal.interrupt()
+    assert "  interrupted: `SHOW a 0..1` is given up. What it has asked for is waited for next\n" in terminal.until("ljserve> ")
+    (tmp_path / "go").touch()
+    assert says(terminal, "LIST").endswith("OK LIST 1\na 0 2 0\nljserve> ")
+
+
+def test_a_start_by_many_steps_is_one_start(tmp_path):
+    """Its first steps are waited for, which changes nothing: two atoms are where they are after as many steps in one go."""
+    terminal = Terminal(PROMPT, environment(), cwd=tmp_path)
+    terminal.until("ljserve> ")
+    (tmp_path / "dimer.xyz").write_text(DIMER)
+    for name, line, reply in (("a", "START a 1500", "OK START a 1500"), ("b", "ADVANCE b 1500", "OK ADVANCE b 1500")):
+        says(terminal, f"LOAD {name} dimer.xyz 256 1 131072")
+        assert says(terminal, line) == f"{reply}\nljserve> "
+    assert says(terminal, "START a 20") == "OK START a 1520\nljserve> "
+    assert says(terminal, "ADVANCE b 20") == "OK ADVANCE b 1520\nljserve> "
+    assert says(terminal, "SHOW a 0..1") == says(terminal, "SHOW b 0..1").replace("SHOW b", "SHOW a")
+    terminal.close()
+
+
+def test_a_command_that_was_left_is_named_if_the_connection_ends(begin, tmp_path):
+    terminal = begin()
+    says(terminal, "SHOW a 0", "waiting")
+    terminal.interrupt()
+    terminal.until("ljserve> ")
+    says(terminal, "LIST", "waiting")
+    (tmp_path / "end").touch()
+    assert "; `SHOW a 0` was not answered" in " ".join(terminal.until("ljserve> ").split())
