@@ -1,0 +1,159 @@
+"""The text of a record: the commands of one session as they were sent, and what each was replied.
+
+Each line below the head begins with a check: the first digits of the SHA-256 of all text from the head to the end of this
+line, without the checks. So the first line that was changed is known, and the last SHA-256 is that of the whole.
+"""
+from __future__ import annotations
+
+import enum
+import hashlib
+import re
+from dataclasses import dataclass
+from typing import List, NamedTuple, Optional, Sequence, Tuple
+
+FORMAT = b"ljserve record "
+HEAD = FORMAT + b"1"
+CHECK_DIGITS = 8
+LOADS = (b"LOAD", b"LOADMIX")
+# The commands that name a session.
+OF_A_SESSION = frozenset(
+    b"LOAD LOADMIX ADVANCE START REVERSE BRANCH RESTORE FORGET TUG MEASURE SHOW DUMP LIST DROP".split()
+)
+# Refusals that no command of the session alone brings about: by the connection, by other sessions, and for want of memory.
+FROM_OUTSIDE = (1, 4, 5, 8, 20, 21, 22, 90)
+NO_SESSION = 10
+QUOTA_NAMES = ("sessions", "atoms", "branches")
+MAX_BODY = 1 << 20
+MAX_COMMAND = 256
+COUNT = re.compile(rb"[0-9]{1,7}\Z")
+
+
+class Mark(enum.Enum):
+    """The first word of a line, which says what the line is."""
+
+    CLIENT = b"client"
+    PROGRAM = b"program"
+    QUOTA = b"quota"
+    SENT = b">"
+    BODY = b":"
+    REPLY = b"<"
+    MORE = b"+"
+    OUTSIDE = b"!"
+    UNANSWERED = b"?"
+    CONNECTION = b"connection"
+    MOVED = b"moved"
+    END = b"end"
+
+
+class Answer(NamedTuple):
+    """A command as it was sent, its body, and its reply: the first line and the lines after it, without line ends."""
+
+    line: bytes
+    body: bytes
+    first: bytes
+    rest: Sequence[bytes] = ()
+
+    @property
+    def refusal(self) -> Optional[int]:
+        """The number of the refusal that the reply is, if it is one."""
+        if self.first.startswith(b"OK "):
+            return None
+        words = self.first.split(b" ")
+        return int(words[1]) if words[0] == b"ERR" and words[1:2] and words[1].isdigit() else None
+
+    @property
+    def is_from_outside(self) -> bool:
+        """Whether it was refused for something other than the session's own commands."""
+        return self.refusal in FROM_OUTSIDE
+
+
+@dataclass(frozen=True)
+class Quota:
+    """What a user must be allowed to have for the session."""
+
+    sessions: int = 1
+    atoms: int = 0
+    branches: int = 0
+
+    def with_these(self, atoms: int, branches: int) -> "Quota":
+        """The quota that has room for so many too."""
+        return Quota(self.sessions, max(self.atoms, atoms), max(self.branches, branches))
+
+    @property
+    def numbers(self) -> Tuple[int, int, int]:
+        return self.sessions, self.atoms, self.branches
+
+    def __str__(self) -> str:
+        return " ".join(f"{name} {number}" for name, number in zip(QUOTA_NAMES, self.numbers))
+
+
+class Chain:
+    """The SHA-256 of the text so far, which goes on line by line."""
+
+    def __init__(self) -> None:
+        self._sum = hashlib.sha256(HEAD + b"\n")
+
+    def check_of(self, text: bytes) -> bytes:
+        """The check of the next line, which has this text."""
+        self._sum.update(text + b"\n")
+        return self._sum.hexdigest()[:CHECK_DIGITS].encode()
+
+    def line_of(self, text: bytes) -> bytes:
+        """The next line as it stands in the file."""
+        return b"%b %b\n" % (self.check_of(text), text)
+
+    @property
+    def sum(self) -> str:
+        """The SHA-256 of all lines so far, in hexadecimal digits."""
+        return self._sum.hexdigest()
+
+
+def words_of(line: bytes) -> List[bytes]:
+    """The words of a command line, as the protocol has them."""
+    words = (line[:-1] if line.endswith(b"\r") else line).replace(b"\t", b" ").split(b" ")
+    return [word for word in words if word] if b"" in words else words
+
+
+def session_of(words: Sequence[bytes]) -> str:
+    """The session that the words of a command line name, or none if they are no command that names one."""
+    return words[1].decode("latin-1") if len(words) > 1 and words[0] in OF_A_SESSION else ""
+
+
+def count_of(line: bytes) -> Optional[int]:
+    """How many bytes of a body a line announces. None if it is a load and says no count."""
+    words = words_of(line)
+    if words[0] not in LOADS or len(line) > MAX_COMMAND:
+        return 0
+    return int(words[-1]) if COUNT.match(words[-1]) and int(words[-1]) <= MAX_BODY else None
+
+
+def sum_of(lines: Sequence[bytes]) -> bytes:
+    """The SHA-256 of the lines of a reply below its first, line ends included."""
+    return hashlib.sha256(b"".join(line + b"\n" for line in lines)).hexdigest().encode()
+
+
+def sent_lines(line: bytes, body: bytes) -> List[bytes]:
+    """The lines that tell a command and its body."""
+    if not body:
+        return [b"> " + line]
+    rows = body.split(b"\n")
+    return [b"> " + line, *(b": " + row for row in (rows[:-1] if rows[-1] == b"" else rows))]
+
+
+def reply_lines(answer: Answer) -> List[bytes]:
+    """The lines that tell the reply to a command, of a session that was there by its own commands."""
+    if answer.first.startswith(b"OK ") and not answer.rest:
+        return [b"< " + answer.first]
+    mark = Mark.OUTSIDE if answer.is_from_outside or answer.refusal == NO_SESSION else Mark.REPLY
+    first = mark.value + b" " + answer.first
+    return [first, Mark.MORE.value + b" " + sum_of(answer.rest)] if answer.rest else [first]
+
+
+def shown(text: bytes) -> str:
+    """A text as messages show it: bytes that are no printing characters of ASCII are escaped."""
+    return "".join(chr(byte) if 32 <= byte < 127 else f"\\x{byte:02x}" for byte in text)
+
+
+def quota_line(quota: Quota) -> bytes:
+    """The line that tells a quota."""
+    return f"quota {quota}".encode()

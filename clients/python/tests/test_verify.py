@@ -1,0 +1,335 @@
+"""`python3 -m ljclient verify`: a record is played again, and each reply is told to be the same or not."""
+import contextlib
+import hashlib
+import random
+import re
+from unittest import mock
+
+import pytest
+
+from ljclient import Damaged, Refused, connect, run, verify
+from ljclient.record_file import RecordFile
+from record_texts import COMMANDS, DIMER_TEXT, sums, twisted, verified, with_checks
+from support import PROGRAM, SECONDS, TOKEN, TOP, Server, dimer
+
+LINES = DIMER_TEXT.splitlines()
+# The lines at which a command begins, and those at which its reply ends.
+BEGINS = [number for number, line in enumerate(LINES, 1) if line.startswith("> ")]
+ENDS = [number + (LINES[number][:1] == "+") for number, line in enumerate(LINES, 1) if line.startswith("< ")]
+
+
+MOVED = "moved\n" + DIMER_TEXT[DIMER_TEXT.index("> LOAD") : DIMER_TEXT.index("> ADVANCE")]
+
+
+@pytest.fixture
+def path(tmp_path):
+    path = tmp_path / "run.lj"
+    path.write_text(with_checks(DIMER_TEXT))
+    return path
+
+
+def edited(path, text):
+    """A record of these lines, whose checks are right."""
+    path.write_text(with_checks(text))
+    return path
+
+
+def test_a_line_for_each_command(path):
+    status, (heading, *told, verdict), faults = verified(path)
+    assert (status, faults) == (0, [])
+    assert heading.startswith("recorded by ljclient 1.1.0 over a program that tells no version; played over ")
+    wanted = zip(ENDS, BEGINS, COMMANDS)
+    assert told == [f"same {sums(DIMER_TEXT)[end - 1]} line {begin}: {line}" for end, begin, line in wanted]
+    whole = hashlib.sha256(DIMER_TEXT.encode()).hexdigest()
+    assert verdict == f"{path}: all {len(COMMANDS)} replies are the same; SHA-256 {whole}"
+    assert verified("--quiet", path) == (0, [verdict], [])
+
+
+def test_another_implementation(path):
+    status, told, faults = verified(path, "--program", TOP / "conformance" / "reference.py", "--quiet")
+    assert (status, faults) == (0, [])
+    assert " replies are the same; SHA-256 " in told[0]
+
+
+ACTS = (
+    lambda a, pick: a.advance(pick(30)),
+    lambda a, pick: a.start(pick(30)),
+    lambda a, pick: a.reverse(),
+    lambda a, pick: a.tug(pick(3), (pick(10**6), -pick(10**6), 0)),
+    lambda a, pick: a.branch(f"b{pick(3)}"),
+    lambda a, pick: a.restore(f"b{pick(3)}"),
+    lambda a, pick: a.forget(f"b{pick(3)}"),
+    lambda a, pick: a.measure(),
+    lambda a, pick: a.places(),
+    lambda a, pick: a.dump(),
+    lambda a, pick: a.saved(),
+    lambda a, pick: a.resort(),
+    lambda a, pick: list(a.thermo(2, 2)),
+)
+
+
+@pytest.mark.parametrize("seed", range(5))
+def test_sessions_at_random_over_another_implementation(tmp_path, seed):
+    chance, path = random.Random(seed), tmp_path / "run.lj"
+    with run(PROGRAM, branches=2) as user:
+        others, a = dimer(user, "b"), dimer(user, record=path)
+        for _ in range(60):
+            others.start(1)
+            with contextlib.suppress(ValueError, Refused):
+                chance.choice(ACTS)(a, chance.randrange)
+    status, told, faults = verified(path, "--program", TOP / "conformance" / "reference.py")
+    assert (status, faults) == (0, [])
+    assert len(told) > 60
+
+
+def test_the_program_of_another_version(path, tmp_path):
+    edited(path, DIMER_TEXT.replace("quota", "program ljserve 1.0.0\nprogram of another kit\nquota", 1))
+    status, (heading, *_), _ = verified(path, "--program", twisted(tmp_path, "none", "none"))
+    assert (status, heading) == (0, "recorded by ljclient 1.1.0 over ljserve 1.0.0; played over ljserve 9.9.9")
+
+
+@pytest.mark.parametrize(
+    ("wanted", "other", "line", "here"),
+    [
+        ("OK SHOW a 1 0 589 0 0", "OK SHOW a 1 0 590 0 0", 12, "`OK SHOW a 1 0 589 0 0`, and `OK SHOW a 1 0 590 0 0` here"),
+        ("Ar 1.499894 0.000000 0.000000", "Ar 1.499895 0.000000 0.000000", 19,
+         "`OK DUMP a 2 4`, and here too, but the lines below it are others"),
+        ("OK LOAD a 0 2", "ERR 37 SIGMA", 4, "`OK LOAD a 0 2`, and `ERR 37 SIGMA` here"),
+        ("ERR 12 NO_BRANCH", "OK RESTORE a z 1", 22, "`ERR 12 NO_BRANCH`, and `OK RESTORE a z 1` here"),
+    ],
+)
+def test_a_program_that_replies_otherwise(path, tmp_path, wanted, other, line, here):
+    status, told, faults = verified(path, "--program", twisted(tmp_path, wanted, other))
+    assert status == 1
+    command = COMMANDS[BEGINS.index(line)]
+    assert faults == [f"ljclient: {path}, line {line}: `{command}` was answered {here}"]
+    assert f"differs - line {line}: {command}" in told
+    assert told[-1] == f"{path}: 1 of {len(COMMANDS)} reply differs, the first at line {line}"
+    assert [each.split()[1] for each in told[1:-1]][BEGINS.index(line) :] == ["-"] * (len(BEGINS) - BEGINS.index(line))
+
+
+def test_commands_that_were_edited_with_their_checks(path):
+    """Nothing in the file tells, but the replies do, and the SHA-256."""
+    edited(path, DIMER_TEXT.replace("Ar 1.5 0 0", "Ar 1.4 0 0"))
+    status, told, faults = verified(path)
+    assert status == 1
+    assert faults[0].startswith(f"ljclient: {path}, line 12: `SHOW a 0` was answered `OK SHOW a 1 0 589 0 0`, and `OK SHOW a 1 0 ")
+    assert told[-1] == f"{path}: 2 of {len(COMMANDS)} replies differ, the first at line 12"
+
+
+@pytest.mark.parametrize("number", range(1, len(LINES) + 1))
+def test_a_line_with_another_byte(path, number):
+    rows = path.read_bytes().split(b"\n")
+    for at in (0, len(rows[number - 1]) // 2, len(rows[number - 1]) - 1):
+        row = bytearray(rows[number - 1])
+        row[at] ^= 1
+        path.write_bytes(b"\n".join([*rows[: number - 1], bytes(row), *rows[number:]]))
+        with pytest.raises(Damaged) as caught:
+            list(RecordFile(path).entries())
+        assert caught.value.line == number
+
+
+def test_a_line_that_is_gone_doubled_or_moved(path):
+    rows = path.read_bytes().split(b"\n")
+    for number in range(1, len(LINES) - 1):
+        others = [[*rows[:number], *rows[number + 1 :]], [*rows[:number], rows[number], *rows[number:]]]
+        others.append([*rows[:number], rows[number + 1], rows[number], *rows[number + 2 :]])
+        for each, line in zip(others, (number + 1, number + 2, number + 1)):
+            path.write_bytes(b"\n".join(each))
+            with pytest.raises(Damaged) as caught:
+                list(RecordFile(path).entries())
+            assert caught.value.line == line
+
+
+def test_what_is_damaged_is_not_played(path):
+    path.write_bytes(path.read_bytes().replace(b"LIST a", b"LIST b"))
+    number = LINES.index("> LIST a") + 1
+    why = "the line was changed, or one above it is missing"
+    assert verified(path, "--program", "/nowhere") == (2, [], [f"ljclient: {path}, line {number}: {why}"])
+
+
+def test_a_file_that_is_cut_short_anywhere(path):
+    """What stands above is whole; the line that is cut is told."""
+    data = path.read_bytes()
+    for size in range(len(b"ljserve record 1\n"), len(data)):
+        path.write_bytes(data[:size])
+        file = RecordFile(path)
+        whole = [entry.number for entry in file.entries()]
+        lines = data[:size].count(b"\n")
+        assert whole == [begin for begin, end in zip(BEGINS, ENDS) if end <= lines]
+        is_torn = not data[:size].endswith(b"\n")
+        is_within = any(begin <= lines < end for begin, end in zip(BEGINS, ENDS))
+        assert file.cut == (lines + 1 if is_torn else lines if is_within else None)
+        assert not file.is_ended
+
+
+def test_a_file_that_is_cut_short_is_played_up_to_there(path):
+    data = path.read_bytes()
+    path.write_bytes(data[:-3])
+    status, told, (fault,) = verified(path)
+    assert (status, told[-1].split(";")[0]) == (0, f"{path}: all {len(COMMANDS)} replies are the same")
+    assert fault.startswith(f"ljclient: {path}, line {len(LINES)}: the file is cut short here")
+    path.write_bytes(data[: -len("0123abcd end\n")])
+    status, told, (fault,) = verified(path)
+    assert (status, fault.startswith(f"ljclient: {path} has no `end`")) == (0, True)
+    path.write_bytes(data[:40])
+    assert verified(path) == (2, [], [f"ljclient: {path}: the record has no command"])
+
+
+@pytest.mark.parametrize(
+    ("head", "why"),
+    [
+        ("ljserve record 2\n", "it says `ljserve record 2`, and this client reads `ljserve record 1` alone: take a newer client"),
+        ("ljserve checkpoint 1\n", "a record begins with `ljserve record 1`"),
+        ("", "a record begins with `ljserve record 1`"),
+        ("ljserve rec", "a record begins with `ljserve record 1`"),
+    ],
+)
+def test_files_that_are_no_records(path, head, why):
+    path.write_text(head)
+    assert verified(path) == (2, [], [f"ljclient: {path}, line 1: {why}"])
+
+
+@pytest.mark.parametrize(
+    ("wanted", "other", "line", "why"),
+    [
+        ("> LIST a", "> LIST", 24, "this is no command of a session a"),
+        ("> LIST a", "> DROP b", 24, "this is no command of a session a"),
+        ("> LIST a", "> BYE", 24, "this is no command of a session a"),
+        ("> LIST a", "? HELLO a", 24, "this is no command of a session a"),
+        ("> LOAD a 256", "> LOAD a/b 256", 4, "this is no command of a session"),
+        ("> LOAD a 256", "> MEASURE a 256", 5, "here a reply should stand"),
+        ("rest 28", "rest 30", 9, "the body has 30 bytes, and only 28 stand here"),
+        ("rest 28", "rest 26", 8, "the body has 26 bytes, and 28 stand here"),
+        ("rest 28", "rest 17", 8, "here a reply should stand"),
+        ("rest 28", "rest x", 5, "here a reply should stand"),
+        ("< OK SHOW a 1 0 589 0 0", "quota sessions 1 atoms 2 branches 0", 13, "here a reply should stand"),
+        ("quota sessions 1 atoms 2 branches 1", "quota sessions 1 atoms 2 branches 257", 14,
+         "a quota is of sessions, atoms and branches, at most 64, 65536 and 256"),
+        ("quota sessions 1 atoms 2 branches 1", "quota 1 2 1", 14,
+         "a quota is of sessions, atoms and branches, at most 64, 65536 and 256"),
+        ("quota sessions 1 atoms 2 branches 1", "< OK SHOW a 1 0 589 0 0", 14, "the line stands below no command"),
+        ("quota sessions 1 atoms 2 branches 1", "branches 1", 14, "there is no line of this kind"),
+        ("quota sessions 1 atoms 2 branches 1", "end", 15, "the record goes on below its end"),
+        ("quota sessions 1 atoms 2 branches 1", "moved", 15, "here a session should begin with a LOAD or LOADMIX"),
+        ("> LOAD a 256 1 131072 rest 28\n: 2\n: dimer\n: Ar 0 0 0\n: Ar 1.5 0 0\n< OK LOAD a 0 2\n", "", 4,
+         "here a session should begin with a LOAD or LOADMIX"),
+        ("< OK DUMP a 2 4\n+", "< OK DUMP a 2 4\n>", 21, "here the sum of the lines of a reply should stand"),
+    ],
+)
+def test_records_that_another_writer_has_made_badly(path, wanted, other, line, why):
+    """Nothing but commands of one session is ever played, with bodies as long as they say."""
+    assert wanted in DIMER_TEXT
+    edited(path, DIMER_TEXT.replace(wanted, other, 1))
+    with pytest.raises(Damaged) as caught:
+        list(RecordFile(path).entries())
+    assert (caught.value.line, str(caught.value)) == (line, f"{path}, line {line}: {why}")
+
+
+def test_what_a_terminal_would_obey_is_escaped(path):
+    edited(path, DIMER_TEXT.replace("client ljclient 1.1.0", "client \x1b[2J").replace("> RESTORE a z", "> RESTORE a z \x1b]0;\r"))
+    status, told, faults = verified(path)
+    assert status == 1
+    assert told[0].startswith("recorded by \\x1b[2J over ")
+    assert "\\x1b]0;\\x0d` was answered `ERR 12 NO_BRANCH`, and `ERR 03 SYNTAX` here" in faults[0]
+    assert all(line.isprintable() for line in [*told, *faults])
+
+
+@pytest.mark.parametrize(
+    ("words", "told"),
+    [
+        ([], "the following arguments are required: FILE"),
+        (["a", "b"], "there is no option b"),
+        (["a", "--no"], "there is no option --no"),
+        (["a", "--server", "here", "ann"], "--server HOST:PORT NAME: the first word is no HOST:PORT"),
+        (["a", "--server", "127.0.0.1:4000", "ann", "--program", "x"], "not allowed with argument --server"),
+        (["a", "--timeout", "0"], "SECONDS is a number above 0"),
+    ],
+)
+def test_words_of_the_command_line(words, told):
+    status, lines, faults = verified(*words)
+    assert (status, lines) == (2, [])
+    assert faults[-1].endswith(told) and faults[-1].startswith("ljclient: ")
+
+
+def test_files_and_programs_that_are_not_there(path, tmp_path):
+    assert verified(tmp_path / "none") == (2, [], [f"ljclient: cannot read {tmp_path / 'none'}: No such file or directory"])
+    status, told, (fault,) = verified("--quiet", path, "--program", "/nowhere/ljserve")
+    assert (status, told, fault) == (2, [], "ljclient: cannot start /nowhere/ljserve: No such file or directory")
+
+
+def test_more_commands_than_a_program_takes(path):
+    """Those of a server go on over a new connection, and a program has one."""
+    options = verify.options_of([str(path)])
+    with mock.patch.object(verify, "MAX_ITEMS", len(COMMANDS)):
+        text = f"{path} has {len(COMMANDS)} commands, and a program takes {len(COMMANDS)}: say --server HOST:PORT NAME"
+        with pytest.raises(verify.Trouble, match=re.escape(text)):
+            verify.checked(options)
+        edited(path, DIMER_TEXT.replace("> ADVANCE a 1\n< OK ADVANCE a 2\n", "> DROP a\n< OK DROP a\n" + MOVED, 1))
+        verify.checked(options)
+
+
+# Over a server
+
+def over(server, name="ann"):
+    return ["--server", f"127.0.0.1:{server.port}", name]
+
+
+def test_a_user_of_a_server(path):
+    """The sessions that are there stay as they are, and that of the record is gone at the end."""
+    with Server() as server:
+        with connect("127.0.0.1", server.port, "ann", TOKEN, timeout=SECONDS) as user:
+            dimer(user, "b").advance(3)
+        status, told, faults = verified(path, *over(server), LJSERVE_TOKEN=TOKEN)
+        assert (status, len(told), faults) == (0, len(COMMANDS) + 2, [])
+        with connect("127.0.0.1", server.port, "ann", TOKEN, timeout=SECONDS) as user:
+            assert [(row.name, row.step) for row in user.sessions()] == [("b", 3)]
+            dimer(user, "a").advance(5)
+        why = f"ann has a session a at 127.0.0.1:{server.port} already: drop it, or verify as another user"
+        assert verified("--quiet", path, *over(server), LJSERVE_TOKEN=TOKEN) == (2, [], [f"ljclient: {why}"])
+        with connect("127.0.0.1", server.port, "ann", TOKEN, timeout=SECONDS) as user:
+            assert [(row.name, row.step) for row in user.sessions()] == [("b", 3), ("a", 5)]
+
+
+@pytest.mark.parametrize(
+    ("quota", "line", "command", "reply"),
+    [
+        ((1, 1, 1), 4, "LOAD a 256 1 131072 rest 28", "ERR 21 QUOTA_ATOMS"),
+        ((0, 2, 1), 4, "LOAD a 256 1 131072 rest 28", "ERR 20 QUOTA_SESSIONS"),
+        ((1, 2, 0), 15, "BRANCH a k", "ERR 22 QUOTA_BRANCHES"),
+    ],
+)
+def test_a_quota_that_is_too_small(path, quota, line, command, reply):
+    with Server(quota=quota) as server:
+        status, told, faults = verified("--quiet", path, *over(server), LJSERVE_TOKEN=TOKEN)
+    why = f"`{command}` is answered `{reply}` here; the record needs a quota of sessions 1 atoms 2 branches 1"
+    assert (status, told, faults) == (2, [], [f"ljclient: {path}, line {line}: {why}"])
+
+
+def test_a_server_that_does_not_know_the_user(path, tmp_path):
+    with Server() as server:
+        status, told, (fault,) = verified("--quiet", path, *over(server, "bob"), LJSERVE_TOKEN=TOKEN)
+        assert (status, told) == (2, [])
+        assert fault.startswith("ljclient: ERR 01 DENIED: the server knows no user of that name and token")
+        why = "there is no token: say --token-file FILE, or set LJSERVE_TOKEN"
+        assert verified("--quiet", path, *over(server)) == (2, [], [f"ljclient: {why}"])
+        (tmp_path / "token").write_text(f"{TOKEN}\n")
+        assert verified("--quiet", path, *over(server), "--token-file", tmp_path / "token")[0] == 0
+    status, _, (fault,) = verified("--quiet", path, *over(server), LJSERVE_TOKEN=TOKEN)
+    assert (status, fault) == (2, f"ljclient: cannot connect to 127.0.0.1:{server.port}: Connection refused")
+
+
+def test_a_program_without_memory(path, tmp_path):
+    status, told, (fault,) = verified("--quiet", path, "--program", twisted(tmp_path, "OK BRANCH a k 1", "ERR 90 MEMORY"))
+    assert (status, told) == (2, [])
+    assert fault.startswith(f"ljclient: {path}, line 15: `BRANCH a k` is answered `ERR 90 MEMORY` here; ")
+
+
+def test_the_quota_of_its_own_program_suffices(tmp_path):
+    """That which a program has by itself would not."""
+    path = tmp_path / "run.lj"
+    with run(PROGRAM, branches=20) as user:
+        a = dimer(user, record=path)
+        for number in range(20):
+            a.branch(f"b{number}")
+    assert verified("--quiet", path)[0] == 0
