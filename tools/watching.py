@@ -6,7 +6,12 @@ import shutil
 import socket
 import threading
 import time
-from typing import Callable, List, Optional, Sequence, TextIO, Tuple
+from collections import Counter, defaultdict
+from dataclasses import dataclass
+from typing import Callable, Dict, List, Optional, Sequence, TextIO, Tuple
+
+from event_log import EventLog
+from proxy_header import source_of
 
 PIECE = 1 << 16
 MAX_LINE = 4096
@@ -20,19 +25,28 @@ LET_IN = re.compile(rb"OK HELLO ([A-Za-z0-9_-]{1,16})\Z")
 DENIED = b"ERR 01 "
 REFUSAL = re.compile(rb"ERR [0-9]{2} [A-Z_]{1,20}( line [0-9]{1,7})?\Z")
 MORE_LINES = re.compile(rb"OK (?:DUMP|LIST)(?: [A-Za-z0-9_-]{1,16})?(?: -?[0-9]+)? ([0-9]{1,5})\Z")
+CAME_TO = re.compile(rb"OK (ADVANCE|START|REVERSE|RESTORE) (\S{1,16})(?: \S{1,16})? (-?[0-9]{1,13})\Z")
+BEGAN_OR_ENDED = re.compile(rb"OK (LOAD|LOADMIX|DROP) (\S{1,16})(?: |\Z)")
+COUNTED = (b"ADVANCE", b"START")
+# How the words of both begin, so that a thousand lines of SHOW are passed over at once.
+STEPPING = {b"ADVA", b"STAR", b"REVE", b"REST", b"LOAD", b"DROP"}
 Address = Tuple[str, int]
 
 
 class Connection:
     """What is known of a connection, from the first line of its client and from the replies."""
 
-    def __init__(self, origin: str):
+    def __init__(self, origin: str, sessions: Optional[Dict[str, Dict[bytes, int]]] = None):
+        """`sessions` has for each user the step that each of its sessions has come to, over all connections."""
         self.origin = origin
         self.since = time.time()
         self.user = ""
         self.state = "new"
         self.commands = 0
+        self.steps = 0
         self.refusal = ""
+        self.is_gone = False
+        self._sessions = defaultdict(dict) if sessions is None else sessions
         self._first_line: Optional[bytes] = b""
         self._partial = b""
         self._more = 0
@@ -71,19 +85,42 @@ class Connection:
             self.commands += 1
             found = MORE_LINES.match(line)
             self._more = int(found[1]) if found else 0
+            if line[3:7] in STEPPING:
+                self._note_step(line)
         if REFUSAL.match(line):
             self.refusal = line.decode()
 
+    def _note_step(self, line: bytes) -> None:
+        """Counts the steps of an ADVANCE or a START. A session that was not seen before is counted from its first step on."""
+        if found := CAME_TO.match(line):
+            steps, name, step = self._sessions[self.user], found[2], int(found[3])
+            self.steps += abs(step - steps.get(name, step)) if found[1] in COUNTED else 0
+            steps[name] = step
+        elif found := BEGAN_OR_ENDED.match(line):
+            self._sessions[self.user][found[2]] = 0
+            if found[1] == b"DROP":
+                del self._sessions[self.user][found[2]]
+
+    def state_at_end(self) -> str:
+        """What it is when it has ended, which tells whether its user was in."""
+        return {"in": "ended", "denied": "denied"}.get(self.state, "not in")
+
     def end(self) -> None:
         """Notes that it has ended, and whether its user was in."""
-        if self.state != "denied":
-            self.state = "ended" if self.state == "in" else "not in"
+        self.state = self.state_at_end()
 
-    def text(self) -> str:
-        """The line that is shown of it."""
+    def known(self) -> Dict[str, object]:
+        """What a log has of it."""
+        seconds = round(time.time() - self.since, 3)
+        counts = {"commands": self.commands, "steps": self.steps, "seconds": seconds}
+        return {"user": self.user or None, "from": self.origin, **counts, "refusal": self.refusal or None}
+
+    def text(self, state: str = "") -> str:
+        """The line that is shown of it: with its own state, if no other is said."""
         refusal = f"  {self.refusal}" if self.refusal else ""
         commands = f"{self.commands} command{'' if self.commands == 1 else 's'}"
-        return f"{self.state:<6} {self.user or '-':<16} {self.origin:<21}  since {clock(self.since)}  {commands:>16}{refusal}"
+        state = state or self.state
+        return f"{state:<6} {self.user or '-':<16} {self.origin:<21}  since {clock(self.since)}  {commands:>16}{refusal}"
 
 
 def clock(seconds: float) -> str:
@@ -92,46 +129,97 @@ def clock(seconds: float) -> str:
     return time.strftime("%H:%M:%S" if then[:3] == now[:3] else "%Y-%m-%d %H:%M:%S", then)
 
 
+@dataclass(frozen=True)
+class Totals:
+    """What was seen so far: connections by their state, those whose clients are gone, and what users did who were let in."""
+
+    states: Dict[str, int]
+    gone: int
+    passed: int
+    denied: int
+    commands: Dict[str, int]
+    steps: Dict[str, int]
+
+
 class Board:
     """All connections, and what is shown of them: a log, or on a terminal a screen that is drawn anew."""
 
-    def __init__(self, out: TextIO):
-        self._out: Optional[TextIO] = out
-        self._is_screen = out.isatty()
+    def __init__(self, out: Optional[TextIO], log: Optional[EventLog] = None):
+        self._out = out
+        self._log = log
+        self._is_screen = out is not None and out.isatty()
         self._open: List[Connection] = []
         self._drawn = 0
         self._lock = threading.Lock()
+        self._passed = 0
+        self._denied = 0
+        self._commands: Dict[str, int] = Counter()
+        self._steps: Dict[str, int] = Counter()
+        self.sessions: Dict[str, Dict[bytes, int]] = defaultdict(dict)
 
     def says(self, text: str) -> None:
         """Writes a line that stays, above those of open connections."""
-        line = f"{clock(time.time())}  {text}\n"
         with self._lock:
-            self._write(self._erased() + line + self._table() if self._is_screen else line)
+            self._says(text)
+
+    def _says(self, text: str) -> None:
+        """Writes such a line, for who has the lock."""
+        line = f"{clock(time.time())}  {text}\n"
+        self._write(self._erased() + line + self._table() if self._is_screen else line)
 
     def users_in(self) -> int:
         """How many users are in."""
         with self._lock:
             return len({each.user for each in self._open if each.state == "in"})
 
-    def close(self, text: str) -> None:
-        """Writes the last line, in place of those of open connections."""
+    def totals(self) -> Totals:
+        """What was seen until now."""
         with self._lock:
-            self._write(f"{self._erased()}{clock(time.time())}  {text}\n")
+            commands, steps = Counter(self._commands), Counter(self._steps)
+            for each in self._open:
+                if each.state == "in":
+                    commands[each.user] += each.commands
+                    steps[each.user] += each.steps
+            states = Counter(each.state for each in self._open)
+            denied = self._denied + states["denied"]
+            return Totals(states, sum(each.is_gone for each in self._open), self._passed, denied, commands, steps)
+
+    def close(self, text: str) -> None:
+        """Writes the last lines: those of open connections, which end now, and a text."""
+        with self._lock:
+            lines = [*(each.text(each.state_at_end()) for each in self._open), text]
+            self._write(self._erased() + "".join(f"{clock(time.time())}  {line}\n" for line in lines))
             self._out = None
 
     def begins(self, connection: Connection) -> None:
         with self._lock:
             self._open.append(connection)
 
+    def is_passed(self) -> None:
+        """Notes that the server has a connection more."""
+        with self._lock:
+            self._passed += 1
+
     def is_let_in(self, connection: Connection) -> None:
+        self.notes("in", **connection.known())
         if not self._is_screen:
             self.says(connection.text())
 
     def ends(self, connection: Connection) -> None:
         with self._lock:
             self._open.remove(connection)
-        connection.end()
-        self.says(connection.text())
+            if connection.state == "in":
+                self._commands[connection.user] += connection.commands
+                self._steps[connection.user] += connection.steps
+            self._denied += connection.state == "denied"
+            connection.end()
+            self._says(connection.text())
+        self.notes(connection.state, **connection.known())
+
+    def notes(self, event: str, **known: object) -> None:
+        """Writes an event into the log, if there is one."""
+        if self._log:
+            self._log.note(event, **known)
 
     def draw_on(self) -> None:
         """Draws the screen anew for as long as the program runs."""
@@ -169,6 +257,7 @@ def carry(client: socket.socket, server: Address, connection: Connection, board:
     board.begins(connection)
     try:
         with client, socket.create_connection(server, SECONDS_TO_CONNECT) as there:
+            board.is_passed()
             there.settimeout(None)
             there.setsockopt(socket.IPPROTO_TCP, socket.TCP_NODELAY, 1)
             up = threading.Thread(target=carry_up, args=(client, there, connection), daemon=True)
@@ -195,6 +284,7 @@ def carry_up(client: socket.socket, there: socket.socket, connection: Connection
                     pass
     except OSError:
         shut(there, socket.SHUT_RDWR)
+    connection.is_gone = True
     shut(there, socket.SHUT_WR)
 
 
@@ -225,10 +315,30 @@ def shut(stream: socket.socket, how: int) -> None:
         stream.shutdown(how)
 
 
-def pass_on(listener: socket.socket, server: Address, board: Board) -> None:
-    """Passes all connections on to a server, for as long as the program runs."""
+def pass_on(listener: socket.socket, server: Address, board: Board, has_header: bool = False) -> None:
+    """Passes all connections on to a server, for as long as the program runs. With a header each begins with one of PROXY."""
     threading.Thread(target=board.draw_on, daemon=True).start()
-    accept_all(listener, lambda client, origin: carry(client, server, Connection(origin), board))
+
+    def serve(client: socket.socket, origin: str) -> None:
+        connection = Connection(origin, board.sessions)
+        if has_header and not takes_header(client, connection, board):
+            return
+        carry(client, server, connection, board)
+
+    accept_all(listener, serve)
+
+
+def takes_header(client: socket.socket, connection: Connection, board: Board) -> bool:
+    """Takes the header of PROXY off, with the client's address. Returns whether there was one; else the connection is closed."""
+    try:
+        connection.origin = source_of(client) or connection.origin
+    except (OSError, ValueError) as error:
+        connection.refusal = f"no PROXY header: {cause_of(error) if isinstance(error, OSError) else error}"
+        client.close()
+        board.begins(connection)
+        board.ends(connection)
+        return False
+    return True
 
 
 def accept_all(listener: socket.socket, serve: Callable[[socket.socket, str], None]) -> None:

@@ -20,10 +20,10 @@ WATCH = [sys.executable, TOOL]
 
 
 class Watcher:
-    """`watch` on a free port, in front of a server."""
+    """`watch` on a free port, in front of a server, with options."""
 
-    def __init__(self, port):
-        words = [*WATCH, "127.0.0.1:0", f"127.0.0.1:{port}"]
+    def __init__(self, port, *options):
+        words = [*WATCH, *options, "127.0.0.1:0", f"127.0.0.1:{port}"]
         self.child = subprocess.Popen(words, stdin=subprocess.DEVNULL, stdout=subprocess.PIPE, text=True)
         self.port = int(re.search(r"listens on 127\.0\.0\.1:(\d+), for", self.child.stdout.readline())[1])
 

@@ -1,0 +1,97 @@
+"""Connections over TLS: encrypted, to a server whose certificate is checked before anything is said."""
+from __future__ import annotations
+
+import os
+import socket
+import ssl
+from typing import Optional
+
+from .ends import SocketEnds
+from .errors import ClientError, ConnectionLost
+from .files import Path
+
+HANDSHAKE_SECONDS = 15.0
+# Codes of OpenSSL: the certificate is of another name or address; nobody who is known has signed it.
+OTHER_NAME = (62, 64)
+UNKNOWN_ISSUER = (18, 19, 20, 21)
+EXPIRED = (9, 10)
+NOT_TLS = ("WRONG_VERSION_NUMBER", "PACKET_LENGTH_TOO_LONG", "RECORD_LAYER_FAILURE")
+
+
+class Trust:
+    """Which servers are trusted: those whose certificate has an issuer that the system knows, or that a file names."""
+
+    def __init__(self, ca: Optional[Path]):
+        self.ca = None if ca is None else os.fspath(ca)
+        try:
+            self.context = ssl.create_default_context(cafile=self.ca)
+        except ssl.SSLError:
+            raise ClientError(f"{self.ca} has no certificate: ca= is a file in PEM with that of the server's issuer") from None
+        except OSError as error:
+            raise ClientError(f"cannot read {self.ca}: {error.strerror or error}") from error
+
+    def ends(self, host: str, port: int, timeout: float) -> "TlsEnds":
+        """A connection to a server that is trusted. Raises `ConnectionLost`, which says what to do, if it is not."""
+        return TlsEnds(host, port, timeout, self)
+
+    def fault(self, error: OSError, host: str) -> str:
+        """Why there is no connection, and what to do."""
+        if isinstance(error, ssl.SSLCertVerificationError):
+            return self._fault_of_certificate(error, host)
+        if isinstance(error, (ssl.SSLEOFError, ssl.SSLZeroReturnError, ConnectionError)):
+            return "it has ended the connection before it was encrypted: does it speak TLS at this port?"
+        if isinstance(error, ssl.SSLError) and error.reason in NOT_TLS:
+            return "it does not speak TLS there: say the port that does, or leave out tls=True if the network may see the token"
+        if isinstance(error, TimeoutError):
+            return "it does not answer in TLS: does it speak TLS at this port?"
+        return f"no TLS with it ({error.strerror or error})"
+
+    def _fault_of_certificate(self, error: ssl.SSLCertVerificationError, host: str) -> str:
+        if error.verify_code in OTHER_NAME:
+            return f"its certificate is of another name than {host}: say the name that its operator gives, or ask for a new one"
+        if error.verify_code in EXPIRED:
+            return f"its certificate is not valid now ({error.verify_message}): ask its operator for a new one, or set the clock"
+        if error.verify_code not in UNKNOWN_ISSUER:
+            return f"its certificate is not valid ({error.verify_message}): ask its operator for a new one"
+        if self.ca is None:
+            return "the issuer of its certificate is not known here: say ca=FILE, a file with that of the issuer, from its operator"
+        return f"its certificate is of another issuer than that in {self.ca}: ask its operator for the right file"
+
+
+class TlsEnds(SocketEnds):
+    """A TCP connection in TLS."""
+
+    _socket: ssl.SSLSocket
+
+    def __init__(self, host: str, port: int, timeout: float, trust: Trust):
+        self._trust = trust
+        self._host = host
+        super().__init__(host, port, timeout)
+
+    def _opened(self, plain: socket.socket, timeout: float) -> socket.socket:
+        plain.settimeout(min(timeout, HANDSHAKE_SECONDS))
+        try:
+            return self._trust.context.wrap_socket(plain, server_hostname=self._host)
+        except OSError as error:
+            plain.close()
+            why = self._trust.fault(error, self._host)
+            raise ConnectionLost(f"cannot connect to {self._where}: {why}") from error
+
+    def read(self, size: int) -> bytes:
+        """All that is there of what has been decrypted, since no wait would end for it."""
+        data = self._part(size)
+        while more := self._socket.pending():
+            data += self._part(more)
+        return data
+
+    def write(self, data: bytes) -> int:
+        try:
+            return self._socket.send(data)
+        except (ssl.SSLWantWriteError, ssl.SSLWantReadError):
+            raise BlockingIOError from None
+
+    def _part(self, size: int) -> bytes:
+        try:
+            return self._socket.recv(size)
+        except (ssl.SSLWantReadError, ssl.SSLWantWriteError):
+            raise BlockingIOError from None

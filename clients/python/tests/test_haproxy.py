@@ -1,0 +1,401 @@
+"""HAProxy with the config of packaging/haproxy before three servers, whose files `tools/shards` has written."""
+import contextlib
+import os
+import re
+import select
+import shutil
+import socket
+import ssl
+import subprocess
+import sys
+import time
+import urllib.request
+
+import pytest
+
+from ljclient import connect
+from support import DIMER, PROGRAM, SECONDS, TOP, free_port
+
+sys.path.append(str(TOP / "conformance"))
+from playing import USUAL, stored, told_by  # noqa: E402
+
+CONFIG = TOP / "packaging" / "haproxy"
+LOADED = f"LOAD a 256 1 131072 rest 28\n{DIMER}".encode()
+HAPROXY = shutil.which("haproxy", path=f"{os.environ['PATH']}:/usr/sbin")
+SERVERS = 3
+# What is waited for in seconds, in place of minutes.
+SHORTER = {
+    "inspect-delay 10s": "inspect-delay 2s",
+    "timeout client 15s": "timeout client 3s",
+    "client-fin 10s": "client-fin 1s",
+    "inter 30s": "inter 1s",
+    "downinter 2s": "downinter 200ms",
+}
+
+pytestmark = [
+    pytest.mark.skipif(HAPROXY is None, reason="haproxy is not installed"),
+    pytest.mark.skipif(shutil.which("openssl") is None, reason="openssl is not installed"),
+]
+
+
+def token(name):
+    return f"{name:Z<32}"
+
+
+def consecutive_ports():
+    """The first of some ports that follow one another and are free."""
+    while True:
+        first = free_port()
+        with contextlib.suppress(OSError, OverflowError), contextlib.ExitStack() as taken:
+            for port in range(first, first + SERVERS):
+                taken.enter_context(socket.create_server(("127.0.0.1", port)))
+            return first
+
+
+class Farm:
+    """Three servers of 20 users each, and HAProxy before them with times that are shorter."""
+
+    def __init__(self, folder):
+        self.folder = folder / "shards"
+        self.first = consecutive_ports()
+        self.plain, self.tls, self.metrics = (free_port() for _ in range(3))
+        names = [f"user{number}" for number in range(20 * SERVERS)]
+        (folder / "users").write_text("".join(f"{name} {token(name)} 8 16384 16\n" for name in names))
+        tool = [sys.executable, TOP / "tools" / "shards"]
+        subprocess.run([*tool, "users", str(SERVERS), "--port", str(self.first)], cwd=folder, check=True, stdout=subprocess.DEVNULL)
+        subprocess.run([*tool, "--certificate", "localhost"], cwd=folder, check=True, stdout=subprocess.DEVNULL)
+        self.at = {number: self.users_of(number) for number in range(1, SERVERS + 1)}
+        self.children = {}
+        for number in self.at:
+            self.begin(number)
+        self.log = folder / "log"
+        self.front = self.balancer(folder)
+
+    def users_of(self, number):
+        return [line.split()[0] for line in (self.folder / f"users{number}").read_text().splitlines()]
+
+    def port(self, number):
+        return self.first + number - 1
+
+    def begin(self, number):
+        """Begins a server by its words, as the unit does."""
+        words = dict(line.split("=") for line in (self.folder / f"server{number}.env").read_text().splitlines())
+        options = [word for name in words for word in (f"--{name.lower()}", words[name])]
+        self.children[number] = subprocess.Popen([PROGRAM, "serve", *options], stdin=subprocess.DEVNULL, stdout=subprocess.DEVNULL)
+        until(lambda: is_there(self.port(number)))
+
+    def balancer(self, folder):
+        text = (CONFIG / "haproxy.cfg").read_text()
+        for usual, shorter in SHORTER.items():
+            assert usual in text
+            text = text.replace(usual, shorter)
+        if os.geteuid() != 0:
+            text = re.sub(r"\n    (user|group) haproxy", "", text)
+        (folder / "haproxy.cfg").write_text(text)
+        told = {"FOLDER": self.folder, "HAPROXY": CONFIG, "PLAIN": f"127.0.0.1:{self.plain}", "TLS": f"127.0.0.1:{self.tls}"}
+        told["METRICS"] = f"127.0.0.1:{self.metrics}"
+        environment = {**os.environ, **{f"LJSERVE_{name}": str(value) for name, value in told.items()}}
+        words = [HAPROXY, "-f", folder / "haproxy.cfg", "-f", self.folder / "servers.cfg"]
+        with open(self.log, "w") as log:
+            child = subprocess.Popen(words, env=environment, stdin=subprocess.DEVNULL, stdout=log, stderr=log)
+        until(lambda: is_there(self.tls) or child.poll() is not None)
+        assert child.poll() is None, self.log.read_text()
+        return child
+
+    def context(self):
+        return ssl.create_default_context(cafile=self.folder / "class.crt")
+
+    def connected(self, source="127.0.0.1", tls=False):
+        """A connection through HAProxy, from an address of this machine."""
+        stream = socket.create_connection(("127.0.0.1", self.tls if tls else self.plain), SECONDS, (source, 0))
+        return self.context().wrap_socket(stream, server_hostname="localhost") if tls else stream
+
+    def joined(self, name, **words):
+        """A connection of a user who was let in, with what reads its replies."""
+        stream = self.connected(**words)
+        stream.sendall(hello(name))
+        replies = stream.makefile("rb")
+        assert replies.readline() == f"OK HELLO {name}\n".encode()
+        return stream, replies
+
+    def values(self, metric="sessions_total"):
+        """What HAProxy tells Prometheus of its servers: the connections that each has had, or another metric."""
+        with urllib.request.urlopen(f"http://127.0.0.1:{self.metrics}/metrics", timeout=SECONDS) as answer:
+            text = answer.read().decode()
+        rows = re.findall(rf'^haproxy_server_{metric}{{proxy="server(\d)",server="server\d"}} (\d+)', text, re.M)
+        return {int(number): int(count) for number, count in rows}
+
+    def end(self):
+        for child in (self.front, *self.children.values()):
+            child.kill()
+            child.wait(SECONDS)
+
+
+def until(holds):
+    end = time.monotonic() + SECONDS
+    while not holds():
+        assert time.monotonic() < end
+        time.sleep(0.02)
+
+
+def is_there(port):
+    with contextlib.suppress(OSError):
+        socket.create_connection(("127.0.0.1", port), SECONDS).close()
+        return True
+    return False
+
+
+def hello(name):
+    return f"HELLO {name} {token(name)}\n".encode()
+
+
+def read_all(stream):
+    """All bytes up to the end, which may be a reset."""
+    pieces = []
+    with contextlib.suppress(ConnectionResetError):
+        while piece := stream.recv(1 << 16):
+            pieces.append(piece)
+    return b"".join(pieces)
+
+
+@pytest.fixture(scope="module")
+def farm(tmp_path_factory):
+    begun = Farm(tmp_path_factory.mktemp("farm"))
+    yield begun
+    begun.end()
+
+
+@pytest.mark.parametrize("tls", [False, True], ids=["plain", "TLS"])
+def test_each_user_lands_at_its_own_server(farm, tls):
+    """What was loaded through HAProxy is at the user's server, asked without HAProxy, and at no other."""
+    for number, names in farm.at.items():
+        name = names[1 + tls]
+        stream, replies = farm.joined(name, tls=tls, source="127.0.1.1")
+        with stream, replies:
+            stream.sendall(LOADED + b"ADVANCE a 2\nSHOW a 0\n")
+            assert [replies.readline() for _ in range(3)][-1] == b"OK SHOW a 2 0 1774 0 0\n"
+        with connect("127.0.0.1", farm.port(number), name, token(name), timeout=SECONDS) as user:
+            assert [(row.name, row.step) for row in user.sessions()] == [("a", 2)]
+        other = number % SERVERS + 1
+        with socket.create_connection(("127.0.0.1", farm.port(other)), SECONDS) as stream:
+            stream.sendall(hello(name))
+            assert read_all(stream) == b"ERR 01 DENIED\n"
+
+
+@pytest.mark.parametrize("sent", [
+    b"HELLO {0} {1}\nLIST\nBYE\n", b" \tHELLO\t{0} \t {1} \nLIST\nBYE\n", b"HELLO {0} {1}\r\nLIST\r\nBYE\r\n",
+], ids=["with commands behind", "blanks", "CR LF"])
+@pytest.mark.parametrize("size", [1, 7, 4096])
+def test_a_first_line_of_any_shape(farm, sent, size):
+    name = farm.at[1][3]
+    text = sent.replace(b"{0}", name.encode()).replace(b"{1}", token(name).encode())
+    with farm.connected(source=f"127.0.2.{size % 200 + 1}") as stream:
+        for place in range(0, len(text), size):
+            stream.sendall(text[place : place + size])
+            time.sleep(0.001)
+        assert read_all(stream) == f"OK HELLO {name}\nOK LIST 0\nOK BYE\n".encode()
+
+
+def test_who_is_no_user_is_denied_and_comes_to_no_server(farm):
+    name = farm.at[1][4]
+    before = farm.values()
+    lines = [f"HELLO {name} {'b' * 32}", f"HELLO eve {token(name)}", f"HELLO {token(name)} {name}", "LIST", "", "HELLO"]
+    lines += [f"HELLO {'x' * 300}", f"HELLO {name}:{token(name)}", f"hello {farm.at[2][4]} {token(name)}"]
+    for line in lines:
+        with farm.connected(source="127.0.3.1") as stream:
+            stream.sendall(f"{line}\n".encode())
+            assert read_all(stream) == b"ERR 01 DENIED\n", line
+    with farm.connected(source="127.0.3.1") as stream:
+        stream.sendall(b"x" * 257)
+        assert read_all(stream) == b"ERR 01 DENIED\n"
+    assert farm.values() == before
+
+
+def test_no_token_is_logged(farm):
+    """A name that is none may be a token, so it is not logged either."""
+    name = farm.at[1][5]
+    with farm.connected(source="127.0.3.2") as stream:
+        stream.sendall(f"HELLO {token('user99')} {token(name)}\n".encode())
+        read_all(stream)
+    farm.joined(name, source="127.0.3.2")[0].close()
+    until(lambda: re.search(rf"^127\.0\.3\.2:\d+ {name} server1 ", farm.log.read_text(), re.M))
+    assert "ZZZZZZZZ" not in farm.log.read_text()
+    assert re.search(r"^127\.0\.3\.2:\d+ - ljserve ", farm.log.read_text(), re.M)
+
+
+def test_a_first_line_that_does_not_come(farm):
+    """Neither one that says nothing, nor one that goes on byte by byte, nor a handshake of TLS that is not begun holds a place."""
+    before = farm.values()
+    with farm.connected(source="127.0.4.1") as silent, farm.connected(source="127.0.4.1") as slow:
+        with socket.create_connection(("127.0.0.1", farm.tls), SECONDS) as shy:
+            with contextlib.suppress(OSError):
+                for _ in range(60):
+                    slow.sendall(b" ")
+                    time.sleep(0.1)
+            assert [read_all(stream) for stream in (silent, slow, shy)] == [b"", b"", b""]
+    assert farm.values() == before
+
+
+def test_plain_text_at_the_port_of_tls_and_an_unknown_certificate(farm):
+    name = farm.at[2][5]
+    with socket.create_connection(("127.0.0.1", farm.tls), SECONDS, ("127.0.5.1", 0)) as stream:
+        stream.sendall(hello(name))
+        assert b"OK HELLO" not in read_all(stream)
+    with socket.create_connection(("127.0.0.1", farm.tls), SECONDS, ("127.0.5.1", 0)) as stream, pytest.raises(ssl.SSLError):
+        ssl.create_default_context().wrap_socket(stream, server_hostname="localhost")
+    with socket.create_connection(("127.0.0.1", farm.tls), SECONDS, ("127.0.5.1", 0)) as stream, pytest.raises(ssl.SSLError):
+        farm.context().wrap_socket(stream, server_hostname="elsewhere")
+    farm.joined(name, tls=True, source="127.0.5.1")[0].close()
+
+
+@pytest.mark.parametrize("tls", [False, True], ids=["plain", "TLS"])
+def test_who_says_nothing_more_is_let_be(farm, tls):
+    """A user who was let in may think for longer than a first line may take."""
+    stream, replies = farm.joined(farm.at[1][6 + tls], tls=tls, source="127.0.6.1")
+    with stream, replies:
+        time.sleep(4)
+        stream.sendall(b"LIST\n")
+        assert replies.readline() == b"OK LIST 0\n"
+
+
+def test_who_has_sent_all_gets_all_replies(farm):
+    """As by `printf .. | nc`, though they take longer than a first line may."""
+    name = farm.at[3][6]
+    with farm.connected(source="127.0.6.2") as stream:
+        stream.settimeout(4 * SECONDS)
+        stream.sendall(hello(name) + LOADED + b"ADVANCE a 1000000\nSHOW a 5\n")
+        stream.shutdown(socket.SHUT_WR)
+        assert read_all(stream).endswith(b"OK ADVANCE a 1000000\nERR 14 NO_ATOM\n")
+
+
+def test_who_does_not_read_holds_nobody_up(farm):
+    name, other = farm.at[2][7:9]
+    text = b"2000\nmany\n" + b"".join(b"X %d %d %d\n" % (i % 13, i // 13 % 13, i // 169) for i in range(2000))
+    stream, replies = farm.joined(name, source="127.0.7.1")
+    with stream, replies:
+        stream.sendall(b"LOAD a 20 1 1 rest %d\n" % len(text) + text + b"DUMP a\n" * 300)
+        friend, told = farm.joined(other, source="127.0.7.1")
+        with friend, told:
+            friend.sendall(b"LIST\n")
+            assert told.readline() == b"OK LIST 0\n"
+        stream.shutdown(socket.SHUT_WR)
+        assert sum(line.startswith(b"OK DUMP a 0 2002") for line in replies) == 300
+
+
+def test_a_user_has_four_connections_at_once(farm):
+    name = farm.at[1][9]
+    until(lambda: farm.values("current_sessions")[1] == 0)
+    with contextlib.ExitStack() as streams:
+        first, replies = farm.joined(name, source="127.0.8.1")
+        streams.enter_context(first)
+        waiting = [streams.enter_context(farm.connected(source="127.0.8.1")) for _ in range(3)]
+        for stream in waiting:
+            stream.sendall(hello(name))
+        until(lambda: farm.values("current_sessions")[1] == 4)
+        with farm.connected(source="127.0.8.1") as fifth:
+            fifth.sendall(hello(name))
+            assert read_all(fifth) == b""
+        first.sendall(b"LIST\n")
+        assert replies.readline() == b"OK LIST 0\n"
+
+
+def test_the_63rd_waits_and_is_let_in_when_another_ends(farm):
+    """A server has 64 places, of which two stay free. Who waits does so for longer than a first line may take."""
+    names = farm.at[3][10:20] + farm.at[3][:6]
+    until(lambda: farm.values("current_sessions")[3] == 0)
+    with contextlib.ExitStack() as streams:
+        opened = []
+        for place in range(62):
+            stream = streams.enter_context(farm.connected(source="127.0.9.1"))
+            stream.sendall(hello(names[place // 4]))
+            opened.append(stream)
+            if place % 4 == 0:
+                assert stream.recv(100) == f"OK HELLO {names[place // 4]}\n".encode()
+        until(lambda: farm.values("current_sessions")[3] == 62)
+        last = streams.enter_context(farm.connected(source="127.0.9.1"))
+        free = farm.at[3][6]
+        last.sendall(hello(free))
+        last.settimeout(4)
+        with pytest.raises(socket.timeout):
+            last.recv(100)
+        opened[0].close()
+        last.settimeout(SECONDS)
+        assert last.recv(100) == f"OK HELLO {free}\n".encode()
+
+
+def test_a_server_that_is_killed(farm):
+    """Its users are let in by the next one, and others notice nothing."""
+    here, there = farm.at[1][12], farm.at[2][12]
+    stream, replies = farm.joined(there, source="127.0.10.1")
+    lost, _ = farm.joined(here, source="127.0.10.1")
+    with stream, replies, lost:
+        farm.children[1].kill()
+        farm.children[1].wait(SECONDS)
+        assert read_all(lost) == b""
+        with farm.connected(source="127.0.10.1") as again:
+            again.sendall(hello(here))
+            assert read_all(again) == b""
+        stream.sendall(b"LIST\n")
+        assert replies.readline() == b"OK LIST 0\n"
+        farm.begin(1)
+
+        def is_let_in():
+            with farm.connected(source="127.0.10.1") as again:
+                again.sendall(hello(here) + b"BYE\n")
+                return read_all(again) == f"OK HELLO {here}\nOK BYE\n".encode()
+
+        until(is_let_in)
+
+
+def test_an_address_that_guesses_is_shut_out(farm):
+    """After 30 first lines in a minute that were none of a user. Other addresses are not."""
+    told = [b""] * 40
+    for number in range(40):
+        with contextlib.suppress(OSError), farm.connected(source="127.0.11.1") as stream:
+            stream.sendall(b"HELLO eve bbb\n")
+            told[number] = read_all(stream)
+    assert told == [b"ERR 01 DENIED\n"] * 31 + [b""] * 9
+    farm.joined(farm.at[2][13], source="127.0.11.2")[0].close()
+
+
+def exchanged(stream, sent, count):
+    """What is told over TLS to all that is sent, up to so many bytes or to the end. Neither direction waits for the other."""
+    stream.setblocking(False)
+    left, told = memoryview(sent), bytearray()
+    while left or len(told) < count:
+        try:
+            while left:
+                left = left[stream.send(left[:16384]) :]
+        except (ssl.SSLWantReadError, ssl.SSLWantWriteError):
+            pass
+        except OSError:
+            left = left[:0]  # the server has ended the connection, and reads no more
+        with contextlib.suppress(ssl.SSLWantReadError):
+            while piece := stream.recv(1 << 16):
+                told += piece
+            return bytes(told)
+        if left or len(told) < count:
+            assert any(select.select([stream], [stream] if left else [], [], SECONDS)), bytes(told[-200:])
+    return bytes(told)
+
+
+def test_the_streams_of_conformance_over_tls(farm):
+    """Those of the usual quota. Each is told what `ljserve run` tells, which another test holds against the stored replies."""
+    streams = [stream for stream in stored() if stream.quota == USUAL and stream.name != "ends/sessions_side_by_side_01"]
+    assert len(streams) > 100
+    users = [(number, name) for number in farm.at for name in farm.at[number][14:18]]
+    for place, stream in enumerate(streams):
+        number, name = users[place % len(users)]
+        expected, ended = told_by([PROGRAM, "run"], stream, 4 * SECONDS)
+        expected = f"OK HELLO {name}\n".encode() + expected
+        with farm.connected(tls=True, source="127.0.12.1") as connection:
+            assert not ended and exchanged(connection, hello(name) + stream.sent, len(expected)) == expected, stream.name
+        with connect("127.0.0.1", farm.port(number), name, token(name), timeout=4 * SECONDS) as user:
+            for row in user.sessions():
+                user.ask(f"DROP {row.name}")
+
+
+def test_metrics_and_no_other_page(farm):
+    assert set(farm.values()) == {1, 2, 3}
+    with pytest.raises(urllib.error.HTTPError):
+        urllib.request.urlopen(f"http://127.0.0.1:{farm.metrics}/", timeout=SECONDS)

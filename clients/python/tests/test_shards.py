@@ -1,0 +1,162 @@
+"""`tools/shards` spreads users over servers, and writes what these and HAProxy need."""
+import hashlib
+import re
+import shutil
+import ssl
+import stat
+import subprocess
+import sys
+
+import pytest
+
+from support import SECONDS, TOKEN, TOP
+
+SHARDS = [sys.executable, str(TOP / "tools" / "shards")]
+
+
+def told(folder, *words):
+    """The status of `shards` in a folder, and what it writes."""
+    done = subprocess.run([*SHARDS, *map(str, words)], cwd=folder, capture_output=True, text=True, timeout=SECONDS)
+    return done.returncode, done.stdout, done.stderr
+
+
+def token(number):
+    return f"{number:032}"
+
+
+@pytest.fixture
+def users(tmp_path):
+    """Writes a file of so many users, and returns its path."""
+
+    def write(count, first=0):
+        lines = [f"user{number} {token(number)} 8 16384 16\n" for number in range(first, first + count)]
+        (tmp_path / "users").write_text("# secret\n\n" + "".join(lines))
+        return tmp_path / "users"
+
+    return write
+
+
+def spread(folder):
+    """The names of the users of each server, by its number."""
+    found = {path: re.fullmatch(r"users(\d+)", path.name) for path in (folder / "shards").iterdir()}
+    files = {int(number[1]): path for path, number in found.items() if number}
+    return {number: [line.split()[0] for line in files[number].read_text().splitlines()] for number in sorted(files)}
+
+
+def test_each_user_is_at_one_server(users, tmp_path):
+    status, out, error = told(tmp_path, users(130), 3)
+    assert (status, error) == (0, "")
+    sizes = {1: 44, 2: 43, 3: 43}
+    assert out.splitlines() == [f"server {number} at 127.0.0.1:410{number}: {size} users" for number, size in sizes.items()]
+    names = [name for at in spread(tmp_path).values() for name in at]
+    assert sorted(names) == sorted(f"user{number}" for number in range(130))
+    line = f"user7 {token(7)} 8 16384 16"
+    assert [line in (tmp_path / "shards" / f"users{number}").read_text().splitlines() for number in (1, 2, 3)].count(True) == 1
+
+
+def test_the_map_has_hashes_and_no_token(users, tmp_path):
+    told(tmp_path, users(5), 2)
+    folder = tmp_path / "shards"
+    rows = dict(line.split() for line in (folder / "users.map").read_text().splitlines())
+    for number, names in spread(tmp_path).items():
+        for name in names:
+            key = hashlib.sha256(f"{name}:{token(int(name[4:]))}".encode()).hexdigest()
+            assert rows.pop(key) == f"server{number}"
+    assert not rows
+    for path in ("users.map", "servers.cfg", "server1.env"):
+        assert not any(token(number) in (folder / path).read_text() for number in range(5))
+    assert {stat.S_IMODE(path.stat().st_mode) for path in folder.iterdir()} == {0o600}
+    assert stat.S_IMODE(folder.stat().st_mode) == 0o700
+
+
+def test_the_words_of_a_server(users, tmp_path):
+    told(tmp_path, users(5), 2, "--host", "10.0.0.5", "--port", 5000, "--workers", 4)
+    folder = tmp_path / "shards"
+    words = dict(line.split("=") for line in (folder / "server2.env").read_text().splitlines())
+    assert words == {"LISTEN": "10.0.0.5:5001", "USERS": str(folder / "users2"), "WORKERS": "4", "CONNECTIONS": "1000000"}
+    assert "    server server2 10.0.0.5:5001 maxconn 62 check\n" in (folder / "servers.cfg").read_text()
+
+
+def test_who_has_a_server_stays_there(users, tmp_path):
+    told(tmp_path, users(6), 2)
+    before = spread(tmp_path)
+    status, out, _ = told(tmp_path, users(9, first=1), 3)
+    after = spread(tmp_path)
+    assert status == 0 and "moves" not in out
+    for number, names in before.items():
+        assert set(names) - {"user0"} <= set(after[number])
+    assert not any("user0" in names for names in after.values())
+    assert sorted(map(len, after.values())) == [3, 3, 3]
+
+
+def test_who_moves_is_told_and_how(users, tmp_path):
+    path = users(6)
+    told(tmp_path, path, 3)
+    name = spread(tmp_path)[1][0]
+    status, out, _ = told(tmp_path, path, 3, "--move", f"{name}=2")
+    assert status == 0 and f"\n{name} moves from server 1 to server 2\n" in out
+    assert out.count("moves from") == 1 and "session.save(PATH)" in out and "user.load_saved(PATH)" in out
+    assert name in spread(tmp_path)[2]
+
+
+def test_a_server_that_is_no_more(users, tmp_path):
+    path = users(6)
+    told(tmp_path, path, 3)
+    gone = spread(tmp_path)[3]
+    status, out, _ = told(tmp_path, path, 2)
+    assert status == 0 and set(re.findall(r"^(\w+) moves from server 3", out, re.M)) == set(gone)
+    assert list(spread(tmp_path)) == [1, 2] and not (tmp_path / "shards" / "server3.env").exists()
+
+
+@pytest.mark.parametrize("count, servers, words, cause", [
+    (129, 2, [], "there are 129 users, and 2 servers have room for 128"),
+    (2, 3, [], "server 3 would have no user, and a server has at least one"),
+    (3, 2, ["--move", "eve=1"], "there is no user eve to move"),
+    (66, 2, ["--move", *(f"user{number}=1" for number in range(65))], "server 1 would have 65 users, and a server has at most 64"),
+])
+def test_no_room_changes_nothing(users, tmp_path, count, servers, words, cause):
+    told(tmp_path, users(4), 2)
+    before = {path.name: path.read_text() for path in (tmp_path / "shards").iterdir()}
+    assert told(tmp_path, users(count), servers, *words) == (1, "", f"shards: {cause}\n")
+    assert {path.name: path.read_text() for path in (tmp_path / "shards").iterdir()} == before
+
+
+@pytest.mark.parametrize("text, cause", [
+    ("ann short 8 16384 16\n", "line 1: the token is too short: it has 5 characters, and not 32"),
+    (f"ann {TOKEN} 8 16384 16\nann {TOKEN} 8 16384 16\n", "line 2: the name ann is there twice"),
+    ("# none\n", "there is no user"),
+])
+def test_a_file_that_is_none_of_users(tmp_path, text, cause):
+    (tmp_path / "users").write_text(text)
+    status, out, error = told(tmp_path, "users", 2)
+    assert (status, out, error) == (1, "", f"shards: users: {cause}\n")
+    assert TOKEN not in error and not (tmp_path / "shards").exists()
+
+
+@pytest.mark.parametrize("words", [
+    [], ["users"], ["users", "0"], ["users", "x"], ["users", "2", "--workers", "17"], ["users", "2", "--port", "65535"],
+    ["users", "2", "--host", "here"], ["users", "2", "--move", "ann"], ["users", "2", "--move", "ann=3"], ["--certificate", "a b"],
+])
+def test_words_that_are_none(tmp_path, words):
+    status, out, error = told(tmp_path, *words)
+    assert (status, out, error.count("\n")) == (2, "", 1) and error.startswith("shards: ")
+
+
+def test_help():
+    status, out, error = told(TOP, "--help")
+    assert (status, error) == (0, "") and "usage: shards USERS COUNT" in out
+
+
+@pytest.mark.skipif(shutil.which("openssl") is None, reason="openssl is not installed")
+def test_a_certificate_of_a_class(tmp_path):
+    """It is taken by who trusts it, for the names that it has."""
+    status, out, error = told(tmp_path, "--certificate", "class.example", "192.0.2.10")
+    assert (status, error) == (0, "") and out == "shards/class.pem is for HAProxy, and shards/class.crt for those who connect\n"
+    pem, crt = tmp_path / "shards" / "class.pem", tmp_path / "shards" / "class.crt"
+    assert stat.S_IMODE(pem.stat().st_mode) == 0o600 and "PRIVATE KEY" not in crt.read_text()
+    ssl.create_default_context(cafile=crt)
+    ssl.SSLContext(ssl.PROTOCOL_TLS_SERVER).load_cert_chain(pem)
+    first = pem.read_text()
+    status, _, error = told(tmp_path, "--certificate", "class.example")
+    assert status == 1 and "is there already" in error and pem.read_text() == first
+    assert told(tmp_path, "--certificate", "class.example", "--replace")[0] == 0 and pem.read_text() != first

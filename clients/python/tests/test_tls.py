@@ -1,0 +1,295 @@
+"""Connections over TLS, through a relay that decrypts in front of a server, with certificates that openssl makes."""
+import asyncio
+import shutil
+import ssl
+import subprocess
+import sys
+import threading
+from unittest import mock
+
+import pytest
+
+from ljclient import ClientError, ConnectionLost, connect, refusals, tls, user as users
+from record_texts import DIMER_TEXT, verified, with_checks
+from support import EXAMPLES, SECONDS, TOKEN, Server, dimer, free_port, listed, peer
+from terminals import environment
+
+pytestmark = pytest.mark.skipif(shutil.which("openssl") is None, reason="openssl is not installed")
+HERE = "DNS:localhost,IP:127.0.0.1"
+
+
+def certificate(folder, name, names=HERE):
+    """A certificate for these names that is its own issuer, and its key, in files of this name."""
+    files = folder / f"{name}.pem", folder / f"{name}.key"
+    words = ["req", "-x509", "-newkey", "ec", "-pkeyopt", "ec_paramgen_curve:prime256v1", "-nodes", "-days", "2"]
+    words += ["-subj", f"/CN={name}", "-addext", f"subjectAltName={names}", "-out", files[0], "-keyout", files[1]]
+    subprocess.run(["openssl", *words], check=True, capture_output=True, timeout=SECONDS)
+    return files
+
+
+SETTINGS = f"""\
+[ca]
+default_ca = all
+[all]
+database = index
+serial = serial
+new_certs_dir = .
+default_md = sha256
+policy = names
+x509_extensions = more
+[names]
+commonName = supplied
+[more]
+subjectAltName = {HERE}
+"""
+
+
+def expired(folder):
+    """A certificate that was valid for a day of 2020, and its key."""
+    for name, text in (("settings", SETTINGS), ("index", ""), ("serial", "01\n")):
+        (folder / name).write_text(text)
+    key = ["-newkey", "ec", "-pkeyopt", "ec_paramgen_curve:prime256v1", "-nodes", "-keyout", "old.key"]
+    asked = ["req", "-new", *key, "-subj", "/CN=old", "-out", "old.csr"]
+    signed = ["ca", "-selfsign", "-batch", "-notext", "-config", "settings", "-keyfile", "old.key", "-in", "old.csr"]
+    signed += ["-startdate", "20200101000000Z", "-enddate", "20200102000000Z", "-out", "old.pem"]
+    for words in (asked, signed):
+        subprocess.run(["openssl", *words], cwd=folder, check=True, capture_output=True, timeout=SECONDS)
+    return folder / "old.pem", folder / "old.key"
+
+
+@pytest.fixture(scope="module")
+def good(tmp_path_factory):
+    return certificate(tmp_path_factory.mktemp("good"), "good")
+
+
+@pytest.fixture(scope="module")
+def other(tmp_path_factory):
+    return certificate(tmp_path_factory.mktemp("other"), "other")
+
+
+class Relay:
+    """Speaks TLS on a loopback port, and hands what it decrypts to a server on another. `heard` is what clients said."""
+
+    def __init__(self, port, certificate):
+        self.heard = b""
+        self.port = free_port()
+        self._to = port
+        self._writers = []
+        context = ssl.SSLContext(ssl.PROTOCOL_TLS_SERVER)
+        context.load_cert_chain(*certificate)
+        self._loop = asyncio.new_event_loop()
+        self._loop.set_exception_handler(lambda loop, context: None)
+        starting = asyncio.start_server(self._relay, "127.0.0.1", self.port, ssl=context)
+        self._server = self._loop.run_until_complete(starting)
+        self._thread = threading.Thread(target=self._loop.run_forever, daemon=True)
+        self._thread.start()
+
+    async def _relay(self, reader, writer):
+        from_server, to_server = await asyncio.open_connection("127.0.0.1", self._to)
+        self._writers += [writer, to_server]
+        await asyncio.gather(self._pump(reader, to_server, True), self._pump(from_server, writer), return_exceptions=True)
+
+    async def _pump(self, reader, writer, is_heard=False):
+        try:
+            while data := await reader.read(1 << 16):
+                self.heard += data if is_heard else b""
+                writer.write(data)
+                await writer.drain()
+        finally:
+            writer.close()
+
+    def cut(self):
+        """Ends all connections."""
+        self._loop.call_soon_threadsafe(lambda: [writer.transport.abort() for writer in self._writers])
+
+    def __enter__(self):
+        return self
+
+    def __exit__(self, *_):
+        self._loop.call_soon_threadsafe(self._loop.stop)
+        self._thread.join(SECONDS)
+        self._server.close()
+        for task in asyncio.all_tasks(self._loop):
+            task.cancel()
+        self._loop.run_until_complete(asyncio.sleep(0))
+        self._loop.close()
+
+
+@pytest.fixture(scope="module")
+def server():
+    with Server() as server:
+        yield server
+
+
+@pytest.fixture
+def relay(server, good):
+    with Relay(server.port, good) as relay:
+        yield relay
+
+
+def joined(relay, host="127.0.0.1", **words):
+    return connect(host, relay.port, "ann", TOKEN, **{"timeout": SECONDS, "tls": True, **words})
+
+
+def why(relay, host="127.0.0.1", **words):
+    """What is told where there is no connection."""
+    with pytest.raises(ConnectionLost) as caught:
+        joined(relay, host, **words)
+    text = str(caught.value)
+    assert "\n" not in text
+    start = f"cannot connect to {host}:{relay.port}: "
+    assert text.startswith(start)
+    return text[len(start) :]
+
+
+@pytest.mark.parametrize("host", ["127.0.0.1", "localhost"])
+def test_a_user(relay, good, host):
+    with joined(relay, host, ca=good[0]) as user:
+        a = dimer(user, replace=True)
+        assert (a.advance(2), a.place(0)) == (2, (1774, 0, 0))
+        a.drop()
+    assert relay.heard.startswith(f"HELLO ann {TOKEN}\n".encode()) and relay.heard.endswith(b"BYE\n")
+
+
+def test_long_replies_and_many_commands(server, relay, good):
+    """They are those that come without TLS, however they are cut into records."""
+    scale = {"edge": 52.6, "sigma": 3.4, "h": 3706, "replace": True, "watch": False}
+    with joined(relay, ca=str(good[0])) as user:
+        big = user.load("big", EXAMPLES / "argon_4000.xyz", **scale)
+        told = [big.dump() for _ in range(5)], listed(big.places()), user.ask_all(["LIST big", "MEASURE big"] * 3000)
+    with connect("127.0.0.1", server.port, "ann", TOKEN, timeout=SECONDS) as user:
+        big = user.session("big", edge=52.6, sigma=3.4, h=3706)
+        assert told[0] == [big.dump()] * 5
+        assert told[1] == listed(big.places())
+        assert told[2] == user.ask_all(["LIST big", "MEASURE big"] * 3000)
+        big.drop()
+
+
+def test_an_issuer_that_is_not_known(relay, other):
+    text = "the issuer of its certificate is not known here: say ca=FILE, a file with that of the issuer, from its operator"
+    assert why(relay) == text
+    text = f"its certificate is of another issuer than that in {other[0]}: ask its operator for the right file"
+    assert why(relay, ca=other[0]) == text
+    assert relay.heard == b""
+
+
+def test_another_name(server, tmp_path):
+    elsewhere = certificate(tmp_path, "elsewhere", "DNS:md.example.org,IP:192.0.2.1")
+    with Relay(server.port, elsewhere) as relay:
+        for host in ("127.0.0.1", "localhost"):
+            text = f"its certificate is of another name than {host}: say the name that its operator gives, or ask for a new one"
+            assert why(relay, host, ca=elsewhere[0]) == text
+        assert relay.heard == b""
+
+
+def test_a_certificate_of_another_time(server, tmp_path):
+    old = expired(tmp_path)
+    with Relay(server.port, old) as relay:
+        text = "its certificate is not valid now (certificate has expired): ask its operator for a new one, or set the clock"
+        assert why(relay, ca=old[0]) == text
+        assert relay.heard == b""
+
+
+NO_TLS = "it does not speak TLS there: say the port that does, or leave out tls=True if the network may see the token"
+
+
+def test_a_plain_server(good):
+    def denies(connection, stop):
+        connection.recv(1)
+        connection.sendall(b"ERR 01 DENIED\n")
+        stop.wait(SECONDS)
+
+    with peer(denies) as port:
+        assert why(mock.Mock(port=port), ca=good[0]) == NO_TLS
+
+
+def test_a_plain_server_that_waits_for_the_end_of_a_line(server, good):
+    with mock.patch.object(tls, "HANDSHAKE_SECONDS", 0.5):
+        text = why(server, ca=good[0])
+    assert text in (NO_TLS, "it does not answer in TLS: does it speak TLS at this port?")
+
+
+def test_what_ends_the_connection_at_once(good):
+    with peer(lambda connection, stop: None) as port:
+        text = "it has ended the connection before it was encrypted: does it speak TLS at this port?"
+        assert why(mock.Mock(port=port), ca=good[0]) == text
+
+
+@pytest.mark.parametrize("kind", [ssl.SSLEOFError, ssl.SSLZeroReturnError, ConnectionResetError, BrokenPipeError])
+def test_each_way_in_which_a_handshake_ends(good, kind):
+    text = "it has ended the connection before it was encrypted: does it speak TLS at this port?"
+    assert tls.Trust(good[0]).fault(kind(1, "no"), "here") == text
+
+
+def test_no_server(good):
+    assert why(mock.Mock(port=free_port()), ca=good[0]) == "Connection refused"
+
+
+def test_files_that_are_no_certificates(relay, tmp_path):
+    (tmp_path / "bad.pem").write_text("no certificate\n")
+    with pytest.raises(ClientError, match="bad.pem has no certificate: ca= is a file in PEM with that of the server's issuer"):
+        joined(relay, ca=tmp_path / "bad.pem")
+    with pytest.raises(ClientError, match="cannot read .*none.pem: No such file or directory"):
+        joined(relay, ca=tmp_path / "none.pem")
+    with pytest.raises(ValueError, match="ca= is of a server's certificate: say tls=True too"):
+        joined(relay, tls=False, ca=tmp_path / "bad.pem")
+
+
+def test_a_wrong_token(relay, good):
+    with pytest.raises(refusals.Denied):
+        connect("127.0.0.1", relay.port, "ann", "b" * 32, timeout=SECONDS, tls=True, ca=good[0])
+
+
+def test_a_plain_client_is_told_of_tls(relay):
+    with pytest.raises(ConnectionLost, match=r"or does it want tls=True\?\)$"):
+        joined(relay, tls=False)
+
+
+def test_connections_that_are_begun_anew(relay, good):
+    with mock.patch.object(users, "MAX_ITEMS", 100), joined(relay, ca=good[0]) as user:
+        a = dimer(user, replace=True)
+        for step in range(1, 150):
+            assert a.advance(1) == step
+        a.drop()
+    assert relay.heard.count(b"HELLO ann ") == 2
+
+
+def test_a_connection_that_is_lost(relay, good):
+    with joined(relay, ca=good[0]) as user:
+        a = dimer(user, replace=True)
+        relay.cut()
+        with pytest.raises(ConnectionLost):
+            for _ in range(1000):
+                a.measure()
+        assert user.closed
+
+
+def prompt(*words):
+    """The status of a prompt that is asked for a list, and what it writes."""
+    command = [sys.executable, "-m", "ljclient", *map(str, words)]
+    env = environment(LJSERVE_TOKEN=TOKEN)
+    done = subprocess.run(command, input="LIST\n", env=env, capture_output=True, text=True, timeout=SECONDS)
+    return done.returncode, done.stdout, done.stderr
+
+
+def test_a_prompt(server, relay, good):
+    with connect("127.0.0.1", server.port, "ann", TOKEN, timeout=SECONDS) as user:
+        for row in user.sessions():
+            user.session(row.name).drop()
+    where = f"127.0.0.1:{relay.port}", "ann"
+    assert prompt(*where, "--tls", "--ca", good[0]) == (0, "OK LIST 0\n", "")
+    status, told, fault = prompt(*where, "--tls")
+    assert (status, told) == (1, "")
+    assert fault.startswith(f"ljclient: cannot connect to {where[0]}: the issuer of its certificate is not known here: ")
+    assert fault.count("\n") == 1
+    assert prompt(*where, "--ca", good[0])[2].endswith("ljclient: --ca is for --tls\n")
+    assert prompt("--tls")[2].endswith("ljclient: --tls is for a server: say HOST:PORT NAME\n")
+
+
+def test_a_record_that_is_verified(relay, good, tmp_path):
+    path = tmp_path / "run.lj"
+    path.write_text(with_checks(DIMER_TEXT))
+    over = "--server", f"127.0.0.1:{relay.port}", "ann"
+    assert verified(path, *over, "--tls", "--ca", good[0], LJSERVE_TOKEN=TOKEN)[0] == 0
+    status, _, (fault,) = verified("--quiet", path, *over, "--tls", LJSERVE_TOKEN=TOKEN)
+    assert (status, "say ca=FILE" in fault) == (2, True)
