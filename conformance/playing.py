@@ -1,14 +1,19 @@
 """Streams of commands with the replies that are expected, and how a program is played them."""
+import contextlib
 import gzip
 import hashlib
 import io
 import os
 import pathlib
 import re
+import shlex
+import signal
 import subprocess
+import threading
+import time
 from dataclasses import dataclass
-from itertools import zip_longest
-from typing import Iterator, List, Optional, Sequence, Tuple
+from itertools import islice
+from typing import BinaryIO, Iterator, List, Optional, Sequence, Tuple
 
 from reference import User, items_of, replies_to
 
@@ -19,6 +24,12 @@ USUAL: Quota = (8, 16384, 16)
 # So many lines of SHOW one after the other are told as a hash.
 MANY = 16
 PLACES = re.compile(rb"(?:OK SHOW [^\n]*\n){%d,}" % MANY)
+FOLDED = re.compile(rb"sha256 [0-9a-f]{64} of ([0-9]+) lines\n")
+MAX_SHOW = 137
+# So many bytes may be told beyond what is expected before the program is stopped, so that one that never ends fills no memory.
+MORE = 1 << 16
+PIECE = 1 << 16
+SECONDS_AFTER_END = 1.0
 
 
 class CannotStart(Exception):
@@ -34,6 +45,11 @@ class Stream:
     replies: bytes
     quota: Quota = USUAL
     is_folded: bool = False
+    files: Tuple[pathlib.Path, ...] = ()
+
+    def most(self) -> int:
+        """So many bytes of replies are read, and no more."""
+        return len(self.replies) + MAX_SHOW * sum(int(found[1]) for found in FOLDED.finditer(self.replies)) + MORE
 
     def words(self) -> List[str]:
         """The options of a program that has another quota than the usual one."""
@@ -67,19 +83,85 @@ def stored(word: str = "") -> Iterator[Stream]:
     for name in sorted(name[:-3] for name in files if name.endswith(".in") and word in name):
         quota = tuple(map(int, contents(files[f"{name}.quota"]).split())) if f"{name}.quota" in files else USUAL
         is_folded = f"{name}.sums" in files
-        replies = contents(files[f"{name}.sums" if is_folded else f"{name}.out"])
-        yield Stream(name, contents(files[f"{name}.in"]), replies, quota, is_folded)  # type: ignore[arg-type]
+        paths = files[f"{name}.in"], files[f"{name}.sums" if is_folded else f"{name}.out"]
+        sent, replies = map(contents, paths)
+        yield Stream(name, sent, replies, quota, is_folded, paths)  # type: ignore[arg-type]
 
 
 def told_by(command: Sequence[str], stream: Stream, seconds: float) -> Tuple[bytes, str]:
     """What a program replies to a stream, and how it ended if not with status 0. Raises `CannotStart`."""
     try:
-        done = subprocess.run([*command, *stream.words()], input=stream.sent, stdout=subprocess.PIPE, timeout=seconds)
-    except subprocess.TimeoutExpired as late:
-        return late.stdout or b"", f"did not end within {seconds:g} seconds"
+        program = subprocess.Popen(
+            [*command, *stream.words()], stdin=subprocess.PIPE, stdout=subprocess.PIPE, bufsize=0, start_new_session=True
+        )
     except OSError as error:
         raise CannotStart(f"{command[0]} cannot be started: {error.strerror}") from error
-    return done.stdout, f"ended with status {done.returncode}" if done.returncode else ""
+    assert program.stdin and program.stdout
+    told, most = bytearray(), stream.most()
+    reader = threading.Thread(target=take_in, args=(program.stdout, told, most), daemon=True)
+    threading.Thread(target=send, args=(program.stdin, stream.sent), daemon=True).start()
+    reader.start()
+    try:
+        is_late = not has_ended(program, reader, seconds, told, most)
+    finally:
+        stop(program)
+        reader.join(SECONDS_AFTER_END)
+    if len(told) > most:
+        return bytes(told), f"replied more than {most} bytes, and was stopped"
+    if is_late:
+        return bytes(told), f"did not end within {seconds:g} seconds"
+    return bytes(told), f"ended with status {program.returncode}" if program.returncode else ""
+
+
+def send(pipe: BinaryIO, data: bytes) -> None:
+    """Writes a stream to a program, for as long as it reads."""
+    view = memoryview(data)
+    with contextlib.suppress(OSError), pipe:
+        while view:
+            view = view[pipe.write(view) :]
+
+
+def take_in(pipe: BinaryIO, told: bytearray, most: int) -> None:
+    """Reads what a program writes, to its end or until that is more than so many bytes."""
+    with pipe:
+        while len(told) <= most:
+            piece = pipe.read(PIECE)
+            if not piece:
+                return
+            told += piece
+
+
+def has_ended(program: "subprocess.Popen[bytes]", reader: threading.Thread, seconds: float, told: bytearray, most: int) -> bool:
+    """Waits until all is read and the program has ended, or until it has replied too much. Returns whether it has ended."""
+    until = time.monotonic() + seconds
+    reader.join(seconds)
+    if reader.is_alive() or len(told) > most:
+        return False
+    with contextlib.suppress(subprocess.TimeoutExpired):
+        program.wait(max(until - time.monotonic(), SECONDS_AFTER_END))
+    return program.returncode is not None
+
+
+def stop(program: "subprocess.Popen[bytes]") -> None:
+    """Ends a program that has not ended, with what it has begun."""
+    if program.returncode is None:
+        with contextlib.suppress(OSError):
+            os.killpg(program.pid, signal.SIGKILL) if hasattr(os, "killpg") else program.kill()
+        program.wait()
+
+
+def replay(command: Sequence[str], stream: Stream) -> str:
+    """The command line that plays a stored stream again, and the file of what it is to reply."""
+    sent, replies = (shlex.quote(shortest(path)) for path in stream.files)
+    program = shlex.join([*command, *stream.words()])
+    again = f"zcat {sent} | {program}" if sent.endswith(".gz") else f"{program} < {sent}"
+    return f"    replay  : {again}\n    replies : {replies}"
+
+
+def shortest(path: pathlib.Path) -> str:
+    """A path as seen from here, or from the root if it is not below."""
+    below = os.path.relpath(path)
+    return str(path) if below.startswith(os.pardir) else below
 
 
 def difference(stream: Stream, told: bytes, ended: str = "") -> Optional[str]:
@@ -89,25 +171,33 @@ def difference(stream: Stream, told: bytes, ended: str = "") -> Optional[str]:
         return f"{stream.name}: the replies agree, but the program {ended}" if ended else None
     at = len(os.path.commonprefix([told, stream.replies]))
     line = stream.replies.count(b"\n", 0, at)
-    expected, seen = (dict(enumerate(text.split(b"\n"))).get(line, b"") for text in (stream.replies, told))
+    expected, seen = (line_of(text, line) for text in (stream.replies, told))
     head = f"{stream.name}: the replies differ at byte {at}, in line {line + 1}" + (f"; the program {ended}" if ended else "")
     parts = {"command ": command_of(stream, line), "expected": expected, "told    ": seen}
     return "\n".join([head, *(f"    {word}: {shown(text)}" for word, text in parts.items())])
 
 
-def shown(text: bytes, most: int = 200) -> str:
+def line_of(text: bytes, number: int) -> Optional[bytes]:
+    """A line of a text, if it has so many."""
+    lines = text.split(b"\n")
+    return lines[number] if number < len(lines) - 1 or number == len(lines) - 1 and lines[number] else None
+
+
+def shown(text: Optional[bytes], most: int = 200) -> str:
     """A text as Python shows it, cut if it is long."""
-    return repr(text[:most])[1:] + (" .." if len(text) > most else "")
+    return "nothing" if text is None else repr(text[:most])[1:] + (" .." if len(text) > most else "")
 
 
-def command_of(stream: Stream, line: int) -> bytes:
-    """The words of the command whose reply has this line, or else nothing."""
+def command_of(stream: Stream, line: int) -> Optional[bytes]:
+    """The line of the command whose reply has this line, if there is one."""
     numbers = numbers_of_replies(stream.replies)
     wanted = next((number for at, number in enumerate(numbers) if at == line), None)
-    for number, (words, _, _) in enumerate(items_of(io.BytesIO(stream.sent)) if wanted is not None else []):
-        if number == wanted:
-            return b" ".join(words)
-    return b""
+    if wanted is None or line_of(stream.replies, line) is None:
+        return None
+    sent = io.BytesIO(stream.sent)
+    for _ in islice(items_of(sent), wanted):
+        pass
+    return sent.readline().partition(b"\n")[0]
 
 
 def numbers_of_replies(replies: bytes) -> Iterator[int]:

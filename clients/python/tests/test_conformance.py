@@ -26,7 +26,7 @@ class Program(unittest.TestCase):
     def test_the_stored_streams(self):
         count = len(list(stored()))
         self.assertGreater(count, 120)
-        self.assertEqual(self.played("run"), f"{count} streams agree, 0 differ")
+        self.assertEqual(self.played("run", "--seconds", str(SECONDS)), f"{count} streams agree, 0 differ")
 
     def test_random_streams(self):
         self.assertRegex(self.played("random", "--streams", "300", "--seed", "33"), r"^300 streams of seed 33, .*: 0 differ$")
