@@ -19,14 +19,17 @@ from . import refusals, units
 from .arrays import distance, least_images
 from .energy_watch import EnergyWarning
 from .ensemble import Job, ensemble
-from .errors import BadReply, CannotStart, ClientError, Closed, ConnectionLost, Damaged, Refused, TimedOut
+from .errors import (
+    BadReply, CannotStart, ClientError, Closed, ConnectionLost, Damaged, Missing, NotRecorded, Refused, TimedOut
+)
 from .measurement import Measurement
 from .mixture import Mixture
 from .motion import Motion
 from .order import Order
 from .sampling import Samples
 from .session import Row, Saved, Session
-from .thermo import Thermo, ThermoInKelvin
+from .snapshots import Snapshot
+from .thermo import Thermo, ThermoInElectronvolt, ThermoInKelvin
 from .units import Scale
 from .user import User, connect, run
 
@@ -42,8 +45,10 @@ __all__ = [
     "EnergyWarning",
     "Job",
     "Measurement",
+    "Missing",
     "Mixture",
     "Motion",
+    "NotRecorded",
     "Order",
     "Refused",
     "Row",
@@ -51,7 +56,9 @@ __all__ = [
     "Saved",
     "Scale",
     "Session",
+    "Snapshot",
     "Thermo",
+    "ThermoInElectronvolt",
     "ThermoInKelvin",
     "TimedOut",
     "User",

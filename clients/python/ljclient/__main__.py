@@ -1,20 +1,28 @@
-"""`python3 -m ljclient` is a prompt, and `python3 -m ljclient view` a live view."""
+"""`python3 -m ljclient` is a prompt, `python3 -m ljclient view` a live view, and `python3 -m ljclient verify` plays a record.
+
+Installed, it is the command `ljclient` too.
+"""
 from __future__ import annotations
 
 import sys
-from typing import List
+from typing import List, Optional
 
 
-def main(words: List[str]) -> int:
-    """Runs what the words of the command line say, and returns the exit status."""
+def main(words: Optional[List[str]] = None) -> int:
+    """Runs what the words say, else those of the command line, and returns the exit status."""
+    words = sys.argv[1:] if words is None else words
     if words[:1] == ["view"]:
         from . import view
 
         return view.main(words[1:])
+    if words[:1] == ["verify"]:
+        from . import verify
+
+        return verify.main(words[1:])
     from . import prompt
 
     return prompt.main(words)
 
 
 if __name__ == "__main__":
-    sys.exit(main(sys.argv[1:]))
+    sys.exit(main())

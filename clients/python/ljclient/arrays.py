@@ -3,26 +3,41 @@ from __future__ import annotations
 
 import importlib
 import math
+import sys
 from typing import Any, List, Sequence, Tuple
 
 from .units import RING
 
-# Modules that may be missing are imported by their names, so that types are the same where they are installed and where not.
-try:
-    numpy: Any = importlib.import_module("numpy")
-except ImportError:
-    numpy = None
-
 HALF = RING // 2
+LONG_TEXT = 10_000
+
+
+def __getattr__(name: str) -> Any:
+    """`numpy`, or None where it is not installed. It is imported when it is first asked for, which takes as long as all else."""
+    if name != "numpy":
+        raise AttributeError(f"module {__name__!r} has no attribute {name!r}")
+    # By its name, so that types are the same where it is installed and where not.
+    try:
+        globals()[name] = importlib.import_module(name)
+    except ImportError:
+        globals()[name] = None
+    return globals()[name]
+
+
+def _numpy() -> Any:
+    """`numpy` as this module has it now."""
+    return sys.modules[__name__].numpy
 
 
 def of_places(places: List[Tuple[int, int, int]]) -> Any:
     """Places in ring units: an array of shape (atoms, 3) and whole numbers of 64 bits, or the list itself."""
+    numpy = _numpy()
     return places if numpy is None else numpy.array(places, dtype=numpy.int64).reshape(-1, 3)
 
 
 def of_positions(places: Any, edge: float) -> Any:
     """Positions in the unit of the edge, of what `of_places` gives: an array of shape (atoms, 3), or a list of tuples."""
+    numpy = _numpy()
     if numpy is None:
         return [tuple(coordinate * edge / RING for coordinate in place) for place in places]
     return places * edge / RING
@@ -30,6 +45,7 @@ def of_positions(places: Any, edge: float) -> Any:
 
 def millionths(positions: Any) -> Any:
     """How many millionths each position is, of numbers of six decimals: whole numbers, as of places."""
+    numpy = _numpy()
     if numpy is None:
         return [tuple(round(part * 10**6) for part in position) for position in positions]
     return numpy.rint(positions * 10**6).astype(numpy.int64)
@@ -47,6 +63,7 @@ def in_box(places: Any, nanos: int) -> Any:
     A place is below 2^32, and the edge has two halves of 32 bits. So each product is below 2^64, and so is their sum, since it
     is at most the edge. An edge of more bits, which no server takes, is multiplied in whole numbers of Python.
     """
+    numpy = _numpy()
     if numpy is None:
         return [tuple(part_in_box(part, nanos) for part in place) for place in places]
     if nanos >= 2**64:
@@ -58,6 +75,7 @@ def in_box(places: Any, nanos: int) -> Any:
 
 def of_millionths(parts: Any) -> Any:
     """Positions of so many millionths: an array of floats, or a list of tuples."""
+    numpy = _numpy()
     if numpy is None:
         return [tuple(part / 10**6 for part in each) for each in parts]
     return (parts / 10**6).astype(numpy.float64, copy=False)
@@ -75,16 +93,40 @@ def greatest(places: Any) -> int:
 
 def stacked(things: List[Any]) -> Any:
     """Positions, or frames of coordinates, as one array with an axis more, or the list itself."""
+    numpy = _numpy()
     return things if numpy is None else numpy.array(things)
 
 
 def scaled(images: Any, unit: float) -> Any:
     """Differences in this unit: an array of floats, or a list of tuples."""
+    numpy = _numpy()
     return [tuple(part * unit for part in image) for image in images] if numpy is None else images * unit
+
+
+def count_of_lines(text: bytes) -> int:
+    """How many line ends a text has. Those of a long one are counted by numpy, which takes a tenth of the time, if it is imported."""
+    numpy = globals().get("numpy")
+    if numpy is None or len(text) < LONG_TEXT:
+        return text.count(b"\n")
+    return int(numpy.count_nonzero(numpy.frombuffer(text, dtype=numpy.uint8) == ord("\n")))
+
+
+def added(images: Any, others: Any) -> Any:
+    """The sums of two lists of differences, or of coordinates: an array, or a list of tuples."""
+    numpy = _numpy()
+    if numpy is None:
+        return [tuple(a + b for a, b in zip(*pair)) for pair in zip(images, others)]
+    return numpy.add(images, others)
+
+
+def farthest(images: Any) -> Any:
+    """The greatest difference along an axis, by its amount."""
+    return abs(images).max() if hasattr(images, "max") else max(abs(part) for image in images for part in image)
 
 
 def least_images(places: Sequence[Any], others: Sequence[Any]) -> Any:
     """The differences `places - others` round the box the nearer way, in ring units: -2^31 to 2^31 - 1 along each axis."""
+    numpy = _numpy()
     if numpy is None:
         return [tuple((a - b + HALF) % RING - HALF for a, b in zip(*pair)) for pair in zip(places, others)]
     return (numpy.asarray(places, dtype=numpy.int64) - numpy.asarray(others, dtype=numpy.int64) + HALF) % RING - HALF

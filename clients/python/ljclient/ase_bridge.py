@@ -58,13 +58,20 @@ def atoms_of(symbols: Sequence[str], now: Places, before: Places, scale: Scale) 
     Its step and time are in `info`. With epsilon and mass it has the mass of each atom, and the momenta by which it came here
     from the frame before.
     """
+    moved = arrays.least_images(now.places, before.places)
+    velocities = arrays.scaled(moved, scale.edge / (RING * scale.time(1)))
+    return made(symbols, arrays.of_positions(now.places, scale.edge), velocities, now.step, scale)
+
+
+def made(symbols: Sequence[str], positions: Any, velocities: Any, step: int, scale: Scale) -> Any:
+    """An `Atoms` of a step, with positions in the unit of the file and velocities in this for each unit of time.
+
+    Masses and momenta are those that it has if epsilon and mass are known.
+    """
     ase = importlib.import_module("ase")
-    positions = arrays.of_positions(now.places, scale.edge)
-    info = {"step": now.step, "time": scale.time(now.step)}
+    info = {"step": step, "time": scale.time(step)}
     atoms = ase.Atoms(symbols=symbols, positions=positions, cell=[scale.edge] * 3, pbc=True, info=info)
-    if scale.dt is not None and scale.mass is not None:
-        unit = scale.edge / (RING * scale.dt) * TIME_UNIT
-        moved = arrays.least_images(now.places, before.places)
+    if scale.dt is not None:
         atoms.set_masses([scale.mass] * len(symbols))
-        atoms.set_velocities(arrays.scaled(moved, unit))
+        atoms.set_velocities(arrays.scaled(velocities, TIME_UNIT))
     return atoms

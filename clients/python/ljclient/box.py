@@ -48,9 +48,9 @@ def take_up(user: "Loader", name: str, scale: Optional[Scale], order: Union[Orde
     edge = None if scale is None else checked_positive("edge", scale.edge)
     is_new = edge is not None and (is_open or known.scale is None or known.scale.edge != edge)
     if not on_ring and said.on_ring:
-        on_ring = checked_ring(name, _seen(user, name))
+        on_ring = checked_ring(name, seen_atom(user, name))
     elif not on_ring and is_new and edge is not None:
-        on_ring, is_open = box_of(name, _seen(user, name), edge)
+        on_ring, is_open = box_of(name, seen_atom(user, name), edge)
         if on_ring:
             warn_of_numbers(name, said)
     if scale is not None:
@@ -101,7 +101,7 @@ def warn_of_numbers(name: str, said: Order) -> None:
     )
 
 
-def _seen(user: "Loader", name: str) -> Seen:
+def seen_atom(user: "Loader", name: str) -> Seen:
     """The atom that has the greatest coordinate, which tells the edge best.
 
     Both commands tell the same step: DUMP waits for the steps that were started, and SHOW comes after it.

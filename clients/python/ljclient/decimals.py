@@ -10,6 +10,7 @@ import functools
 from typing import Any, Optional, Tuple
 
 from .arrays import numpy
+from .digits import Rows
 from .order import Order
 
 MILLION = 10**6
@@ -20,34 +21,43 @@ TOO_MANY = 10**12
 LONGEST = 17
 
 
-def lines(text: bytes, start: int, millionths: Any, order: Order) -> Optional[bytes]:
-    """The lines of a text from a start on, each of a symbol and three numbers, with these numbers in place of theirs, and in the
-    user's order.
+def lines(text: bytes, rows: Rows, columns: Any, order: Order) -> Optional[bytes]:
+    """The lines of a text, with the millionths of these columns in place of its own, and in the user's order.
 
     None if one of them has more than six digits before its point, or if a symbol is none of the server.
     """
-    data = numpy.frombuffer(text, dtype=numpy.uint8)
-    ends = numpy.flatnonzero(data[start:] <= ord(" "))
-    if ends.size != 4 * len(millionths) or millionths.max() >= TOO_MANY:
+    lengths = rows.blanks - rows.begins
+    lengths += 1
+    if lengths.max() > LONGEST or columns.max() >= TOO_MANY:
         return None
-    symbols, lengths = _symbols(ends.reshape(-1, 4) + start, start)
-    if lengths.max() > LONGEST:
-        return None
-    symbols, lengths, millionths = map(order.for_user, (symbols, lengths, millionths))
-    whole = millionths // MILLION
+    symbols, lengths, columns = order.for_user(rows.begins), order.for_user(lengths), order.columns_for_user(columns)
+    whole = columns // MILLION
     wholes, widths = _whole_pieces(whole)
-    sizes = widths + PIECE
-    sizes[:, 0] += lengths
-    ends = numpy.cumsum(sizes).reshape(-1, 3)
-    points = ends - PIECE
-    numbers = points - widths
-    written = numpy.empty(ends[-1, -1], dtype=numpy.uint8)
-    read_from, write_to = _pieces(data), _pieces(written)
+    whole *= MILLION
+    whole = numpy.subtract(columns, whole, out=whole)
+    begins, points = _begins(lengths, widths)
+    written = numpy.empty(points[2, -1] + PIECE, dtype=numpy.uint8)
+    read_from, write_to = _pieces(numpy.frombuffer(text, dtype=numpy.uint8)), _pieces(written)
     for at in range(0, int(lengths.max()), PIECE):
-        write_to[numbers[:, 0] - lengths + at] = read_from[symbols + at]
-    write_to[numbers] = wholes
-    write_to[points] = _decimal_pieces(millionths - whole * MILLION)
+        write_to[begins + at] = read_from[symbols + at]
+    widths = numpy.subtract(points, widths, out=widths)
+    write_to[widths] = wholes
+    write_to[points] = _decimal_pieces(whole)
     return bytes(written)
+
+
+def _begins(lengths: Any, widths: Any) -> Tuple[Any, Any]:
+    """Where lines begin, and where their points are, whose symbols and whole numbers have so many bytes."""
+    points = numpy.empty_like(widths)
+    numpy.add(lengths, widths[0], out=points[0])
+    for axis in (1, 2):
+        numpy.add(points[axis - 1], widths[axis], out=points[axis])
+        points[axis] += PIECE
+    ends = points[2] + PIECE
+    begins = numpy.cumsum(ends)
+    begins -= ends
+    points += begins
+    return begins, points
 
 
 def _pieces(data: Any) -> Any:
@@ -55,35 +65,35 @@ def _pieces(data: Any) -> Any:
     return numpy.ndarray((data.size - PIECE + 1,), dtype="<u8", buffer=data, strides=(1,))
 
 
-def _symbols(ends: Any, start: int) -> Tuple[Any, Any]:
-    """Where the symbols of the lines begin, and how many bytes each has with the blank after it, by where their words end."""
-    begins = numpy.concatenate(([start], ends[:-1, 3] + 1))
-    return begins, ends[:, 0] + 1 - begins
-
-
 def _whole_pieces(numbers: Any) -> Tuple[Any, Any]:
     """The digits of whole numbers below 10^6 as pieces, and how many each has."""
     plain, counts, threes = _tables()
+    if numbers.max() < 1000:
+        return plain.take(numbers), counts.take(numbers)
     thousands = numbers // 1000
     rest = numbers - thousands * 1000
-    if not thousands.any():
-        return plain[rest], counts[rest]
     many, digits = thousands > 0, counts[thousands]
     pieces = numpy.where(many, plain[thousands] | threes[rest] << (8 * digits).astype(numpy.uint64), plain[rest])
     return pieces, numpy.where(many, digits + 3, counts[rest])
 
 
 def _decimal_pieces(numbers: Any) -> Any:
-    """Points, and six decimals and what is after them, as pieces."""
-    threes = _tables()[2]
+    """Points, and six decimals and what is after them, as pieces: three digits with their point, and three with a blank, which is
+    made a line end in the last column."""
+    first, last = _decimal_tables()
     thousands = numbers // 1000
-    pieces = threes[thousands]
-    pieces <<= numpy.uint64(8)
-    rest = threes[numbers - thousands * 1000]
-    rest <<= numpy.uint64(32)
-    pieces |= rest
-    pieces |= numpy.array([int.from_bytes(b".\0\0\0\0\0\0" + after, "little") for after in (b" ", b" ", b"\n")], numpy.uint64)
+    pieces = first.take(thousands)
+    thousands *= 1000
+    pieces |= last.take(numpy.subtract(numbers, thousands, out=thousands))
+    pieces[2] ^= numpy.uint64((ord(" ") ^ ord("\n")) << 56)
     return pieces
+
+
+@functools.lru_cache(maxsize=1)
+def _decimal_tables() -> Tuple[Any, Any]:
+    """Of the numbers below 1000: a point and three digits, and three digits in the places after these and a blank."""
+    threes = _tables()[2]
+    return threes << numpy.uint64(8) | numpy.uint64(ord(".")), threes << numpy.uint64(32) | numpy.uint64(ord(" ") << 56)
 
 
 @functools.lru_cache(maxsize=1)

@@ -1,12 +1,12 @@
 """Whole numbers out of the bytes of many lines, which numpy reads all at once.
 
 A place is found by where it ends: before each end as many bytes are taken as the longest has, and those that stand before
-the number count for nothing. A position is found by its point. Sums of floats are exact below 2^53. Little memory is taken
-anew, since that costs as much as to compute.
+the number count for nothing. A position is found by where it ends, too: its point stands six digits before. Sums of floats are
+exact below 2^53. Little memory is taken anew, since that costs as much as to compute.
 """
 from __future__ import annotations
 
-from typing import Any, Optional
+from typing import Any, NamedTuple, Optional
 
 from .arrays import numpy
 
@@ -35,36 +35,52 @@ def places(text: bytes, head: bytes) -> Optional[Any]:
     return _summed(numbers).reshape(-1, 4).astype(numpy.int64)
 
 
+class Rows(NamedTuple):
+    """The lines of atoms, each of a symbol and three numbers of six decimals. All is in columns, which are computed with at once.
+
+    begins   where the symbol of each line begins, and `blanks` where the blank after it stands
+    columns  how many millionths each number is: an array of shape (3, atoms) and whole numbers of 64 bits
+    """
+
+    begins: Any
+    blanks: Any
+    columns: Any
+
+
 def positions(text: bytes, start: int, count: int) -> Optional[Any]:
-    """What `millionths` gives, by 10^6: numbers are what `float` gives, since those are whole numbers below 2^53."""
-    numbers = millionths(text, start, count)
-    if numbers is not None:
-        numbers /= 10**DECIMALS
-    return numbers
+    """The numbers of the lines of atoms that `rows` reads, an array of shape (atoms, 3): what `float` gives, since their millionths
+    are below 2^53."""
+    found = rows(text, start, count)
+    return None if found is None else numpy.ascontiguousarray(found.columns.T / 10**DECIMALS)
 
 
-def millionths(text: bytes, start: int, count: int) -> Optional[Any]:
-    """The positions of the lines of a text from a start on, which are so many: of a symbol and three numbers of six decimals. An
-    array of shape (atoms, 3) of floats, which are whole numbers of millionths. Before the start there are 8 bytes at least.
+def rows(text: bytes, start: int, count: int) -> Optional[Rows]:
+    """The lines of a text from a start on, which are so many: of a symbol and three numbers of six decimals, with one blank between
+    two words. Before the start there are 8 bytes at least.
 
-    None if any line is something else, or if a symbol has a point, since numbers are found by theirs. Symbols are not looked at
-    further.
+    None if any line is something else. Symbols are not looked at further.
     """
     data = numpy.frombuffer(text, dtype=numpy.uint8)
-    found = data[start:] == ord(".")
-    points = numpy.flatnonzero(found)
-    points += start
-    blanks = numpy.flatnonzero(numpy.equal(data[start:], ord(" "), out=found))
-    blanks += start
-    if not count or not 3 * count == points.size == blanks.size or points[-1] + DECIMALS + 2 != data.size:
+    ends = numpy.flatnonzero(data[start:] <= ord(" "))
+    if not count or ends.size != 4 * count or data[-1] != ord("\n"):
         return None
-    whole, decimals = _whole_between(data, blanks, points), _decimals_after(data, points)
-    if whole is None or decimals is None:
+    ends = numpy.ascontiguousarray(ends.reshape(-1, 4).T)
+    ends += start
+    if not (data.take(ends[0]) == ord(" ")).all():
         return None
-    numbers = whole.astype(numpy.float64)
+    points = ends[1:] - (DECIMALS + 1)
+    numbers, decimals = _whole_between(data, ends[:3], points), _decimals_after(data, points)
+    if numbers is None or decimals is None:
+        return None
     numbers *= 10**DECIMALS
-    numbers += decimals.astype(numpy.float64)
-    return numbers.reshape(-1, 3)
+    numbers += decimals
+    begins = numpy.concatenate(([start], ends[3, :-1] + 1))
+    return Rows(begins, ends[0], numbers)
+
+
+def _eights(data: Any, starts: Any) -> Any:
+    """The eight bytes from each of these starts on, as one number."""
+    return numpy.ndarray((data.size - 7,), dtype="<u8", buffer=data, strides=(1,))[starts]
 
 
 def _whole_between(data: Any, blanks: Any, points: Any) -> Optional[Any]:
@@ -77,14 +93,13 @@ def _whole_between(data: Any, blanks: Any, points: Any) -> Optional[Any]:
     if lengths.min() < 1 or lengths.max() > MOST_DIGITS:
         return None
     kept = numpy.array([0xFFFFFFFFFFFFFFFF << 64 - 8 * length & 0xFFFFFFFFFFFFFFFF for length in range(MOST_DIGITS + 1)], "<u8")
-    masks = kept[lengths]
-    eights = numpy.ndarray((data.size - 7,), dtype="<u8", buffer=data, strides=(1,))[points - 8]
+    masks = kept.take(lengths)
+    numpy.subtract(points, 8, out=lengths)
+    eights = _eights(data, lengths)
     eights &= masks
-    masks &= 0x3030303030303030
+    masks &= numpy.uint64(0x3030303030303030)
     eights ^= masks
-    if ((eights + 0x0606060606060606 | eights) & 0xF0F0F0F0F0F0F0F0).any():
-        return None
-    return _numbers(eights)
+    return _numbers(eights, masks, 0x0606060606060606, 0xF0F0F0F0F0F0F0F0)
 
 
 def _decimals_after(data: Any, points: Any) -> Optional[Any]:
@@ -92,20 +107,36 @@ def _decimals_after(data: Any, points: Any) -> Optional[Any]:
 
     Eight bytes are taken as one number: the point, six digits, and what is after them.
     """
-    eights = numpy.ndarray((data.size - 7,), dtype="<u8", buffer=data, strides=(1,))[points].reshape(-1, 3)
-    eights ^= numpy.frombuffer(b".000000 .000000 .000000\n", dtype="<u8")
-    if ((eights + 0x0006060606060600 | eights) & 0xFFF0F0F0F0F0F0FF).any():
+    eights = _eights(data, points)
+    inner, last = (numpy.uint64(int.from_bytes(text, "little")) for text in (b".000000 ", b".000000\n"))
+    eights[:2] ^= inner
+    eights[2] ^= last
+    return _numbers(eights, numpy.empty_like(eights), 0x0006060606060600, 0xFFF0F0F0F0F0F0FF, 8)
+
+
+def _numbers(eights: Any, free: Any, carry: int, wrong: int, shift: int = 0) -> Optional[Any]:
+    """The numbers of which these are the eight digits, the first in the lowest byte, after a shift by so many bits. An array of the
+    same shape is free for use.
+
+    None if a digit is none: one of the wrong bits is set, or is by a carry.
+    """
+    numpy.add(eights, numpy.uint64(carry), out=free)
+    free |= eights
+    free &= numpy.uint64(wrong)
+    if free.any():
         return None
-    eights <<= numpy.uint64(8)
-    return _numbers(eights).ravel()
-
-
-def _numbers(eights: Any) -> Any:
-    """The numbers of which these are the eight digits, the first in the lowest byte: two are put together, then four, then all."""
-    eights = eights * 10 + (eights >> 8)
-    eights &= 0x00FF00FF00FF00FF
-    eights = eights * 100 + (eights >> 16)
-    return (eights & 0xFFFF) * 10000 + (eights >> 32 & 0xFFFF)
+    if shift:
+        eights <<= numpy.uint64(shift)
+    # Two digits are put together, and then four: a factor adds each one to ten or a hundred times the one before it.
+    fours = eights.view("<u4")
+    for factor, bits, kept in ((10 << 8 | 1, 8, 0x00FF00FF), (100 << 16 | 1, 16, 0x0000FFFF)):
+        fours *= numpy.uint32(factor)
+        fours >>= numpy.uint32(bits)
+        fours &= numpy.uint32(kept)
+    numbers = free.view(numpy.int64)
+    numpy.multiply(fours[:, ::2], 10000, out=numbers, casting="unsafe")
+    numbers += fours[:, 1::2]
+    return numbers
 
 
 def _word_ends(data: Any, words: int) -> Optional[Any]:

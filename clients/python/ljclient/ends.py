@@ -39,13 +39,19 @@ class SocketEnds:
     """A TCP connection."""
 
     def __init__(self, host: str, port: int, timeout: float):
+        self._where = f"{host}:{port}"
         try:
-            self._socket = socket.create_connection((host, port), timeout)
+            plain = socket.create_connection((host, port), timeout)
         except OSError as error:
             why = error.strerror or str(error) or "no answer"
-            raise ConnectionLost(f"cannot connect to {host}:{port}: {why}") from error
-        self._socket.setsockopt(socket.IPPROTO_TCP, socket.TCP_NODELAY, 1)
+            raise ConnectionLost(f"cannot connect to {self._where}: {why}") from error
+        plain.setsockopt(socket.IPPROTO_TCP, socket.TCP_NODELAY, 1)
+        self._socket = self._opened(plain, timeout)
         self._socket.setblocking(False)
+
+    def _opened(self, plain: socket.socket, timeout: float) -> socket.socket:
+        """The socket that is read and written."""
+        return plain
 
     def source(self) -> int:
         return self._socket.fileno()

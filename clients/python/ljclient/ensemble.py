@@ -7,26 +7,26 @@ from __future__ import annotations
 
 import contextlib
 import functools
-import hashlib
 import os
 import pathlib
-import pickle
 import tempfile
 import time
-from concurrent.futures import BrokenExecutor, CancelledError, Executor, Future
 from dataclasses import dataclass
-from typing import Any, Callable, ContextManager, Dict, Iterator, List, NamedTuple, Optional, Sequence, Tuple, Union
+from typing import TYPE_CHECKING, Any, Callable, ContextManager, Dict, Iterator, List, NamedTuple, Optional, Sequence, Tuple, Union
 
 from .errors import ConnectionLost, Damaged
 from .files import Path, write_whole
 from .session import Session
 from .user import Program, User, run
 
-# What is told of a worker that is gone: a class, or the name of one of Dask, which need not be installed.
-LOST = (BrokenExecutor, CancelledError, ConnectionLost)
+# What only an ensemble needs is imported where it runs, since it takes a tenth of the time of all else: executors and pickle.
+if TYPE_CHECKING:
+    from concurrent.futures import Executor, Future
+
+# Names of errors of Dask, which need not be installed, that tell of a worker that is gone.
 LOST_NAMES = ("KilledWorker", "CommClosedError")
 # An executor, or what makes one, or none.
-Pool = Union[Executor, Callable[[], Executor], None]
+Pool = Union["Executor", Callable[[], "Executor"], None]
 # What was noted of each job that is done, by its number.
 Results = Dict[int, List[Any]]
 
@@ -99,9 +99,16 @@ def ensemble(
             lost = _round(executor, tasks, results, progress)
             if lost is None:
                 break
-            if turn == tries - 1 or (isinstance(executor, Executor) and isinstance(lost, BrokenExecutor)):
+            if turn == tries - 1 or _has_broken(executor, lost):
                 raise lost
     return [results[number] for number in range(len(tasks))]
+
+
+def _has_broken(executor: Pool, lost: BaseException) -> bool:
+    """Whether this is an executor that was made elsewhere, and that a lost worker has broken."""
+    from concurrent.futures import BrokenExecutor, Executor
+
+    return isinstance(executor, Executor) and isinstance(lost, BrokenExecutor)
 
 
 def _round(
@@ -177,7 +184,7 @@ def _keep(place: str, done: int, notes: List[Any], sessions: Sequence[Session]) 
     files = [f"{place}.{done}.{number}.saved" for number in range(len(sessions))]
     for session, file in zip(sessions, files):
         session.save(file)
-    write_whole(f"{place}.notes", pickle.dumps(Progress(done, notes, files)))
+    write_whole(f"{place}.notes", _pickled(Progress(done, notes, files)))
     for file in before.files if before is not None else []:
         if file not in files:
             pathlib.Path(file).unlink(missing_ok=True)
@@ -185,6 +192,8 @@ def _keep(place: str, done: int, notes: List[Any], sessions: Sequence[Session]) 
 
 def _kept_at(place: str) -> Optional[Progress]:
     """The last checkpoint of a job, if there is one that can be read."""
+    import pickle
+
     try:
         with open(f"{place}.notes", "rb") as stream:
             kept = pickle.load(stream)
@@ -195,11 +204,21 @@ def _kept_at(place: str) -> Optional[Progress]:
 
 def _key_of(job: Job) -> str:
     """What tells the files of a job in a folder that is kept from those of another one of the same number."""
-    return hashlib.sha256(pickle.dumps(job)).hexdigest()[:16]
+    import hashlib
+
+    return hashlib.sha256(_pickled(job)).hexdigest()[:16]
+
+
+def _pickled(thing: object) -> bytes:
+    import pickle
+
+    return pickle.dumps(thing)
 
 
 def _told_by(pool: Optional[Executor], tasks: Dict[int, Task]) -> Iterator[Tuple[int, Union[List[Any], BaseException]]]:
     """For each task its notes, or that its worker was lost."""
+    from concurrent.futures import BrokenExecutor
+
     if pool is None:
         for number, task in tasks.items():
             yield number, _result_of(functools.partial(perform, task))
@@ -219,9 +238,11 @@ def _told_by(pool: Optional[Executor], tasks: Dict[int, Task]) -> Iterator[Tuple
 
 def _result_of(job: Callable[[], List[Any]]) -> Union[List[Any], BaseException]:
     """What a job gives, or why its worker is lost. Any other error is raised."""
+    from concurrent.futures import BrokenExecutor, CancelledError
+
     try:
         return job()
-    except LOST as error:
+    except (BrokenExecutor, CancelledError, ConnectionLost) as error:
         return error
     except Exception as error:
         if type(error).__name__ in LOST_NAMES:
@@ -231,6 +252,8 @@ def _result_of(job: Callable[[], List[Any]]) -> Union[List[Any], BaseException]:
 
 def _opened(executor: Pool) -> ContextManager[Optional[Executor]]:
     """An executor, which is shut down at the end only if it was made here."""
+    from concurrent.futures import Executor
+
     if executor is None or isinstance(executor, Executor):
         return contextlib.nullcontext(executor)
     return executor()

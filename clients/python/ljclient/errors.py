@@ -7,10 +7,12 @@ from typing import Any, Dict, Optional, Tuple, Type
 class ClientError(Exception):
     """Any fault of the connection, of the program, or of what was asked for.
 
-    rescued  where it came while a session was dropped to be loaded again: the text of a file that `User.load_saved` takes
+    rescued     where it came while a session was dropped to be loaded again: the text of a file that `User.load_saved` takes
+    unanswered  where it came while a reply was awaited: the command line, which may be a piece of what was asked
     """
 
     rescued: Optional[str] = None
+    unanswered: Optional[str] = None
 
 
 class CannotStart(ClientError):
@@ -29,12 +31,20 @@ class BadReply(ClientError):
     """What came is no reply of the protocol. The connection is closed."""
 
 
+class Missing(ClientError, ImportError):
+    """A package that this needs is not installed. The message says how to get it."""
+
+
 class Closed(ClientError):
     """The connection was closed before this was asked for."""
 
 
+class NotRecorded(ClientError):
+    """A command was replied to, and its record could not be written. The session goes on without a record."""
+
+
 class Damaged(ClientError, ValueError):
-    """A file of a saved session is not as it was written.
+    """A file of a saved session, or a record, is not as it was written.
 
     path  the file
     line  the first line that is at fault, counted from 1
@@ -99,6 +109,13 @@ def shown(command: str) -> str:
     """A command line as messages show it: cut where it is long, and without the token of a HELLO."""
     text = " ".join(command.split()[:2]) if command.startswith("HELLO") else command
     return text if len(text) <= 60 else text[:57] + "..."
+
+
+def not_answered(kind: Type[ClientError], why: str, command: str) -> ClientError:
+    """The error that a command was not answered, and why."""
+    error = kind(f"{why}; `{shown(command)}` was not answered")
+    error.unanswered = shown(command)
+    return error
 
 
 def refusal_of(words: "list[str]", command: str) -> Refused:

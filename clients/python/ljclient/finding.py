@@ -5,26 +5,56 @@ import os
 import pathlib
 import shutil
 import subprocess
+import sys
+from typing import Dict, List, Optional
 
 from .errors import CannotStart
 
 BUILD_SECONDS = 3600.0
+VERSION_SECONDS = 30.0
+NONE_FOUND = (
+    "there is no ljserve: say run(program), set LJSERVE, install the wheel ljserve beside ljclient, or put it on the PATH"
+)
 
 
 def find_program() -> str:
-    """The program that `run` starts where none is said."""
-    named = os.environ.get("LJSERVE")
-    if named:
+    """The program that `run` starts where none is said.
+
+    It is the one that LJSERVE names, else that of the wheel `ljserve` in the folder of this package, else bin/ljserve of the
+    repository that this package stands in, else that of the wheel wherever it is installed, else `ljserve` on the PATH.
+    """
+    if named := os.environ.get("LJSERVE"):
         return named
-    for folder in pathlib.Path(__file__).resolve().parents:
+    package = pathlib.Path(__file__).resolve().parent
+    beside = [str(package.parent)]
+    found = _of_wheel(beside) or _of_repository(package) or _of_wheel(sys.path) or shutil.which("ljserve")
+    if found is None:
+        raise CannotStart(NONE_FOUND)
+    return found
+
+
+def _of_wheel(folders: List[str]) -> Optional[str]:
+    """The program of the wheel `ljserve`, if that is installed in one of these folders of modules."""
+    from importlib import metadata
+
+    for wheel in metadata.distributions(name="ljserve", path=folders):
+        # `pip install --target` notes another place than the one that it puts the program at.
+        told = [str(file) for file in wheel.files or [] if file.name == "ljserve"]
+        for file in [*told, "bin/ljserve"]:
+            path = os.path.realpath(str(wheel.locate_file(file)))
+            if os.path.isfile(path) and os.access(path, os.X_OK):
+                return path
+    return None
+
+
+def _of_repository(package: pathlib.Path) -> Optional[str]:
+    """The program of the repository, or of the release, that the package stands in. It is built, if it is not."""
+    for folder in package.parents:
         script = folder / "bin" / "ljserve"
         if script.is_file() and any((folder / name).is_file() for name in ("crates.txt", "VERSION")):
             _build(script)
             return str(script)
-    found = shutil.which("ljserve")
-    if found is None:
-        raise CannotStart("there is no ljserve: say run(program), set LJSERVE, or put it on the PATH")
-    return found
+    return None
 
 
 def _build(script: pathlib.Path) -> None:
@@ -37,3 +67,14 @@ def _build(script: pathlib.Path) -> None:
         raise CannotStart(f"{script} cannot be started: {error}") from error
     if done.returncode != 0:
         raise CannotStart(f"{script} has ended with status {done.returncode}")
+
+
+def version_of(program: str, env: Optional[Dict[str, str]] = None) -> List[str]:
+    """The lines in which a program tells its version, none if it tells none."""
+    try:
+        done = subprocess.run(
+            [program, "--version"], stdin=subprocess.DEVNULL, capture_output=True, timeout=VERSION_SECONDS, env=env
+        )
+    except (OSError, subprocess.TimeoutExpired):
+        return []
+    return done.stdout.decode("ascii", "replace").splitlines() if done.returncode == 0 else []

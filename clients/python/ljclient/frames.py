@@ -13,6 +13,7 @@ from .interrupts import held
 from .order import Place
 from .reading import Frame, Places
 from .units import RING, nano
+from .wire import Reply
 
 if TYPE_CHECKING:
     from .loading import Loader
@@ -48,6 +49,28 @@ def both_shown(user: "Loader", name: str, count: int) -> Tuple[Places, ...]:
         return reading.both_of(name, count, user.ask_rows([*shows, turn, *shows, turn]))
 
 
+def three_shown(user: "Loader", name: str, count: int) -> Tuple[Places, ...]:
+    """The places one step before, now and one step after, of a session with any box. A step is made, and undone by another."""
+    shows = reading.shows(name, count)
+    step, turn = f"ADVANCE {name} 1", f"REVERSE {name}"
+    with held():
+        return reading.three_of(name, count, user.ask_rows([*shows, step, *shows, turn, step, *shows, turn]))
+
+
+def three_dumped(user: "Loader", name: str) -> Tuple[Places, ...]:
+    """The same of a session whose box shows each ring unit."""
+    dump, step, turn = f"DUMP {name}", f"ADVANCE {name} 1", f"REVERSE {name}"
+    with held():
+        replies = user.ask_all([dump, step, dump, turn, step, dump, turn])
+    now, after, before = (Places(*_on_ring(name, each.words, text_of(each))) for each in (replies[0], replies[2], replies[5]))
+    return before, now, after
+
+
+def text_of(reply: Reply) -> bytes:
+    """The lines of a reply, as they came."""
+    return "\n".join([*reply.lines, ""]).encode()
+
+
 def dumped_places(user: "Loader", name: str) -> Tuple[Places, ...]:
     """The places of all atoms, of a session whose box shows each ring unit."""
     return (Places(*_on_ring(name, *user.ask_text(f"DUMP {name}"))),)
@@ -63,8 +86,8 @@ def both_dumped(user: "Loader", name: str) -> Tuple[Places, ...]:
 def dumped_in_box(user: "Loader", name: str, edge: float) -> Frame:
     """The user's frame of a session whose box shows each ring unit, as the server would dump it in a box of this edge."""
     words, text = user.ask_text(f"DUMP {name}")
-    _, places = _on_ring(name, words, text)
-    return reading.frame_with(name, words, text, arrays.in_box(places, nano(edge)), user.known(name).order)
+    nanos = nano(edge)
+    return reading.frame_with(name, words, text, lambda places: arrays.in_box(_checked(places), nanos), user.known(name).order)
 
 
 def positions_in_box(user: "Loader", name: str, edge: float) -> Tuple[int, Any]:

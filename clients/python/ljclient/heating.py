@@ -1,9 +1,9 @@
-"""Velocities of a temperature, drawn at random, in whole ring units for each step."""
+"""Velocities of a temperature, drawn at random or stretched, in whole ring units for each step."""
 from __future__ import annotations
 
 import math
 import random
-from typing import List, Tuple
+from typing import List, Sequence, Tuple
 
 from .arrays import HALF
 from .names import whole_of
@@ -18,25 +18,48 @@ def displacements(atoms: int, temperature: float, scale: Scale, seed: int) -> Li
     The temperature is in kelvin if the scale has epsilon, else in epsilon / k_B. Each axis of each atom is drawn from the same
     normal distribution; then the mean is taken away, and all are stretched alike to the temperature and rounded.
     """
-    if not 0 <= real_of("a temperature", temperature) < math.inf:
-        raise ValueError(f"a temperature is a number from 0 on, not {temperature!r}")
+    wanted = _kinetic_number(atoms, temperature, scale)
     if atoms == 1 and temperature > 0:
         raise ValueError("an atom alone has no motion without a net momentum")
     drawn = random.Random(whole_of(seed, "a seed"))
     parts = [[drawn.gauss(0, 1) for _ in range(3)] for _ in range(atoms)]
     means = [sum(axis) / atoms for axis in zip(*parts)]
     parts = [[part - mean for part, mean in zip(each, means)] for each in parts]
-    wanted = scale.kinetic_number(3 * atoms * temperature / (2 * scale.temperature_unit))
     stretch = math.sqrt(wanted / sum(part * part for each in parts for part in each)) if wanted else 0.0
+    return _stretched(parts, stretch, temperature, [0, 0, 0])
+
+
+def rescaled(moved: Sequence[Sequence[int]], temperature: float, scale: Scale) -> List[Displacement]:
+    """Displacements in a step, all stretched alike to a temperature and rounded. Their sum is stretched alike and rounded too.
+
+    The temperature is as in `displacements`. Raises ValueError if all are at rest, unless it is 0.
+    """
+    wanted = _kinetic_number(len(moved), temperature, scale)
+    kinetic = sum(part * part for each in moved for part in each)
+    if wanted and not kinetic:
+        raise ValueError("the atoms are at rest, and no stretching moves them: heat(temperature) gives them velocities")
+    stretch = math.sqrt(wanted / kinetic) if wanted else 0.0
+    return _stretched(moved, stretch, temperature, [round(stretch * sum(axis)) for axis in zip(*moved)])
+
+
+def _kinetic_number(atoms: int, temperature: float, scale: Scale) -> float:
+    """The kinetic number of so many atoms at a temperature. Raises ValueError for what is no temperature."""
+    if not 0 <= real_of("a temperature", temperature) < math.inf:
+        raise ValueError(f"a temperature is a number from 0 on, not {temperature!r}")
+    return scale.kinetic_number(3 * atoms * temperature / (2 * scale.temperature_unit))
+
+
+def _stretched(parts: Sequence[Sequence[float]], stretch: float, temperature: float, sums: Sequence[int]) -> List[Displacement]:
+    """Displacements that are stretched and rounded, and that have these sums along the axes."""
     if stretch * max(abs(part) for each in parts for part in each) >= HALF - 1:
         raise ValueError(f"at a temperature of {temperature:g} an atom moves by half the box in a step")
-    return _without_sum([[round(stretch * part) for part in each] for each in parts])
+    return _with_sums([[round(stretch * part) for part in each] for each in parts], sums)
 
 
-def _without_sum(moved: List[List[int]]) -> List[Displacement]:
-    """The same displacements without the sum that is left of their rounding: it is less than one for each atom."""
-    for axis in range(3):
-        surplus = sum(each[axis] for each in moved)
+def _with_sums(moved: List[List[int]], sums: Sequence[int]) -> List[Displacement]:
+    """The same displacements without what rounding adds to these sums: it is less than one for each atom."""
+    for axis, wanted in enumerate(sums):
+        surplus = sum(each[axis] for each in moved) - wanted
         for each in moved[: abs(surplus)]:
             each[axis] -= 1 if surplus > 0 else -1
     return [tuple(each) for each in moved]

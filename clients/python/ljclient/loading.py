@@ -4,17 +4,18 @@ from __future__ import annotations
 import contextlib
 import dataclasses
 import threading
-from typing import TYPE_CHECKING, Any, Dict, Iterable, List, Optional, Sequence, Tuple, cast
+from typing import TYPE_CHECKING, Any, Dict, Iterable, Iterator, List, Optional, Sequence, Tuple, cast
 
 from . import checkpoint, files, units, xyz
 from .closeness import warn_of_close_atoms
 from .energy_watch import EnergyWatch, warn_of_large_steps
-from .errors import ClientError
+from .errors import ClientError, NotRecorded
 from .interrupts import held
 from .mixture import Mixture, Pair, RawClass
 from .motion import Motion, motion_of
 from .names import checked_name
 from .order import Order, by_halves, is_in_space
+from .recording import Listener, Listeners, Record, Versions
 from .replies import number_after
 from .session import Row, Session
 from .state import Command, Known, State, state_of
@@ -28,10 +29,12 @@ if TYPE_CHECKING:
 class Loader:
     """The part of a `User` that loads atoms, and knows what was said of each session."""
 
-    def __init__(self) -> None:
+    def __init__(self, versions: Optional[Versions] = None) -> None:
         # Of the thread that uses the user. It is held as long as something has to be whole, and may be taken again.
         self.lock = threading.RLock()
         self._known: Dict[str, Known] = {}
+        self._listeners = Listeners()
+        self._versions: Versions = versions or (lambda: [])
 
     def load(
         self,
@@ -50,6 +53,7 @@ class Loader:
         replace: bool = False,
         order: Optional[str] = None,
         watch: bool = True,
+        record: Optional[files.Path] = None,
     ) -> Session:
         """Loads atoms into a new session, at step 0.
 
@@ -82,6 +86,10 @@ class Loader:
 
         If h is above 200,000 there is an `EnergyWarning`, since the energy grows fast then. There is one on the way too, if
         the energy changes (`Session.advance`). With `watch=False` there is none, and nothing is measured for it.
+
+        With `record="run.lj"` each command of this session is written to that file, with a sum of its reply, before the reply
+        is told here; `python3 -m ljclient verify run.lj` plays it again. A file that is there stays until the session is loaded.
+        If the file can no longer be written, `NotRecorded` is raised, and the session goes on without a record.
         """
         checked_name(name)
         frames = xyz.frames_of(source, before, symbols, pair)
@@ -93,7 +101,7 @@ class Loader:
         warn_of_close_atoms(frames, scale)
         if watch:
             warn_of_large_steps(scale)
-        self._send("LOAD", name, words, frames, replace, motion, known)
+        self._send("LOAD", name, words, frames, replace, motion, known, record)
         return Session(cast("User", self), name, scale, motion=motion)
 
     def load_mix(
@@ -116,10 +124,11 @@ class Loader:
         replace: bool = False,
         order: Optional[str] = None,
         watch: bool = True,
+        record: Optional[files.Path] = None,
     ) -> Session:
         """Loads atoms of two species, all of one mass, into a new session at step 0.
 
-        name, source, edge, before, pair, symbols, replace, order, watch are as in `load`.
+        name, source, edge, before, pair, symbols, replace, order, watch, record are as in `load`.
 
         species  the two symbols, such as `("Ar", "Kr")`; each atom has one of them
         first    sigma (angstrom) and epsilon (electronvolt) of two atoms of the first species
@@ -149,7 +158,7 @@ class Loader:
         warn_of_close_atoms(frames, mixture.scale, mixture)
         if watch:
             warn_of_large_steps(mixture.scale, mixture)
-        self._send("LOADMIX", name, words, frames, replace, motion, known)
+        self._send("LOADMIX", name, words, frames, replace, motion, known, record)
         return Session(cast("User", self), name, mixture.scale, mixture=mixture, motion=motion)
 
     @whole
@@ -162,14 +171,15 @@ class Loader:
         replace: bool,
         motion: Optional[Motion],
         known: Known,
+        record: Optional[files.Path],
     ) -> None:
         """Asks for a new session, in place of one of that name where it is to be replaced, and sets its atoms in motion.
 
         Where an error or an interrupt comes between, the new session is given up.
         """
         mode, body = frames
-        self.ask_commands(self._drops(name, replace))
-        self.ask(f"{command} {name} {words} {mode} {len(body)}", body)
+        with self._recorded(name, record, replace):
+            self.ask(f"{command} {name} {words} {mode} {len(body)}", body)
         self._known[name] = known
         try:
             self.ask_all(motion.tugs(name) if motion else [])
@@ -180,6 +190,47 @@ class Loader:
                 self.ask(f"DROP {name}")
             raise
 
+    @contextlib.contextmanager
+    def _recorded(self, name: str, path: Optional[files.Path], replace: bool) -> Iterator[None]:
+        """Drops a session that is to be replaced, and has the record of a new one begin with what loads it.
+
+        The file is opened first, so that nothing is dropped if it cannot be. If nothing is loaded it stays as it was.
+        """
+        is_same = replace and self._listeners.writes(name, path)
+        record = None if path is None or is_same else Record(path, self._versions())
+        try:
+            self.ask_commands(self._drops(name, replace))
+            if is_same and path is not None:
+                record = Record(path, self._versions())
+            with self._heard_by(name, record):
+                yield
+        except NotRecorded:
+            if record is not None and record.is_over:
+                with contextlib.suppress(ClientError):
+                    self.ask(f"DROP {name}")
+            raise
+        finally:
+            if record is not None and not record.is_begun:
+                record.give_up()
+
+    @whole
+    def listen(self, name: str, listener: Optional[Listener]) -> None:
+        """Has this one, or nobody, hear of each command of a session and its reply."""
+        self._listeners.put(name, listener)
+        self._attach()
+
+    @contextlib.contextmanager
+    def _heard_by(self, name: str, listener: Optional[Listener]) -> Iterator[None]:
+        """Has someone hear of the commands of a session. Who heard of it before does so again if this one heard of no session."""
+        before = self._listeners.by_name.get(name)
+        if listener is not None:
+            self.listen(name, listener)
+        try:
+            yield
+        finally:
+            if listener is not None and not listener.is_begun:
+                self.listen(name, before)
+
     @whole
     def load_saved(
         self,
@@ -189,10 +240,12 @@ class Loader:
         replace: bool = False,
         order: Optional[str] = None,
         watch: bool = True,
+        record: Optional[files.Path] = None,
     ) -> Session:
         """Loads a session that `Session.save` has written, exactly as it was.
 
         name, replace, watch  as in `load`; without a name it has the one that it was saved under
+        record                as in `load`
         order                 "space" as in `load`; else as it was when it was saved
 
         Steps are counted on from the saved one. Raises `Damaged`, which names the line, if the file is not as it was
@@ -207,8 +260,21 @@ class Loader:
         numbers = by_halves(state.places) if state.is_sorted else None
         if watch:
             warn_of_large_steps(state.scale, state.mixture)
-        self._put(state, Order(numbers), self._drops(state.name, replace), EnergyWatch(watch))
+        if record is None:
+            self._put(state, Order(numbers), self._drops(state.name, replace), EnergyWatch(watch))
+        else:
+            with self._recorded(state.name, record, replace):
+                self._put(state, Order(numbers), [], EnergyWatch(watch))
         return Session(cast("User", self), state.name, state.scale, mixture=state.mixture)
+
+    @whole
+    def copy_of(self, name: str, new: str, replace: bool) -> Session:
+        """As `Session.copy`."""
+        if checked_name(new) == name:
+            raise ValueError(f"a copy of {name} has another name")
+        state, known = dataclasses.replace(self.state_of(name), name=new), self.known(name)
+        self._put(state, Order(known.order.numbers), self._drops(new, replace), dataclasses.replace(known.watch))
+        return Session(cast("User", self), new, state.scale, mixture=state.mixture)
 
     @whole
     def resort(self, name: str) -> None:
@@ -217,7 +283,8 @@ class Loader:
             told = ", ".join(line.split(" ")[0] for line in saved)
             raise ValueError(f"{name} cannot be sorted anew, since what is saved by branch would be lost: {told}")
         state = self.state_of(name)
-        self._put(state, Order(by_halves(state.places)), [(f"DROP {name}", b"")], self.known(name).watch)
+        with self._listeners.reloading(name):
+            self._put(state, Order(by_halves(state.places)), [(f"DROP {name}", b"")], self.known(name).watch)
 
     @whole
     def restore(self, name: str, branch: str) -> int:
@@ -256,6 +323,10 @@ class Loader:
     def has_dropped(self, name: str) -> None:
         """Forgets what was said of a session that is gone."""
         self._known.pop(name, None)
+
+    def _attach(self) -> None:
+        """Has the connection tell what it hears to those who record it."""
+        raise NotImplementedError
 
     def ask(self, line: str, body: bytes = b"") -> Reply:
         """As `User.ask`."""

@@ -58,6 +58,10 @@ class Order:
         numbers = self._of_as_many(things)
         return things[self._indices] if hasattr(things, "tolist") else [things[number] for number in numbers]
 
+    def columns_for_user(self, columns: Any) -> Any:
+        """The same of an array whose columns are of one atom each."""
+        return columns if self.numbers is None else columns.take(self._indices, axis=1)
+
     def for_server(self, things: Sequence[Thing]) -> Sequence[Thing]:
         """What the user tells of each atom, in the server's order."""
         if self.numbers is None:

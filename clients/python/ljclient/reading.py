@@ -1,11 +1,14 @@
-"""Places and frames out of replies: the lines of all atoms are read at once."""
+"""Places and frames out of replies: the lines of all atoms are read at once.
+
+What reads them by numpy is imported where numpy is needed, since that takes as long as all else of this package.
+"""
 from __future__ import annotations
 
 import functools
 import re
-from typing import Any, List, NamedTuple, Sequence, Tuple
+from typing import Any, Callable, List, NamedTuple, Sequence, Tuple
 
-from . import arrays, decimals, digits
+from . import arrays
 from .errors import BadReply
 from .order import Order
 from .replies import of_session, whole_number
@@ -87,6 +90,14 @@ def both_of(name: str, count: int, text: bytes) -> Tuple[Places, Places]:
     return places_of(name, count, b"\n".join([*now, b""])), places_of(name, count, b"\n".join([*before, b""]))
 
 
+def three_of(name: str, count: int, text: bytes) -> Tuple[Places, Places, Places]:
+    """The places before, now and after: what the replies to `shows` tell now, after a step, and after REVERSE and a step more."""
+    rows = text.split(b"\n")
+    parts = (b"\n".join([*rows[at : at + count], b""]) for at in (0, count + 1, 2 * count + 3))
+    now, after, before = (places_of(name, count, part) for part in parts)
+    return before, now, after
+
+
 def place_of(name: str, atom: int, row: bytes) -> Tuple[int, int, int]:
     """The place that the reply to one SHOW tells."""
     told = re.fullmatch(rf"OK SHOW {re.escape(name)} {STEP} {atom} {PLACE}\n?", row.decode("latin-1"))
@@ -113,21 +124,25 @@ def positions_of(name: str, words: List[str], text: bytes) -> Tuple[int, Any]:
 def millionths_of(name: str, words: List[str], text: bytes) -> Tuple[int, Any]:
     """As `positions_of`, how many millionths each position is."""
     step, start, count = _begin_of(name, words, text)
-    numbers = None if arrays.numpy is None else digits.millionths(text, start, count)
-    if numbers is None:
+    rows = _rows_of(text, start, count)
+    if rows is None:
         return step, arrays.millionths(_positions_in(text, start, count))
-    return step, numbers.astype(arrays.numpy.int64)
+    return step, arrays.numpy.ascontiguousarray(rows.columns.T)
 
 
-def frame_with(name: str, words: List[str], text: bytes, millionths: Any, order: Order) -> Frame:
-    """The frame that `millionths_of` has read, with these positions in place of its own, and with the numbers of the user."""
+def frame_with(name: str, words: List[str], text: bytes, converted: Callable[[Any], Any], order: Order) -> Frame:
+    """The frame that the reply to `DUMP` tells, with its millionths converted, and with the numbers of the user."""
     if not text.isascii():
         raise BadReply(f"{' '.join(words)[:80]!r} is followed by what is no text of the protocol")
-    step, start, _ = _begin_of(name, words, text)
-    lines = None if arrays.numpy is None else decimals.lines(text, start, millionths, order)
-    if lines is not None:
-        return Frame(order.step_of(step), lines.decode())
+    step, start, count = _begin_of(name, words, text)
+    read = _rows_of(text, start, count)
+    if read is not None:
+        from . import decimals
+
+        if (lines := decimals.lines(text, read, converted(read.columns), order)) is not None:
+            return Frame(order.step_of(step), lines.decode())
     rows = []
+    millionths = converted(arrays.millionths(_positions_in(text, start, count)))
     for row, place in zip(text[start:].decode().split("\n"), arrays.listed(millionths)):
         parts = (divmod(part, 10**6) for part in place)
         rows.append(" ".join([row.split(" ")[0], *[f"{whole}.{rest:06}" for whole, rest in parts]]))
@@ -150,9 +165,22 @@ def _head_of(name: str, words: List[str], count: int) -> Tuple[int, str]:
     return whole_number(words[2]), f"{count - 2}\nstep {words[2]}\n"
 
 
+def _rows_of(text: bytes, start: int, count: int) -> Any:
+    """The columns of so many lines of atoms, which stand in a text from here on. None without numpy, and if it cannot read them."""
+    if arrays.numpy is None:
+        return None
+    from . import digits
+
+    return digits.rows(text, start, count)
+
+
 def _positions_in(text: bytes, start: int, count: int) -> Any:
     """The positions of so many atoms, whose lines stand in a text from here on, by numpy if that can read them all at once."""
-    positions = None if arrays.numpy is None else digits.positions(text, start, count)
+    positions = None
+    if arrays.numpy is not None:
+        from . import digits
+
+        positions = digits.positions(text, start, count)
     if positions is None:
         positions = _listed_positions(text[start:].decode("latin-1"))
     if positions is None:
@@ -165,6 +193,8 @@ def _positions_in(text: bytes, start: int, count: int) -> Any:
 
 def _arrayed_places(text: bytes, head: bytes, count: int) -> Any:
     """The places of the first atoms as an array, of lines with this head. None if any line is something else."""
+    from . import digits
+
     numbers = digits.places(text, head)
     if numbers is None or numbers[:, 0].tolist() != list(range(count)) or numbers.max() >= RING:
         return None

@@ -1,13 +1,11 @@
-"""What a session tells on its way: its positions at every so many steps, in arrays or in a file."""
+"""What a session tells on its way: its positions at every so many steps, in arrays."""
 from __future__ import annotations
 
 from typing import TYPE_CHECKING, Any, Callable, Iterator, List, NamedTuple, Tuple, Union
 
 from . import arrays, progress as bars
-from .files import Path
 from .names import whole_of
-from .reading import Frame
-from .units import Scale
+from .unwrapping import unwrapped
 
 if TYPE_CHECKING:
     from .session import Session
@@ -43,17 +41,22 @@ def stops(session: "Session", every: int, count: int, progress: Progress, ahead:
         for number in range(count - 1):
             yield number
             made = every * number + ahead
-            session.advance(every - ahead, _onward(report, made, every * (count - 1)) if report else False)
+            session.advance(every - ahead, onward(report, made, every * (count - 1)) if report else False)
     yield count - 1
 
 
-def _onward(report: bars.Report, made: int, total: int) -> bars.Report:
+def onward(report: bars.Report, made: int, total: int) -> bars.Report:
     """A report of what is done after so many steps, of a total."""
     return lambda done, _: report(made + done, total)
 
 
-def sample(session: "Session", take: Callable[[], Tuple[int, Any]], every: int, frames: int, progress: Progress) -> Samples:
-    """The frames of a session on its way, each as it is taken: with its step. If this is broken off, the session has them."""
+def sample(
+    session: "Session", take: Callable[[], Tuple[int, Any]], every: int, frames: int, progress: Progress, period: Any = None
+) -> Samples:
+    """The frames of a session on its way, each as it is taken: with its step. If this is broken off, the session has them.
+
+    With a period, the edge of the box, atoms are followed from frame to frame.
+    """
     checked_stops(every, frames, "frames")
     taken: List[Tuple[int, Any]] = []
     session.sampled = None
@@ -61,31 +64,12 @@ def sample(session: "Session", take: Callable[[], Tuple[int, Any]], every: int, 
         for _ in stops(session, every, frames, progress):
             taken.append(take())
     except BaseException:
-        session.sampled = _samples_of(taken)
+        session.sampled = _samples_of(session.name, taken, period)
         raise
-    return _samples_of(taken)
+    return _samples_of(session.name, taken, period)
 
 
-def _samples_of(taken: List[Tuple[int, Any]]) -> Samples:
+def _samples_of(name: str, taken: List[Tuple[int, Any]], period: Any) -> Samples:
     """Frames with their steps, put together."""
-    return Samples([step for step, _ in taken], arrays.stacked([frame for _, frame in taken]))
-
-
-def write_trajectory(
-    session: "Session", take: Callable[[], Frame], path: Path, every: int, frames: int, progress: Progress, append: bool
-) -> None:
-    """Writes the frames of a session on its way, each when it is there, as extended XYZ: into a new file, or behind an old one."""
-    checked_stops(every, frames, "frames")
-    scale = session.scale
-    with open(path, "a" if append else "w", encoding="ascii", newline="\n") as file:
-        for _ in stops(session, every, frames, progress):
-            frame = take()
-            file.write(frame.text(comment_of(scale, frame.step)))
-            file.flush()
-
-
-def comment_of(scale: Scale, step: int) -> str:
-    """The second line of a frame in extended XYZ: the box, what the columns are, the step and the time."""
-    edge = repr(scale.edge)
-    lattice = f"{edge} 0 0 0 {edge} 0 0 0 {edge}"
-    return f'Lattice="{lattice}" Properties=species:S:1:pos:R:3 pbc="T T T" step={step} time={scale.time(step)!r}'
+    frames = arrays.stacked([frame for _, frame in taken])
+    return Samples([step for step, _ in taken], frames if period is None else unwrapped(name, frames, period))

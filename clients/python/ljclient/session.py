@@ -4,9 +4,11 @@ from __future__ import annotations
 import dataclasses
 from typing import TYPE_CHECKING, Any, ContextManager, Iterator, List, NamedTuple, Optional, Sequence, Tuple, Union
 
-from . import arrays, ase_bridge, box, checkpoint, files, frames, going, heating, progress as bars, reading, sampling
-from .elements import Replacements, replaced, with_symbols
+from . import arrays, ase_bridge, box, centred, checkpoint, files, frames, going, heating, progress as bars, reading, sampling
+from . import equilibrating, pressure, saving, snapshots, trajectories
+from .elements import Replacements, with_symbols
 from .energy_watch import WatchedRoad
+from .interrupts import held
 from .measurement import Measurement, known
 from .mixture import Mixture
 from .motion import Motion
@@ -16,7 +18,8 @@ from .replies import fields, number_after, of_session, whole_number
 from .state import symbols_of
 from .thermo import Thermo, thermo
 from .threads import whole
-from .units import Scale
+from .units import RING, Scale
+from .unwrapping import Path
 
 if TYPE_CHECKING:
     from .user import User
@@ -55,6 +58,7 @@ class Session:
         self._user = user
         self._given = scale
         self._pace = going.Pace()
+        self._path = Path(self.name)
 
     def __repr__(self) -> str:
         return f"Session({self.name!r})"
@@ -107,7 +111,14 @@ class Session:
         """
         return self.scale.dt
 
-    def advance(self, n: int, progress: Union[bool, bars.Report] = False, piece: Optional[int] = None) -> int:
+    def advance(
+        self,
+        n: int,
+        progress: Union[bool, bars.Report] = False,
+        piece: Optional[int] = None,
+        save: Optional[files.Path] = None,
+        seconds: float = 60.0,
+    ) -> int:
         """Goes on by n steps, and answers the new step number.
 
         The steps are asked for in pieces of about a fifth of a second (or of `piece` steps), so an interrupt from the
@@ -119,11 +130,14 @@ class Session:
         and after each 20,000. There is an `EnergyWarning`, once, if that of an atom has changed by half an epsilon. What else
         changes it (`tug`, `heat`, `restore`) sets the start anew. `load(.., watch=False)` does without.
 
+        With `save` it is saved to that file at the start, each so many seconds on the way and at the end, as by `save(path)`:
+        `User.load_saved` goes on from there if the run is lost.
+
         `User.advance` has several sessions go on at the same time.
         """
         total = count_of(n, "a number of steps")
-        with bars.reporter(progress, self.name) as report:
-            course = going.Course(self.name, total, report, WatchedRoad(self._user, self.name, total, piece))
+        with bars.reporter(progress, self.name) as report, saving.saver(self, save, seconds, report) as tell:
+            course = going.Course(self.name, total, tell, WatchedRoad(self._user, self.name, total, piece))
             return going.go([course], self._user.ask_all, self._pace, piece, self.lock)[0]
 
     @whole
@@ -142,7 +156,10 @@ class Session:
         return step
 
     def reverse(self) -> int:
-        """Turns the motion back, and answers the new step number: the two frames are exchanged."""
+        """Turns the motion back, and answers the new step number: the two frames are exchanged.
+
+        n steps, `reverse`, n steps and `reverse` give back the start, to the bit.
+        """
         return self._number(f"REVERSE {self.name}", 2)
 
     @whole
@@ -177,13 +194,36 @@ class Session:
         They have no net momentum. As kinetic energies are, they are those of half a step ago. A crystal at rest keeps about
         half of this temperature, since the other half becomes potential energy.
         """
-        scale = self.scale
-        now, before = self._frames_of_places(both=True)
-        wanted = heating.displacements(len(now.places), temperature, scale, seed)
-        changes = arrays.least_images(wanted, arrays.least_images(now.places, before.places))
-        self._user.known(self.name).watch.begin_anew()
-        self._user.ask_rows([self._tug(atom, change) for atom, change in enumerate(changes) if any(change)])
+        scale, moved = self.scale, self._last_displacements()
+        self._set_in_motion(moved, heating.displacements(len(moved), temperature, scale, seed))
         return self.measure().temperature
+
+    @whole
+    def rescale(self, temperature: float) -> float:
+        """Stretches the velocities of all atoms alike to a temperature, and returns the one that they are rounded to.
+
+        temperature  as in `heat`; that of half a step ago, which `measure` tells, is then this one
+
+        A net momentum is stretched alike. It is done by tugs, so what is saved by `branch` stays, and `restore` leads back to
+        before it. ValueError if all atoms are at rest.
+        """
+        scale, moved = self.scale, arrays.listed(self._last_displacements())
+        self._set_in_motion(moved, heating.rescaled(moved, temperature, scale))
+        return self.measure().temperature
+
+    def equilibrate(
+        self, temperature: float, steps: int, every: int = 50, progress: sampling.Progress = False, seed: int = 0
+    ) -> float:
+        """Goes on by so many steps, and rescales the velocities to a temperature at the start, after each `every` steps and at the
+        end. Returns the temperature at the end, as `rescale` does.
+
+        temperature     as in `heat`
+        steps, every    whole numbers
+        progress, seed  as in `advance` and in `heat`, by which atoms at rest are set in motion first
+
+        It is done by tugs and steps alone: what is saved by `branch` stays, and from there the same call leads to the same atoms.
+        """
+        return equilibrating.equilibrate(self, temperature, steps, every, progress, seed)
 
     @whole
     def measure(self) -> Measurement:
@@ -215,6 +255,42 @@ class Session:
         """
         edge = self.scale.edge
         return arrays.of_positions(self.places(), edge)
+
+    @whole
+    def velocities(self) -> Any:
+        """The velocities of all atoms at this step, `(x(n+1) - x(n-1)) / (2 dt)`: in angstrom / femtosecond if epsilon and mass are
+        known, else in the unit of the file for each `sigma sqrt(m / epsilon)`. After `reverse` they have the other sign.
+
+        An array of numpy of shape (atoms, 3), or a list of tuples where numpy is not installed. The frame after this one is made
+        by a step, which is undone exactly: the session is as it was.
+        """
+        return centred.three_frames(self._user, self.name).velocities(self.scale)
+
+    @whole
+    def forces(self) -> Any:
+        """The force on each atom at this step, which is `x(n+1) - 2 x(n) + x(n-1)` by the definition of a step: in electronvolt /
+        angstrom if epsilon is known, else in epsilon / unit of the file. Shape and way are those of `velocities`."""
+        return centred.three_frames(self._user, self.name).forces(self.scale)
+
+    @whole
+    def pressure(self) -> float:
+        """The pressure at this step in epsilon / sigma^3, of a mixture those of its first class: `(2 K + W) / (3 V)`, with the
+        kinetic energy K of `velocities` and the virial W of all pairs by the program's own table. It needs numpy.
+
+        `session.pressure() * epsilon / sigma**3 / units.bar` is in bar. The cutoff has no correction, as everything here.
+        """
+        return pressure.pressure(self, self._user)
+
+    @whole
+    def displacements(self) -> Any:
+        """How far each atom has moved since the first call of this object, in the unit of the file, also round the periodic box: an
+        array of shape (atoms, 3), or a list of tuples. The first call tells zeros.
+
+        Atoms are followed from call to call, each the nearer way round the box. So none is to move by half the edge between two
+        calls; from a quarter on there is a warning.
+        """
+        scale, places = self.scale, self.places()
+        return arrays.scaled(self._path.to(places), scale.edge / RING)
 
     def dump(self, symbols: Optional[Replacements] = None) -> str:
         """The frame as XYZ text: positions in the unit of the file, rounded down to six decimals.
@@ -249,7 +325,9 @@ class Session:
         now, before = self._frames_of_places(both=True)
         return ase_bridge.atoms_of(elements, now, before, scale)
 
-    def sample(self, every: int, frames: int, exact: bool = False, progress: sampling.Progress = False) -> sampling.Samples:
+    def sample(
+        self, every: int, frames: int, exact: bool = False, progress: sampling.Progress = False, unwrap: bool = False
+    ) -> sampling.Samples:
         """Goes on, and returns frames on the way: `steps`, and `frames` as one array of shape (frames, atoms, 3).
 
         every     how many steps there are from one frame to the next
@@ -257,11 +335,31 @@ class Session:
         exact     places in ring units, which take a command for each atom. Else frames are positions in the unit of the file,
                   rounded down to six decimals, which take one command
         progress  as in `advance`
+        unwrap    whether atoms go on where they leave the box, each followed from frame to frame the nearer way round. From a
+                  quarter of the edge between two frames on there is a warning
 
         If it is broken off, by an interrupt or an error, `session.sampled` has the frames so far, as they would be returned.
         """
         take = (lambda: self._frames_of_places()[0]) if exact else self._positions_of_frame
-        return sampling.sample(self, take, every, frames, progress)
+        period = (RING if exact else float(self.scale.edge)) if unwrap else None
+        return sampling.sample(self, take, every, frames, progress, period)
+
+    def frames(
+        self, every: snapshots.Every, n: Optional[int] = None, progress: sampling.Progress = False
+    ) -> Iterator[snapshots.Snapshot]:
+        """Goes on, and gives frames on the way, each when it is there: `Snapshot`, with step, time, positions, velocities, forces,
+        displacements and energies.
+
+        every     how many steps there are from one frame to the next; or a list of how many steps from here each frame is, such
+                  as `[0, 1, 2, 4, 8, 16]`, of which each is greater than the one before
+        n         how many frames, of which the first is the present one. A list says it itself
+        progress  as in `advance`
+
+        The session stands at the step of a frame that is given, so it may be saved or measured there.
+        """
+        stops = snapshots.stops_of(every, n)
+        known(self._given)
+        return snapshots.snapshots(self, self._user, stops, progress)
 
     def thermo(self, every: int, rows: int, progress: sampling.Progress = False) -> Iterator[Thermo]:
         """Goes on, and gives rows of step, temperature, kinetic, potential and total energy (`Thermo`), each when it is there.
@@ -284,22 +382,28 @@ class Session:
         progress: sampling.Progress = False,
         symbols: Optional[Replacements] = None,
         append: bool = False,
+        unwrap: bool = False,
     ) -> None:
-        """Goes on, and writes frames to a file on the way, as extended XYZ: with Lattice, step and time.
+        """Goes on, and writes frames to a file on the way, of the kind that the ending of its name says:
+
+        .xyz       extended XYZ, with Lattice, velocities (`velo`), step, time, potential (`energy`) and kinetic energy. So is a
+                   file of any other ending
+        .traj      by ASE, with energy, forces and, if epsilon and mass are known, momenta
+        .dcd, .nc  by MDAnalysis, with box and time; `.nc` has velocities and forces too, in MDAnalysis's units. ValueError if
+                   frames behind those of a .dcd are not as far apart in time
 
         every, frames, progress  are as in `sample`
         symbols                  what is written in place of each symbol of the session, such as `{"A": "Ar", "B": "Kr"}`; it
                                  is a ValueError if one is left out. ASE reads names of elements alone, and B as boron
-
         append                   writes behind what the file has, such as the frames of an earlier call; the first frame is the
                                  present one all the same. Else a file that is there is written anew
+        unwrap                   has each atom go on where it leaves the box, as in `sample`, followed from the first frame here
 
-        The file has each frame as soon as it is there. Times are in femtoseconds if epsilon and mass are known, else in units
-        of `sigma sqrt(m / epsilon)`.
+        Text and `.traj` have each frame as soon as it is there. Units are those of the session: angstrom, femtoseconds and
+        electronvolt if epsilon and mass are known, else the unit of the file, `sigma sqrt(m / epsilon)` and epsilon. Raises
+        `Missing` if the library of a kind is not installed.
         """
-        if symbols is not None:
-            replaced(self.symbols(), symbols)
-        sampling.write_trajectory(self, lambda: with_symbols(self._frame(), symbols), path, every, frames, progress, append)
+        trajectories.write_trajectory(self, path, every, frames, progress, symbols, append, unwrap)
 
     @whole
     def saved(self) -> List[Saved]:
@@ -315,6 +419,17 @@ class Session:
         stays until the new one is whole; where a path names a device, a folder or a FIFO, it is a ValueError.
         """
         checkpoint.write(self._user.state_of(self.name), path)
+
+    @whole
+    def copy(self, name: str, replace: bool = False) -> "Session":
+        """A new session of this user that is as this one is now, to the bit: its step number, its units and its symbols too.
+
+        name     the name of the new one
+        replace  whether a session of that name is dropped first
+
+        What is saved by `branch` is not copied. What was started is waited for. The scale has to be known.
+        """
+        return self._user.copy_of(self.name, name, replace)
 
     def resort(self) -> None:
         """Sorts the atoms in space at the server, where a step of many is faster then. Their numbers here stay.
@@ -372,6 +487,18 @@ class Session:
             told = (frames.both_shown if both else frames.shown)(self._user, self.name, self.atoms)
         order = self.order
         return tuple(reading.Places(order.step_of(step), order.for_user(places)) for step, places in told)
+
+    def _last_displacements(self) -> Any:
+        """The displacements of the last step, in ring units."""
+        now, before = self._frames_of_places(both=True)
+        return arrays.least_images(now.places, before.places)
+
+    def _set_in_motion(self, moved: Any, wanted: Sequence[Sequence[int]]) -> None:
+        """Gives the atoms these displacements in place of those of the last step. An interrupt waits until all have theirs."""
+        changes = arrays.least_images(wanted, moved)
+        self._user.known(self.name).watch.begin_anew()
+        with held():
+            self._user.ask_rows([self._tug(atom, change) for atom, change in enumerate(changes) if any(change)])
 
     def _row(self) -> "Row":
         return self._user.row(self.name)

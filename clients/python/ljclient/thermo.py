@@ -2,7 +2,7 @@
 from __future__ import annotations
 
 import contextlib
-from typing import TYPE_CHECKING, Callable, Iterator, List, NamedTuple
+from typing import TYPE_CHECKING, Callable, Iterator, List, NamedTuple, Optional, Tuple
 
 from .errors import ClientError
 from .going import Ask
@@ -36,26 +36,56 @@ class Thermo(NamedTuple):
     def of(here: Measurement, after: Measurement) -> "Thermo":
         """The row of a step, by what was measured there and a step later."""
         kinetic = (here.kinetic_energy + after.kinetic_energy) / 2
-        potential = here.potential_energy
-        kind = Thermo if known(here.scale).epsilon is None else ThermoInKelvin
-        return kind(here.step, here.temperature_at(kinetic), kinetic, potential, potential + kinetic)
+        potential, epsilon = here.potential_energy, known(here.scale).epsilon
+        numbers = here.step, here.temperature_at(kinetic), kinetic, potential, potential + kinetic
+        return Thermo(*numbers) if epsilon is None else ThermoInKelvin.with_epsilon(numbers, epsilon)
+
+    def in_electronvolt(self) -> "ThermoInElectronvolt":
+        """The same row with its energies in electronvolt. ValueError if epsilon was not said."""
+        raise ValueError("epsilon is not known: say epsilon= (in electronvolt) where the session is loaded")
 
     def __str__(self) -> str:
         return self._told("epsilon / k_B")
 
-    def _told(self, unit: str) -> str:
-        """The row as a line, with this unit of temperature."""
-        energies = f"kinetic {self.kinetic:.6g}, potential {self.potential:.6g} and total energy {self.total:.6g} epsilon"
+    def _told(self, unit: str, energy: str = "epsilon") -> str:
+        """The row as a line, with these units of temperature and energies."""
+        energies = f"kinetic {self.kinetic:.6g}, potential {self.potential:.6g} and total energy {self.total:.6g} {energy}"
         return f"step {self.step}: temperature {self.temperature:.6g} {unit}; {energies}"
 
 
 class ThermoInKelvin(Thermo):
-    """A `Thermo` whose temperature is in kelvin. Its energies are in epsilon all the same."""
+    """A `Thermo` whose temperature is in kelvin. Its energies are in epsilon all the same; `in_electronvolt` converts them.
 
-    __slots__ = ()
+    epsilon  an epsilon in electronvolt
+    """
+
+    epsilon: Optional[float] = None
+
+    @classmethod
+    def with_epsilon(cls, numbers: Tuple[int, float, float, float, float], epsilon: float) -> "ThermoInKelvin":
+        """The row of these numbers, and of this epsilon in electronvolt."""
+        row = cls(*numbers)
+        row.epsilon = epsilon
+        return row
+
+    def in_electronvolt(self) -> "ThermoInElectronvolt":
+        if self.epsilon is None:
+            return super().in_electronvolt()
+        energies = (energy * self.epsilon for energy in (self.kinetic, self.potential, self.total))
+        return ThermoInElectronvolt(self.step, self.temperature, *energies)
 
     def __str__(self) -> str:
         return self._told("K")
+
+
+class ThermoInElectronvolt(ThermoInKelvin):
+    """A `Thermo` whose temperature is in kelvin, and whose energies are in electronvolt."""
+
+    def in_electronvolt(self) -> "ThermoInElectronvolt":
+        return self
+
+    def __str__(self) -> str:
+        return self._told("K", "eV")
 
 
 # What is told of a row, and of how many atoms.

@@ -3,6 +3,11 @@
 Physical units are those of ASE: lengths in angstrom, energies in electronvolt, masses in dalton (u); times are in
 femtoseconds and temperatures in kelvin. `119.8 * units.kelvin` is an energy in electronvolt.
 
+electronvolt, kelvin, joule_per_mole, kilojoule_per_mole, kilocalorie_per_mole  energies, in electronvolt
+angstrom, nanometre                                                             lengths, in angstrom
+dalton                                                                          a mass, in dalton
+femtosecond, picosecond                                                         times, in femtoseconds
+
 Without them, everything is in reduced units: lengths in the unit of the file, energies in epsilon, times in
 `sigma sqrt(m / epsilon)`, temperatures in `epsilon / k_B`.
 """
@@ -12,7 +17,7 @@ import math
 import operator
 from dataclasses import dataclass
 from decimal import ROUND_HALF_UP, Decimal, InvalidOperation, localcontext
-from typing import Any, Optional, TypedDict, Union
+from typing import Any, List, Optional, Tuple, TypedDict, Union
 
 from .names import whole_of
 
@@ -33,7 +38,12 @@ nanometre = 10.0
 dalton = 1.0
 femtosecond = 1.0
 picosecond = 1000.0
+# An electronvolt / angstrom^3 is 1.602176634e-19 J over 1e-30 m^3, and a bar is 10^5 Pa.
+bar = 1 / 1602176.634
 
+# A dalton in grams, and a cubic angstrom in cubic centimetres.
+GRAMS_IN_DALTON = 1.66053906660e-24
+CUBIC_ANGSTROM = 1e-24
 # An electronvolt in dalton angstrom^2 / femtosecond^2: 1.602176634e-19 J over 1.66053906660e-27 kg 1e10 m^2/s^2.
 _SPEED_SQUARED = 1.602176634e-19 / (1.66053906660e-27 * 1e10)
 
@@ -48,6 +58,32 @@ class Substance(TypedDict):
 
 ARGON: Substance = {"sigma": 3.4, "epsilon": 119.8 * kelvin, "mass": 39.948}
 """Argon, as in Rahman's simulation of 1964: `user.load("a", file, edge=21.04, dt=2, **units.ARGON)`."""
+NEON: Substance = {"sigma": 2.749, "epsilon": 35.60 * kelvin, "mass": 20.1797}
+KRYPTON: Substance = {"sigma": 3.60, "epsilon": 171.0 * kelvin, "mass": 83.798}
+XENON: Substance = {"sigma": 4.10, "epsilon": 221.0 * kelvin, "mass": 131.293}
+"""Neon, krypton and xenon, by the second virial coefficients of their gases (Hirschfelder, Curtiss and Bird, 1954, table I-A)."""
+
+
+class TwoSpecies(TypedDict):
+    """Atoms of two species, as words of `User.load_mix`: their symbols, and three classes of sigma, h and weight."""
+
+    species: Tuple[str, str]
+    classes: List[Tuple[float, int, int]]
+
+
+def kob_andersen(h: int) -> TwoSpecies:
+    """The glass former of Kob and Andersen (1995), with the step factor h of two atoms A, in reduced units of these.
+
+    Sigma is 1, 0.8 and 0.88, and epsilon 1, 1.5 and 0.5, of A with A, A with B and B with B. In a glass four of five atoms are A,
+    and there are 1.2 atoms for each sigma^3. The other two h are the nearest whole numbers, those of `epsilon / sigma^2`.
+    """
+    pairs = ((1.0, 1.0), (0.8, 1.5), (0.88, 0.5))
+    classes = [(sigma, round(h * epsilon / sigma**2), round(FULL_WEIGHT * epsilon)) for sigma, epsilon in pairs]
+    return {"species": ("A", "B"), "classes": classes}
+
+
+KOB_ANDERSEN = kob_andersen(4096)
+"""That glass former with a time step of 1 / 1024: `user.load_mix("ka", source, edge=9.4, **units.KOB_ANDERSEN)`."""
 
 
 def reduced_time_step(h: int) -> float:
@@ -70,6 +106,22 @@ def step_factor(dt: float, sigma: float, epsilon: float, mass: float) -> int:
         shortest, longest = unit * reduced_time_step(1), unit * reduced_time_step(MAX_STEP_FACTOR)
         raise ValueError(f"dt is from {shortest:.3g} to {longest:.3g} fs for these atoms, not {dt:g} fs")
     return h
+
+
+def edge_of_density(atoms: int, density: float, *, sigma: float = 1.0, mass: Optional[float] = None) -> float:
+    """The edge of the cubic box in which so many atoms have a density.
+
+    density  how many atoms there are for each sigma^3, and the edge is in the unit of sigma; or, with a mass in dalton, grams in
+             a cubic centimetre, and the edge is in angstrom
+    """
+    if whole_of(atoms, "a number of atoms") < 1:
+        raise ValueError(f"a number of atoms is 1 at least, not {atoms}")
+    checked_positive("a density", density)
+    if mass is None:
+        return float(checked_positive("sigma", sigma) * (atoms / density) ** (1 / 3))
+    if sigma != 1.0:
+        raise ValueError("a density of mass needs no sigma: leave sigma= out, or mass=")
+    return float((atoms * checked_positive("mass", mass) * GRAMS_IN_DALTON / (density * CUBIC_ANGSTROM)) ** (1 / 3))
 
 
 def checked_positive(name: str, value: float) -> float:
@@ -182,6 +234,11 @@ class Scale:
     def time(self, step: int) -> float:
         """The time of a step: in femtoseconds with epsilon and mass, else in units of `sigma sqrt(m / epsilon)`."""
         return step * (self.reduced_dt if self.dt is None else self.dt)
+
+    def force(self, push: float) -> float:
+        """The force that pushes an atom by so many ring units in a step: in electronvolt / angstrom with epsilon, else in epsilon
+        / unit of the file. A push is `dt^2 / m` times the force, so it is `push * 2^32 / (sigma_on_ring h)` epsilon / sigma."""
+        return push * RING / (self.sigma_on_ring * self.h) / self.sigma * (1.0 if self.epsilon is None else self.epsilon)
 
     def potential_energy(self, potential: int) -> float:
         """The potential energy in epsilon, of the number that `measure` tells."""

@@ -3,6 +3,7 @@ from __future__ import annotations
 
 import contextlib
 import dataclasses
+import functools
 import math
 import os
 from types import TracebackType
@@ -10,14 +11,17 @@ from typing import Callable, Dict, Iterable, Iterator, List, Optional, Sequence,
 
 from . import going, moving, progress as bars, units
 from .box import take_up
-from .ends import ChildEnds, SocketEnds
+from .ends import ChildEnds, Ends, SocketEnds
 from .energy_watch import EnergyWatch, WatchedRoad
 from .errors import BadReply, CannotStart, ClientError, ConnectionLost, TimedOut
-from .finding import find_program
+from .files import Path
+from .finding import find_program, version_of
 from .interrupts import held
 from .loading import Loader
 from .names import checked_name, count_of
 from .order import Order
+from .record import Mark
+from .recording import Notes, Versions
 from .refusals import NoSession
 from .replies import fields, whole_number
 from .session import Row, Session
@@ -33,7 +37,7 @@ NEW_OR_GONE = ("LOAD", "LOADMIX", "DROP")
 # These change the energy of a session, which is to be what it was as long as steps alone are made.
 OTHER_ENERGY = ("TUG", "RESTORE")
 LOST = "the server no longer has it: the server was started again, or another connection has dropped it"
-Program = Union[str, "os.PathLike[str]"]
+Program = Union[str, os.PathLike[str]]
 
 
 class User(Loader):
@@ -52,8 +56,9 @@ class User(Loader):
         reopen: Optional[Callable[[], Wire]] = None,
         name: Optional[str] = None,
         restart: Optional[Callable[[], Wire]] = None,
+        versions: Optional[Versions] = None,
     ):
-        super().__init__()
+        super().__init__(versions)
         self.name = name
         # Of the sessions that this user has seen at the server, and not dropped.
         self.session_names: Set[str] = set()
@@ -87,6 +92,7 @@ class User(Loader):
         weight: int = units.FULL_WEIGHT,
         order: Union[Order, Sequence[int], None] = None,
         watch: bool = True,
+        record: Optional[Path] = None,
     ) -> Session:
         """A session that is at the server. Raises `refusals.NoSession` where there is none of that name.
 
@@ -101,8 +107,11 @@ class User(Loader):
         is a ValueError if that is neither the box of this edge nor the one of `load_saved`, `order="space"` and `resort`. Of
         that one there is a warning if nothing says its step numbers.
 
-        `watch` is as in `load`, and the energy is compared with that of now.
+        `watch` is as in `load`, and the energy is compared with that of now. `record` is a ValueError: a record begins with
+        the `load` of its session.
         """
+        if record is not None:
+            raise ValueError(f"{name} is there already, and a record begins with the load of a session: say record= to load")
         with self.lock:
             self.ask(f"LIST {checked_name(name)}")
             scale = None
@@ -175,15 +184,39 @@ class User(Loader):
     def ask_commands(self, commands: Sequence[Command]) -> List[Reply]:
         """As `ask_all`, of commands with the bodies that they announce."""
         self._make_room(len(commands))
-        with self._losses_told():
+        with self._told():
             try:
                 replies = self._wire.ask_all(commands)
             except BaseException:
                 self.session_names -= dropped_by(commands)
                 raise
-        for reply in replies:
-            self._note(reply)
+            for reply in replies:
+                self._note(reply)
         return replies
+
+    @property
+    def unanswered(self) -> List[str]:
+        """The command lines that were sent, and whose replies an interrupt has left. The next command waits for them."""
+        return self._wire.unanswered
+
+    @whole
+    def catch_up(self) -> None:
+        """Waits for the replies that an interrupt has left, which are passed over."""
+        self._wire.catch_up()
+
+    @contextlib.contextmanager
+    def on_wait(self, tell: Callable[[str, float], None]) -> Iterator[None]:
+        """Has `tell` be called within the block, each quarter of a second in which nothing is heard, with the command line
+        whose reply is awaited, and for how many seconds nothing was heard. It may raise, as an interrupt does."""
+        self._wire.on_wait = tell
+        try:
+            yield
+        finally:
+            self._wire.on_wait = None
+
+    def _take(self, wire: Wire) -> None:
+        """Goes on over another connection."""
+        wire.on_wait, self._wire = self._wire.on_wait, wire
 
     def _note(self, reply: Reply) -> None:
         """Notes which sessions there are, and forgets what was said of one that is new or gone."""
@@ -200,6 +233,29 @@ class User(Loader):
             self.session_names.add(words[0])
 
     @contextlib.contextmanager
+    def _told(self) -> Iterator[None]:
+        """Has what was asked be recorded before anyone is told, and a refusal say so if the server had the session."""
+        try:
+            with self._losses_told():
+                yield
+        finally:
+            if self._listeners.by_name:
+                self._flush()
+
+    def _flush(self) -> None:
+        """Has records be written. Where the connection has ended, so do they."""
+        try:
+            if self._wire.closed:
+                self._listeners.close()
+            else:
+                self._listeners.flush()
+        finally:
+            self._attach()
+
+    def _attach(self) -> None:
+        self._listeners.attach(self._wire)
+
+    @contextlib.contextmanager
     def _losses_told(self) -> Iterator[None]:
         """Has a refusal say so if the server had the session that it does not know."""
         try:
@@ -213,14 +269,14 @@ class User(Loader):
     def ask_text(self, line: str) -> Tuple[List[str], bytes]:
         """The words of the reply to a command line after `OK`, and the lines after them as they came. A refusal is raised."""
         self._make_room(1)
-        with self._losses_told():
+        with self._told():
             return self._wire.ask_text(line)
 
     @whole
     def ask_rows(self, lines: Sequence[str]) -> bytes:
         """The lines that many command lines are answered by, one for each, as they came. The first refusal is raised."""
         self._make_room(len(lines))
-        with self._losses_told():
+        with self._told():
             return self._wire.ask_rows(lines)
 
     def _make_room(self, count: int) -> None:
@@ -233,8 +289,11 @@ class User(Loader):
         if self._wire.closed or count >= MAX_ITEMS:
             return
         if self._reopen and asked >= MAX_ITEMS:
+            self._wire.pass_over()
             self._say_bye()
-            self._wire = self._reopen()
+            self._take(self._reopen())
+            self._listeners.told(Mark.CONNECTION)
+            self._attach()
         elif self._restart and asked >= max(MAX_ITEMS // 2, self._tried_at + MAX_ITEMS // 20):
             self._tried_at = math.inf
             watches = {name: dataclasses.replace(known.watch) for name, known in self._known.items()}
@@ -256,15 +315,18 @@ class User(Loader):
         may_wait = commands < MAX_ITEMS // 10 or not any(each.is_started for _, each in known)
         if needed >= min(commands, MAX_ITEMS // 2) or not may_wait or not all(can_be_loaded(*each) for each in known):
             return
+        notes = Notes()
         with held():
             kept = [moving.kept_of(self, row.name) for row in rows]
-            wire = moving.program_with(restart, kept)
+            wire = moving.program_with(lambda: notes.of(restart()), kept)
             if wire is None:
                 for each in kept:
                     each.put_back(self)
                 return
             self._say_bye()
-            self._wire = wire
+            self._take(wire)
+            self._listeners.moved(notes.answers)
+            self._attach()
             for each in kept:
                 each.tell(self)
 
@@ -284,6 +346,7 @@ class User(Loader):
         were started there are made when this user is connected again."""
         self._say_bye()
         self._wire.close()
+        self._listeners.close()
 
     def _say_bye(self) -> None:
         """Takes leave where nothing is under way."""
@@ -305,12 +368,18 @@ def dropped_by(commands: Sequence[Command]) -> Set[str]:
     return {each[1] for each in words if len(each) == 2 and each[0] == "DROP"}
 
 
-def connect(host: str, port: int, name: str, token: str, *, timeout: float = 60.0) -> User:
+def connect(
+    host: str, port: int, name: str, token: str, *, timeout: float = 60.0, tls: bool = False, ca: Optional[Path] = None
+) -> User:
     """A user's connection to `ljserve serve`.
 
     token    as on a slip: blanks in it are left out
     timeout  how many seconds a connection, or the reply to a command, may take; then `TimedOut` is raised. A long
              `advance` goes in pieces, each of which is much shorter.
+    tls      whether the connection is encrypted, to a server or a proxy before it that has a certificate of the name `host`
+    ca       with `tls`, a file with the certificate of the issuer, in PEM; without it one that the system knows
+
+    With `tls` the token is sent only if the certificate is valid; `ConnectionLost` says what to do if it is not.
 
     Raises `refusals.Denied` where the server knows no user of that name and token, and `ConnectionLost` where there is no
     server, or where it has no place for a connection more.
@@ -320,9 +389,10 @@ def connect(host: str, port: int, name: str, token: str, *, timeout: float = 60.
     token = without_blanks(token) if isinstance(token, str) else ""
     if not (token.isascii() and token.isalnum()):
         raise ValueError("a token is letters and digits")
+    open_ends = _ends_opener(tls, ca)
 
     def open_wire() -> Wire:
-        wire = Wire(SocketEnds(host, port, timeout), timeout)
+        wire = Wire(open_ends(host, port, timeout), timeout)
         try:
             _greet(wire, name, token)
         except BaseException:
@@ -333,6 +403,17 @@ def connect(host: str, port: int, name: str, token: str, *, timeout: float = 60.
     return User(open_wire(), open_wire, name)
 
 
+def _ends_opener(tls: bool, ca: Optional[Path]) -> Callable[[str, int, float], Ends]:
+    """What opens a connection, encrypted or not."""
+    if not tls:
+        if ca is not None:
+            raise ValueError("ca= is of a server's certificate: say tls=True too")
+        return SocketEnds
+    from .tls import Trust
+
+    return Trust(ca).ends
+
+
 def _greet(wire: Wire, name: str, token: str) -> None:
     """Says who asks, and waits until this user's earlier connections have ended."""
     try:
@@ -341,7 +422,7 @@ def _greet(wire: Wire, name: str, token: str) -> None:
         causes = f"is another connection of {name} open? or are all --connections of the server used up?"
         raise TimedOut(f"{error} ({causes})") from error
     except ConnectionLost as error:
-        causes = "has the server no place for more connections? or are all its --connections used up?"
+        causes = "has the server no place for more connections? or are all its --connections used up? or does it want tls=True?"
         raise ConnectionLost(f"{error} ({causes})") from error
     if reply.words != ["HELLO", name]:
         raise BadReply(f"HELLO was answered {' '.join(reply.words)[:80]!r}")
@@ -358,9 +439,9 @@ def run(
 ) -> User:
     """A user of a program of its own, without a server: `ljserve run` as a child process.
 
-    program                    the program; without it the one that the environment variable LJSERVE names, else
-                               bin/ljserve of the repository that this package stands in (which builds it on first use),
-                               else `ljserve` on the PATH
+    program                    the program; without it the one that the environment variable LJSERVE names, else that of the
+                               wheel `ljserve` (`ljclient[program]`), else bin/ljserve of the repository or release that this
+                               package stands in (which builds it on first use), else `ljserve` on the PATH
     sessions, atoms, branches  the quota, at most 64, 65536 and 256
     timeout                    as in `connect`
     env                        the environment of the program; without it, that of this process
@@ -385,4 +466,4 @@ def run(
             raise
         return wire
 
-    return User(start(), restart=start)
+    return User(start(), restart=start, versions=functools.lru_cache(maxsize=None)(lambda: version_of(path, env)))

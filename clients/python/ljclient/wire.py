@@ -6,15 +6,18 @@ interrupt from the keyboard was quicker, are passed over before the next command
 """
 from __future__ import annotations
 
+import contextlib
 import itertools
 import selectors
 import time
 from collections import deque
-from typing import Deque, Iterable, List, NamedTuple, Sequence, Tuple, Union
+from typing import Callable, Deque, Dict, Iterable, List, NamedTuple, Optional, Protocol, Sequence, Tuple, Union
 
+from .arrays import count_of_lines
 from .ends import Ends
-from .errors import BadReply, ClientError, Closed, ConnectionLost, Refused, TimedOut, refusal_of, shown
+from .errors import BadReply, ClientError, Closed, ConnectionLost, Refused, TimedOut, not_answered, refusal_of, shown
 from .interrupts import held
+from .record import Answer
 
 MAX_UNDER_WAY = 1024
 MAX_OUTGOING = 1 << 20
@@ -22,6 +25,7 @@ MAX_COMMAND = 256
 MAX_LINE = 4096
 MAX_LINES = 10_000
 PIECE = 1 << 16
+TICK_SECONDS = 0.25
 ENDS_THE_CONNECTION = (1, 4, 5, 8)
 
 
@@ -39,16 +43,36 @@ def checked_timeout(seconds: float) -> float:
     return seconds
 
 
+class Listener(Protocol):
+    """Who hears of each command when it is replied to, and of those whose replies will not come."""
+
+    def answered(self, answer: Answer) -> None:
+        """Hears of a command and its reply, before whoever asked."""
+
+    def unanswered(self, lines: Sequence[str]) -> None:
+        """Hears of commands that were sent, and whose replies will not come."""
+
+
 class Wire:
-    """A dialogue with `ljserve`: one command after the other, or many under way."""
+    """A dialogue with `ljserve`: one command after the other, or many under way.
+
+    on_wait  if it is set, it is called each quarter of a second in which nothing is heard, with the command line whose reply is
+             awaited, and for how many seconds nothing was heard
+    """
 
     def __init__(self, ends: Ends, timeout: float):
         self.timeout = timeout
+        self.on_wait: Optional[Callable[[str, float], None]] = None
         self.asked = 0
+        self.listener: Optional[Listener] = None
+        # The bodies of commands that are under way, by the number of the command, for who hears of them.
+        self._bodies: Dict[int, bytes] = {}
         self._ends = ends
         self._outgoing = bytearray()
         self._lines: Deque[bytes] = deque()
         self._partial = b""
+        self._unsplit = 0
+        self._keeps_whole = False
         self._owed: Deque[str] = deque()
         self._at_end = ""
         self._torn = False
@@ -65,6 +89,15 @@ class Wire:
     def is_idle(self) -> bool:
         """Whether each command that was asked has been answered."""
         return not self._owed and not self._torn
+
+    @property
+    def unanswered(self) -> List[str]:
+        """The command lines that were asked, and are not answered yet."""
+        return list(self._owed)
+
+    def catch_up(self) -> None:
+        """Waits until each command that was asked is answered. These replies are passed over."""
+        self._begin()
 
     def ask(self, line: str, body: bytes = b"") -> Reply:
         """The reply to a command. A refusal is raised."""
@@ -91,6 +124,8 @@ class Wire:
         """The words of the reply to a command after `OK`, and the lines after them as they came. A refusal is raised."""
         self._begin()
         self._post(line, b"")
+        if whole := self._whole_reply():
+            return whole
         taken = self._next_taken()
         if isinstance(taken, Refused):
             raise taken
@@ -111,17 +146,29 @@ class Wire:
         text = b"\n".join([*itertools.islice(self._lines, len(lines)), b""])
         if text[:3] != b"OK " or text.count(b"\nOK ") < len(lines) - 1:
             return "".join(" ".join(["OK", *reply.words]) + "\n" for reply in self._granted([])).encode()
-        self._torn = True
-        self._lines = deque(itertools.islice(self._lines, len(lines), None))
-        self._owed.clear()
-        self._torn = False
+        with contextlib.nullcontext() if self.listener is None else held():
+            self._torn = True
+            self._lines = deque(itertools.islice(self._lines, len(lines), None))
+            self._owed.clear()
+            self._torn = False
+            if self.listener is not None:
+                for line, row in zip(lines, text.split(b"\n")):
+                    self.listener.answered(Answer(line.encode(), b"", row))
         return text
+
+    def pass_over(self) -> None:
+        """Waits for the replies that nobody came for, since an interrupt was quicker."""
+        while self._owed and not self._closed and not self._torn:
+            self._next_answer()
 
     def close(self, why: str = "the connection was closed") -> None:
         """Gives up the stream. Nothing is asked and nothing is awaited."""
         if not self._closed:
             self._closed = why
+            if self.listener is not None:
+                self.listener.unanswered(list(self._owed))
             self._owed.clear()
+            self._bodies.clear()
             self._selector.close()
             self._ends.close()
 
@@ -141,6 +188,8 @@ class Wire:
             raise ValueError("a command is one line")
         if body and len(line.encode()) > MAX_COMMAND:
             raise ValueError(f"a line with a body has {MAX_COMMAND} bytes at most: after a longer one it is read as commands")
+        if self.listener is not None and body:
+            self._bodies[self.asked] = body
         self._put(line.encode() + b"\n" + body, [line])
 
     def _put(self, data: bytes, lines: Sequence[str]) -> None:
@@ -173,17 +222,54 @@ class Wire:
         words = self._words(self._lines[0])
         count = self._lines_after(words)
         self._await_lines(1 + count)
-        self._torn = True
-        self._lines.popleft()
-        lines = [self._lines.popleft() for _ in range(count)]
-        command = self._owed.popleft()
-        self._torn = False
+        with contextlib.nullcontext() if self.listener is None else held():
+            body = self._bodies.pop(self.asked - len(self._owed), b"")
+            self._torn = True
+            first = self._lines.popleft()
+            lines = [self._lines.popleft() for _ in range(count)]
+            command = self._owed.popleft()
+            self._torn = False
+            if self.listener is not None:
+                self.listener.answered(Answer(command.encode(), body, first, lines))
         if words[0] == "OK":
             return words[1:], lines
         refusal = refusal_of(words, command)
         if refusal.number in ENDS_THE_CONNECTION:
             self.close(f"the connection has ended with {refusal}")
         return refusal
+
+    def _whole_reply(self) -> Optional[Tuple[List[str], bytes]]:
+        """The words and the text of the only reply that is awaited, whose lines are not taken apart, since that takes long.
+
+        None if anything about it is not as usual, such as a refusal, which is then read line by line."""
+        if self._lines or self.listener is not None:
+            return None
+        self._keeps_whole = True
+        try:
+            self._gather(1)
+            head = self._partial.partition(b"\n")[0] if self._unsplit else b""
+            if not head.startswith(b"OK "):
+                return None
+            words = self._words(head)
+            count = self._lines_after(words)
+            self._gather(1 + count)
+            if self._unsplit != 1 + count or not self._partial.endswith(b"\n"):
+                return None
+            self._torn = True
+            text, self._partial, self._unsplit = self._partial[len(head) + 1 :], b"", 0
+            self._owed.popleft()
+            self._torn = False
+            return words[1:], text
+        finally:
+            with held():
+                self._keeps_whole = False
+                self._split()
+
+    def _split(self) -> None:
+        """Takes the whole lines apart that were received."""
+        *lines, self._partial = self._partial.split(b"\n")
+        self._lines.extend(lines)
+        self._unsplit = 0
 
     def _words(self, line: bytes) -> List[str]:
         """The words of a reply's first line, which is one to the first command that awaits its reply."""
@@ -217,13 +303,12 @@ class Wire:
         """Sends and receives until so many lines are there."""
         self._gather(count)
         if len(self._lines) < count:
-            why = self._ends.last_words() or self._at_end
-            raise self._given_up(ConnectionLost(f"{why}; `{shown(self._owed[0])}` was not answered"))
+            raise self._given_up(not_answered(ConnectionLost, self._ends.last_words() or self._at_end, self._owed[0]))
 
     def _gather(self, count: int) -> None:
         """Sends and receives until so many lines are there, or no more will come."""
         deadline = time.monotonic() + self.timeout
-        while len(self._lines) < count and not self._at_end:
+        while len(self._lines) + self._unsplit < count and not self._at_end:
             if self._move(deadline - time.monotonic()):
                 deadline = time.monotonic() + self.timeout
 
@@ -235,10 +320,19 @@ class Wire:
         went = self._send()
         if not went:
             self._watch_sink(bool(self._outgoing))
-            if not self._selector.select(max(0.0, seconds)):
-                text = f"nothing was heard for {self.timeout:g} s; `{shown(self._owed[0])}` was not answered"
-                raise self._given_up(TimedOut(text))
+            if not self._has_heard(seconds):
+                raise self._given_up(not_answered(TimedOut, f"nothing was heard for {self.timeout:g} s", self._owed[0]))
         return self._receive() or went
+
+    def _has_heard(self, seconds: float) -> bool:
+        """Waits until bytes can be received or sent, for so many seconds at most. Answers whether they can."""
+        start = time.monotonic()
+        end = start + seconds
+        while self.on_wait and (left := end - time.monotonic()) > 0:
+            if self._selector.select(min(left, TICK_SECONDS)):
+                return True
+            self.on_wait(self._owed[0], time.monotonic() - start)
+        return bool(self._selector.select(max(0.0, end - time.monotonic())))
 
     def _watch_sink(self, wanted: bool) -> None:
         """Lets the next wait end when bytes can be sent, or not."""
@@ -280,12 +374,16 @@ class Wire:
                 data = b""
             except OSError as error:
                 data, self._at_end = b"", f"the connection is lost ({error.strerror or error})"
-            *lines, self._partial = (self._partial + data).split(b"\n")
-            self._lines.extend(lines)
+            self._partial += data
+            if self._keeps_whole:
+                self._unsplit += count_of_lines(data)
+            else:
+                self._split()
             self._torn = False
-        if len(self._partial) > MAX_LINE:
-            raise self._given_up(BadReply(f"{self._partial[:40]!r}.. is no line of the protocol"))
-        return bool(lines)
+        rest = self._partial.rfind(b"\n") + 1
+        if len(self._partial) - rest > MAX_LINE:
+            raise self._given_up(BadReply(f"{self._partial[rest : rest + 40]!r}.. is no line of the protocol"))
+        return b"\n" in data
 
     def _given_up(self, error: ClientError) -> ClientError:
         """The error, after which nothing more is asked."""

@@ -10,7 +10,7 @@ from unittest import mock
 
 import pytest
 
-from ljclient import EnergyWarning, User, run, units, user as users
+from ljclient import EnergyWarning, User, run, snapshots, trajectories, units, user as users
 from ljclient.wire import Reply
 from support import ARGON, DIMER, DIMER_SCALE, EXAMPLES, PROGRAM, dimer
 
@@ -201,9 +201,8 @@ def test_each_of_several_sessions_is_told_of():
 def test_samples_and_trajectories_are_watched(tmp_path):
     for go_on in (lambda a: a.sample(5000, 6), lambda a: a.write_trajectory(tmp_path / "way.xyz", 5000, 6)):
         a, _ = opened(rising)
-        frame = mock.Mock(step=0, **{"text.return_value": ""})
         with told() as texts, mock.patch.object(a, "_positions_of_frame", lambda: (0, [])):
-            with mock.patch.object(a, "_frame", lambda: frame):
+            with mock.patch.object(snapshots, "_taken"), mock.patch.multiple(trajectories, opened=mock.DEFAULT, _in_box=mock.DEFAULT):
                 go_on(a)
         assert len(texts) == 1
 

@@ -1,5 +1,6 @@
 """What the help of the prompt says: each of its examples is played, and each of its statements that a program can hold is held."""
 import io
+import re
 
 import pytest
 
@@ -9,8 +10,11 @@ from ljclient.prompt.dialogue import PipeTalk
 from ljclient.prompt.link import Link
 from ljclient.prompt.reading import PipeInput
 from support import DIMER, PROGRAM, dimer, listed
+from terminals import ARGON, PROMPT, Terminal, environment
 
 WITH_SESSION = "  Example, with the session of `help LOAD`:"
+# What is said at a terminal alone.
+HERE = {own.usage: own.example for own in commands.OWN}
 LOADS = {form.usage for form in commands.COMMANDS if form.with_file}
 
 
@@ -19,6 +23,8 @@ def shown_examples():
     for name in commands.names():
         for shown in "\n".join(helping.help_on(name)).split("\n\n"):
             lines = shown.splitlines()
+            if lines[0] in HERE:
+                continue
             (start,) = [number for number, line in enumerate(lines) if line.startswith("  Example")]
             yield lines[0], lines[start], [line[4:] for line in lines[start + 1 :]]
 
@@ -72,6 +78,21 @@ def test_an_example_is_replied_as_it_is_shown(usage):
     assert begin == ("  Example:" if usage in LOADS else WITH_SESSION)
     assert any(line.split()[0] == usage.split()[0] for line in typed(lines))
     assert played(typed(before + lines)) == before + lines
+
+
+@pytest.mark.parametrize("usage", [usage for usage, example in HERE.items() if example])
+def test_an_example_of_what_is_said_at_a_terminal(tmp_path, usage):
+    (tmp_path / "dimer.xyz").write_text(DIMER)
+    (tmp_path / "argon_256.xyz").write_bytes(ARGON.read_bytes())
+    terminal = Terminal(PROMPT, environment(), cwd=tmp_path)
+    terminal.until("ljserve> ")
+    shown = []
+    for line in ["LOAD a dimer.xyz 256 1 131072", *typed(HERE[usage])]:
+        terminal.type(line + "\r")
+        terminal.until(re.escape(line) + "\n")
+        shown += [f"> {line}", *terminal.until("ljserve> ").splitlines()[:-1]]
+    terminal.close()
+    assert shown[2:] == list(HERE[usage])
 
 
 def moving(user):

@@ -19,7 +19,8 @@ except ImportError:
     ase = None
 
 WAY = [[(0, 0, 0), (25165824, 0, 0)], [(589, 0, 0), (25165235, 0, 0)], [(1774, 0, 0), (25164050, 0, 0)]]
-KINETIC = [0, 2 * 589**2, 2 * (1774 - 589) ** 2]  # kinetic numbers of the half steps before the steps 0, 1 and 2
+DISPLACED = [0, 589, 1774 - 589, 1774 - 589 + 596]  # of atom 0 in the half steps before the steps 0 to 3
+KINETIC = [2 * moved**2 for moved in DISPLACED]  # kinetic numbers of these half steps
 POTENTIAL = [-5349132, -5399727, -5399727]
 DT = 2**-7.5
 
@@ -162,9 +163,13 @@ class Trajectories(Alone):
         a = dimer(self.user)
         a.write_trajectory(self.path, every=2, frames=2)
         frames = []
-        for step, rows in [(0, ["Ar 0.000000", "Ar 1.500000"]), (2, ["Ar 0.000105", "Ar 1.499894"])]:
-            head = 'Lattice="256.0 0 0 0 256.0 0 0 0 256.0" Properties=species:S:1:pos:R:3 pbc="T T T"'
-            frames += ["2", f"{head} step={step} time={step * DT!r}", *(row + " 0.000000 0.000000" for row in rows)]
+        for step, places in [(0, ["0.000000", "1.500000"]), (2, ["0.000105", "1.499894"])]:
+            head = 'Lattice="256.0 0 0 0 256.0 0 0 0 256.0" Properties=species:S:1:pos:R:3:velo:R:3 pbc="T T T"'
+            kinetic = (KINETIC[step] + KINETIC[step + 1]) / 2 / 2**34
+            energies = f"energy={POTENTIAL[step] / 2**24!r} kinetic_energy={kinetic!r}"
+            speed = (DISPLACED[step] + DISPLACED[step + 1]) / 2 / 2**24 / DT
+            rows = [f"Ar {place} 0.000000 0.000000 {part:.9g} 0 0" for place, part in zip(places, (speed, -speed))]
+            frames += ["2", f"{head} step={step} time={step * DT!r} {energies}", *rows]
         self.assertEqual(self.path.read_bytes(), "\n".join([*frames, ""]).encode())
         self.assertEqual(a.step, 2)
 
@@ -172,8 +177,8 @@ class Trajectories(Alone):
         argon = self.user.load("argon", EXAMPLES / "argon_256.xyz", edge=21.04, dt=10, **units.ARGON)
         argon.write_trajectory(self.path, every=7, frames=2)
         heads = [line for line in self.path.read_text().splitlines() if line.startswith("Lattice")]
-        self.assertEqual([head.split(" ")[-2] for head in heads], ["step=0", "step=7"])
-        self.assertAlmostEqual(float(heads[1].split("time=")[1]), 70, places=3)
+        self.assertEqual([head.split(" ")[-4] for head in heads], ["step=0", "step=7"])
+        self.assertAlmostEqual(float(heads[1].split("time=")[1].split(" ")[0]), 70, places=3)
 
     def test_what_is_there_when_it_is_interrupted(self):
         a = dimer(self.user)

@@ -73,7 +73,8 @@ class Starts(unittest.TestCase):
             self.assertEqual(finding.find_program(), str(TOP / "bin" / "ljserve"))
             build.assert_called_once_with(TOP / "bin" / "ljserve")
         with mock.patch.dict(os.environ, {"LJSERVE": "", "PATH": str(self.folder)}):
-            with mock.patch.object(finding, "__file__", str(self.folder / "finding.py")):
+            of_no_wheel = mock.patch.object(finding, "_of_wheel", return_value=None)
+            with of_no_wheel, mock.patch.object(finding, "__file__", str(self.folder / "finding.py")):
                 with self.assertRaisesRegex(CannotStart, "there is no ljserve"):
                     finding.find_program()
                 path = self.program("")

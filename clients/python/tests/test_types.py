@@ -1,4 +1,4 @@
-"""The types of the package and of the Python in both READMEs, held strictly by mypy."""
+"""The types of the package and of the Python in both READMEs and in the reference, held strictly by mypy."""
 import os
 import subprocess
 import sys
@@ -20,6 +20,8 @@ with run() as user:
     user.session("argon", edge=21.04, dt=10, **units.ARGON)
 """
 
+WITHOUT_TYPES = "[mypy]\n[mypy-ase.*]\nignore_missing_imports = True\n"
+
 
 def told(folder, *words):
     """The status of mypy and what it says, in a folder where no settings are but those of the words."""
@@ -34,15 +36,22 @@ def test_the_package(tmp_path):
     assert status == 0, text
 
 
-@pytest.mark.parametrize("path", [TOP / "README.md", CLIENT / "README.md"], ids=["repository", "client"])
-def test_each_block_of_a_readme(tmp_path, path):
+WITH_PYTHON = [path for path in [TOP / "README.md", CLIENT / "README.md", *(TOP / "docs" / "api").glob("*.md")] if python_blocks(path)]
+
+
+def test_documents_have_python():
+    assert {"README.md", "loading.md", "steps.md"} <= {path.name for path in WITH_PYTHON}
+
+
+@pytest.mark.parametrize("path", WITH_PYTHON, ids=lambda path: f"{path.parent.name}_{path.stem}")
+def test_each_block_of_a_document(tmp_path, path):
     blocks = python_blocks(path)
-    assert blocks
     files = []
     for number, text in enumerate(blocks, 1):
         files.append(f"block_{number}.py")
         (tmp_path / files[-1]).write_text(text)
-    status, text = told(tmp_path, *files)
+    (tmp_path / "libraries.ini").write_text(WITHOUT_TYPES)
+    status, text = told(tmp_path, "--config-file=libraries.ini", *files)
     assert status == 0, text
 
 

@@ -1,0 +1,235 @@
+"""ASE's way of molecular dynamics: `ReversibleVerlet`, a driver like those of `ase.md` whose motion is turned back exactly.
+
+    from ase import units
+    from ase.build import bulk
+    from ase.md.velocitydistribution import MaxwellBoltzmannDistribution
+    from ljclient.ase import ReversibleVerlet
+
+    atoms = bulk("Ar", "fcc", a=5.26, cubic=True) * (4, 4, 4)
+    MaxwellBoltzmannDistribution(atoms, temperature_K=120)
+    with ReversibleVerlet(atoms, 2 * units.fs, sigma=3.4, epsilon=119.8 * units.kB, trajectory="argon.traj") as dyn:
+        dyn.run(1000)
+        dyn.reverse()
+        dyn.run(1000)
+
+Numbers are in the units of ASE. An import of this module without ASE is a `Missing` error.
+"""
+from __future__ import annotations
+
+import contextlib
+import operator
+from typing import Any, Dict, Iterator, Optional, Sequence
+
+from . import ase_bridge, optional
+from .arrays import least_images, numpy
+from .ase_bridge import TIME_UNIT
+from .centred import three_frames
+from .mixture import Pair
+from .names import count_of
+from .session import Session
+from .units import RING
+from .unwrapping import Path
+from .user import User, run
+
+WHY = "ljclient.ase needs"
+_Driver: Any = optional.ase("ase.md.md", WHY).MolecularDynamics
+_Calculator: Any = optional.ase("ase.calculators.singlepoint", WHY).SinglePointCalculator
+
+# What is compared of atoms to see whether they were changed, beside their positions.
+KEPT = operator.methodcaller("get_atomic_numbers"), operator.methodcaller("get_cell"), operator.methodcaller("get_momenta")
+# After so many steps at the latest the places are read, so that each atom is followed round the periodic box.
+MOST_STEPS = 100
+
+
+class ReversibleVerlet(_Driver):  # type: ignore[misc]
+    """Molecular dynamics of Lennard-Jones atoms by `ljserve`, as a driver of ASE.
+
+    atoms           the atoms, in a periodic cubic cell, without constraints, all of one mass. They are moved
+    timestep        the time step in ASE's unit of time, such as `2 * ase.units.fs`
+    trajectory      a `Trajectory` of ASE, or the name of its file, which is written each `loginterval` steps: anew, or behind
+                    what it has with `append_trajectory=True`
+    logfile         a file, its name or "-", which ASE's `MDLogger` writes each `loginterval` steps
+    sigma, epsilon  of atoms that are all alike: the distance in angstrom and the depth of the potential in electronvolt. Their
+                    symbols say nothing
+    species         of a mixture the two symbols; then `first`, `second` and `mixed` are (sigma, epsilon), as in `User.load_mix`
+    mass            the mass in dalton that each atom is given; if it is not said, they keep theirs
+    user            whose session it is, as `connect(..)` gives one; else a program of its own is started
+    name            the name of the session, in place of one of that name
+
+    `attach`, `run`, `irun`, `step`, `nsteps` and `get_time` are as in ASE. What is attached is called at each interval, and the
+    steps between go in one command, of 100 at most. The atoms have the positions and momenta of the step then, and energy and
+    forces by a `SinglePointCalculator`. Positions go on where an atom leaves the cell.
+
+    Who changes the atoms on the way, as by `MaxwellBoltzmannDistribution`, has them loaded anew before the next step. The way
+    back leads there, and no further.
+
+    session         the session, at the step of the atoms; it counts steps back after `reverse`, where `nsteps` counts on
+    dt              the time step that the simulation has, since it is rounded, in ASE's unit
+
+    Raises ValueError for atoms that are none of this kind, and `ClientError` as `run` and `User.load` do.
+    """
+
+    def __init__(
+        self,
+        atoms: Any,
+        timestep: float,
+        trajectory: Any = None,
+        logfile: Any = None,
+        loginterval: int = 1,
+        append_trajectory: bool = False,
+        *,
+        sigma: Optional[float] = None,
+        epsilon: Optional[float] = None,
+        species: Optional[Sequence[str]] = None,
+        first: Optional[Pair] = None,
+        second: Optional[Pair] = None,
+        mixed: Optional[Pair] = None,
+        mass: Optional[float] = None,
+        user: Optional[User] = None,
+        name: str = "ase",
+    ):
+        said = {"sigma": sigma, "epsilon": epsilon, "species": species, "first": first, "second": second, "mixed": mixed}
+        self._words = {**_potential_of(said), "dt": timestep * TIME_UNIT, "mass": _mass_of(atoms, mass)}
+        self._name = name
+        self.atoms = atoms
+        with contextlib.ExitStack() as opened:
+            self._user = opened.enter_context(run()) if user is None else user
+            self._load()
+            super().__init__(atoms, timestep, trajectory, logfile, loginterval, append_trajectory=append_trajectory)
+            self.closelater(opened.pop_all())
+        self.dt: float = self.session.scale.time(1) / TIME_UNIT
+
+    def run(self, steps: int = 50) -> bool:
+        """Makes so many steps, and calls what is attached at its intervals. Returns True, as other drivers of `ase.md` do."""
+        for _ in self._going(steps, MOST_STEPS):
+            pass
+        return True
+
+    def irun(self, steps: int = 50) -> Iterator[bool]:
+        """As `run`, and stops after each step before what is attached is called, so that the atoms can be looked at or changed."""
+        return self._going(steps, 1)
+
+    def step(self, forces: Any = None) -> Any:
+        """Makes one step, calls nothing that is attached, and returns the forces."""
+        self._take_up()
+        self.session.advance(1)
+        self._show()
+        return self.atoms.get_forces()
+
+    def reverse(self) -> None:
+        """Turns the motion back: each atom stays where it is, and has the opposite momentum.
+
+        `run(n)`, `reverse()`, `run(n)` and `reverse()` give back positions and momenta to the bit.
+        """
+        self._take_up()
+        with self.session.lock:
+            self.session.advance(1)
+            self.session.reverse()
+        self._show()
+
+    def _going(self, steps: int, most: int) -> Iterator[bool]:
+        """Makes steps, and stops where something attached is called, and after so many steps at the latest."""
+        self.max_steps = self.nsteps + count_of(steps, "a number of steps")
+        self._take_up()
+        yield False
+        if self.nsteps == 0:
+            self.call_observers()
+        while self.nsteps < self.max_steps:
+            self._take_up()
+            count = min(most, self._steps_to_call(), self._steps_within_reach())
+            self._advance(count)
+            yield False
+            self.call_observers()
+        yield True
+
+    def _advance(self, count: int) -> None:
+        """Makes so many steps. If they are broken off, those that were made count, and the atoms are as the session is."""
+        start = self.session.step
+        try:
+            self.session.advance(count)
+        finally:
+            if self.session.is_free:
+                self.nsteps += abs(self.session.step - start)
+                self._show()
+
+    def _steps_to_call(self) -> int:
+        """How many steps there are until something attached is called, or until the end."""
+        stops = [self.max_steps]
+        for _, interval, *_ in self.observers:
+            stops.append((self.nsteps // interval + 1) * interval if interval > 0 else -interval)
+        return int(min(stop for stop in stops if stop > self.nsteps) - self.nsteps)
+
+    def _steps_within_reach(self) -> int:
+        """In how many steps the fastest atom goes an eighth of the cell, so that it is clear which way round each has gone."""
+        farthest = float(abs(self.atoms.get_velocities()).max()) * self.dt
+        return max(1, int(self.session.edge / max(8 * farthest, self.session.edge / MOST_STEPS)))
+
+    def _load(self) -> None:
+        """Loads the atoms as they are: at rest, and then with displacements that give them their momenta at this step.
+
+        The displacement before a step is `v dt` without half of the push that the step has, which three frames at rest tell.
+        """
+        atoms, name = self.atoms, self._name
+        at_rest = _checked(atoms).copy()
+        at_rest.set_momenta(None)
+        load: Any = self._user.load_mix if "species" in self._words else self._user.load
+        self.session: Session = load(name, at_rest, order="space", replace=True, **self._words)
+        three, ring = three_frames(self._user, name), RING / self.session.edge
+        velocities = numpy.array(ase_bridge.velocities_of(atoms) or numpy.zeros((len(atoms), 3)))
+        moved = numpy.rint(velocities * self.session.scale.time(1) * ring - least_images(three.after, three.now) / 2).astype(int)
+        for atom in numpy.flatnonzero(moved.any(axis=1)):
+            self.session.tug(atom, moved[atom])
+        self._path = Path(name)
+        cells = numpy.rint((atoms.get_positions() * ring - three.now) / RING).astype(int)
+        self._start = three.now + cells * RING
+        self._show()
+
+    def _show(self) -> None:
+        """Has the atoms be as the session is."""
+        atoms, frame = self.atoms, next(self.session.frames([0]))
+        atoms.set_positions((self._start + self._path.to(frame.places)) * self.session.edge / RING)
+        atoms.set_masses([self._words["mass"]] * len(atoms))
+        atoms.set_velocities(frame.velocities * TIME_UNIT)
+        energy = frame.energies.potential * (frame.scale.epsilon or 1.0)
+        atoms.calc = _Calculator(atoms, energy=energy, forces=frame.forces)
+        self._shown = atoms.copy()
+
+    def _take_up(self) -> None:
+        """Loads the atoms anew if they are no longer as they were shown. Whole cells, as of `atoms.wrap()`, are no change."""
+        atoms, shown, edge = self.atoms, self._shown, self.session.edge
+        if all(numpy.array_equal(*map(read, (atoms, shown))) for read in KEPT):
+            moved = atoms.positions - shown.positions
+            cells = numpy.rint(moved / edge)
+            if abs(moved - cells * edge).max() < 1e-12 * edge:
+                self._start = self._start + cells.astype(int) * RING
+                self._shown = atoms.copy()
+                return
+        self._load()
+
+
+def _potential_of(said: Dict[str, Any]) -> Dict[str, Any]:
+    """The words of these that say how atoms interact, of one species or of two. Raises ValueError if they are neither."""
+    words = {name: value for name, value in said.items() if value is not None}
+    two = {"species", "first", "second"}
+    if words.keys() != {"sigma", "epsilon"} and not two <= words.keys() <= {*two, "mixed"}:
+        raise ValueError("say sigma= and epsilon=, or of two species species=, first= and second= (sigma, epsilon), and mixed=")
+    return words
+
+
+def _mass_of(atoms: Any, mass: Optional[float]) -> float:
+    """The mass of each atom. Raises ValueError if they differ and none is said."""
+    if mass is not None:
+        return mass
+    masses = set(map(float, atoms.get_masses()))
+    if len(masses) != 1:
+        raise ValueError(f"the atoms have {len(masses)} masses, and here all have one: say mass=")
+    return masses.pop()
+
+
+def _checked(atoms: Any) -> Any:
+    """Atoms without constraints in a periodic cell. Raises ValueError for others."""
+    if atoms.constraints:
+        raise ValueError("the atoms have constraints, which are not kept here: take them away, atoms.set_constraint()")
+    if not all(atoms.pbc):
+        raise ValueError("the cell is not periodic along each axis: say atoms.pbc = True")
+    return atoms

@@ -1,0 +1,64 @@
+"""Three frames in a row: the present one and those a step before and after it, of which velocities and forces are differences.
+
+The frame after is made by a step, which is undone: a step, REVERSE, a step and REVERSE give back both frames, the step number
+and the direction, to the bit. What is saved in the session stays as it is, and neither a name nor a quota is taken.
+"""
+from __future__ import annotations
+
+from typing import TYPE_CHECKING, Any, NamedTuple
+
+from . import arrays, frames
+from .replies import number_after
+from .units import RING, Scale
+
+if TYPE_CHECKING:
+    from .user import User
+
+# Of the server: from there no step more can be made.
+MAX_STEP = 10**12
+
+
+class ThreeFrames(NamedTuple):
+    """The places of all atoms a step before, now and a step after, in ring units: arrays of shape (atoms, 3), or lists of tuples.
+
+    step       the step number of the present one
+    direction  1 or -1: by how much a step more changes the step number
+    """
+
+    step: int
+    before: Any
+    now: Any
+    after: Any
+    direction: int = 1
+
+    def kinetic_after(self) -> int:
+        """The kinetic number of half a step later, as `Measurement.kinetic` is that of half a step ago."""
+        moved = arrays.listed(arrays.least_images(self.after, self.now))
+        return sum(part * part for image in moved for part in image)
+
+    def velocities(self, scale: Scale) -> Any:
+        """`(x(n+1) - x(n-1)) / (2 dt)`: in the unit of the file for each femtosecond, or for each unit of time if dt is in none."""
+        moved = arrays.added(arrays.least_images(self.now, self.before), arrays.least_images(self.after, self.now))
+        return arrays.scaled(moved, scale.edge / (RING * 2 * scale.time(1)))
+
+    def forces(self, scale: Scale) -> Any:
+        """`x(n+1) - 2 x(n) + x(n-1)`, which is what all others push an atom by: in electronvolt / angstrom, or epsilon / unit."""
+        pushes = arrays.least_images(arrays.least_images(self.after, self.now), arrays.least_images(self.now, self.before))
+        return arrays.scaled(pushes, scale.force(1))
+
+
+def three_frames(user: "User", name: str) -> ThreeFrames:
+    """The three frames of a session, which is then as it was. What is owed to it is done first.
+
+    Raises `refusals.StepRange`, and changes nothing, if the session cannot make a step more.
+    """
+    wait = f"ADVANCE {name} 0"
+    if abs(number_after(wait, user.ask(wait).words, 2)) >= MAX_STEP:
+        user.ask(f"ADVANCE {name} 1")
+    known = user.known(name)
+    known.is_started = False
+    told = frames.three_dumped(user, name) if known.order.on_ring else frames.three_shown(user, name, user.row(name).atoms)
+    order = user.known(name).order
+    before, now, after = (order.for_user(each.places) for each in told)
+    step, following = (order.step_of(each.step) for each in told[1:])
+    return ThreeFrames(step, before, now, after, following - step)

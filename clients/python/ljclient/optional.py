@@ -1,0 +1,26 @@
+"""Packages that are needed for some things alone: they are imported where these are done."""
+from __future__ import annotations
+
+import importlib
+from typing import Any
+
+from .errors import Missing
+
+
+def needed(module: str, why: str, package: str, debian: str) -> Any:
+    """A module of a package that may be missing. Raises `Missing`, which says how to get it."""
+    try:
+        return importlib.import_module(module)
+    except ImportError as error:
+        told = f"{why} {package}, which cannot be imported ({error}): `pip install {package}`, or Debian's {debian}"
+        raise Missing(told) from error
+
+
+def ase(module: str, why: str) -> Any:
+    """A module of ASE."""
+    return needed(module, why, "ase", "python3-ase")
+
+
+def mdanalysis(module: str, why: str) -> Any:
+    """A module of MDAnalysis."""
+    return needed(module, why, "MDAnalysis", "python3-mdanalysis")

@@ -1,0 +1,119 @@
+"""Frames of a session on its way, with all that a frame tells: positions, velocities, forces and energies."""
+from __future__ import annotations
+
+import dataclasses
+import functools
+from typing import TYPE_CHECKING, Any, Iterator, List, Optional, Sequence, Union, cast
+
+from . import arrays, progress as bars
+from .centred import ThreeFrames, three_frames
+from .names import count_of
+from .pressure import Composition, composition_of, of_frames
+from .sampling import Progress, checked_stops, onward
+from .thermo import Thermo
+from .units import RING, Scale
+from .unwrapping import Path
+
+if TYPE_CHECKING:
+    from .session import Session
+    from .user import User
+
+Every = Union[int, Sequence[int]]
+
+
+@dataclasses.dataclass(frozen=True)
+class Snapshot:
+    """A session as it is at a step.
+
+    step, time  the step number, and its time: in femtoseconds if epsilon and mass are known, else in units of
+                `sigma sqrt(m / epsilon)`
+    energies    the row of `Session.thermo` of this step: temperature, kinetic, potential and total energy
+    scale       what the whole numbers of the session mean
+    moved       of each atom the displacement from the first frame, in ring units, followed round the box
+    three       the places now and a step before and after, in ring units
+    atoms       how they interact
+
+    Positions, velocities, forces and displacements are worked out when they are asked for: arrays of shape (atoms, 3), or lists
+    of tuples if numpy is not installed.
+    """
+
+    step: int
+    time: float
+    energies: Thermo
+    scale: Scale = dataclasses.field(repr=False)
+    moved: Any = dataclasses.field(repr=False, compare=False)
+    three: ThreeFrames = dataclasses.field(repr=False, compare=False)
+    atoms: Composition = dataclasses.field(repr=False, compare=False)
+
+    @property
+    def places(self) -> Any:
+        """The places, in ring units: whole numbers from 0 to 2^32 - 1."""
+        return self.three.now
+
+    @functools.cached_property
+    def positions(self) -> Any:
+        """The positions in the unit of the file, from 0 up to the edge."""
+        return arrays.of_positions(self.three.now, self.scale.edge)
+
+    @functools.cached_property
+    def velocities(self) -> Any:
+        """The velocities, as those of `Session.velocities`."""
+        return self.three.velocities(self.scale)
+
+    @functools.cached_property
+    def forces(self) -> Any:
+        """The forces, as those of `Session.forces`."""
+        return self.three.forces(self.scale)
+
+    @functools.cached_property
+    def pressure(self) -> float:
+        """The pressure in epsilon / sigma^3, as `Session.pressure`. It needs numpy."""
+        return of_frames(self.three, self.atoms)
+
+    @functools.cached_property
+    def displacements(self) -> Any:
+        """The displacements from the first frame in the unit of the file, also of atoms that have left the box meanwhile."""
+        return arrays.scaled(self.moved, self.scale.edge / RING)
+
+
+def stops_of(every: Every, count: Optional[int]) -> List[int]:
+    """After how many steps from here the frames are: each so many, or as a list says.
+
+    Raises TypeError or ValueError for what is neither.
+    """
+    if hasattr(every, "__len__"):
+        if count is not None:
+            raise ValueError("a list of steps says itself how many frames there are: leave n out")
+        return checked_stops_of(cast(Sequence[int], every))
+    if count is None:
+        raise ValueError("say how many frames, n=..")
+    checked_stops(every, count, "n")
+    return [every * number for number in range(count)]
+
+
+def checked_stops_of(steps: Sequence[int]) -> List[int]:
+    """The steps of a list. Raises TypeError or ValueError unless they are whole numbers that rise."""
+    stops = [count_of(step, "a number of steps") for step in steps]
+    if not stops or any(later <= stop for stop, later in zip(stops, stops[1:])):
+        raise ValueError("a list of steps has one at least, and each is greater than the one before")
+    return stops
+
+
+def snapshots(session: "Session", user: "User", stops: Sequence[int], progress: Progress) -> Iterator[Snapshot]:
+    """The snapshots of a session after so many steps from here each. When one is given, the session stands at its step."""
+    path, made = Path(session.name), 0
+    with bars.reporter(progress, session.name) as report:
+        for stop in stops:
+            if stop > made:
+                session.advance(stop - made, onward(report, made, stops[-1]) if report else False)
+            made = stop
+            yield _taken(session, user, path)
+
+
+def _taken(session: "Session", user: "User", path: Path) -> Snapshot:
+    """The snapshot of a session as it is."""
+    with session.lock:
+        here, three, atoms = session.measure(), three_frames(user, session.name), composition_of(session, user)
+    after = dataclasses.replace(here, kinetic=three.kinetic_after())
+    scale = session.scale
+    return Snapshot(three.step, scale.time(three.step), Thermo.of(here, after), scale, path.to(three.now), three, atoms)

@@ -1,0 +1,204 @@
+"""Frames of a session on its way in a file, of the kind that its ending says.
+
+.xyz        extended XYZ, as text; also of any ending that is not named here
+.traj       ASE's own format, by its writer
+.dcd, .nc   those of CHARMM and NAMD, and of AMBER, by the writers of MDAnalysis
+"""
+from __future__ import annotations
+
+import contextlib
+import os
+from typing import TYPE_CHECKING, Any, Dict, List, Optional, Protocol
+
+from . import arrays, ase_bridge, optional
+from .elements import Replacements, replaced
+from .files import Path, checked_target
+from .sampling import Progress, checked_stops
+from .snapshots import Snapshot
+from .units import RING, Scale, nano
+
+if TYPE_CHECKING:
+    from .session import Session
+
+PICOSECOND = 1000.0
+KILOJOULE_PER_MOLE = 96.48533212331  # of an electronvolt
+
+
+class Writer(Protocol):
+    """A file of frames that is open."""
+
+    def write(self, frame: Snapshot, positions: Any) -> None:
+        """Writes a frame with these positions, in the unit of the session."""
+
+    def close(self) -> None:
+        """Ends the file."""
+
+
+def write_trajectory(
+    session: "Session",
+    path: Path,
+    every: int,
+    frames: int,
+    progress: Progress,
+    symbols: Optional[Replacements],
+    append: bool,
+    unwrap: bool,
+) -> None:
+    """As `Session.write_trajectory`."""
+    checked_stops(every, frames, "frames")
+    scale, start = session.scale, None
+    file = opened(session, path, every, symbols, append)
+    with contextlib.closing(file):
+        for frame in session.frames(every, frames, progress):
+            start = frame.places if start is None else start
+            file.write(frame, _followed(start, frame, scale) if unwrap else _in_box(frame, scale))
+
+
+def opened(session: "Session", path: Path, every: int, symbols: Optional[Replacements], append: bool) -> Writer:
+    """The file of a path, whose ending says its kind. What cannot be written is told before anything is changed."""
+    own = session.symbols()
+    ending = os.path.splitext(os.fspath(path))[1].lower()
+    if ending == ".traj":
+        species = session.mixture.species if session.mixture else ()
+        return AseFile(path, ase_bridge.elements_of(own, species, symbols), append)
+    named = own if symbols is None else replaced(own, symbols)
+    if ending in (".dcd", ".nc"):
+        return MdaFile(path, ending, len(own), every, append)
+    return XyzFile(path, named, append)
+
+
+def _in_box(frame: Snapshot, scale: Scale) -> Any:
+    """Positions from 0 up to the edge, rounded down to six decimals as those of `Session.dump`."""
+    return arrays.of_millionths(arrays.in_box(frame.places, nano(scale.edge)))
+
+
+def _followed(start: Any, frame: Snapshot, scale: Scale) -> Any:
+    """Positions of atoms that have gone on from these places, where they leave the box too."""
+    return arrays.scaled(arrays.added(start, frame.moved), scale.edge / RING)
+
+
+class XyzFile:
+    """Extended XYZ: positions, velocities and energies as text, in the units of the session."""
+
+    def __init__(self, path: Path, symbols: List[str], append: bool):
+        self._symbols = symbols
+        self._file = open(path, "a" if append else "w", encoding="ascii", newline="\n")
+
+    def write(self, frame: Snapshot, positions: Any) -> None:
+        rows = zip(self._symbols, arrays.listed(positions), arrays.listed(frame.velocities))
+        lines = ["%s %.6f %.6f %.6f %.9g %.9g %.9g\n" % (symbol, *position, *velocity) for symbol, position, velocity in rows]
+        self._file.write(f"{len(lines)}\n{comment_of(frame)}\n{''.join(lines)}")
+        self._file.flush()
+
+    def close(self) -> None:
+        self._file.close()
+
+
+def comment_of(frame: Snapshot) -> str:
+    """The second line of a frame in extended XYZ: the box, what the columns are, the step, the time and the energies."""
+    edge, unit = repr(frame.scale.edge), _energy_unit(frame.scale)
+    lattice = f"{edge} 0 0 0 {edge} 0 0 0 {edge}"
+    columns = "species:S:1:pos:R:3:velo:R:3"
+    energies = f"energy={frame.energies.potential * unit!r} kinetic_energy={frame.energies.kinetic * unit!r}"
+    return f'Lattice="{lattice}" Properties={columns} pbc="T T T" step={frame.step} time={frame.time!r} {energies}'
+
+
+def _energy_unit(scale: Scale) -> float:
+    """What the unit of energies is in a file: epsilon in electronvolt, or epsilon itself if that is not known."""
+    return 1.0 if scale.epsilon is None else scale.epsilon
+
+
+class AseFile:
+    """A `Trajectory` of ASE, whose frames have energy and forces and, if epsilon and mass are known, momenta."""
+
+    def __init__(self, path: Path, elements: List[str], append: bool):
+        self._elements = elements
+        trajectory = optional.ase("ase.io.trajectory", "a .traj file needs").Trajectory
+        self._calculator = optional.ase("ase.calculators.singlepoint", "a .traj file needs").SinglePointCalculator
+        self._file = trajectory(os.fspath(path), "a" if append else "w")
+
+    def write(self, frame: Snapshot, positions: Any) -> None:
+        atoms = ase_bridge.made(self._elements, positions, frame.velocities, frame.step, frame.scale)
+        energy = frame.energies.potential * _energy_unit(frame.scale)
+        atoms.calc = self._calculator(atoms, energy=energy, forces=frame.forces)
+        self._file.write(atoms)
+
+    def close(self) -> None:
+        self._file.close()
+
+
+class MdaFile:
+    """A file that MDAnalysis writes: box and time of each frame and, in `.nc`, velocities and forces.
+
+    Nothing can be put behind what such a file has. So to append, it is copied into a new one, which takes its place at the end.
+    """
+
+    def __init__(self, path: Path, ending: str, atoms: int, every: int, append: bool):
+        self._library = optional.mdanalysis("MDAnalysis", f"a {ending} file needs")
+        self._path, self._format, self._every = checked_target(path), ending[1:].upper(), every
+        with_both = self._format == "NC"
+        self._frame = self._library.Universe.empty(atoms, trajectory=True, velocities=with_both, forces=with_both)
+        self._old: Any = None
+        if append and os.path.exists(self._path):
+            self._old = self._read(atoms)
+        self._written = self._path if self._old is None else f"{self._path}.{os.getpid()}.part"
+        self._file: Any = None
+
+    def _read(self, atoms: int) -> Any:
+        """The file that is there, as MDAnalysis reads it. Raises ValueError if it is of another number of atoms."""
+        there = self._library.coordinates.core.get_reader_for(self._path, format=self._format).parse_n_atoms(self._path)
+        if there != atoms:
+            raise ValueError(f"{self._path} has frames of {there} atoms, and those of the session have {atoms}: write another file")
+        return self._library.Universe.empty(atoms).load_new(self._path, format=self._format)
+
+    def write(self, frame: Snapshot, positions: Any) -> None:
+        edge, scale, now = frame.scale.edge, frame.scale, self._frame.trajectory.ts
+        now.positions, now.dimensions, now.time = positions, [edge] * 3 + [90] * 3, _picoseconds(scale, frame.step)
+        if self._format == "NC":
+            is_physical = scale.dt is not None
+            now.velocities = frame.velocities * (PICOSECOND if is_physical else 1)
+            now.forces = frame.forces * (KILOJOULE_PER_MOLE if is_physical else 1)
+        self._file = self._begun(frame) if self._file is None else self._file
+        self._file.write(self._frame)
+
+    def _begun(self, frame: Snapshot) -> Any:
+        """The new file, with what is there already."""
+        words = {"velocities": True, "forces": True} if self._format == "NC" else self._times(frame)
+        file = self._library.Writer(self._written, self._frame.atoms.n_atoms, format=self._format, **words)
+        try:
+            for _ in [] if self._old is None else self._old.trajectory:
+                file.write(self._old)
+        except BaseException:
+            file.close()
+            os.unlink(self._written)
+            raise
+        return file
+
+    def _times(self, frame: Snapshot) -> Dict[str, Any]:
+        """What a .dcd says of the times of its frames, which are equally far apart.
+
+        Raises ValueError if this frame does not follow the last one of the file so.
+        """
+        step = _picoseconds(frame.scale, frame.three.direction)
+        first, apart = _picoseconds(frame.scale, frame.step), step * self._every
+        if self._old is not None:
+            way = self._old.trajectory
+            following = way[-1].time + way.dt
+            if abs(way.dt - apart) > 1e-4 * abs(apart) or abs(following - first) > 1e-3 * abs(apart):
+                raise ValueError(
+                    f"{self._path} goes on at {following:g} and each {way.dt:g}, not at {first:g} and each {apart:g}: frames of a "
+                    ".dcd are equally far apart in time; go on to the next one first, or write another file"
+                )
+            first = way[0].time
+        return {"dt": apart, "nsavc": self._every, "istart": round(first / step)}
+
+    def close(self) -> None:
+        if self._file is not None:
+            self._file.close()
+            if self._written != self._path:
+                os.replace(self._written, self._path)
+
+
+def _picoseconds(scale: Scale, step: int) -> float:
+    """The time of a step in picoseconds, or in units of `sigma sqrt(m / epsilon)` if epsilon or mass is not known."""
+    return scale.time(step) / (1.0 if scale.dt is None else PICOSECOND)

@@ -1,0 +1,66 @@
+"""Atoms that are followed round the periodic box, from image to image, so that they move on where they leave it.
+
+Between two frames an atom is taken to have gone the nearer way. So frames are to be so near to each other that none has moved
+by half the edge of the box along an axis; from a quarter on there is a warning.
+"""
+from __future__ import annotations
+
+from typing import Any, List
+
+from . import arrays
+from .units import RING
+from .warning import warn_caller
+
+
+class Path:
+    """The displacement of each atom from where it was seen first, in ring units."""
+
+    def __init__(self, name: str):
+        self._name = name
+        self._places: Any = None
+        self._moved: Any = None
+
+    def to(self, places: Any) -> Any:
+        """The displacements to these places, which are seen next. The first ones are 0."""
+        before = places if self._places is None else self._places
+        moved = arrays.least_images(places, before)
+        warn_of_far(self._name, arrays.farthest(moved) / RING)
+        self._moved = moved if self._moved is None else arrays.added(self._moved, moved)
+        self._places = places
+        return self._moved
+
+
+def warn_of_far(name: str, far: float) -> None:
+    """Warns if an atom has moved so far, as a part of the edge, that it may have gone round the box the other way."""
+    if far >= 0.25:
+        warn_caller(
+            f"an atom of {name} has moved by {far:.2f} of the edge of the box from one frame to the next, so it may have gone "
+            "round it the other way: take frames that are fewer steps apart"
+        )
+
+
+def unwrapped(name: str, frames: Any, period: Any) -> Any:
+    """Frames of coordinates in a box of this edge, of which each follows the one before: those of an array are changed in place."""
+    if len(frames) < 2:
+        return frames
+    half = period / 2 if isinstance(period, float) else period // 2
+    numpy = arrays.numpy
+    if numpy is None:
+        return _listed(name, frames, period, half)
+    moved = numpy.diff(frames, axis=0)
+    turns = (moved + half) // period
+    moved -= turns * period
+    warn_of_far(name, float(abs(moved).max() / period))
+    frames[1:] -= numpy.cumsum(turns, axis=0) * period
+    return frames
+
+
+def _listed(name: str, frames: List[Any], period: Any, half: Any) -> List[Any]:
+    """The same of lists of tuples."""
+    told, far = [frames[0]], 0.0
+    for before, frame in zip(frames, frames[1:]):
+        moved = [tuple((b - a + half) % period - half for a, b in zip(*pair)) for pair in zip(before, frame)]
+        far = max(far, arrays.farthest(moved) / period)
+        told.append(arrays.added(told[-1], moved))
+    warn_of_far(name, far)
+    return told

@@ -1,0 +1,169 @@
+"""Velocities that are stretched to a temperature, by tugs alone: `rescale` and `equilibrate`."""
+import math
+import signal
+from unittest import mock
+
+import pytest
+
+from ljclient import arrays, heating, run, units
+from support import EXAMPLES, PROGRAM, RING, dimer, listed
+
+KINDS = [arrays.numpy, None] if arrays.numpy else [None]
+CRYSTAL = EXAMPLES / "argon_256.xyz"
+
+
+@pytest.fixture(name="user")
+def user_of_a_program():
+    with run(PROGRAM) as user:
+        yield user
+
+
+def argon(user, name="argon", **words):
+    return user.load(name, CRYSTAL, edge=21.04, dt=2, **units.ARGON, **words)
+
+
+def both(session):
+    """Both frames."""
+    now = listed(session.places())
+    session.reverse()
+    before = listed(session.places())
+    session.reverse()
+    return now, before
+
+
+def moved(session):
+    now, before = both(session)
+    return [tuple((a - b + RING // 2) % RING - RING // 2 for a, b in zip(*pair)) for pair in zip(now, before)]
+
+
+@pytest.mark.parametrize("kind", KINDS)
+def test_all_velocities_are_stretched_alike(user, kind):
+    a = argon(user)
+    a.heat(90, seed=2)
+    a.tug(7, (3000, 0, -1000))
+    a.advance(20)
+    old, places, step = moved(a), listed(a.places()), a.step
+    with mock.patch.object(arrays, "numpy", kind):
+        assert a.rescale(120) == pytest.approx(120, rel=1e-6)
+    # In SI units: u of 1.66053906660e-27 kg, k_B of 1.380649e-23 J/K.
+    speed_of_unit = 21.04e-10 / RING / (a.dt * 1e-15)
+    new, wanted = moved(a), 1.5 * 256 * 1.380649e-23 * 120 / (speed_of_unit**2 * 39.948 * 1.66053906660e-27 / 2)
+    assert sum(part**2 for each in new for part in each) == pytest.approx(wanted, rel=1e-5)
+    stretch = math.sqrt(wanted / sum(part**2 for each in old for part in each))
+    assert all(abs(b - stretch * a) <= 1.51 for pair in zip(old, new) for a, b in zip(*pair))
+    # What was pulled by one tug keeps the momentum of that tug, stretched; along y there was none.
+    assert [sum(axis) for axis in zip(*new)] == [round(stretch * 3000), 0, round(stretch * -1000)]
+    assert (a.step, listed(a.places())) == (step, places)
+
+
+def test_in_reduced_units(user):
+    a = user.load("a", CRYSTAL, edge=21.04, sigma=3.4, h=4295)
+    a.heat(0.5)
+    assert a.rescale(0.72) == pytest.approx(0.72, rel=1e-5)
+    assert (a.rescale(0), a.measure().kinetic, a.rescale(0)) == (0, 0, 0)
+
+
+def test_it_is_walked_back_from_a_branch(user):
+    a, twin = argon(user), argon(user, "twin")
+    for each in (a, twin):
+        each.heat(90)
+        each.advance(10)
+        each.branch("cold")
+    a.rescale(150)
+    a.branch("warm")
+    warm = both(a)
+    a.advance(25)
+    assert [name for name, _ in a.saved()] == ["cold", "warm"]
+    for _ in range(2):
+        a.restore("warm")
+        assert both(a) == warm
+    assert (a.restore("cold"), both(a)) == (10, both(twin))
+    for each in (a, twin):
+        each.reverse()
+        each.advance(10)
+        each.reverse()
+    assert both(a) == both(twin)
+
+
+@pytest.mark.parametrize("order", [None, "space"])
+def test_equilibrated_to_a_temperature(user, order):
+    a = argon(user, order=order)
+    a.branch("start")
+    assert a.equilibrate(100, 120, every=50) == pytest.approx(100, rel=1e-5)
+    assert (a.step, a.measure().temperature) == (120, pytest.approx(100, rel=1e-5))
+    assert a.measure().momentum == (0, 0, 0)
+    there = both(a)
+    a.restore("start")
+    assert a.measure().kinetic == 0
+    a.equilibrate(100, 120, every=50)
+    assert both(a) == there
+
+
+def test_equilibrate_is_rescale_and_advance(user):
+    a, twin = argon(user), argon(user, "twin")
+    a.equilibrate(80, 25, every=10, seed=3)
+    twin.heat(80, seed=3)
+    for steps in (10, 10, 5):
+        twin.advance(steps)
+        twin.rescale(80)
+    assert both(a) == both(twin)
+    a.equilibrate(60, 5)
+    twin.rescale(60)
+    twin.advance(5)
+    twin.rescale(60)
+    assert both(a) == both(twin)
+    assert (a.equilibrate(70, 0), a.step) == (pytest.approx(70, rel=1e-5), 30)
+
+
+def test_how_far_it_is(user):
+    told = []
+    argon(user).equilibrate(80, 5, every=3, progress=lambda *numbers: told.append(numbers))
+    assert told == [(0, 5), (3, 5), (3, 5), (5, 5)]
+
+
+def test_what_cannot_be(user):
+    a = dimer(user)
+    for wrong, text in [(1, "at rest.*heat"), (-1, "from 0 on"), (math.nan, "from 0 on")]:
+        with pytest.raises(ValueError, match=text):
+            a.rescale(wrong)
+    for words, text in [((1, -1), "not below 0"), ((1, 1, 0), "every is 1 at least"), ((-1, 1), "from 0 on")]:
+        with pytest.raises(ValueError, match=text):
+            a.equilibrate(*words)
+    with pytest.raises(TypeError, match="a number of steps is a whole number"):
+        a.equilibrate(1, 1.5)
+    assert (a.step, a.measure().kinetic) == (0, 0)
+    a.advance(5)
+    with pytest.raises(ValueError, match="half the box"):
+        a.rescale(1e12)
+    assert a.step == 5
+
+
+def test_an_interrupt_waits_until_all_atoms_have_theirs(user):
+    a, twin = argon(user), argon(user, "twin")
+    for each in (a, twin):
+        each.heat(50)
+    twin.rescale(90)
+    ask_rows = user.ask_rows
+
+    def interrupted(lines):
+        if lines[0].startswith("TUG"):
+            signal.raise_signal(signal.SIGINT)
+        return ask_rows(lines)
+
+    before = signal.signal(signal.SIGINT, signal.default_int_handler)
+    try:
+        with mock.patch.object(user, "ask_rows", interrupted), pytest.raises(KeyboardInterrupt):
+            a.rescale(90)
+    finally:
+        signal.signal(signal.SIGINT, before)
+    assert both(a) == both(twin)
+
+
+def test_the_sum_is_rounded_once():
+    scale = units.Scale.of(256, 1, 4295)
+    for count in (2, 3, 50):
+        old = [(7 * number, -3 * number, number % 5) for number in range(1, count + 1)]
+        kinetic = sum(part**2 for each in old for part in each)
+        temperature = scale.kinetic_energy(4 * kinetic) * 2 / (3 * count)
+        new = heating.rescaled(old, temperature, scale)
+        assert [sum(axis) for axis in zip(*new)] == [2 * sum(axis) for axis in zip(*old)]

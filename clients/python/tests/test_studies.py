@@ -1,0 +1,99 @@
+"""Studies as a scientist makes them, in a short form: examples whose figures are held against those of others, a long way and
+back, a server that ends on the way, and a notebook."""
+import json
+import os
+import re
+import subprocess
+import sys
+
+import pytest
+
+from ljclient import connect, run, units
+from support import EXAMPLES, PROGRAM, TOKEN, Server, listed
+
+STEPS = int(os.environ.get("LJ_STEPS", "3000"))  # a million takes some minutes
+
+
+def told(*words):
+    """What an example prints."""
+    environment = {**os.environ, "LJSERVE": PROGRAM, "PYTHONDONTWRITEBYTECODE": "1", "MPLBACKEND": "Agg"}
+    command = [sys.executable, "-W", "ignore", *words]
+    done = subprocess.run(command, cwd=EXAMPLES, env=environment, capture_output=True, text=True, timeout=600)
+    assert done.returncode == 0, done
+    return done.stdout
+
+
+def needs(*modules):
+    for module in modules:
+        pytest.importorskip(module, reason=f"{module} is not installed")
+
+
+def test_liquid_argon_by_mdanalysis(tmp_path):
+    """Rahman has the first maximum at 3.7 angstrom, and a diffusion of 2.43; LAMMPS has a maximum of 2.8."""
+    needs("ase", "MDAnalysis", "matplotlib")
+    text = told("argon.py", "--steps", "5000", "--plot", str(tmp_path / "x.png"))
+    kelvin, highest, at, diffusion = map(float, re.findall(r"[0-9]+\.[0-9]+", text)[:4])
+    assert abs(kelvin - 94.4) < 6, text
+    assert (abs(highest - 2.8) < 0.15, abs(at - 3.7) < 0.15, abs(diffusion - 2.43) < 0.8) == (True, True, True), text
+    assert (tmp_path / "x.png").read_bytes()[:4] == b"\x89PNG"
+
+
+def test_the_study_of_argon_is_short():
+    assert len((EXAMPLES / "argon.py").read_text().splitlines()) <= 40
+
+
+def test_kob_and_andersen_by_ase():
+    """After so few steps the lattice has melted, and the liquid has not quite come to rest."""
+    needs("ase")
+    text = told("kob_andersen.py", "--steps", "1000")
+    energy, by_lammps = map(float, re.search(r"(-[0-9.]+), by LAMMPS (-[0-9.]+)", text).groups())
+    assert abs(energy - by_lammps) < 0.6, text
+    for highest, by_lammps in re.findall(r"maximum ([0-9.]+), by LAMMPS ([0-9.]+)", text)[:2]:
+        assert abs(float(highest) - float(by_lammps)) < 0.5, text
+
+
+def test_a_long_way_and_back():
+    """The atoms are sorted anew on the way and back, and come to their places to the bit."""
+    with run(PROGRAM) as user:
+        argon = user.load("argon", EXAMPLES / "argon_256.xyz", edge=21.04, dt=2, order="space", **units.ARGON)
+        argon.heat(180)
+        start, energy = listed(argon.places()), argon.measure()
+        for _ in range(2):
+            argon.advance(STEPS)
+            argon.reverse()
+        assert (listed(argon.places()), argon.measure(), argon.step) == (start, energy, 0)
+
+
+def test_a_server_that_ends_on_the_way(tmp_path):
+    """What was saved goes on at another server as it would have gone on at the first."""
+    path, words = tmp_path / "argon.saved", {"edge": 21.04, "dt": 2, **units.ARGON}
+    with run(PROGRAM) as user:
+        alone = user.load("argon", EXAMPLES / "argon_256.xyz", **words)
+        alone.advance(600)
+        wanted = listed(alone.places())
+    with Server() as first, connect("127.0.0.1", first.port, "ann", TOKEN) as user:
+        argon = user.load("argon", EXAMPLES / "argon_256.xyz", **words)
+
+        def end(done, total):
+            if done >= 300:
+                first.end()
+
+        with pytest.raises(ConnectionError):
+            argon.advance(600, progress=end, piece=100, save=path, seconds=0)
+    with Server() as second, connect("127.0.0.1", second.port, "ann", TOKEN) as user:
+        argon = user.load_saved(path)
+        assert 0 < argon.step < 600
+        argon.advance(600 - argon.step)
+        assert listed(argon.places()) == wanted
+
+
+def test_the_notebook_runs():
+    needs("matplotlib")
+    cells = json.loads((EXAMPLES / "ljserve.ipynb").read_text())["cells"]
+    lines = [line for cell in cells if cell["cell_type"] == "code" for line in [*cell["source"], "\n"]]
+    code = "".join(line for line in lines if not line.startswith("%"))
+    text = told("-c", code.replace("energies(user, h)", "energies(user, h, 400)"))
+    assert "back at the crystal, to the bit: True" in text
+    assert "both are back, to the bit: True" in text
+
+

@@ -1,0 +1,238 @@
+"""Trajectories of each kind of file, read again by the libraries that read such files.
+
+The dimer's motion is worked out by hand in test_commands; a ring unit is 2^-24 there. A lone atom moves straight on.
+"""
+import os
+import sys
+import warnings
+
+import pytest
+
+from ljclient import Missing, run, units
+from support import EXAMPLES, PROGRAM, dimer
+
+try:
+    import ase.io
+except ImportError:
+    ase = None
+try:
+    with warnings.catch_warnings():
+        warnings.simplefilter("ignore")
+        import MDAnalysis
+except ImportError:
+    MDAnalysis = None
+
+with_ase = pytest.mark.skipif(ase is None, reason="ASE is not installed")
+with_mda = pytest.mark.skipif(MDAnalysis is None, reason="MDAnalysis is not installed")
+quiet = pytest.mark.filterwarnings("ignore::DeprecationWarning", "ignore:Could not find netCDF4")
+ENDINGS = [
+    pytest.param(".xyz", marks=with_ase),
+    pytest.param(".traj", marks=with_ase),
+    pytest.param(".dcd", marks=[with_mda, quiet]),
+    pytest.param(".nc", marks=[with_mda, quiet]),
+]
+BINARY = ENDINGS[2:]
+DT = 2**-7.5
+WAY = [0, 589, 1774, 3555]  # of atom 0, in 2^-24; 596 more for each step
+KILOJOULE_PER_MOLE = 96.48533212
+
+
+@pytest.fixture
+def user():
+    with run(PROGRAM) as user:
+        yield user
+
+
+@pytest.fixture
+def argon(user):
+    argon = user.load("argon", EXAMPLES / "argon_256.xyz", edge=21.04, dt=5, **units.ARGON)
+    argon.heat(100)
+    argon.advance(20)
+    return argon
+
+
+def universe(path, atoms):
+    return MDAnalysis.Universe.empty(atoms).load_new(str(path))
+
+
+def read(path, atoms):
+    """Time, positions and edge of each frame of a file: those of MDAnalysis, of which times are in picoseconds, or of ASE."""
+    if path.suffix in (".dcd", ".nc"):
+        return [(step.time * 1000, step.positions.copy(), step.dimensions[0]) for step in universe(path, atoms).trajectory]
+    return [(frame.info["time"], frame.positions, frame.cell[0][0]) for frame in ase.io.read(path, index=":")]
+
+
+@pytest.mark.parametrize("ending", ENDINGS)
+def test_positions_box_and_time(argon, tmp_path, ending):
+    path = tmp_path / f"way{ending}"
+    argon.branch("start")
+    argon.write_trajectory(path, every=10, frames=3)
+    assert argon.step == 40
+    frames = read(path, argon.atoms)
+    argon.restore("start")
+    wanted = argon.sample(every=10, frames=3).frames
+    assert [time for time, _, _ in frames] == pytest.approx([20 * argon.dt, 30 * argon.dt, 40 * argon.dt], rel=1e-6)
+    for (_, positions, edge), each in zip(frames, wanted):
+        assert edge == pytest.approx(21.04, rel=1e-7)
+        assert abs(positions - each).max() < 3e-6  # numbers of four bytes up to 21.04
+
+
+@pytest.mark.parametrize("ending", ENDINGS)
+def test_what_is_appended_stands_behind(argon, tmp_path, ending):
+    path = tmp_path / f"way{ending}"
+    argon.write_trajectory(path, every=10, frames=2)
+    before = read(path, argon.atoms)
+    argon.advance(10)
+    argon.write_trajectory(path, every=10, frames=2, append=True)
+    frames = read(path, argon.atoms)
+    assert [time / argon.dt for time, _, _ in frames] == pytest.approx([20, 30, 40, 50], rel=1e-6)
+    for (_, positions, _), (_, others, _) in zip(frames, before):
+        assert positions.tolist() == others.tolist()
+    assert abs(frames[3][1] - argon.positions()).max() < 3e-6
+    assert os.listdir(tmp_path) == [path.name]
+
+
+@pytest.mark.parametrize("ending", ENDINGS)
+def test_a_file_that_is_not_there_may_be_appended_to(user, tmp_path, ending):
+    a, path = dimer(user), tmp_path / f"way{ending}"
+    a.write_trajectory(path, every=1, frames=2, append=True)
+    assert len(read(path, 2)) == 2
+
+
+@pytest.mark.parametrize("ending", ENDINGS)
+def test_a_file_of_before_is_written_anew(user, tmp_path, ending):
+    a, path = dimer(user), tmp_path / f"way{ending}"
+    for _ in range(2):
+        a.write_trajectory(path, every=1, frames=2)
+    assert len(read(path, 2)) == 2
+
+
+@pytest.mark.parametrize("ending", ENDINGS)
+def test_an_atom_goes_on_where_it_leaves_the_box(user, tmp_path, ending):
+    lone = user.load("lone", "1\nlone\nAr 255.9 0 0\n", edge=256, sigma=1, h=131072)
+    lone.tug(0, (2**20, 0, 0))  # a sixteenth for each step
+    lone.branch("start")
+    for unwrap, far in ((False, 255.9 + 0.1875 - 256), (True, 255.9 + 0.1875)):
+        path = tmp_path / f"{unwrap}{ending}"
+        lone.write_trajectory(path, every=1, frames=4, unwrap=unwrap)
+        assert read(path, 1)[3][1][0].tolist() == pytest.approx([far, 0, 0], abs=2e-5)
+        lone.restore("start")
+
+
+@pytest.mark.parametrize("ending", ENDINGS)
+def test_on_the_way_back_time_goes_down(user, tmp_path, ending):
+    a, path = dimer(user), tmp_path / f"way{ending}"
+    a.advance(4)
+    a.reverse()
+    a.write_trajectory(path, every=1, frames=3)
+    times = [time / (1000 if ending in (".dcd", ".nc") else 1) for time, _, _ in read(path, 2)]
+    assert times == pytest.approx([3 * DT, 2 * DT, DT], rel=1e-5)
+
+
+@with_ase
+def test_xyz_has_velocities_and_energies(argon, tmp_path):
+    path = tmp_path / "way.xyz"
+    argon.write_trajectory(path, every=1, frames=1)
+    frame = ase.io.read(path)
+    (row,) = argon.thermo(every=1, rows=1)
+    epsilon = units.ARGON["epsilon"]
+    assert frame.arrays["velo"] == pytest.approx(argon.velocities(), rel=1e-8)
+    assert frame.get_potential_energy() == pytest.approx(row.potential * epsilon, rel=1e-12)
+    assert frame.info["kinetic_energy"] == pytest.approx(row.kinetic * epsilon, rel=1e-12)
+
+
+@with_ase
+def test_traj_has_momenta_energy_and_forces(argon, tmp_path):
+    path = tmp_path / "way.traj"
+    argon.write_trajectory(path, every=10, frames=2)
+    frame = ase.io.read(path)
+    assert (frame.info["step"], set(frame.get_chemical_symbols())) == (30, {"Ar"})
+    assert frame.get_velocities() * ase.units.fs == pytest.approx(argon.velocities(), rel=1e-6)
+    assert frame.get_forces() == pytest.approx(argon.forces(), rel=1e-12)
+    assert frame.get_potential_energy() == pytest.approx(argon.measure().potential_energy * units.ARGON["epsilon"], rel=1e-12)
+
+
+@with_ase
+def test_traj_takes_elements_alone(user, tmp_path):
+    classes = [(1, 131072, 256)] * 3
+    mix = user.load_mix("mix", "2\nmix\nB 0 0 0\nA 1.5 0 0\n", edge=256, species=("A", "B"), classes=classes)
+    path = tmp_path / "way.traj"
+    with pytest.raises(ValueError, match="ASE knows no element 'A'"):
+        mix.write_trajectory(path, every=1, frames=1)
+    assert not path.exists()
+    mix.write_trajectory(path, every=1, frames=1, symbols={"A": "Ar", "B": "Kr"})
+    assert ase.io.read(path).get_chemical_symbols() == ["Kr", "Ar"]
+
+
+@with_mda
+@quiet
+def test_nc_has_velocities_and_forces_in_the_units_of_mdanalysis(argon, tmp_path):
+    path = tmp_path / "way.nc"
+    argon.write_trajectory(path, every=10, frames=2)
+    frame = universe(path, argon.atoms).trajectory[1]
+    assert abs(frame.velocities / 1000 - argon.velocities()).max() < 1e-8
+    assert abs(frame.forces / KILOJOULE_PER_MOLE - argon.forces()).max() < 1e-7  # numbers of four bytes, up to 0.2
+
+
+@with_mda
+@quiet
+def test_frames_of_a_dcd_are_equally_far_apart(argon, tmp_path):
+    path = tmp_path / "way.dcd"
+    argon.write_trajectory(path, every=10, frames=3)
+    before = path.read_bytes()
+    for go_on, every in ((0, 10), (5, 10), (5, 20)):
+        argon.advance(go_on)
+        with pytest.raises(ValueError, match="equally far apart in time"):
+            argon.write_trajectory(path, every=every, frames=2, append=True)
+    assert (path.read_bytes(), os.listdir(tmp_path)) == (before, ["way.dcd"])
+
+
+@with_mda
+@quiet
+@pytest.mark.parametrize("ending", [".dcd", ".nc"])
+def test_a_file_of_other_atoms_is_not_appended_to(user, argon, tmp_path, ending):
+    path = tmp_path / f"way{ending}"
+    argon.write_trajectory(path, every=1, frames=1)
+    before = path.read_bytes()
+    with pytest.raises(ValueError, match="has frames of 256 atoms, and those of the session have 2"):
+        dimer(user).write_trajectory(path, every=1, frames=1, append=True)
+    assert path.read_bytes() == before
+
+
+@with_mda
+@quiet
+@pytest.mark.parametrize("ending", [".dcd", ".nc"])
+def test_no_fifo_is_replaced(user, tmp_path, ending):
+    path = tmp_path / f"way{ending}"
+    os.mkfifo(path)
+    with pytest.raises(ValueError, match="is a FIFO, and stays as it is"):
+        dimer(user).write_trajectory(path, every=1, frames=1, append=True)
+
+
+@pytest.mark.parametrize("ending, told", [(".dcd", "python3-mdanalysis"), (".nc", "python3-mdanalysis")])
+def test_a_library_that_is_missing_is_told_before_anything_is_written(user, tmp_path, monkeypatch, ending, told):
+    monkeypatch.setitem(sys.modules, "MDAnalysis", None)
+    a, path = dimer(user), tmp_path / f"way{ending}"
+    path.write_text("of before")
+    with pytest.raises(Missing, match=f"a {ending} file needs MDAnalysis.*pip install MDAnalysis.*{told}"):
+        a.write_trajectory(path, every=1, frames=2)
+    assert (path.read_text(), a.step) == ("of before", 0)
+
+
+def test_any_other_ending_is_text(user, tmp_path):
+    a = dimer(user)
+    a.write_trajectory(tmp_path / "way", every=1, frames=1)
+    assert (tmp_path / "way").read_text().startswith('2\nLattice="256.0')
+
+
+def test_a_trajectory_without_numpy(user, tmp_path, monkeypatch):
+    pytest.importorskip("numpy", reason="numpy is not installed")
+    a = dimer(user)
+    for name, unwrap in (("one", False), ("other", True)):
+        a.branch(name)
+        a.write_trajectory(tmp_path / name, every=1, frames=3, unwrap=unwrap)
+        monkeypatch.setattr("ljclient.arrays.numpy", None)
+        a.restore(name)
+        a.write_trajectory(tmp_path / f"{name}.xyz", every=1, frames=3, unwrap=unwrap)
+        monkeypatch.undo()
+        assert (tmp_path / name).read_text() == (tmp_path / f"{name}.xyz").read_text()
