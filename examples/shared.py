@@ -16,7 +16,8 @@ from ljclient import tokens  # noqa: E402
 if os.path.exists(os.path.join(TOP, "VERSION")):  # a release
     os.environ.setdefault("LJSERVE", os.path.join(TOP, "bin", "ljserve"))
 
-RING = ljclient.units.RING  # the edge of the box, in ring units
+units = ljclient.units
+RING = units.RING  # the edge of the box, in ring units
 H = 131072  # a time step of 0.0055, for runs of some thousand steps; README.md says what is for longer ones
 CELLS = 4  # of the crystal along each axis, with four atoms in each
 ATOMS = 4 * CELLS**3
