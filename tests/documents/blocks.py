@@ -8,7 +8,7 @@ TOP = pathlib.Path(__file__).resolve().parents[2]
 DOCUMENTS = [
     "README.md",
     "CONTRIBUTING.md",
-    *sorted(str(path.relative_to(TOP)) for path in (TOP / "docs").glob("*.md")),
+    *sorted(str(path.relative_to(TOP)) for path in [*(TOP / "docs").glob("*.md"), *(TOP / "docs" / "api").glob("*.md")]),
     "clients/python/README.md",
     "conformance/README.md",
     "bench/README.md",

@@ -142,6 +142,25 @@ def commands_of_a_checkpoint(block, folder):
     assert replies(folder, block.text) == list(told)
 
 
+def recorded_run(block, folder):
+    assert folder.python(block.text) == ["True"]
+
+
+def played_record(block, folder):
+    """The record is that of the block above."""
+    (script,) = re.findall(r"```python\n(.*?)```", contents("docs/RECORDS.md"), re.S)
+    folder.python(script)
+    *_, verdict = folder.shell(block.text).splitlines()
+    said = re.search(r"`(all \d+ replies are the same)`", contents("docs/RECORDS.md"))[1]
+    (command,) = re.findall(r"`(sed .*? sha256sum)`", contents("docs/RECORDS.md"))
+    assert verdict == f"argon.lj: {said}; SHA-256 {folder.shell(command).split()[0]}"
+
+
+def file_of_a_record(block, folder):
+    folder.put("run.lj", block.text)
+    assert ": all 4 replies are the same; SHA-256 " in folder.shell("python3 -m ljclient verify --quiet run.lj")
+
+
 def own_file(block, folder):
     told = folder.shell(block.text).splitlines()
     assert told[:2] == ["OK LOAD a 0 256", "OK ADVANCE a 100"]
@@ -212,6 +231,17 @@ def before_the_lesson(block, folder):
         assert is_told(connection, f"HELLO {name} {token}\n") == f"OK HELLO {name}\n"
 
 
+def lesson_at_the_prompt(block, folder):
+    """The lines are a file that is read at the prompt. REVERSE exchanges the two frames, so the step is one less."""
+    (folder.path / "lesson.txt").write_text(block.text.replace("examples/", f"{EXAMPLES}/"))
+    words = {**environment(), "PYTHONPATH": str(TOP / "clients" / "python")}
+    with contextlib.closing(Terminal(PROMPT, words, cwd=folder.path)) as terminal:
+        terminal.until("ljserve> ")
+        terminal.type(".read lesson.txt\r")
+        told = terminal.until("OK REVERSE argon 999\nljserve> ")
+    assert told.count("\nOK SHOW argon 1000 ") == 10
+
+
 def after_the_lesson(block, folder):
     with Server(users=("student01",)) as server:
         with connect("127.0.0.1", server.port, "student01", TOKEN) as user:
@@ -220,7 +250,7 @@ def after_the_lesson(block, folder):
     assert (folder.path / "argon.saved").read_text().startswith("ljserve checkpoint 1\n")
 
 
-# clients/python/README.md
+# clients/python/README.md and docs/api/
 
 def path_of_the_client(block, folder):
     assert folder.shell(block.text, "import ljclient\nprint(ljclient.run().sessions())\n", client=False) == "[]\n"
@@ -244,6 +274,12 @@ def on_the_way(block, folder):
     assert [row.split()[0] for row in rows] == ["0", "100", "200"]
     assert steps == "[200, 210, 220, 230, 240] 5"
     assert (folder.path / "argon_way.xyz").read_text().count("step=") == 5
+
+
+def driver_of_ase(block, folder):
+    *rows, back = folder.python(block.text)
+    assert [row.split()[0] for row in rows] == ["0", "500", "1000", "1500", "2000"]
+    assert back == "True"
 
 
 def two_species(block, folder):
@@ -283,6 +319,14 @@ def streams_of_a_port(block, folder):
     assert folder.shell(block.text.splitlines()[1]).endswith(" streams agree, 0 differ\n")
 
 
+def first_difference(block, folder):
+    """The lines below the block are told of a port that has no ADVANCE."""
+    folder.put("my_port", "#!/bin/sh\nbin/ljserve run \"$@\" | sed 's/^OK ADVANCE.*/ERR 06 COMMAND/'\n")
+    told = folder.shell(f"{block.text.strip()} || true")
+    (wanted,) = [each.text for each in all_blocks() if each.is_named("lines: 63 of 63")]
+    assert set(wanted.splitlines()) < set(told.splitlines())
+
+
 def reference(block, folder):
     assert folder.shell(block.text.splitlines()[0]) == (EXAMPLES / "dimer.replies").read_text()
 
@@ -310,6 +354,23 @@ BLOCKS = {
         "lj_tile: ": "the subject of a commit",
     },
     "docs/ARCHITECTURE.md": {"                      lock: Hall": DRAWING},
+    "docs/api/ase.md": {"ReversibleVerlet(": driver_of_ase},
+    "docs/api/ensemble.md": {"partial(begin": many_runs},
+    "docs/api/loading.md": {
+        "user.load_mix(": two_species,
+        "Ar with Ar": "compared with what the block above it prints",
+    },
+    "docs/api/prompt.md": {
+        "python3 -m ljclient\n": runs(),
+        "ljserve> LOAD": prompt_at_a_terminal,
+        "printf": prompt_in_a_pipe,
+    },
+    "docs/api/steps.md": {"fine.start(100)": prints("[200, 100]", "300", "300 300")},
+    "docs/api/view.md": {
+        "python3 -m ljclient view  ": "needs a browser; clients/python/tests/test_view_program.py begins it without one",
+        "python3 -m ljclient view 127": "needs a browser; clients/python/tests/test_view_server.py begins it without one",
+        "python3 -m ljclient view --listen": "needs a browser; clients/python/tests/test_view_listening.py begins it without one",
+    },
     "docs/CHECKPOINTS.md": {
         "argon.save(": prints("500 1000", "0.0"),
         "ljserve checkpoint 1": "clients/python/tests/test_checkpoint.py compares it with a file that is written by hand",
@@ -321,6 +382,9 @@ BLOCKS = {
         "tools/users 22": before_the_lesson,
         "tools/watch": "clients/python/tests/test_watch.py runs it, at ports that are free",
         "python3 -m ljclient 192.0.2.10": ELSEWHERE,
+        "LOAD argon": lesson_at_the_prompt,
+        "python3 -m ljclient view 192.0.2.10": ELSEWHERE,
+        "python3 -m ljclient view --listen": "clients/python/tests/test_view_listening.py begins it, at a port that is free",
         "3 open": "clients/python/tests/test_watch.py compares such lines, whose times and addresses differ",
         "from ljclient import": after_the_lesson,
     },
@@ -334,11 +398,19 @@ BLOCKS = {
         "TUG a 0 -2147483648": is_dialogue(LOADED),
         "ljserve run": runs(),
     },
+    "docs/RECORDS.md": {
+        "argon.advance(100, piece=100)": recorded_run,
+        "python3 -m ljclient verify": played_record,
+        "ljserve record 1": file_of_a_record,
+    },
     "docs/READING.md": {
         "pub fn image": stands_in("crates/lj_ring/src/coordinates.rt"),
         "-- z is the least image": stands_in("crates/lj_ring/specs/Ring.antt"),
         "pub fn steps_are_undone": stands_in("crates/lj_step/src/laws.rt"),
         "pub fn hello": stands_in("crates/lj_access/src/directory.rt"),
+        "pub fn visit": stands_in("crates/lj_visit/src/visiting.rt"),
+        "  pub greets": stands_in("crates/lj_visit/specs/Visits.antt"),
+        "  pub happens": stands_in("crates/lj_visit/specs/Visits.antt"),
         "bin/ljserve --version": NEEDS_KIT,
     },
     "docs/SCHEDULES.md": {
@@ -355,26 +427,23 @@ BLOCKS = {
         "NAME TOKEN": FORM,
         "HELLO NAME TOKEN": FORM,
         "$ nc": dialogue_of_a_connection,
+        "tools/shards": "clients/python/tests/test_haproxy.py runs what it needs no systemd for, at ports that are free",
+        "tools/watch --metrics": "clients/python/tests/test_watch_metrics.py runs it, at ports that are free",
         "sudo": "needs systemd, and changes the machine",
     },
     "docs/SOAK.md": {"bench/soak serve": TAKES_HOURS, "bench/soak bytes": TAKES_HOURS},
     "clients/python/README.md": {
         "export PYTHONPATH": path_of_the_client,
+        "python3 -m venv": "clients/python/tests/test_wheels.py runs it, in a folder with the wheels",
         "print(argon.dt": five_minutes,
         'argon.branch("warm")': server_that_keeps,
-        "fine.start(100)": prints("[200, 100]", "300", "300 300"),
         "argon.thermo(": on_the_way,
-        "user.load_mix(": two_species,
-        "Ar with Ar": "compared with what the block above it prints",
-        "python3 -m ljclient view": "needs a browser; clients/python/tests/test_view_program.py begins it without one",
-        "partial(begin": many_runs,
-        "python3 -m ljclient\n": runs(),
-        "ljserve> LOAD": prompt_at_a_terminal,
-        "printf": prompt_in_a_pipe,
     },
     "conformance/README.md": {
         "conformance/run bin/ljserve": streams_of_a_port,
         "motion/edges_of_bins": "what a port is told that rounds down",
+        "conformance/run --first": first_difference,
+        "lines: 63 of 63": "compared with what the block above it prints",
         "conformance/reference.py <": reference,
         "conformance/random": "takes an hour; clients/python/tests/test_conformance.py plays 300 streams",
     },

@@ -1,0 +1,114 @@
+"""The reference of the Python client: that it is made without a warning, has each public name, and leaves room in the README."""
+import os
+import re
+import shutil
+import subprocess
+import sys
+
+import pytest
+from blocks import TOP
+
+import ljclient
+from ljclient import refusals, units
+
+pytest.importorskip("sphinx", reason="sphinx is not installed")
+pytest.importorskip("myst_parser", reason="myst-parser is not installed")
+
+SECONDS = 300
+SESSION = "clients/python/ljclient/session.py"
+
+
+def made(folder, make=TOP / "docs" / "api" / "make"):
+    environment = {**os.environ, "PYTHONDONTWRITEBYTECODE": "1"}
+    return subprocess.run([sys.executable, make, folder], env=environment, capture_output=True, text=True, timeout=SECONDS)
+
+
+@pytest.fixture(scope="module")
+def page(tmp_path_factory):
+    """The text of a page of the reference."""
+    folder = tmp_path_factory.mktemp("api")
+    done = made(folder)
+    assert (done.returncode, done.stdout, done.stderr) == (0, f"{folder / 'index.html'}\n", "")
+    return lambda name: (folder / f"{name}.html").read_text()
+
+
+def names_in(text):
+    """The names that a page describes."""
+    return re.findall(r'<dt class="sig [^>]* id="ljclient\.([\w.]+)">', text)
+
+
+def described(text, name):
+    """The text that a page has of a name, without marks."""
+    return re.sub(r"<[^>]+>", "", text.split(f'id="ljclient.{name}">')[1].split('<dt class="sig')[0])
+
+
+def test_each_public_name_is_there(page):
+    wanted = {name for name in ljclient.__all__ if name not in ("refusals", "units")}
+    shown = names_in(page("package"))
+    assert wanted == {name for name in shown if "." not in name}
+    assert len(shown) == len(set(shown))
+
+
+def test_each_method_of_users_and_sessions_is_there(page):
+    shown = set(names_in(page("package")))
+    users = "advance ask ask_all close closed load load_mix load_saved session sessions".split()
+    sessions = """
+        advance start reverse branch restore forget saved heat save resort order tug measure places place positions dump write
+        symbols sample thermo write_trajectory to_ase step target atoms edge h dt scale drop
+    """.split()
+    assert {f"User.{name}" for name in users} | {f"Session.{name}" for name in sessions} <= shown
+    assert not any(name.split(".")[-1].startswith("_") or name == "User.ask_commands" for name in shown)
+
+
+def test_each_refusal_is_told(page):
+    text = page("modules")
+    classes = [value for value in vars(refusals).values() if isinstance(value, type) and value is not ljclient.Refused]
+    assert len(classes) == len(ljclient.Refused.by_number)
+    for each in classes:
+        assert f"ERR {each.number:02} {each.name}: {each.meaning}." in described(text, f"refusals.{each.__name__}")
+
+
+def test_modules_that_say_what_is_public_are_there(page):
+    titles = re.findall(r"<h2>(ljclient[\w.]*)", page("modules"))
+    assert {"ljclient.prompt", "ljclient.refusals", "ljclient.units", "ljclient.view"} <= set(titles)
+    shown = names_in(page("modules"))
+    assert {"units.ARGON", "units.step_factor"} <= set(shown) and "units.Scale" not in shown
+    assert all(f"units.{name}" not in shown for name in vars(units) if name.startswith("checked"))
+
+
+def test_how_docstrings_are_shown(page):
+    """Tables are lists of definitions, what is indented is code, and what stands in backquotes leads to what it names."""
+    text = page("package")
+    load = text.split('id="ljclient.User.load">')[1].split('id="ljclient.User.load_mix"')[0]
+    assert re.search(r"<dt><code[^>]*><span class=.pre.>sigma</span></code></dt><dd><p>the distance sigma, in the same", load)
+    assert "below a fifth of the edge" in load and "sigma    the distance" not in load
+    assert re.search(r'<a [^>]*href="#ljclient.Session.order"[^>]*><code[^>]*><span class="pre">Session.order</span>', load)
+    assert re.search(r"edge: Optional\[(units\.)?Number\] = None", re.sub(r"<[^>]+>", "", load))
+
+
+@pytest.mark.parametrize("path, text, spoilt, told", [
+    ("docs/api/errors.md", "\n- `Refused`", "\n[none](none.md)\n- `Refused`", "none.md"),
+    (SESSION, "\n        seed         velocities", "\n        seed        velocities", "Session.heat: the texts"),
+    (SESSION, '"""Gives up what was saved', '"""Gives ``up what was saved', "without end-string"),
+], ids=["link", "table", "mark"])
+def test_a_warning_is_an_error(tmp_path, path, text, spoilt, told):
+    for folder in ("docs/api", "docs/pictures", "clients/python/ljclient"):
+        shutil.copytree(TOP / folder, tmp_path / folder)
+    before = (tmp_path / path).read_text()
+    assert before.count(text) == 1
+    (tmp_path / path).write_text(before.replace(text, spoilt))
+    done = made(tmp_path / "made", tmp_path / "docs" / "api" / "make")
+    assert done.returncode != 0 and told in done.stderr
+
+
+def test_the_readme_is_a_tutorial():
+    """It has room for what a beginner needs, and what else there is stands in the reference."""
+    text = (TOP / "clients" / "python" / "README.md").read_bytes()
+    assert len(text) <= 8000
+    pages = {path.name for path in (TOP / "docs" / "api").glob("*.md")}
+    assert pages == set(re.findall(r"docs/api/(\w+\.md)\)", text.decode()))
+
+
+def test_nothing_that_is_made_is_in_the_repository():
+    names = {path.name for path in (TOP / "docs" / "api").iterdir() if path.name != "__pycache__"}
+    assert {path.rpartition(".")[2] for path in names} == {"md", "rst", "py", "make"}
