@@ -1,0 +1,169 @@
+"""Settings of Sphinx for the reference of the Python client. What is public is read from the package; INTERNAL says what is not."""
+import importlib.util
+import inspect
+import pathlib
+import pkgutil
+import re
+import sys
+
+CLIENT = pathlib.Path(__file__).resolve().parents[2] / "clients" / "python"
+sys.path.insert(0, str(CLIENT))
+sys.dont_write_bytecode = True
+
+from sphinx.util import logging  # noqa: E402
+
+import ljclient  # noqa: E402
+
+project = "ljclient"
+release = version = ljclient.__version__
+copyright = "the ljserve authors"
+extensions = ["sphinx.ext.autodoc", "myst_parser"]
+default_role = "py:obj"
+html_theme = "alabaster"
+html_theme_options = {"page_width": "1200px", "sidebar_width": "300px", "code_font_size": "0.75em"}
+highlight_language = "none"
+html_copy_source = False
+toc_object_entries_show_parents = "hide"
+autodoc_member_order = "bysource"
+autodoc_typehints_format = "short"
+autodoc_preserve_defaults = True
+python_use_unqualified_type_names = True
+
+# Libraries that modules of the package need, and that may be missing where the reference is made.
+OPTIONAL = ("ase", "numpy", "MDAnalysis", "prompt_toolkit", "aiohttp", "tqdm")
+autodoc_mock_imports = [name for name in OPTIONAL if importlib.util.find_spec(name) is None]
+# What only the package itself calls.
+INTERNAL = {
+    "User": "ask_commands ask_text ask_rows known has_dropped state_of row restore resort is_free",
+    "Session": "measured is_free",
+    "Motion": "tugs",
+    "Order": "for_user for_server",
+    "units": "checked_positive real_of checked_length nano word plain_float",
+}
+# What classes have of Python's own.
+PLAIN = "tuple, dict, Exception, Warning, ConnectionError, TimeoutError, ValueError"
+# Types that have names in the package, and what stands for them.
+TYPES = {
+    "~typing.": "",
+    "~decimal.": "",
+    "~os.": "",
+    "Union[int, float, str, Decimal]": "Number",
+    "Tuple[Number, float]": "Pair",
+    "Optional[Union[str, Sequence[str]]]": "Symbols",
+    "Optional[Mapping[str, str]]": "Optional[Replacements]",
+    "Union[str, PathLike[str]]": "Path",
+    "files.Path": "Path",
+    "sampling.Progress": "Progress",
+}
+TABLE = re.compile(r"(\S(?:.*?\S)?) {2,}(?=\S)")
+
+
+def members_of(kind):
+    """The directive of a class with its members."""
+    lines = [f".. autoclass:: ljclient.{kind}", "   :members:", f"   :inherited-members: {PLAIN}"]
+    hidden = ", ".join(["of", *INTERNAL.get(kind, "").split()])
+    return [*lines, f"   :exclude-members: {hidden}", ""]
+
+
+def is_raised(value):
+    return inspect.isclass(value) and issubclass(value, BaseException)
+
+
+def package():
+    """The directives of all public names of the package, those of modules left out."""
+    values = {name: getattr(ljclient, name) for name in ljclient.__all__}
+    raised = [name for name, value in values.items() if is_raised(value)]
+    first = ["User", "Session"]
+    classes = [name for name, value in values.items() if inspect.isclass(value) and name not in [*raised, *first]]
+    others = [name for name, value in values.items() if not inspect.isclass(value) and not inspect.ismodule(value)]
+    kinds = {name: "function" if inspect.isroutine(values[name]) else "data" for name in others}
+    yield from ["Functions", "-" * 80, "", *(f".. auto{kind}:: ljclient.{name}\n" for name, kind in kinds.items())]
+    for title, names in (("Classes", [*first, *classes]), ("Errors and warnings", raised)):
+        yield from [title, "-" * 80, "", *(line for name in names for line in members_of(name))]
+
+
+def public_modules():
+    """The modules that are public names of the package, and those that say themselves what is public."""
+    for found in pkgutil.walk_packages([str(CLIENT / "ljclient")], "ljclient."):
+        source = pathlib.Path(found.module_finder.find_spec(found.name).origin).read_text(encoding="utf-8")
+        name = found.name.partition(".")[2]
+        if "\n__all__ = " in source or (name in ljclient.__all__ and inspect.ismodule(getattr(ljclient, name))):
+            yield found.name
+
+
+def modules():
+    """The directives of the public modules, without what stands among the names of the package."""
+    for module in public_modules():
+        name = module.partition(".")[2]
+        shown = [each for each in ljclient.__all__ if hasattr(vars(ljclient).get(name), each)]
+        hidden = ", ".join([*shown, *INTERNAL.get(name, "").split()])
+        yield from [module, "-" * len(module), "", f".. automodule:: {module}", "   :members:", "   :undoc-members:"]
+        yield from [*([f"   :exclude-members: {hidden}"] if hidden else []), ""]
+
+
+def table_of(lines):
+    """The rows of a table, each a name and the lines of its text, if lines are one: all texts begin at one column."""
+    column = found.end() if (found := TABLE.match(lines[0])) else 0
+    rows = []
+    for line in lines:
+        name, text = line[:column].strip(), line[column:]
+        if not column or not text or text[0] == " " or (name and line[column - 2 : column] != "  "):
+            return None
+        if name:
+            rows.append((name, []))
+        rows[-1][1].append(text)
+    return rows
+
+
+def restructured(paragraph, name):
+    """A paragraph of a docstring in reStructuredText: tables are definition lists there, and what is indented is code."""
+    if paragraph[0].startswith(" "):
+        return ["::", "", *paragraph, ""]
+    if rows := table_of(paragraph):
+        terms = [("`{}`".format(names.replace(", ", "`, `")), text) for names, text in rows]
+        return [line for term, text in terms for line in [term, *("    " + part for part in text)]] + [""]
+    if any(map(TABLE.match, paragraph)):
+        logging.getLogger(__name__).warning("%s: the texts of a table do not begin at one column: %s", name, paragraph[0])
+    return [*paragraph, ""]
+
+
+def paragraphs_of(lines):
+    """The paragraphs of a docstring."""
+    return [part.split("\n") for part in re.split(r"\n(?:\s*\n)+", "\n".join(lines).strip("\n")) if part]
+
+
+def converted(app, what, name, obj, options, lines):
+    """Has Sphinx read a docstring as it is written here. A refusal without one says what the protocol does."""
+    if inspect.isclass(obj) and obj.__doc__ is None:
+        lines[:] = [f"``ERR {obj.number:02} {obj.name}``: {obj.meaning}."] if issubclass(obj, ljclient.Refused) else []
+    else:
+        lines[:] = [line for paragraph in paragraphs_of(lines) for line in restructured(paragraph, name)]
+
+
+def signed(app, what, name, obj, options, signature, returns):
+    """Names types as the package does. What users do not make themselves is shown without how it is made."""
+    if obj in (ljclient.User, ljclient.Session) or is_raised(obj):
+        return "", None
+    for long, short in TYPES.items():
+        signature = signature and signature.replace(long, short)
+    return signature, returns and returns.replace("typing.", "")
+
+
+def skipped(app, what, name, obj, skip, options):
+    """Leaves out what Python itself says of the fields of a tuple, and what refusals have for the client."""
+    is_of_python = str(getattr(obj, "__doc__", "")).startswith("Alias for field number")
+    return is_of_python or (what == "exception" and name in ("number", "name", "meaning", "by_number")) or None
+
+
+def filled(app, name, source):
+    """Puts the directives into the page that names them."""
+    for word, lines in (("PUBLIC NAMES", package), ("PUBLIC MODULES", modules)):
+        if f"\n{word}\n" in source[0]:
+            source[0] = source[0].replace(word, "\n".join(lines()))
+
+
+def setup(app):
+    app.connect("source-read", filled)
+    app.connect("autodoc-process-docstring", converted)
+    app.connect("autodoc-process-signature", signed)
+    app.connect("autodoc-skip-member", skipped)
