@@ -1,15 +1,14 @@
 -- A ticket that was granted for a first line, and what becomes of it.
-use Rattle.std.proofs.Common.{ℕ, List, [], ◌∷◌, ◌++◌, Option, sym, subst}
+use Rattle.std.proofs.Common.{ℕ, List, [], ◌∷◌, Option, sym, subst}
 use Rattle.lj_wire.specs.declared.hello.Hello.TheVariants.{Asked}
-use Rattle.lj_wire.specs.Ends.{Rises}
 use Rattle.lj_wire.specs.Greetings.{Greets}
 use Rattle.lj_wire.specs.LineReader.{LineReader}
 use Rattle.lj_access.specs.Rows.{Ticket}
 use Rattle.lj_visit.specs.declared.visiting.Visited.{Visited}
 use Rattle.lj_visit.specs.declared.visiting.Visited.TheVariants.{NoLine, Denied, ShutOut, NotWelcomed, Attended}
 use Rattle.lj_visit.specs.Events.{Event, Happens}
-use Rattle.lj_visit.specs.Events.Event.{granted, entered, shut_out, opened, withdrawn, left}
-use Rattle.lj_visit.specs.Visits.{Writer, IsAdmission, IsVisit, events_closing, events_leaving}
+use Rattle.lj_visit.specs.Events.Event.{granted, entered, shut_out, left}
+use Rattle.lj_visit.specs.Visits.{Writer, IsAdmission, IsVisit}
 use Rattle.lj_visit.proofs.Happening.{Happens-more}
 
 pub admitted : (visited : Visited) (name token : List ℕ) (ticket : Ticket) (first lines last : LineReader) (old new : Writer)
@@ -43,32 +42,18 @@ admitted NotWelcomed name token ticket first lines last old new before between a
       Happens-more before between after (granted name token ticket ∷ []) (entered ticket a.5 ∷ left ticket a.5 ∷ []) grants a.6;
 }
 admitted (Attended served) name token ticket first lines last old new before between after greets grants a =
-    let state = a.0 in
-    let lent = a.1 in
-    let s = a.6 in
-    let others = opened ticket.user ∷ withdrawn ticket.user s.seen 0 ∷ (events_leaving ticket s.next ++ events_closing served) in
     record {
       name = name;
       token = token;
       ticket = ticket;
-      state = state;
+      state = a.0;
       reached = a.2;
       lines = lines;
       greets = greets;
       welcomed = a.4;
       welcomes = a.5;
-      seen = s.seen;
-      next = s.next;
-      serves = s.serves;
-      at_end = s.at_end;
-      read_fault = λ e. subst (λ (n : Option ℕ). Rises n last.errors) greets.errors_is (s.read_fault e);
-      write_fault = s.write_fault;
-      pool_closed = s.pool_closed;
-      strays = s.strays;
-      all_read = s.all_read;
-      none_owed = s.none_owed;
-      quota = s.quota;
-      happens =
-          Happens-more before between after (granted name token ticket ∷ []) (entered ticket state ∷ others) grants
-          (Happens-more between lent after (entered ticket state ∷ []) others a.3 s.happens);
+      lent = a.1;
+      enters =
+          Happens-more before between a.1 (granted name token ticket ∷ []) (entered ticket a.0 ∷ []) grants a.3;
+      serving = a.6;
     }

@@ -91,43 +91,8 @@ abbrev pub events_closing : Served → List Event
 events_closing TooManyStrays = closed ∷ []
 events_closing served = []
 
--- The ticket entered, OK HELLO was written, and then the dialogue of the lines that follow, from the state that was lent. It was
--- held over an end that was made for the ticket's user and asked for no other. Then what the pool has of the user was dropped,
--- and after that the state came home that serving handed back.
-pub record IsAttended (served : Served) (first last : LineReader) (old new : Writer) (before after : Option (List Event)) :
-    Type 0 where
-  pub name : List ℕ
-  pub token : List ℕ
-  pub ticket : Ticket
-  pub state : UserState
-  pub reached : Reached state
-  pub lines : LineReader
-  pub greets : Greets first lines (Asked name token)
-  pub welcomed : Option (List ℕ)
-  pub welcomes : Appends old.contents welcomed (welcome_line name)
-  pub seen : Seen
-  pub next : Option UserState
-  pub serves : Serves served state lines.left last.left welcomed new.contents nothing_seen seen next
-  pub at_end : served ≡ End → IsAtEnd last.left
-  pub read_fault : served ≡ ReadFault → Rises first.errors last.errors
-  pub write_fault : served ≡ WriteFault → Rises old.faults new.faults
-  pub pool_closed : served ≡ PoolClosed → seen.closed ≡ true
-  pub strays : served ≡ TooManyStrays → StraysRise MAX_STRAYS nothing_seen seen
-  pub all_read : served ≡ ReadFault → last.held ≡ []
-  pub none_owed : IfSome next (λ owned. NoneOwed owned → seen.owed ≡ [])
-  pub quota : IfSome next (λ owned. owned.quota ≡ state.quota)
-  pub happens : Happens before after (granted name token ticket ∷ entered ticket state ∷ opened ticket.user
-      ∷ withdrawn ticket.user seen 0 ∷ (events_leaving ticket next ++ events_closing served))
-
--- what a visit that ends so reads, writes and does
-abbrev pub IsVisit : Visited → LineReader → LineReader → Writer → Writer → Option (List Event) → Option (List Event) → Type 0
-IsVisit NoLine first last old new before after = IsUnasked first last × (new ≡ old) × (after ≡ before)
-IsVisit Denied first last old new before after = IsDenied first last old new before after
-IsVisit (ShutOut why) first last old new before after = IsShutOut why first last before after × (new ≡ old)
-IsVisit NotWelcomed first last old new before after = IsNotWelcomed first last old new before after
-IsVisit (Attended served) first last old new before after = IsAttended served first last old new before after
-
--- A state that was lent is served over an end that is made for the ticket's user, and what serving has handed back comes home.
+-- A state that was lent is served over an end that was made for the ticket's user and asked for no other. Then what the pool has
+-- of the user is dropped, and after that the state comes home that serving has handed back.
 pub record IsServing (served : Served) (ticket : Ticket) (state : UserState) (first last : LineReader) (old new : Writer)
     (before after : Option (List Event)) : Type 0 where
   pub seen : Seen
@@ -143,6 +108,32 @@ pub record IsServing (served : Served) (ticket : Ticket) (state : UserState) (fi
   pub quota : IfSome next (λ owned. owned.quota ≡ state.quota)
   pub happens : Happens before after (opened ticket.user ∷ withdrawn ticket.user seen 0
       ∷ (events_leaving ticket next ++ events_closing served))
+
+-- The ticket entered, OK HELLO was written, and then the dialogue of the lines that follow, from the state that was lent, which
+-- comes home.
+pub record IsAttended (served : Served) (first last : LineReader) (old new : Writer) (before after : Option (List Event)) :
+    Type 0 where
+  pub name : List ℕ
+  pub token : List ℕ
+  pub ticket : Ticket
+  pub state : UserState
+  pub reached : Reached state
+  pub lines : LineReader
+  pub greets : Greets first lines (Asked name token)
+  pub welcomed : Option (List ℕ)
+  pub welcomes : Appends old.contents welcomed (welcome_line name)
+  pub lent : Option (List Event)
+  pub enters : Happens before lent (granted name token ticket ∷ entered ticket state ∷ [])
+  pub serving :
+      IsServing served ticket state lines last (record { contents = welcomed; faults = old.faults }) new lent after
+
+-- what a visit that ends so reads, writes and does
+abbrev pub IsVisit : Visited → LineReader → LineReader → Writer → Writer → Option (List Event) → Option (List Event) → Type 0
+IsVisit NoLine first last old new before after = IsUnasked first last × (new ≡ old) × (after ≡ before)
+IsVisit Denied first last old new before after = IsDenied first last old new before after
+IsVisit (ShutOut why) first last old new before after = IsShutOut why first last before after × (new ≡ old)
+IsVisit NotWelcomed first last old new before after = IsNotWelcomed first last old new before after
+IsVisit (Attended served) first last old new before after = IsAttended served first last old new before after
 
 -- What becomes of a ticket that was granted to a user of this name, by how the visit ends.
 abbrev pub IsAdmission : Visited → List ℕ → Ticket → LineReader → LineReader → Writer → Writer → Option (List Event)

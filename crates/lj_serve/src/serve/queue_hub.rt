@@ -1,5 +1,5 @@
 //! A pool with a queue as a server has it.
-ghost use Rattle.std.specs.Prelude.{◌≡◌, ◌+◌, ◌∷◌, [], None};
+ghost use Rattle.std.specs.Prelude.{◌≡◌, ◌+◌, ◌∷◌, [], None, IfOk, map, sum};
 ghost use Rattle.lj_visit.specs.Events.{Happens};
 ghost use Rattle.lj_visit.specs.Events.Event.{withdrawn};
 
@@ -86,7 +86,7 @@ impl<L: Room> QueueHub<L> {
         self.returned.notify_one();
     }
 
-    /// How many results the pool was given, by the tools of all its workers. Notes what became of the tasks.
+    /// How many results the pool was given: the sum of the shares of all its workers. Notes what became of the tasks.
     ///
     /// # Errors
     /// Out of memory if some tools are lost, since a worker had no thread.
@@ -98,13 +98,17 @@ impl<L: Room> QueueHub<L> {
     ) -> Result<u64, OutOfMemory>
         requires one_each { workers ≡ L.parts }
         requires passes { workers + CONNECTIONS ≡ L.passes }
+        ensures { IfOk result (λ total. total ≡ sum (map (λ tool. tool.0) tools.items)) }
     {
         let QueueHub { pool, free, .. } = self;
         let Free {
             mut passes,
             mut shares,
         } = free.into_inner();
-        for (share, pass) in tools {
+        // No share lies here: each is a worker's.
+        shares.clear();
+        let mut tools = tools;
+        while let Some((share, pass)) = tools.pop() {
             shares.push(share)?;
             passes.push(pass)?;
         }
