@@ -30,7 +30,7 @@ use std::{io, thread};
 const LATE_MILLIS: u64 = 20;
 
 /// How often a gate looks at most before it lets a task pass.
-const TURNS: u64 = 1_000_000;
+const TURNS: u64 = 3_000_000;
 
 /// How long it waits after each look, so that other threads get on.
 const TURN_MICROS: u64 = 20;
