@@ -99,18 +99,23 @@ def options_of(arguments: List[str]) -> argparse.Namespace:
         reader.error("--temperature is not below 0")
     if not 0 <= options.port <= 65535:
         reader.error("--port is from 0 to 65535")
-    if options.listen is not None and address_in(options.listen) is None:
-        reader.error("--listen is an ADDRESS:PORT, such as 0.0.0.0:8000")
-    if options.listen is not None and options.port:
-        reader.error("--listen says the port: leave --port out")
-    if options.listen is None and options.address is not None:
-        reader.error("--address is for --listen")
+    check_listen(reader, options)
     physical = [options.epsilon, options.mass, options.dt]
     if options.h is not None and physical != [None] * 3:
         reader.error("--h stands in place of --epsilon, --mass and --dt")
     if not options.files and options.server is None and [options.edge, options.sigma, *physical] != [None] * 5:
         reader.error("--edge, --sigma, --epsilon, --mass and --dt are for the atoms of a file")
     return options
+
+
+def check_listen(reader: argparse.ArgumentParser, options: argparse.Namespace) -> None:
+    """Ends with status 2 if the options of a page for others do not fit."""
+    if options.listen is not None and address_in(options.listen) is None:
+        reader.error("--listen is an ADDRESS:PORT, such as 0.0.0.0:8000")
+    if options.listen is not None and options.port:
+        reader.error("--listen says the port: leave --port out")
+    if options.listen is None and options.address is not None:
+        reader.error("--address is for --listen")
 
 
 def access_of(options: argparse.Namespace) -> Access:
