@@ -1,13 +1,19 @@
--- The row of a user, changed twice.
-use Rattle.std.proofs.Common.{◌≡◌, ℕ, zero, suc, ◌+◌, ◌<◌, List, [], ◌∷◌, length, get_or, slice_get, slice_set, Option, Some, None, IsSomeAnd}
-use Rattle.std.proofs.Common.{refl, sym, ap, ◌∙◌, subst, arith}
-use Rattle.std.specs.Prelude.{Result, Ok, Err, true}
+-- The row of a user, changed twice, and the tickets that are kept when some are passed over.
+use Rattle.std.proofs.Common.{◌≡◌, ℕ, zero, suc, ◌+◌, ◌-◌, ◌<◌, ◌≤◌, List, [], ◌∷◌, ◌++◌, length, get_or, slice_get, slice_set}
+use Rattle.std.proofs.Common.{Option, Some, None, IsSomeAnd, refl, sym, ap, ◌∙◌, subst, arith}
+use Rattle.std.specs.Prelude.{Result, Ok, Err, true, unwrap_or}
 use Rattle.std.specs.Result.{IsOk, OnOk, is_err}
-use Rattle.std.specs.Option.{option_and_then}
-use Rattle.std.proofs.lemmas.Option.{slice_get_within}
+use Rattle.std.specs.List.{remove}
+use Rattle.std.specs.List.Sorted.{IsPermutation}
+use Rattle.std.specs.Option.{option_and_then, option_map}
+use Rattle.std.proofs.lemmas.List.{append-nil}
+use Rattle.std.proofs.lemmas.List.Sorted.{IsPermutation-append_left, IsPermutation-middle, IsPermutation-refl}
+use Rattle.std.proofs.lemmas.List.Sorted.{IsPermutation-remove, IsPermutation-sym, IsPermutation-trans}
+use Rattle.std.proofs.lemmas.Option.{get_or_from_slice_get, slice_get_read, slice_get_within}
 use Rattle.lj_session.specs.UserState.{UserState}
 use Rattle.lj_access.specs.Rows.{Row, Ticket, CanEnter, HasEntered, home_of, with_home, with_row_changed, with_row_changed_to, without_home}
-use Rattle.lj_access.specs.Passing.{PassesOver, passed, passed_over}
+use Rattle.lj_access.proofs.RowLemmas.{place_within}
+use Rattle.lj_access.specs.Passing.{IsNext, PassesOver, passed, passed_over, past_of, tickets_from, tickets_passed}
 
 set-set : (rows : List Row) (i : ℕ) (a b : Row) → slice_set (slice_set rows i a) i b ≡ slice_set rows i b
 set-set [] i a b = refl
@@ -104,8 +110,123 @@ pub ok_holds : {T E : Type 0} (r : Result T E) (P : Type 0) → IsOk r → OnOk 
 ok_holds (Ok x) P ok on = on
 ok_holds (Err e) P ok on = cc
 
--- an element that is there is read whatever else would be
-pub read_any : (tickets : List Ticket) (i : ℕ) (a b : Ticket) → i < length tickets → get_or tickets i a ≡ get_or tickets i b
-read_any [] i a b within = absurd (omega (arith, within))
-read_any (ticket ∷ tickets) zero a b within = refl
-read_any (ticket ∷ tickets) (suc i) a b within = read_any tickets i a b (omega (arith, within))
+-- the row that is found after a change is the changed one
+row_changed_by : (o : Option Row) (rows : List Row) (user : ℕ) (f : Row → Row) → slice_get rows user ≡ o
+    → slice_get (with_row_changed user f rows) user ≡ option_map f o
+row_changed_by None rows user f missing = ap (λ others. slice_get others user) (changed_nowhere rows user f missing) ∙ missing
+row_changed_by (Some row) rows user f found =
+    ap (λ others. slice_get others user) (changed_at rows user row f found)
+    ∙ get-set rows user (f row) (slice_get_within rows user row found)
+
+-- how many tickets of a row have left, 0 without a row
+past_in : Option Row → ℕ
+past_in o = unwrap_or (option_map (λ (r : Row). r.past) o) 0
+
+past_grows : (o : Option Row) (count : ℕ) → past_in o ≤ past_in (option_map (passed count) o)
+unfolding past_in
+past_grows None count = omega arith
+past_grows (Some row) count = omega arith
+
+-- no ticket comes back
+past_not_less : (user : ℕ) (old new : List Row) → PassesOver user old new → past_of old user ≤ past_of new user
+unfolding past_in
+past_not_less user old new over =
+    let now : slice_get new user ≡ option_map (passed over.0) (slice_get old user) =
+    ap (λ others. slice_get others user) over.1 ∙ row_changed_by (slice_get old user) old user (passed over.0) refl in
+    subst (λ o. past_in (slice_get old user) ≤ past_in o) (sym now) (past_grows (slice_get old user) over.0)
+
+entering_by : (o : Option Row) (number : ℕ) → IsSomeAnd o (CanEnter number)
+    → (past_in o ≡ number) × (past_in (option_map passed_over o) ≡ number + 1)
+unfolding past_in
+entering_by None number can = absurd can
+entering_by (Some row) number can = (can.first.past, ap (λ n. n + 1) can.first.past)
+
+-- a ticket that may enter is numbered by how many have left, and is one of them when it is passed over
+entering : (rows new : List Row) (user number : ℕ) → IsSomeAnd (slice_get rows user) (CanEnter number)
+    → new ≡ with_row_changed user passed_over rows → (past_of rows user ≡ number) × (past_of new user ≡ number + 1)
+unfolding past_in
+entering rows new user number can over =
+    let two = entering_by (slice_get rows user) number can in
+    let now : slice_get new user ≡ option_map passed_over (slice_get rows user) =
+    ap (λ others. slice_get others user) over ∙ row_changed_by (slice_get rows user) rows user passed_over refl in
+    (two.0, ap past_in now ∙ two.1)
+
+-- one ticket more after those between two numbers
+ticket_more : (user first past : ℕ) → first ≤ past
+    → tickets_from user first (past + 1 - first) ≡ record { user = user; number = past } ∷ tickets_from user first (past - first)
+ticket_more user first past le =
+    let more : past + 1 - first ≡ suc (past - first) = omega arith in
+    let last : first + (past - first) ≡ past = omega arith in
+    ap (tickets_from user first) more
+    ∙ ap (λ (n : ℕ). record { user = user; number = n } ∷ tickets_from user first (past - first)) last
+
+-- a ticket is its user and its number
+same_ticket : (ticket : Ticket) (user number : ℕ) → ticket.user ≡ user → ticket.number ≡ number
+    → record { user = user; number = number } ≡ ticket
+same_ticket ticket user number e f =
+    ap (λ (n : ℕ). record { user = n; number = number }) (sym e) ∙ ap (λ (n : ℕ). record { user = ticket.user; number = n }) (sym f)
+
+-- tickets are kept, but for those of a user that are passed over
+pub record Passes (user : ℕ) (old new : List Row) (held kept : List Ticket) : Type 0 where
+  pub over : PassesOver user old new
+  pub tickets : IsPermutation held (kept ++ tickets_passed user old new)
+
+-- none is passed over yet
+pub keeps_all : (user : ℕ) (rows : List Row) (held : List Ticket) → Passes user rows rows held held
+keeps_all user rows held = record {
+  over = passes_none rows user;
+  tickets =
+      let none : past_of rows user - past_of rows user ≡ 0 = omega arith in
+      let same : held ≡ held ++ tickets_passed user rows rows =
+      sym (append-nil held) ∙ ap (λ n. held ++ tickets_from user (past_of rows user) n) (sym none) in
+      subst (IsPermutation held) same (IsPermutation-refl held);
+}
+
+-- a ticket that is next is there in the list, also where the list is named otherwise
+pub next_within : (kept items : List Ticket) (at : ℕ) (rows : List Row) (user : ℕ) → items ≡ kept
+    → IsSomeAnd (slice_get kept at) (IsNext rows user) → at < length items
+next_within kept items at rows user same next =
+    place_within items at (IsNext rows user) (subst (λ others. IsSomeAnd (slice_get others at) (IsNext rows user)) (sym same) next)
+
+-- the ticket that is read at a place where one is next is that one
+pub read_next : (kept items : List Ticket) (at : ℕ) (rows : List Row) (user : ℕ) (ticket : Ticket) → items ≡ kept
+    → IsSomeAnd (slice_get kept at) (IsNext rows user) → ticket ≡ get_or items at ticket
+    → (slice_get kept at ≡ Some ticket) × IsNext rows user ticket
+read_next kept items at rows user ticket same next read =
+    let within = next_within kept items at rows user same next in
+    let found : slice_get kept at ≡ Some ticket =
+    ap (λ others. slice_get others at) (sym same) ∙ slice_get_read items (length items) at ticket refl within read in
+    (found, subst (λ o. IsSomeAnd o (IsNext rows user)) found next)
+
+taken_out : (held kept rest : List Ticket) (at : ℕ) (ticket : Ticket) → at < length kept → ticket ≡ get_or kept at ticket
+    → IsPermutation held (kept ++ rest) → IsPermutation held (remove kept at ++ ticket ∷ rest)
+taken_out held kept rest at ticket within read before =
+    let left = remove kept at in
+    let front = IsPermutation-append_left rest kept (ticket ∷ left) (IsPermutation-remove kept at ticket within read) in
+    let moved = IsPermutation-sym (left ++ ticket ∷ rest) (ticket ∷ (left ++ rest)) (IsPermutation-middle left ticket rest) in
+    IsPermutation-trans held (kept ++ rest) (left ++ ticket ∷ rest) before
+    (IsPermutation-trans (kept ++ rest) (ticket ∷ (left ++ rest)) (left ++ ticket ∷ rest) front moved)
+
+-- one ticket more is taken out and passed over
+pub keeps_less : (user : ℕ) (old between new : List Row) (held kept : List Ticket) (at : ℕ) (ticket : Ticket)
+    → Passes user old between held kept → slice_get kept at ≡ Some ticket → IsNext between user ticket
+    → new ≡ with_row_changed user passed_over between → Passes user old new held (remove kept at)
+keeps_less user old between new held kept at ticket before found next over =
+    let can : IsSomeAnd (slice_get between user) (CanEnter ticket.number) =
+    subst (λ (n : ℕ). IsSomeAnd (slice_get between n) (CanEnter ticket.number)) next.own next.enters in
+    let two = entering between new user ticket.number can over in
+    let first = past_of old user in
+    let rest = tickets_passed user old between in
+    let le : first ≤ past_of between user = past_not_less user old between before.over in
+    let more : tickets_passed user old new ≡ ticket ∷ rest =
+    ap (λ n. tickets_from user first (n - first)) (two.1 ∙ ap (λ n. n + 1) (sym two.0))
+    ∙ ticket_more user first (past_of between user) le
+    ∙ ap (λ t. t ∷ rest) (same_ticket ticket user (past_of between user) next.own (sym two.0)) in
+    let within = slice_get_within kept at ticket found in
+    let read = sym (get_or_from_slice_get kept at ticket ticket found) in
+    record {
+      over = passes_more user old between new before.over over;
+      tickets =
+          subst (λ others. IsPermutation held (remove kept at ++ others)) (sym more)
+          (taken_out held kept rest at ticket within read before.tickets);
+    }

@@ -14,14 +14,17 @@ use Rattle.lj_access.specs.Directories.{IsDirectory}
 pub fact_of_row : (o : Option Row) (row : Row) (P : Row → Type 0) → o ≡ Some row → IsSomeAnd o P → P row
 fact_of_row o row P found fact = let Q : Option Row → Type 0 = λ x. IsSomeAnd x P in subst Q found fact
 
-within_from : (o : Option Row) (rows : List Row) (user : ℕ) (P : Row → Type 0) → slice_get rows user ≡ o → IsSomeAnd o P
-    → user < length rows
-within_from None rows user P found fact = absurd fact
-within_from (Some row) rows user P found fact = slice_get_within rows user row found
+within_from : {X : Type 0} (o : Option X) (xs : List X) (i : ℕ) (P : X → Type 0) → slice_get xs i ≡ o → IsSomeAnd o P → i < length xs
+within_from None xs i P found fact = absurd fact
+within_from (Some x) xs i P found fact = slice_get_within xs i x found
+
+-- a place of which something holds is one of the list
+pub place_within : {X : Type 0} (xs : List X) (i : ℕ) (P : X → Type 0) → IsSomeAnd (slice_get xs i) P → i < length xs
+place_within xs i P fact = within_from (slice_get xs i) xs i P refl fact
 
 -- a user of whom something holds is one of the rows
 pub user_within : (rows : List Row) (user : ℕ) (P : Row → Type 0) → IsSomeAnd (slice_get rows user) P → user < length rows
-user_within rows user P fact = within_from (slice_get rows user) rows user P refl fact
+user_within rows user P fact = place_within rows user P fact
 
 -- a row, read and written back changed
 pub record Writes (rows : List Row) (user : ℕ) (row new : Row) (change : Row → Row) : Type 0 where

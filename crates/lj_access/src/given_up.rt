@@ -1,21 +1,35 @@
 //! Tickets that were given up while they waited: each is passed over once its turn has come.
-ghost use Rattle.std.specs.Prelude.{◌≡◌, true, IfErr, IsSomeAnd, slice_get};
-ghost use Rattle.lj_access.specs.Passing.{PassesOver, passed_over};
+ghost use Rattle.std.specs.Prelude.{◌≡◌, ◌↔◌, [], ◌∷◌, ◌++◌, IsTrue, IfErr, IfNone, IfSome, IsSomeAnd, OnErr, OnOk, slice_get};
+ghost use Rattle.std.specs.List.{All};
+ghost use Rattle.std.specs.List.Sorted.{IsPermutation};
+ghost use Rattle.lj_access.specs.Passing.{IsNext, PassesOver, passed_over, tickets_passed};
 ghost use Rattle.lj_access.specs.Rows.{CanEnter, with_row_changed};
 
 use crate::directory::Directory;
 use crate::ticket::Ticket;
 use std::alloc::Global;
+use std::marker::Model;
 
-/// Tickets for which nobody waits any more, by their numbers.
+/// Tickets for which nobody waits any more.
 #[derive(Drop)]
 pub struct GivenUp {
     tickets: Vec<Ticket>,
 }
 
+impl Model for GivenUp {
+    ghost use Rattle.std.specs.Prelude.{List};
+    ghost use Rattle.lj_access.specs.Rows as known;
+
+    ghost Value = { List known.Ticket };
+
+    ghost view = { λ given_up. given_up.tickets.items };
+}
+
 impl GivenUp {
     /// No ticket is given up.
-    pub fn new(alloc: Global) -> GivenUp {
+    pub fn new(alloc: Global) -> GivenUp
+        ensures { result ≡ [] }
+    {
         GivenUp {
             tickets: Vec::new(alloc),
         }
@@ -26,41 +40,43 @@ impl GivenUp {
     /// # Errors
     /// Out of memory. The ticket is handed back.
     pub fn keep(&mut self, ticket: Ticket) -> Result<(), Ticket>
-        ensures { IfErr result (λ back. back ≡ ticket) }
+        ensures kept { OnOk result (self.new ≡ self.old ++ ticket ∷ []) }
+        ensures back { IfErr result (λ back. back ≡ ticket) }
+        ensures unchanged { OnErr result (self.new ≡ self.old) }
     {
-        let number = ticket.number();
-        let place = self
-            .tickets
-            .iter()
-            .position(|other| other.number() > number)
-            .unwrap_or(self.tickets.len());
-        match self.tickets.insert(place, ticket) {
+        match self.tickets.push(ticket) {
             Ok(()) => Ok(()),
             Err(refused) => Err(refused.value),
         }
     }
 
-    /// Passes over the kept tickets of a user whose turn has come, one after the other. Each of them enters and leaves at once.
+    /// Passes over the kept tickets of a user whose turn has come, one after the other. Each of them enters and leaves
+    /// at once, and is kept no longer.
     pub fn pass(&mut self, directory: &mut Directory, user: u8)
-        ensures { PassesOver user directory.old directory.new }
+        ensures passed { PassesOver user directory.old directory.new }
+        ensures kept { IsPermutation self.old (self.new ++ tickets_passed user directory.old directory.new) }
+        ensures waiting { All (λ ticket. ¬ IsNext directory.new user ticket) self.new }
     {
-        let mut at = 0;
-        while at < self.tickets.len() {
-            if is_next(directory, &self.tickets[at], user) {
-                let ticket = self.tickets.remove(at);
-                pass_over(directory, ticket);
-            } else {
-                at += 1;
-            }
+        while let Some(at) = self.next_of(directory, user) {
+            let ticket = self.tickets.remove(at);
+            pass_over(directory, ticket);
         }
+    }
+
+    /// The place of a kept ticket of this user that may enter now.
+    fn next_of(&self, directory: &Directory, user: u8) -> Option<usize>
+        ensures next { IfSome result (λ at. IsSomeAnd (slice_get self.now at) (IsNext directory.now user)) }
+        ensures none { IfNone result (All (λ ticket. ¬ IsNext directory.now user ticket) self.now) }
+    {
+        self.tickets
+            .iter()
+            .position(|ticket| is_next(directory, ticket, user))
     }
 }
 
 /// Whether the ticket is one of this user that may enter now.
 fn is_next(directory: &Directory, ticket: &Ticket, user: u8) -> bool
-    ensures user { result ≡ true → ticket.now.user ≡ user }
-    ensures enters { result ≡ true
-        → IsSomeAnd (slice_get directory.now ticket.now.user) (CanEnter ticket.now.number) }
+    ensures { IsTrue result ↔ IsNext directory.now user ticket.now }
 {
     ticket.user() == user && directory.can_enter(ticket)
 }

@@ -1,10 +1,9 @@
-use Rattle.std.proofs.Common.{◌-◌}
-use Rattle.std.specs.Vec.{vec_len}
-use Rattle.lj_access.specs.Passing.{PassesOver}
+use Rattle.std.proofs.Common.{length}
+use Rattle.lj_access.proofs.Passing.{Passes}
 use Rattle.lj_access.proofs.given_up.GivenUp.pass.Given as goal
 
 abbrev pub invariant-loop-at : goal.invariant-loop-at
-invariant-loop-at l = PassesOver l.user l.initial.directory l.directory
+invariant-loop-at l = Passes l.user l.initial.directory l.directory l.initial.self l.self
 
 abbrev pub decreases-loop-at : goal.decreases-loop-at
-decreases-loop-at l = vec_len l.self.tickets - l.at
+decreases-loop-at l = length l.self
