@@ -1,6 +1,7 @@
 //! The door of a server, where tickets wait for the states of their users.
 ghost use Rattle.std.specs.Prelude.{◌≡◌, List, IfErr, OnErr, OnOk};
-ghost use Rattle.lj_access.specs.Passing.{PassesOver};
+ghost use Rattle.std.specs.List.{All};
+ghost use Rattle.lj_access.specs.Passing.{IsNext, PassesOver};
 ghost use Rattle.lj_access.specs.Rows.{Row};
 ghost use Rattle.lj_serve.specs.Entries.{ComesHome, IsReached};
 
@@ -45,6 +46,8 @@ impl Hall {
         ensures back { IfErr result (λ back. back ≡ ticket) }
         ensures kept { OnErr result (self.new.directory ≡ self.old.directory) }
         ensures passed { OnOk result (PassesOver ticket.user self.old.directory self.new.directory) }
+        ensures waiting { OnOk result
+            (All (λ other. ¬ IsNext self.new.directory ticket.user other) self.new.given_up) }
     {
         let user = ticket.user();
         self.given_up.keep(ticket)?;
@@ -54,8 +57,9 @@ impl Hall {
 
     // Takes a state home, and passes over the next tickets of its user that were given up.
     fn leave(&mut self, ticket: Ticket, state: UserState)
-        ensures { (home : List Row) × ComesHome ticket state self.old.directory home
+        ensures passed { (home : List Row) × ComesHome ticket state self.old.directory home
             × PassesOver ticket.user home self.new.directory }
+        ensures waiting { All (λ other. ¬ IsNext self.new.directory ticket.user other) self.new.given_up }
     {
         let user = ticket.user();
         let _entered = self.directory.leave(ticket, state);

@@ -1,5 +1,6 @@
 //! A pool with a queue as a server has it.
-ghost use Rattle.std.specs.Prelude.{◌≡◌, ◌+◌, ◌∷◌, [], None, IfOk, map, sum};
+ghost use Rattle.std.specs.Prelude.{◌≡◌, ◌+◌, ◌∷◌, [], None, IfOk};
+ghost use Rattle.std.specs.List.{sum_by};
 ghost use Rattle.lj_visit.specs.Events.{Happens};
 ghost use Rattle.lj_visit.specs.Events.Event.{withdrawn};
 
@@ -98,7 +99,7 @@ impl<L: Room> QueueHub<L> {
     ) -> Result<u64, OutOfMemory>
         requires one_each { workers ≡ L.parts }
         requires passes { workers + CONNECTIONS ≡ L.passes }
-        ensures { IfOk result (λ total. total ≡ sum (map (λ tool. tool.0) tools.items)) }
+        ensures { IfOk result (λ total. total ≡ sum_by (λ tool. tool.0) tools.items) }
     {
         let QueueHub { pool, free, .. } = self;
         let Free {

@@ -1,0 +1,10 @@
+use Rattle.std.specs.Prelude.{◌≡◌, ◌+◌, sum, vec_len}
+use Rattle.std.specs.List.{sum_by}
+use Rattle.lj_serve.proofs.serve.queue_hub.QueueHub.gather.Given as goal
+
+abbrev pub invariant-loop-share : goal.invariant-loop-share
+invariant-loop-share g l =
+    sum_by (λ tool. tool.0) l.tools.items + sum l.shares.items ≡ sum_by (λ tool. tool.0) l.fn.tools.items
+
+abbrev pub decreases-loop-share : goal.decreases-loop-share
+decreases-loop-share g l = vec_len l.tools
