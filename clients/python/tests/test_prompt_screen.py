@@ -1,6 +1,7 @@
 """The prompt in a real terminal of 50, 80 and 120 columns: hints, completion, history, what is pasted, and help that fits."""
 import os
 import re
+import shlex
 
 import pytest
 
@@ -139,8 +140,7 @@ def test_history(begin, tmp_path):
     for line in (f"HELLO ann {TOKEN}", TOKEN, groups, f"# {TOKEN}"):
         screen.says(line, f"^ljserve> {line}$.*{EMPTY}")
     screen.says("LIST", f"^OK LIST 0\n{EMPTY}")
-    screen.press("C-l", "Up", "Enter")
-    screen.until(f"^ljserve> LIST\nOK LIST 0\n{EMPTY}")
+    typed_again(screen)
     screen.press("C-d")
     assert screen.ended() == 0
     assert path.read_text() == "LIST\n"
@@ -161,8 +161,34 @@ def test_a_history_that_is_no_file_keeps_nothing(begin, tmp_path, kind):
         path = path / "none"
     screen = begin(LJCLIENT_HISTORY=str(path))
     screen.says("LIST", f"^OK LIST 0\n{EMPTY}")
-    screen.press("C-l", "Up", "Enter")
-    screen.until(f"^OK LIST 0\n{EMPTY}")
+    typed_again(screen)
+
+
+def typed_again(screen):
+    """Has the LIST that was typed last be typed again from the history, on an empty screen."""
+    screen.press("C-l")
+    screen.until(r"\Aljserve>$")
+    screen.press("Up", "Enter")
+    screen.until(rf"\Aljserve> LIST\nOK LIST 0\n{EMPTY}")
+
+
+def test_the_end_may_be_typed_ahead(begin, tmp_path):
+    screen = begin(LJSERVE=slow_program(tmp_path))
+    screen.says("SHOW a 0", r"Ctrl-C\s+ends\s+the\s+wait")
+    screen.press("C-d")
+    screen.until(r"\^D")
+    (tmp_path / "go").touch()
+    assert screen.ended() == 0
+
+
+def test_the_terminal_is_left_as_it_was(tmp_path):
+    screen = Screen(["sh", "-c", f"{shlex.join(PROMPT)}; stty -a"], environment(), cwd=tmp_path)
+    try:
+        screen.until(EMPTY)
+        screen.press("C-d")
+        screen.until("eof = \\^D;")
+    finally:
+        screen.close()
 
 
 def test_interrupts_at_the_prompt_and_in_a_text(begin):

@@ -1,8 +1,12 @@
 """Lines that are edited by prompt_toolkit: hints of the words to come, completion, and a history."""
 from __future__ import annotations
 
+import contextlib
 import importlib
+import importlib.util
+import os
 import shutil
+import sys
 import textwrap
 from typing import Any, AsyncIterator, Callable, Iterator, List, Optional, Tuple
 
@@ -20,6 +24,7 @@ lexers: Any = importlib.import_module("prompt_toolkit.lexers")
 processors: Any = importlib.import_module("prompt_toolkit.layout.processors")
 shortcuts: Any = importlib.import_module("prompt_toolkit.shortcuts")
 styles: Any = importlib.import_module("prompt_toolkit.styles")
+termios: Any = importlib.import_module("termios") if importlib.util.find_spec("termios") else None
 
 STYLE = {"hint": "ansibrightblack", "bottom-toolbar": "noreverse ansibrightblack", "wrong": "ansired underline"}
 MAX_TOLD = 3
@@ -105,6 +110,21 @@ class Editor:
             reserve_space_for_menu=0,
         )
         self._texts: Any = shortcuts.PromptSession(history=history.DummyHistory())
+
+    @contextlib.contextmanager
+    def begun(self) -> Iterator[None]:
+        """Has the terminal keep a Ctrl-D that is typed ahead. Between two prompts it would turn it into a NUL."""
+        if termios is None:
+            yield
+            return
+        terminal = sys.stdin.fileno()
+        before, without_end = termios.tcgetattr(terminal), termios.tcgetattr(terminal)
+        without_end[-1][termios.VEOF] = bytes([os.fpathconf(terminal, "PC_VDISABLE")])
+        termios.tcsetattr(terminal, termios.TCSADRAIN, without_end)
+        try:
+            yield
+        finally:
+            termios.tcsetattr(terminal, termios.TCSADRAIN, before)
 
     def command(self, prompt: str) -> str:
         return str(self._session.prompt(prompt))

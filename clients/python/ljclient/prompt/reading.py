@@ -1,10 +1,11 @@
 """Where lines come from: a terminal, a file that is read there, or any other input."""
 from __future__ import annotations
 
+import contextlib
 import io
 import os
 from collections import deque
-from typing import BinaryIO, Callable, Deque, List, Optional, Protocol
+from typing import BinaryIO, Callable, ContextManager, Deque, List, Optional, Protocol
 
 from .loading import Fault
 
@@ -39,6 +40,9 @@ class PipeInput:
 class Reader(Protocol):
     """Who reads what is typed at a terminal."""
 
+    def begun(self) -> ContextManager[None]:
+        """Sets the terminal up for the lines that are read within the block."""
+
     def command(self, prompt: str) -> str:
         """The next line, or several that were pasted. EOFError at the end, KeyboardInterrupt for an interrupt."""
 
@@ -51,6 +55,9 @@ class Reader(Protocol):
 
 class PlainReader:
     """Lines as the terminal itself has them edited: without hints, completion and history."""
+
+    def begun(self) -> ContextManager[None]:
+        return contextlib.nullcontext()
 
     def command(self, prompt: str) -> str:
         return input(prompt)

@@ -160,7 +160,8 @@ def at_terminal(link: Link, where: str, prompt: str) -> int:
     terminal, (reader, about) = TerminalTalk(link, sys.stdout), reader_of(link)
     for text in (welcome(link, where), about):
         terminal.tell(*wrapped(text, "", "", columns_of(sys.stdout)))
-    return terminal.run(TerminalInput(prompt, reader, terminal.tell))
+    with reader.begun():
+        return terminal.run(TerminalInput(prompt, reader, terminal.tell))
 
 
 def talk(options: argparse.Namespace) -> int:
