@@ -328,11 +328,13 @@ class Wire:
         """Waits until bytes can be received or sent, for so many seconds at most. Answers whether they can."""
         start = time.monotonic()
         end = start + seconds
-        while self.on_wait and (left := end - time.monotonic()) > 0:
+        while (left := end - time.monotonic()) > 0:
+            # Never for long: an interrupt that comes just before a wait is seen after it.
             if self._selector.select(min(left, TICK_SECONDS)):
                 return True
-            self.on_wait(self._owed[0], time.monotonic() - start)
-        return bool(self._selector.select(max(0.0, end - time.monotonic())))
+            if self.on_wait:
+                self.on_wait(self._owed[0], time.monotonic() - start)
+        return bool(self._selector.select(0))
 
     def _watch_sink(self, wanted: bool) -> None:
         """Lets the next wait end when bytes can be sent, or not."""

@@ -10,6 +10,7 @@ from typing import Iterator, List, TextIO, Tuple
 
 from ..errors import ClientError, Refused
 from ..going import MAX_STEPS
+from ..interrupts import held
 from ..progress import reporter
 from ..user import User
 from ..wire import Reply
@@ -94,23 +95,30 @@ class TerminalTalk(Talk):
         self.tell(*(line for text in texts for line in wrapped(text.strip(), "  ", "  ", columns_of(self.out))))
 
     def run(self, lines: TerminalInput) -> int:
-        """Does what each line says until the end. What goes wrong with one is told, and the next one is taken."""
+        """Does what each line says until the end. Interrupts end nothing here, one while another is told included."""
         goes_on = True
         while goes_on:
-            line = None
-            try:
-                line = lines.line()
-                goes_on = line is not None and self.perform(line, lines)
-            except Fault as fault:
-                self.note(f"not sent: {fault}", *lines.stop_files())
-            except ClientError as error:
-                self.note(as_typed(error, self.waits.awaited), *lines.stop_files())
-                self.tell_end()
-            except KeyboardInterrupt:
+            with contextlib.suppress(KeyboardInterrupt):
+                goes_on = self.take_line(lines)
+        return 0
+
+    def take_line(self, lines: TerminalInput) -> bool:
+        """Does what the next line says. What goes wrong with it is told. Returns whether the prompt goes on."""
+        line = None
+        try:
+            line = lines.line()
+            return line is not None and self.perform(line, lines)
+        except Fault as fault:
+            self.note(f"not sent: {fault}", *lines.stop_files())
+        except ClientError as error:
+            self.note(as_typed(error, self.waits.awaited), *lines.stop_files())
+            self.tell_end()
+        except KeyboardInterrupt:
+            with held():
                 lines.forget()
                 self.tell("")
                 self.note(*(self.waits.interrupted(self.link.user) if line else []), *lines.stop_files())
-        return 0
+        return True
 
     def perform(self, typed: str, lines: TerminalInput) -> bool:
         """Does what a line says. Returns whether the prompt goes on."""

@@ -4,6 +4,8 @@ from __future__ import annotations
 import contextlib
 import io
 import os
+import select
+import sys
 from collections import deque
 from typing import BinaryIO, Callable, ContextManager, Deque, List, Optional, Protocol
 
@@ -11,6 +13,7 @@ from .loading import Fault
 
 MAX_BYTES_OF_LINE = 65_536
 MAX_FILES = 8
+TICK_SECONDS = 0.25
 
 
 class PipeInput:
@@ -60,13 +63,21 @@ class PlainReader:
         return contextlib.nullcontext()
 
     def command(self, prompt: str) -> str:
-        return input(prompt)
+        return line_at_terminal(prompt)
 
     def text(self, prompt: str) -> str:
-        return input(prompt)
+        return line_at_terminal(prompt)
 
     def remember(self, line: str) -> None:
         pass
+
+
+def line_at_terminal(prompt: str) -> str:
+    """The next line of a terminal. `input` alone sees an interrupt that comes just before it reads only behind the line."""
+    print(prompt, end="", flush=True)
+    while os.name == "posix" and not select.select([sys.stdin], [], [], TICK_SECONDS)[0]:
+        pass
+    return input()
 
 
 class FileLines(PipeInput):
