@@ -15,7 +15,7 @@ from ljclient import units
 TOP = pathlib.Path(__file__).resolve().parents[3]
 EXAMPLES = TOP / "examples"
 PROGRAM = os.environ.get("LJSERVE") or str(TOP / "bin" / "ljserve")
-SECONDS = 30
+SECONDS = 60
 TOKEN = "a" * 32
 DIMER = "2\ndimer\nAr 0 0 0\nAr 1.5 0 0\n"
 DIMER_SCALE = {"edge": 256, "sigma": 1, "h": 131072}
@@ -51,6 +51,12 @@ def go_on_alike(case, one, other):
 def interruptible(case):
     """Has an interrupt raise KeyboardInterrupt in a test. Where tests run in the background it is ignored from the start."""
     case.addCleanup(signal.signal, signal.SIGINT, signal.signal(signal.SIGINT, signal.default_int_handler))
+
+
+def heed_signals():
+    """Heeds the signals that are ignored in a program which runs in the background, or under nohup."""
+    for number in (signal.SIGINT, signal.SIGHUP):
+        signal.signal(number, signal.SIG_DFL)
 
 
 def free_port():
@@ -158,6 +164,19 @@ def says(*replies, then=None):
 def stays(connection, stop):
     """The peer says nothing more, and does not go."""
     stop.wait(SECONDS)
+
+
+def children_of(process):
+    """The numbers of the processes that this one has started."""
+    return [int(path.parent.name) for path in pathlib.Path("/proc").glob("[0-9]*/stat") if parent_of(path) == process]
+
+
+def parent_of(stat):
+    """The number of the process that has started the one of this file of /proc. None if that has ended meanwhile."""
+    try:
+        return int(stat.read_text().rpartition(")")[2].split()[1])
+    except OSError:
+        return None
 
 
 def is_running(pid):

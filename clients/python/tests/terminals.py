@@ -1,4 +1,5 @@
 """The prompt, and a program at a terminal as somebody who types sees it."""
+import codecs
 import fcntl
 import os
 import pty
@@ -11,7 +12,7 @@ import sys
 import termios
 import time
 
-from support import EXAMPLES, PROGRAM, SECONDS, TOP
+from support import EXAMPLES, PROGRAM, SECONDS, TOP, heed_signals
 
 PROMPT = [sys.executable, "-m", "ljclient"]
 ARGON = EXAMPLES / "argon_256.xyz"
@@ -54,9 +55,9 @@ def environment(**words):
 
 
 def begin_at_terminal():
-    """Takes the terminal, and heeds interrupts, which a program that runs in the background ignores."""
+    """Takes the terminal, and heeds its interrupts."""
     fcntl.ioctl(0, termios.TIOCSCTTY, 0)
-    signal.signal(signal.SIGINT, signal.SIG_DFL)
+    heed_signals()
 
 
 class Terminal:
@@ -72,6 +73,9 @@ class Terminal:
         )
         os.close(theirs)
         self.written, self.shown = "", ""
+        self._decoder = codecs.getincrementaldecoder("utf-8")()
+        # The begin of a sequence whose rest is still to come.
+        self._rest = ""
 
     def type(self, text):
         os.write(self.ours, text.encode())
@@ -90,11 +94,12 @@ class Terminal:
         """Takes in what is shown within so many seconds. Returns whether more may come."""
         if select.select([self.ours], [], [], seconds)[0]:
             try:
-                data = os.read(self.ours, 1 << 16).decode()
+                data = self._decoder.decode(os.read(self.ours, 1 << 16))
             except OSError:
                 return False
             self.written += data
-            self.shown += re.sub(r"\033\[[?0-9;]*[a-zA-Z]|\r(?!\n)|\a", "", data).replace("\r\n", "\n")
+            whole, self._rest = re.fullmatch(r"(.*?)((?:\033(?:\[[?0-9;]*)?|\r)?)", self._rest + data, re.S).groups()
+            self.shown += re.sub(r"\033\[[?0-9;]*[a-zA-Z]|\r(?!\n)|\a", "", whole).replace("\r\n", "\n")
         return True
 
     def ended(self):
@@ -107,15 +112,6 @@ class Terminal:
     def interrupt(self):
         """Presses Ctrl-C."""
         self.type("\x03")
-
-    def interrupt_until(self, wanted):
-        """Presses Ctrl-C, and each second once more, until this is shown. Python's readline misses one between two keys."""
-        end = time.monotonic() + SECONDS
-        while not re.search(wanted, self.shown, re.S) and time.monotonic() < end:
-            self.interrupt()
-            for _ in range(10):
-                self.read(0.1)
-        return self.until(wanted)
 
     def close(self):
         """Ends the program, if it has not ended, as a terminal does that is closed."""

@@ -14,7 +14,7 @@ from importlib.util import module_from_spec, spec_from_loader
 import pytest
 
 from ljclient import connect
-from support import PROGRAM, SECONDS, TOKEN, TOP, dimer
+from support import PROGRAM, SECONDS, TOKEN, TOP, dimer, heed_signals
 from terminals import Terminal
 
 CLASS = [sys.executable, str(TOP / "tools" / "class")]
@@ -36,9 +36,8 @@ class Lesson:
     """A class that has begun, whose standard output is a pipe, with the port that students reach."""
 
     def __init__(self, folder, *words):
-        self.child = subprocess.Popen(
-            [*CLASS, *words, *HERE], cwd=folder, env=ENVIRONMENT, stdin=subprocess.DEVNULL, stdout=subprocess.PIPE, text=True
-        )
+        streams = {"stdin": subprocess.DEVNULL, "stdout": subprocess.PIPE, "text": True}
+        self.child = subprocess.Popen([*CLASS, *words, *HERE], cwd=folder, env=ENVIRONMENT, preexec_fn=heed_signals, **streams)
         self.shown = ""
         while not (found := re.search(r"students reach you at 127\.0\.0\.1:(\d+);", self.shown)):
             line = self.child.stdout.readline()

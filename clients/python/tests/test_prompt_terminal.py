@@ -1,9 +1,11 @@
 """The prompt at a terminal of plain lines: explanations, bars, and interrupts."""
 import importlib.util
+import os
 import re
+import signal
 import unittest
 
-from support import EXAMPLES, TOKEN, Server
+from support import EXAMPLES, TOKEN, Server, children_of
 from terminals import ARGON, PROMPT, Terminal, environment
 
 
@@ -90,22 +92,28 @@ class AtATerminal(unittest.TestCase):
         terminal = self.begin()
         terminal.until("ljserve> ")
         terminal.type("LIS")
-        terminal.interrupt_until("\n.*ljserve> ")
+        terminal.interrupt()
+        terminal.until("\n.*ljserve> ")
         terminal.type("LOAD a 256 1 131072 rest 28\r")
         terminal.until("28 bytes more> ")
-        terminal.interrupt_until("ljserve> ")
+        terminal.interrupt()
+        terminal.until("ljserve> ")
         self.assertEqual(self.says(terminal, "LIST", "ljserve> "), "OK LIST 0\nljserve> ")
 
     def test_an_interrupt_of_a_wait(self):
         terminal = self.begin()
         terminal.until("ljserve> ")
         self.says(terminal, f"LOAD a {ARGON} 21.04 3.4 131072", "ljserve> ")
-        self.says(terminal, "START a 2000", "OK START a 2000\nljserve> ")
-        terminal.type("SHOW a 0\r")
-        terminal.until("SHOW a 0\n")
-        terminal.interrupt()
-        terminal.until("ljserve> ")
-        self.assertIn("OK LIST 1\na 2000 256 0\n", self.says(terminal, "LIST", "ljserve> "))
+        self.says(terminal, "START a 20", "OK START a 20\nljserve> ")
+        (program,) = children_of(terminal.child.pid)
+        os.kill(program, signal.SIGSTOP)  # so that the wait lasts until the interrupt
+        try:
+            self.says(terminal, "SHOW a 0", "waiting for the reply to `SHOW a 0`")
+            terminal.interrupt()
+            self.assertIn("  interrupted: `SHOW a 0` is still to be answered", terminal.until("ljserve> "))
+        finally:
+            os.kill(program, signal.SIGCONT)
+        self.assertIn("OK LIST 1\na 20 256 0\n", self.says(terminal, "LIST", "ljserve> "))
 
     def test_a_server_and_a_token_that_is_typed(self):
         with Server(users=("ann",)) as server:

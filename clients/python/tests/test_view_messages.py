@@ -6,8 +6,8 @@ import signal
 import pytest
 
 from browsing import CHROMIUM, Browser
-from support import PROGRAM
-from viewing import View, children_of
+from support import PROGRAM, children_of
+from viewing import View
 
 pytestmark = pytest.mark.skipif(not CHROMIUM, reason="Chromium is not installed")
 

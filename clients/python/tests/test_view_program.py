@@ -14,8 +14,8 @@ from unittest import mock
 
 from web_sockets import Refused  # first, since without aiohttp these tests are skipped
 from ljclient.view import command, pages, scenes, server
-from support import EXAMPLES, SECONDS, TOP, interruptible, is_running
-from viewing import View, children_of, command as command_of, file_of
+from support import EXAMPLES, SECONDS, TOP, children_of, interruptible, is_running
+from viewing import View, command as command_of, file_of
 
 
 def packs():

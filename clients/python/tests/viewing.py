@@ -120,12 +120,3 @@ def places_of(answer, run="atoms"):
     """The places of an answer's frame. A coordinate has six decimals, and the last of them is one ring unit."""
     rows = (line.split(" ")[1:] for line in answer[run].split("\n"))
     return [tuple(int(word.replace(".", "")) for word in row) for row in rows]
-
-
-def children_of(process):
-    """The numbers of the processes that this one has started."""
-    return [
-        int(path.parent.name)
-        for path in pathlib.Path("/proc").glob("[0-9]*/stat")
-        if path.read_text().rpartition(")")[2].split()[1] == str(process)
-    ]
