@@ -3,6 +3,7 @@ import contextlib
 import os
 import pathlib
 import re
+import secrets
 import signal
 import socket
 import subprocess
@@ -60,9 +61,31 @@ def heed_signals():
 
 
 def free_port():
-    with socket.socket() as taken:
-        taken.bind(("127.0.0.1", 0))
-        return taken.getsockname()[1]
+    """A port that is free, and below those that Linux gives to connections, which would take it before it is listened on."""
+    while True:
+        with contextlib.suppress(OSError), socket.socket() as taken:
+            taken.bind(("127.0.0.1", 10_000 + secrets.randbelow(22_768)))
+            return taken.getsockname()[1]
+
+
+def wait_until(holds):
+    """Waits until this holds."""
+    end = time.monotonic() + SECONDS
+    while not holds():
+        assert time.monotonic() < end
+        time.sleep(0.01)
+
+
+def interrupt_when(holds):
+    """The thread that interrupts the main one as soon as this holds."""
+
+    def interrupt():
+        wait_until(holds)
+        os.kill(os.getpid(), signal.SIGINT)
+
+    thread = threading.Thread(target=interrupt, daemon=True)
+    thread.start()
+    return thread
 
 
 class Server:

@@ -18,7 +18,8 @@ from stages import NEW, STAGES, by_stages  # noqa: E402
 
 def told(*words):
     """The status of `run` over these words, and the lines that it prints."""
-    done = subprocess.run([FOLDER / "run", *words], cwd=FOLDER, capture_output=True, text=True, timeout=10 * SECONDS)
+    command = [FOLDER / "run", "--seconds", str(SECONDS), *words]
+    done = subprocess.run(command, cwd=FOLDER, capture_output=True, text=True, timeout=10 * SECONDS)
     return done.returncode, (done.stdout + done.stderr).splitlines()
 
 
@@ -95,8 +96,8 @@ def test_places_that_are_folded_are_not_too_many():
 
 def test_what_a_program_has_begun_ends_with_it():
     script = "sleep 600 & echo $!; sleep 600"
-    replies, ended = told_by(["sh", "-c", script], Stream("s", b"", b""), 1)
-    assert ended == "did not end within 1 seconds"
+    replies, ended = told_by(["sh", "-c", script], Stream("s", b"", b""), 5)
+    assert ended == "did not end within 5 seconds"
     waited = threading.Event()
     while is_running(int(replies)) and not waited.wait(0.01):
         pass

@@ -1,16 +1,13 @@
 """Places and frames that are read all at once, with peers that show something else too, and with and without numpy."""
-import os
 import random
 import re
-import signal
 import threading
-import time
 import unittest
 from unittest import mock
 
 from ljclient import BadReply, Closed, ConnectionLost, arrays, connect, reading, refusals, run
 from ljclient.wire import Reply
-from support import PROGRAM, RING, SECONDS, TOKEN, dimer, interruptible, listed, peer, read_line, says, stays
+from support import PROGRAM, RING, SECONDS, TOKEN, dimer, interrupt_when, interruptible, listed, peer, read_line, says, stays
 
 LISTED = b"OK LIST 1\na 7 2 0\n"
 SHOWN = [b"OK SHOW a 7 0 589 0 4294967295\n", b"OK SHOW a 7 1 25165235 1 2\n"]
@@ -135,11 +132,12 @@ class Refusals(unittest.TestCase):
 class Interrupts(unittest.TestCase):
     def test_rows_that_nobody_came_for_are_passed_over(self):
         interruptible(self)
+        caught = threading.Event()
 
         def slowly(connection, stop):
             read_line(connection)
             connection.sendall(SHOWN[0])
-            time.sleep(0.6)
+            caught.wait(SECONDS)
             read_line(connection)
             connection.sendall(SHOWN[1])
             read_line(connection)
@@ -147,11 +145,11 @@ class Interrupts(unittest.TestCase):
             stays(connection, stop)
 
         with peer(says(LISTED, then=slowly)) as port, joined(port) as user:
-            timer = threading.Timer(0.3, os.kill, (os.getpid(), signal.SIGINT))
-            timer.start()
+            interrupt = interrupt_when(lambda: len(user.unanswered) == 2 and user._wire._lines)
             with self.assertRaises(KeyboardInterrupt):
                 unasked(user).places()
-            timer.join()
+            interrupt.join()
+            caught.set()
             self.assertEqual(user.sessions(), [])
             user._wire.close()
 

@@ -4,7 +4,6 @@ import os
 import signal
 import subprocess
 import sys
-import threading
 from unittest import mock
 
 import pytest
@@ -12,7 +11,7 @@ import pytest
 import support
 from ljclient import ClientError, ConnectionLost, NotRecorded, connect, recording, refusals, run, user as users
 from record_texts import COMMANDS, DIMER_TEXT, commands, is_the_same, replied, twisted, verified, with_checks, without_checks
-from support import ARGON, DIMER, EXAMPLES, PROGRAM, SECONDS, TOKEN, TOP, Server, dimer, listed
+from support import ARGON, DIMER, EXAMPLES, PROGRAM, SECONDS, TOKEN, TOP, Server, dimer, interrupt_when, listed
 from terminals import environment
 
 MIX = {"edge": 256, "species": ("Na", "Cl"), "classes": [(1, 131072, 256), (1, 262144, 512), (1, 131072, 256)]}
@@ -320,13 +319,6 @@ def test_what_is_asked_as_it_stands(user, path):
     assert is_the_same(path) == []
 
 
-def interrupting(seconds):
-    """Interrupts the main thread after so many seconds."""
-    timer = threading.Timer(seconds, lambda: signal.raise_signal(signal.SIGINT))
-    timer.daemon = True
-    timer.start()
-
-
 @pytest.fixture
 def interruptible():
     before = signal.signal(signal.SIGINT, signal.default_int_handler)
@@ -336,9 +328,11 @@ def interruptible():
 
 def test_an_interrupt(user, path, interruptible):
     argon = user.load("argon", EXAMPLES / "argon_256.xyz", record=path, **ARGON)
-    interrupting(0.3)
+    told = []
+    interrupt = interrupt_when(lambda: any(told))
     with pytest.raises(KeyboardInterrupt):
-        argon.advance(10**6)
+        argon.advance(10**6, progress=lambda done, total: told.append(done))
+    interrupt.join()
     step = argon.step
     argon.reverse()
     user.close()
@@ -349,9 +343,10 @@ def test_an_interrupt(user, path, interruptible):
 
 def test_a_reply_that_did_not_come(user, path, interruptible):
     argon = user.load("argon", EXAMPLES / "argon_256.xyz", record=path, **ARGON)
-    interrupting(0.3)
+    interrupt = interrupt_when(lambda: user.unanswered == ["ADVANCE argon 1000000"] and not user._wire._outgoing)
     with pytest.raises(KeyboardInterrupt):
         argon.advance(10**6, piece=10**6)
+    interrupt.join()
     user.close()
     assert without_checks(path)[-2:] == ["? ADVANCE argon 1000000", "end"]
     assert is_the_same(path) == []
@@ -496,9 +491,10 @@ def test_replies_that_are_on_their_way_when_a_new_connection_begins(server, path
     with mock.patch.object(users, "MAX_ITEMS", 100), joined(server) as user:
         argon = user.load("argon", EXAMPLES / "argon_256.xyz", record=path, watch=False, **ARGON)
         user.ask_all(["LIST"] * (users.MAX_ITEMS - 2 - user._wire.asked))
-        interrupting(0.3)
+        interrupt = interrupt_when(lambda: user.unanswered == ["ADVANCE argon 10000"] and not user._wire._outgoing)
         with pytest.raises(KeyboardInterrupt):
             argon.advance(10**6, piece=10000)
+        interrupt.join()
         assert argon.step == 10000
         argon.drop()
     assert [line for line in without_checks(path) if line[0] in ">c"][-4:] == [

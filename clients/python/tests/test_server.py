@@ -123,13 +123,13 @@ class Connections(unittest.TestCase):
 
     def test_leaving_while_a_command_runs(self):
         user = self.join()
-        argon = user.load("argon", EXAMPLES / "argon_256.xyz", edge=21.04, sigma=3.4, h=131072)
+        argon = user.load("argon", EXAMPLES / "argon_256.xyz", edge=21.04, sigma=3.4, h=131072, watch=False)
         user._wire.timeout = 0.3
         with self.assertRaises(TimedOut):
             argon.advance(30_000, piece=30_000)
         start = time.monotonic()
         user.close()
-        self.assertLess(time.monotonic() - start, 5)
+        self.assertLess(time.monotonic() - start, SECONDS / 2)
         with self.join(timeout=120) as user:
             self.assertEqual(user.session("argon").step, 30_000)
 
@@ -150,9 +150,17 @@ class FullServers(unittest.TestCase):
 
     def test_a_server_that_ends_while_a_connection_waits(self):
         with Server(connections=2) as server, connect("127.0.0.1", server.port, "ann", TOKEN) as user:
-            threading.Timer(0.5, user.close).start()
-            with self.assertRaisesRegex(ConnectionLost, "all its --connections used up"):
-                connect("127.0.0.1", server.port, "ann", TOKEN, timeout=SECONDS)
+            connected, create = threading.Event(), socket.create_connection
+
+            def opened(*words):
+                stream = create(*words)
+                connected.set()
+                return stream
+
+            threading.Thread(target=lambda: connected.wait(SECONDS) and user.close(), daemon=True).start()
+            with mock.patch.object(socket, "create_connection", opened):
+                with self.assertRaisesRegex(ConnectionLost, "all its --connections used up"):
+                    connect("127.0.0.1", server.port, "ann", TOKEN, timeout=SECONDS)
 
 
 if __name__ == "__main__":

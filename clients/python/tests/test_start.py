@@ -7,7 +7,7 @@ import unittest
 from unittest import mock
 
 from ljclient import BadReply, CannotStart, TimedOut, finding, run
-from support import PROGRAM, TOP
+from support import PROGRAM, SECONDS, TOP
 
 
 class Starts(unittest.TestCase):
@@ -50,7 +50,7 @@ class Starts(unittest.TestCase):
 
     def test_a_program_that_will_not_end(self):
         path = self.program("trap '' TERM\nread line\necho 'OK LIST 0'\nwhile :; do sleep 1; done\n")
-        stubborn = run(path, timeout=5)
+        stubborn = run(path, timeout=SECONDS)
         pid = stubborn._wire._ends.pid
         stubborn._wire.timeout = 0.2
         stubborn.close()
@@ -58,11 +58,11 @@ class Starts(unittest.TestCase):
 
     def test_much_on_standard_error_holds_nothing_up(self):
         path = self.program("head -c 1000000 /dev/zero >&2\nread line\necho 'OK LIST 0'\nread line\necho 'OK BYE'\n")
-        with run(path, timeout=20) as quiet:
+        with run(path, timeout=SECONDS) as quiet:
             self.assertFalse(quiet.closed)
 
     def test_bad_replies_after_the_start(self):
-        with run(self.program("read line\necho 'OK LIST 0'\nread line\necho 'OK?'\nread line\n"), timeout=20) as odd:
+        with run(self.program("read line\necho 'OK LIST 0'\nread line\necho 'OK?'\nread line\n"), timeout=SECONDS) as odd:
             with self.assertRaises(BadReply):
                 odd.sessions()
 

@@ -1,5 +1,4 @@
 """Frames whose text is taken as it came, from peers that send it in pieces, break it off, or send something else."""
-import os
 import signal
 import threading
 import time
@@ -8,7 +7,7 @@ import pytest
 
 from ljclient import BadReply, ConnectionLost, connect, refusals
 from ljclient.arrays import LONG_TEXT, count_of_lines
-from support import SECONDS, TOKEN, peer, read_line, says, stays
+from support import SECONDS, TOKEN, interrupt_when, peer, read_line, says, stays
 
 ATOMS = 700
 ROWS = [f"Ar {atom}.000001 2.500000 {atom % 7}.250000" for atom in range(ATOMS)]
@@ -74,10 +73,12 @@ def test_a_line_too_much_is_left_for_the_next_reply():
 
 
 def test_a_frame_that_nobody_came_for_is_passed_over():
+    caught = threading.Event()
+
     def slowly(connection, stop):
         read_line(connection)
         connection.sendall(REPLY[:5000])
-        time.sleep(0.6)
+        caught.wait(SECONDS)
         connection.sendall(REPLY[5000:])
         read_line(connection)
         connection.sendall(NOTHING)
@@ -86,11 +87,11 @@ def test_a_frame_that_nobody_came_for_is_passed_over():
     before = signal.signal(signal.SIGINT, signal.default_int_handler)
     try:
         with peer(says(then=slowly)) as port, joined(port) as user:
-            timer = threading.Timer(0.3, os.kill, (os.getpid(), signal.SIGINT))
-            timer.start()
+            interrupt = interrupt_when(lambda: len(user._wire._partial) == 5000)
             with pytest.raises(KeyboardInterrupt):
                 user.ask_text("DUMP a")
-            timer.join()
+            interrupt.join()
+            caught.set()
             assert user.sessions() == []
             user._wire.close()
     finally:

@@ -93,7 +93,7 @@ def test_the_server_is_left_when_nobody_plays(view, ann):
         page.ask("frame", steps=1)
         asked = time.monotonic()
         with ann() as user:
-            assert connection.PATIENCE - 1 < time.monotonic() - asked < connection.PATIENCE + 5
+            assert connection.PATIENCE - 1 < time.monotonic() - asked < connection.PATIENCE + SECONDS / 2
             user.session("a").advance(4)
             page.send("frame", steps=1)
             assert page.receive() == {"waits": WAITS}

@@ -1,6 +1,4 @@
 """The dialogue itself, with peers that are slow, silent, gone, or no server at all."""
-import os
-import signal
 import socket
 import threading
 import time
@@ -8,7 +6,7 @@ import unittest
 
 import ljclient
 from ljclient import BadReply, Closed, ConnectionLost, Refused, TimedOut, connect, refusals
-from support import SECONDS, TOKEN, interruptible, peer, read_line, says, stays
+from support import SECONDS, TOKEN, interrupt_when, interruptible, peer, read_line, says, stays
 
 
 def joined(port, timeout=SECONDS):
@@ -33,7 +31,7 @@ class Replies(unittest.TestCase):
                 time.sleep(0.002)
             stays(connection, stop)
 
-        with peer(says(then=slowly)) as port, joined(port, timeout=5) as user:
+        with peer(says(then=slowly)) as port, joined(port) as user:
             self.assertEqual(user.sessions(), [("a", 5, 2, 0)])
             user._wire.close()
 
@@ -129,29 +127,30 @@ class Ends(unittest.TestCase):
 
     def test_silence(self):
         for part in [b"", b"OK LI", b"OK LIST 1\n"]:
-            with self.subTest(part), peer(says(part, then=stays)) as port, joined(port, timeout=0.3) as user:
-                start = time.monotonic()
+            with self.subTest(part), peer(says(part, then=stays)) as port, joined(port) as user:
+                user._wire.timeout, start = 0.3, time.monotonic()
                 with self.assertRaisesRegex(TimedOut, "nothing was heard for 0.3 s; `LIST` was not answered"):
                     user.sessions()
-                self.assertLess(time.monotonic() - start, 5)
+                self.assertLess(time.monotonic() - start, SECONDS / 2)
                 self.assertTrue(user.closed)
 
     def test_the_time_limit_is_not_doubled(self):
-        with peer(says(then=stays)) as port, joined(port, timeout=2) as user:
-            start = time.monotonic()
+        with peer(says(then=stays)) as port, joined(port) as user:
+            user._wire.timeout, start = 4, time.monotonic()
             with self.assertRaises(TimedOut):
                 user.sessions()
-            self.assertTrue(2 <= time.monotonic() - start < 3.5)
+            self.assertTrue(4 <= time.monotonic() - start < 7.5)
 
     def test_what_is_heard_in_time_renews_the_time_limit(self):
         def slowly(connection, stop):
             read_line(connection)
             for line in (b"OK LIST 2\n", b"a 0 1 0\n", b"b 0 1 0\n"):
-                time.sleep(0.7)
+                time.sleep(1.5)
                 connection.sendall(line)
             stays(connection, stop)
 
-        with peer(says(then=slowly)) as port, joined(port, timeout=1.5) as user:
+        with peer(says(then=slowly)) as port, joined(port) as user:
+            user._wire.timeout = 4
             self.assertEqual([row.name for row in user.sessions()], ["a", "b"])
             user._wire.close()
 
@@ -169,14 +168,15 @@ class Ends(unittest.TestCase):
             while not stop.wait(0.05):
                 connection.sendall(b"x")
 
-        with peer(says(then=trickle)) as port, joined(port, timeout=0.5) as user:
-            start = time.monotonic()
+        with peer(says(then=trickle)) as port, joined(port) as user:
+            user._wire.timeout, start = 0.5, time.monotonic()
             with self.assertRaises(TimedOut):
                 user.sessions()
-            self.assertLess(time.monotonic() - start, 5)
+            self.assertLess(time.monotonic() - start, SECONDS / 2)
 
     def test_a_peer_that_does_not_read_is_silence(self):
-        with peer(says(then=stays)) as port, joined(port, timeout=0.5) as user:
+        with peer(says(then=stays)) as port, joined(port) as user:
+            user._wire.timeout = 0.5
             with self.assertRaises(TimedOut):
                 user.ask("LOAD a 1 1 1 rest 1000000", b"x" * 100_000_000)
 
@@ -188,7 +188,7 @@ class Ends(unittest.TestCase):
             while connection.recv(1 << 16):
                 pass
 
-        with peer(says(then=refuse)) as port, joined(port, timeout=5) as user:
+        with peer(says(then=refuse)) as port, joined(port) as user:
             with self.assertRaises(refusals.Body):
                 user.ask_all(f"LOAD {number}" for number in range(100_000))
             with self.assertRaisesRegex(Closed, "ERR 04 BODY"):
@@ -269,20 +269,22 @@ class Interrupts(unittest.TestCase):
         interruptible(self)
 
     def test_a_reply_that_nobody_waited_for_is_passed_over(self):
+        caught = threading.Event()
+
         def late(connection, stop):
             read_line(connection)
-            time.sleep(0.6)
+            caught.wait(SECONDS)
             connection.sendall(b"OK LIST 2\na 0 1 0\nb 0 1 0\n")
             read_line(connection)
             connection.sendall(b"OK LIST 0\n")
             stays(connection, stop)
 
         with peer(says(then=late)) as port, joined(port) as user:
-            timer = threading.Timer(0.2, os.kill, (os.getpid(), signal.SIGINT))
-            timer.start()
+            interrupt = interrupt_when(lambda: user.unanswered and not user._wire._outgoing)
             with self.assertRaises(KeyboardInterrupt):
                 user.sessions()
-            timer.join()
+            interrupt.join()
+            caught.set()
             self.assertEqual(user.sessions(), [])
             user._wire.close()
 
