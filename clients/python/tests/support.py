@@ -122,6 +122,16 @@ class Server:
             self.child.kill()
         self.child.wait(SECONDS)
 
+    @contextlib.contextmanager
+    def stopped(self):
+        """The server does nothing within the block."""
+        self.child.send_signal(signal.SIGSTOP)
+        os.waitid(os.P_PID, self.child.pid, os.WSTOPPED)
+        try:
+            yield
+        finally:
+            self.child.send_signal(signal.SIGCONT)
+
     def __enter__(self):
         return self
 

@@ -23,6 +23,8 @@ CONFIG = TOP / "packaging" / "haproxy"
 LOADED = f"LOAD a 256 1 131072 rest 28\n{DIMER}".encode()
 HAPROXY = shutil.which("haproxy", path=f"{os.environ['PATH']}:/usr/sbin")
 SERVERS = 3
+# Those of HAProxy: for plain text, for TLS and for its metrics.
+FRONTS = 3
 # What is waited for in seconds, in place of minutes.
 SHORTER = {
     "inspect-delay 10s": "inspect-delay 2s",
@@ -47,7 +49,7 @@ def consecutive_ports():
     while True:
         first = free_port()
         with contextlib.suppress(OSError, OverflowError), contextlib.ExitStack() as taken:
-            for port in range(first, first + SERVERS):
+            for port in range(first, first + SERVERS + FRONTS):
                 taken.enter_context(socket.create_server(("127.0.0.1", port)))
             return first
 
@@ -58,7 +60,7 @@ class Farm:
     def __init__(self, folder):
         self.folder = folder / "shards"
         self.first = consecutive_ports()
-        self.plain, self.tls, self.metrics = (free_port() for _ in range(3))
+        self.plain, self.tls, self.metrics = range(self.first + SERVERS, self.first + SERVERS + FRONTS)
         names = [f"user{number}" for number in range(20 * SERVERS)]
         (folder / "users").write_text("".join(f"{name} {token(name)} 8 16384 16\n" for name in names))
         tool = [sys.executable, TOP / "tools" / "shards"]

@@ -1,7 +1,5 @@
 """Connections to `ljserve serve` on a loopback port."""
 import contextlib
-import os
-import signal
 import socket
 import threading
 import time
@@ -102,13 +100,8 @@ class Connections(unittest.TestCase):
         with self.join() as user:
             a = dimer(user)
             user._wire.timeout = 0.5
-            self.server.child.send_signal(signal.SIGSTOP)
-            os.waitid(os.P_PID, self.server.child.pid, os.WSTOPPED)
-            try:
-                with self.assertRaisesRegex(TimedOut, "nothing was heard for 0.5 s"):
-                    a.measure()
-            finally:
-                self.server.child.send_signal(signal.SIGCONT)
+            with self.server.stopped(), self.assertRaisesRegex(TimedOut, "nothing was heard for 0.5 s"):
+                a.measure()
         with self.join() as user:
             self.assertEqual(user.session("a").step, 0)
 

@@ -85,7 +85,7 @@ def test_commands_and_steps_of_users(seen):
     assert values["ljserve_connections_total"] == 3
 
 
-def test_who_waits_and_whose_client_is_gone(seen):
+def test_who_waits_and_whose_client_is_gone(seen, server):
     with seen.join() as user:
         user.ask("LIST")
         second = socket.create_connection(("127.0.0.1", seen.port), SECONDS)
@@ -94,23 +94,25 @@ def test_who_waits_and_whose_client_is_gone(seen):
         assert [values[f'ljserve_open_connections{{state="{state}"}}'] for state in ("new", "in", "denied")] == [0, 1, 0]
         assert (values["ljserve_gone_connections"], values["ljserve_places"]) == (0, 64)
         assert seen.until("ljserve_places_taken", 2)
-        second.close()
-        values = seen.until("ljserve_gone_connections", 1)
-        assert (values['ljserve_open_connections{state="waits"}'], values["ljserve_places_taken"]) == (1, 2)
+        with server.stopped():  # it would leave a client that is gone
+            second.close()
+            values = seen.until("ljserve_gone_connections", 1)
+            assert (values['ljserve_open_connections{state="waits"}'], values["ljserve_places_taken"]) == (1, 2)
     values = seen.until("ljserve_gone_connections", 0)
     assert seen.until("ljserve_places_taken", 0)
 
 
-def test_who_waits_and_is_reset_keeps_a_place(seen):
+def test_who_waits_and_is_reset_keeps_a_place(seen, server):
     """The connection has ended here, and the server has it until its turn."""
     with seen.join() as user:
         user.ask("LIST")
         second = socket.create_connection(("127.0.0.1", seen.port), SECONDS)
         second.sendall(f"HELLO ann {TOKEN}\n".encode())
         seen.until('ljserve_open_connections{state="waits"}', 1)
-        reset(second)
-        values = seen.until('ljserve_open_connections{state="waits"}', 0)
-        assert (values["ljserve_gone_connections"], values["ljserve_places_taken"]) == (1, 2)
+        with server.stopped():
+            reset(second)
+            values = seen.until('ljserve_open_connections{state="waits"}', 0)
+            assert (values["ljserve_gone_connections"], values["ljserve_places_taken"]) == (1, 2)
     assert seen.until("ljserve_gone_connections", 0)
 
 
