@@ -59,16 +59,33 @@ class Browser:
 
     def ask(self, method, **words):
         """The result of a method of the protocol. What the page complains of meanwhile is kept in `faults`."""
-        self._number += 1
-        self._channel.send(json.dumps({"id": self._number, "method": method, "params": words}))
-        while True:
+        return self.ask_all(method, [words])[0]
+
+    def ask_all(self, method, each):
+        """The results of a method for several words, which are sent at once, so that hardly any time is between them."""
+        numbers = range(self._number + 1, self._number + 1 + len(each))
+        self._number += len(each)
+        for number, words in zip(numbers, each):
+            self._channel.send(json.dumps({"id": number, "method": method, "params": words}))
+        return self._results(method, numbers)
+
+    def _results(self, method, numbers):
+        """The results of a method that was sent with these numbers."""
+        results = {}
+        while len(results) < len(numbers):
             told = json.loads(self._channel.receive())
-            if told.get("id") == self._number:
-                if "error" in told:
-                    raise AssertionError(f"{method}: {told['error']}")
-                return told["result"]
-            if told["method"] == "Runtime.exceptionThrown" or told.get("params", {}).get("entry", {}).get("level") == "error":
-                self.faults.append(told["params"])
+            if "error" in told:
+                raise AssertionError(f"{method}: {told['error']}")
+            if told.get("id") in numbers:
+                results[told["id"]] = told["result"]
+            elif "id" not in told:
+                self._note(told)
+        return [results[number] for number in numbers]
+
+    def _note(self, told):
+        """Keeps what the page complains of."""
+        if told["method"] == "Runtime.exceptionThrown" or told.get("params", {}).get("entry", {}).get("level") == "error":
+            self.faults.append(told["params"])
 
     def value(self, text):
         """The value of an expression in the page."""

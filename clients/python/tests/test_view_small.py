@@ -80,8 +80,10 @@ def test_on_a_phone_the_box_stays_in_sight_with_the_last_slider(page):
     assert place(page, "box")["bottom"] <= place(page, "speed")["top"]
 
 
-def touch(browser, kind, *points):
-    browser.ask("Input.dispatchTouchEvent", type=kind, touchPoints=[{"x": x, "y": y} for x, y in points])
+def touch(browser, *events):
+    """Touches the page: each event has its kind and the points of the fingers."""
+    each = [{"type": kind, "touchPoints": [{"x": x, "y": y} for x, y in points]} for kind, *points in events]
+    browser.ask_all("Input.dispatchTouchEvent", each)
 
 
 def middle_of_the_box(browser):
@@ -91,33 +93,41 @@ def middle_of_the_box(browser):
     return shown["left"] + shown["width"] / 2, shown["top"] + shown["height"] / 2
 
 
+# Timers of the page that run when `passTime` is called, however slow the machine is.
+TIMERS = """{
+  const timers = new Map();
+  window.setTimeout = (act) => timers.set(timers.size + 1, act).size;
+  window.clearTimeout = (timer) => timers.set(timer, () => {});
+  window.passTime = () => timers.forEach((act) => act());
+}"""
+
+
 def test_a_swipe_over_an_atom_scrolls_and_tugs_nothing(page):
     x, y = middle_of_the_box(page)
-    touch(page, "touchStart", (x, y))
-    for moved in range(20, 101, 20):
-        touch(page, "touchMove", (x, y - moved))
-    touch(page, "touchEnd")
+    page.value(TIMERS)
+    touch(page, ["touchStart", (x, y)], *(["touchMove", (x, y - moved)] for moved in range(20, 101, 20)), ["touchEnd"])
     page.wait_for("scrollY > 0")
+    page.value("passTime()")
+    assert not page.value("document.getElementById('box').classList.contains('holding')")
     assert page.text("message") == "Press Play."
 
 
 def test_a_long_press_takes_an_atom(page):
     x, y = middle_of_the_box(page)
-    touch(page, "touchStart", (x, y))
+    touch(page, ["touchStart", (x, y)])
     page.wait_for("document.getElementById('box').classList.contains('holding')")
-    touch(page, "touchMove", (x, y - 20))
-    touch(page, "touchMove", (x, y - 40))
+    touch(page, ["touchMove", (x, y - 20)], ["touchMove", (x, y - 40)])
     picture(page, "touch")
-    touch(page, "touchEnd")
+    touch(page, ["touchEnd"])
     page.wait_for("document.getElementById('message').textContent.startsWith('Atom 2 was tugged')")
     assert page.value("scrollY") == 0
 
 
 def test_a_tap_tugs_nothing(page):
     x, y = middle_of_the_box(page)
-    touch(page, "touchStart", (x, y))
-    touch(page, "touchEnd")
-    page.value("new Promise(done => setTimeout(done, 500)).then(() => true)")
+    page.value(TIMERS)
+    touch(page, ["touchStart", (x, y)], ["touchEnd"])
+    page.value("passTime()")
     assert not page.value("document.getElementById('box').classList.contains('holding')")
     assert page.text("message") == "Press Play."
 
