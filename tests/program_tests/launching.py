@@ -43,18 +43,20 @@ def the_version_tells_kit_and_commit(setting: Setting) -> None:
         shutil.copy(setting.program, os.path.join(folder, "crates", "ljserve", "out", "ljserve"))
         tools = os.path.join(folder, "tools") + ":" + os.environ["PATH"]
         wanted = f"{own}kit kit-of-the-test logic 00\ncommit "
+        processors = "cpu x86-64-v2\n"
         seen = launched(folder, ["--version"], tools)
-        setting.expect("the version outside of a commit", seen == (0, f"{wanted}unknown\n".encode(), b""), seen)
+        setting.expect("the version outside of a commit", seen == (0, f"{wanted}unknown\n{processors}".encode(), b""), seen)
         git = ["git", "-C", folder, "-c", "user.name=test", "-c", "user.email=test@localhost"]
         for words in [["init", "-q"], ["add", "crates.txt"], ["commit", "-q", "-m", "test"]]:
             subprocess.run([*git, *words], check=True)
         commit = subprocess.run([*git, "rev-parse", "HEAD"], capture_output=True, check=True).stdout.decode()
         seen = launched(folder, ["-V"], tools)
-        setting.expect("the version of a commit", seen == (0, f"{wanted}{commit}".encode(), b""), seen)
+        setting.expect("the version of a commit", seen == (0, f"{wanted}{commit}{processors}".encode(), b""), seen)
         put("# changed\n", folder, "crates.txt")
         os.utime(os.path.join(folder, "crates.txt"), (0, 0))
         status, out, _ = launched(folder, ["--version"], tools)
-        setting.expect("the version of a changed tree", (status, out.endswith(b", with changes\n")) == (0, True), (status, out))
+        is_told = out.endswith(f", with changes\n{processors}".encode())
+        setting.expect("the version of a changed tree", (status, is_told) == (0, True), (status, out))
         seen = launched(folder, ["run"], tools)
         setting.expect("other words are the program's", seen == (0, b"OK LIST 0\n", b""), seen)
 

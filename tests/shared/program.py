@@ -25,7 +25,8 @@ def program_at(word: Optional[str]) -> str:
     """The path of the program of this name, or else of the built one, which is built where it is missing or outdated."""
     if word:
         return os.path.abspath(word)
-    subprocess.run([os.path.join(TOP, "bin", "ljserve"), "--version"], stdout=subprocess.DEVNULL, check=True)
+    any_processor = {**os.environ, "LJSERVE_CPU": "v2"}
+    subprocess.run([os.path.join(TOP, "bin", "ljserve"), "--version"], stdout=subprocess.DEVNULL, env=any_processor, check=True)
     return os.path.join(TOP, "crates", "ljserve", "out", "ljserve")
 
 
