@@ -15,12 +15,12 @@ def newest_version() -> str:
     return re.findall(r"^## (\S+) - ", contents("CHANGELOG.md").decode(), re.MULTILINE)[0]
 
 
-def launched(folder: str, words: Sequence[str], path: str = os.environ["PATH"], name: str = "ljserve") -> Ended:
-    """The exit status, and what was written to each output, of a copy of a command of bin/ in a folder."""
-    launcher = os.path.join(folder, "bin", name)
+def launched(folder: str, words: Sequence[str], path: str = os.environ["PATH"], source: str = "bin/ljserve") -> Ended:
+    """The exit status, and what was written to each output, of a copy of a command in a folder's bin/."""
+    launcher = os.path.join(folder, "bin", os.path.basename(source))
     if not os.path.exists(launcher):
         os.makedirs(os.path.dirname(launcher), exist_ok=True)
-        shutil.copy(os.path.join(TOP, "bin", name), launcher)
+        shutil.copy(os.path.join(TOP, source), launcher)
     done = subprocess.run([launcher, *words], input=b"LIST\n", capture_output=True, timeout=SECONDS, env={"PATH": path})
     return done.returncode, done.stdout, done.stderr
 
@@ -62,13 +62,15 @@ def the_version_tells_kit_and_commit(setting: Setting) -> None:
 
 
 def a_release_needs_no_toolchain(setting: Setting) -> None:
+    release, told = "packaging/ljserve/ljserve", f"ljserve {newest_version()}\nkit of another day\ncommit 0\n"
     with tempfile.TemporaryDirectory() as folder:
-        put("ljserve 9.9.9\nkit of another day\ncommit 0\n", folder, "VERSION")
+        put(told, folder, "VERSION")
         put("", folder, "libexec", "none")
-        shutil.copy(setting.program, os.path.join(folder, "libexec", "ljserve"))
-        seen = launched(folder, ["--version"], "/usr/bin:/bin")
-        setting.expect("the version of a release", seen == (0, b"ljserve 9.9.9\nkit of another day\ncommit 0\n", b""), seen)
-        seen = launched(folder, [], "/usr/bin:/bin")
+        for name in ["ljserve-v2", "ljserve-v3"]:
+            shutil.copy(setting.program, os.path.join(folder, "libexec", name))
+        seen = launched(folder, ["--version"], "/usr/bin:/bin", release)
+        setting.expect("the version of a release", seen == (0, f"{told}cpu x86-64-v3\n".encode(), b""), seen)
+        seen = launched(folder, [], "/usr/bin:/bin", release)
         setting.expect("the program of a release", seen == (0, b"OK LIST 0\n", b""), seen)
 
 
@@ -80,7 +82,7 @@ def a_look_tells_the_status_of_the_program(setting: Setting) -> None:
         with tempfile.TemporaryDirectory() as folder:
             put("", folder, "crates", "ljserve", "src", "main.rt")
             put(f"#!/bin/sh\n{script}\n", folder, "tools", "rt", mode=0o755)
-            seen = launched(folder, ["run"], os.path.join(folder, "tools") + ":" + os.environ["PATH"], "try")
+            seen = launched(folder, ["run"], os.path.join(folder, "tools") + ":" + os.environ["PATH"], "bin/try")
             is_so = seen[:2] == (status, out) and seen[2].startswith(b"try: nothing is proved") and seen[2].endswith(last)
             setting.expect(f"a look that ends with {status}", is_so and b"checked" not in seen[2], seen)
 

@@ -1,11 +1,13 @@
-"""Which of two programs bin/ljserve builds and begins, over commands that stand in."""
+"""Which of two programs is begun: bin/ljserve of a release, of the wheel and of the repository, over programs that stand in."""
 import os
+import re
 import subprocess
 
 import pytest
 
 from support import SECONDS, TOP
 
+NO_FEATURE = 'echo "this machine lacks a feature of x86-64-v3" >&2; exit 127'
 # Notes how it is called, and leaves a program that tells its name in the place that is said.
 BUILDER = """#!/bin/sh
 echo "$(basename "$0") $*" >>"{calls}"
@@ -21,6 +23,11 @@ def put(path, text):
     path.chmod(0o755)
 
 
+def stand_in(name, version="echo ljserve 1.2.3"):
+    """A program that tells its version so, and else its name, its process and its words."""
+    return f'#!/bin/sh\nif [ "$*" = --version ]; then {version}; exit; fi\nprintf "%s\\n" {name} $$ "$@"\n'
+
+
 def begun(program, *words, path=os.environ["PATH"], **environment):
     """How a run of a program ended, and the number of its process."""
     command = [str(program), *words]
@@ -28,6 +35,53 @@ def begun(program, *words, path=os.environ["PATH"], **environment):
                           env={"PATH": path, **environment}) as child:
         out, err = child.communicate(timeout=SECONDS)
         return child.returncode, out, err, child.pid
+
+
+@pytest.fixture
+def release(tmp_path):
+    """A folder with what a release and an environment with the wheel have."""
+    put(tmp_path / "bin" / "ljserve", (TOP / "packaging" / "ljserve" / "ljserve").read_text())
+    for cpu in ("v2", "v3"):
+        put(tmp_path / "libexec" / f"ljserve-{cpu}", stand_in(cpu))
+    return tmp_path
+
+
+@pytest.mark.parametrize("status, said, wanted", [
+    (0, None, "v3"), (0, "", "v3"), (0, "v2", "v2"), (0, "v3", "v3"), (127, None, "v2"), (127, "v2", "v2"), (1, None, "v3"),
+])
+def test_the_program_that_fits(release, status, said, wanted):
+    """It takes the place of the script, so that a signal to the process reaches it."""
+    put(release / "libexec" / "ljserve-v3", stand_in("v3", f"exit {status}"))
+    environment = {} if said is None else {"LJSERVE_CPU": said}
+    code, out, err, process = begun(release / "bin" / "ljserve", "run", "two words", "", **environment)
+    assert (code, out, err) == (0, f"{wanted}\n{process}\nrun\ntwo words\n\n", "")
+
+
+def test_a_processor_that_lacks_what_is_asked_for(release):
+    put(release / "libexec" / "ljserve-v3", f"#!/bin/sh\n{NO_FEATURE}\n")
+    code, out, err, _ = begun(release / "bin" / "ljserve", LJSERVE_CPU="v3")
+    assert (code, out, err) == (127, "", "this machine lacks a feature of x86-64-v3\n")
+    code, out, err, _ = begun(release / "bin" / "ljserve", "--version", LJSERVE_CPU="v3")
+    assert (code, out, err) == (127, "", "this machine lacks a feature of x86-64-v3\n")
+    code, out, err, _ = begun(release / "bin" / "ljserve", "--version")
+    assert (code, out, err) == (0, "ljserve 1.2.3\ncpu x86-64-v2\n", "")
+
+
+@pytest.mark.parametrize("word", ["--version", "-V"])
+@pytest.mark.parametrize("version, rest", [
+    (None, ""), ("ljserve 1.2.3\nkit 4\ncommit 5\n", "kit 4\ncommit 5\n"), ("of something else\nthat stands there\n", ""),
+])
+def test_the_version(release, word, version, rest):
+    if version is not None:
+        (release / "VERSION").write_text(version)
+    assert begun(release / "bin" / "ljserve", word)[:3] == (0, f"ljserve 1.2.3\n{rest}cpu x86-64-v3\n", "")
+
+
+def test_a_link_to_it(release, tmp_path):
+    (tmp_path / "elsewhere").mkdir()
+    (tmp_path / "elsewhere" / "ljserve").symlink_to(release / "bin" / "ljserve")
+    code, out, _, process = begun(tmp_path / "elsewhere" / "ljserve", "serve")
+    assert (code, out) == (0, f"v3\n{process}\nserve\n")
 
 
 @pytest.fixture
@@ -55,9 +109,23 @@ def test_the_repository_builds_the_one_beside_the_other(repository):
         "build.log", "ljserve", "v3", "v3/build.log", "v3/ljserve"]
 
 
-def test_a_word_that_says_neither(tmp_path):
-    put(tmp_path / "bin" / "ljserve", (TOP / "bin" / "ljserve").read_text())
+@pytest.mark.parametrize("source", ["bin/ljserve", "packaging/ljserve/ljserve"])
+def test_a_word_that_says_neither(tmp_path, source):
+    put(tmp_path / "bin" / "ljserve", (TOP / source).read_text())
     for said in ("v4", "x86-64-v3", " v3"):
         code, out, err, _ = begun(tmp_path / "bin" / "ljserve", "run", LJSERVE_CPU=said)
         assert (code, out, err) == (2, "", f"ljserve: LJSERVE_CPU is '{said}', and may be v2 or v3\n")
     assert [path.name for path in tmp_path.rglob("*")] == ["bin", "ljserve"]
+
+
+@pytest.mark.parametrize("unit", ["ljserve.service", "haproxy/ljserve@.service"])
+def test_the_units_begin_it(unit):
+    assert re.findall(r"^ExecStart=(\S+)", (TOP / "packaging" / unit).read_text(), re.M) == ["/opt/ljserve/bin/ljserve"]
+
+
+def test_a_release_tries_both():
+    script = (TOP / "bin" / "release").read_text()
+    assert 'cp packaging/ljserve/ljserve "$work/$name/bin/"\n' in script
+    assert 'for cpu in v2 v3; do LJSERVE_CPU=$cpu try_program "$folder" "$cpu"; done\n' in script
+    for cpu, place in (("v2", "out"), ("v3", "out/v3")):
+        assert f'link crates/ljserve/{place}/ljserve.o "$work/$name/libexec/ljserve-{cpu}"\n' in script

@@ -1,6 +1,7 @@
 """The wheels of a release, as packaging/wheels makes them, in an environment of their own that has no network."""
 import os
 import re
+import shutil
 import subprocess
 import sys
 import sysconfig
@@ -20,6 +21,7 @@ if sysconfig.get_platform() != "linux-x86_64":
 README = (TOP / "clients" / "python" / "README.md").read_text()
 INSTALLING = re.search(r"((?:^    .*\n)*^    .*--no-index.*\n(?:^    .*\n)*)", README, re.M)[1]
 OF_PROGRAM = f"ljserve-{ljclient.__version__}"
+NAMES = ("ljserve-v2", "ljserve-v3")
 TWO_STEPS = f"""
 from ljclient import run
 with run() as user:
@@ -29,18 +31,32 @@ with run() as user:
 TELL = "import ljclient; print(ljclient.finding.find_program()); print(ljclient.__file__)"
 
 
-def made(folder, program=PROGRAM, **words):
+def made(folder, programs, **words):
     """What packaging/wheels prints, and its status."""
     environment = {**os.environ, "PYTHONDONTWRITEBYTECODE": "1", **words}
-    command = [sys.executable, TOP / "packaging" / "wheels", program, folder]
+    command = [sys.executable, TOP / "packaging" / "wheels", programs, folder]
     return subprocess.run(command, env=environment, capture_output=True, text=True, timeout=10 * SECONDS)
 
 
+def put(path, text):
+    path.write_text(f"#!/bin/sh\n{text}\n")
+    path.chmod(0o755)
+
+
 @pytest.fixture(scope="module")
-def top(tmp_path_factory):
+def programs(tmp_path_factory):
+    """A folder with the program for processors of both kinds, of which the one is what the other is."""
+    folder = tmp_path_factory.mktemp("programs")
+    for name in NAMES:
+        shutil.copy(PROGRAM, folder / name)
+    return folder
+
+
+@pytest.fixture(scope="module")
+def top(tmp_path_factory, programs):
     """A folder with `wheels` and `examples`, as a release is, where the lines of the README have installed both wheels."""
     folder = tmp_path_factory.mktemp("release")
-    done = made(folder / "wheels")
+    done = made(folder / "wheels", programs)
     assert done.returncode == 0, done
     assert sorted(done.stdout.split()) == sorted(path.name for path in (folder / "wheels").iterdir())
     (folder / "examples").symlink_to(EXAMPLES)
@@ -80,9 +96,11 @@ def test_the_files(top):
     names = {path.name for path in (top / "wheels").iterdir()}
     assert names == {f"ljclient-{ljclient.__version__}-py3-none-any.whl", f"{OF_PROGRAM}-py3-none-linux_x86_64.whl"}
     with zipfile.ZipFile(top / "wheels" / f"{OF_PROGRAM}-py3-none-linux_x86_64.whl") as wheel:
-        (program,) = [name for name in wheel.namelist() if ".dist-info/" not in name]
+        data = f"{OF_PROGRAM}.data/data"
+        found = {name: wheel.read(name) for name in wheel.namelist() if ".dist-info/" not in name}
         with open(PROGRAM, "rb") as file:
-            assert wheel.read(program) == file.read()
+            assert found.pop(f"{data}/libexec/ljserve-v2") == found.pop(f"{data}/libexec/ljserve-v3") == file.read()
+        assert found == {f"{data}/bin/ljserve": (TOP / "packaging" / "ljserve" / "ljserve").read_bytes()}
 
 
 def test_what_the_wheels_tell_of_themselves(top):
@@ -109,8 +127,17 @@ def test_the_commands(top):
     dimer = (EXAMPLES / "dimer.txt").read_text(), (EXAMPLES / "dimer.replies").read_text()
     assert printed(top, commands / "ljclient", given=dimer[0]) == dimer[1]
     assert printed(top, commands / "ljserve", given=dimer[0]) == dimer[1]
-    assert printed(top, commands / "ljserve", "--version") == f"ljserve {ljclient.__version__}\n"
+    assert printed(top, commands / "ljserve", "--version") == f"ljserve {ljclient.__version__}\ncpu x86-64-v3\n"
     assert printed(top, commands / "ljclient", "view", "--help").startswith("usage: ")
+
+
+def test_a_processor_that_lacks_a_feature(top, tmp_path):
+    """The other program of the environment is begun, by the command and by the client."""
+    shutil.copytree(environment_of(top).parent, tmp_path / "lj", symlinks=True)
+    put(tmp_path / "lj" / "libexec" / "ljserve-v3", "exit 127")
+    program = tmp_path / "lj" / "bin" / "ljserve"
+    assert printed(top, program, "--version") == f"ljserve {ljclient.__version__}\ncpu x86-64-v2\n"
+    assert printed(top, environment_of(top) / "python", "-c", TWO_STEPS, LJSERVE=str(program)) == "2 (1774, 0, 0)\n"
 
 
 def test_a_folder_that_is_no_environment(top):
@@ -121,33 +148,35 @@ def test_a_folder_that_is_no_environment(top):
     assert (program, package) == (str(top / "target" / "bin" / "ljserve"), str(top / "target" / "ljclient" / "__init__.py"))
 
 
-def test_the_same_sources_give_the_same_bytes(tmp_path):
+def test_the_same_sources_give_the_same_bytes(tmp_path, programs):
     for name in ("one", "other"):
-        assert made(tmp_path / name, SOURCE_DATE_EPOCH="1700000000").returncode == 0
+        assert made(tmp_path / name, programs, SOURCE_DATE_EPOCH="1700000000").returncode == 0
     one, other = ({path.name: path.read_bytes() for path in (tmp_path / name).iterdir()} for name in ("one", "other"))
     assert len(one) == 2 and one == other
 
 
-@pytest.mark.parametrize("text, why", [
-    ("echo 'ljserve 0.0.1'", f"ljclient-{ljclient.__version__}-py3-none-any.whl is not of the program's version, 0.0.1"),
-    ("echo hello", "is not a built ljserve: it tells no version"),
+@pytest.mark.parametrize("texts, why", [
+    (["echo 'ljserve 0.0.1'"] * 2, f"ljclient-{ljclient.__version__}-py3-none-any.whl is not of the program's version, 0.0.1"),
+    (["echo 'ljserve 0.0.1'", "echo 'ljserve 0.0.2'"], "has programs of two versions, 0.0.1 and 0.0.2"),
+    (["echo 'ljserve 0.0.1'", "echo hello"], "ljserve-v3 is not a built ljserve: it tells no version"),
+    (["echo hello", "echo 'ljserve 0.0.1'"], "ljserve-v2 is not a built ljserve: it tells no version"),
 ])
-def test_a_program_that_does_not_fit(tmp_path, text, why):
-    program = tmp_path / "ljserve"
-    program.write_text(f"#!/bin/sh\n{text}\n")
-    program.chmod(0o755)
-    done = made(tmp_path / "wheels", program)
+def test_programs_that_do_not_fit(tmp_path, texts, why):
+    for name, text in zip(NAMES, texts):
+        put(tmp_path / name, text)
+    done = made(tmp_path / "wheels", tmp_path)
     assert (done.returncode, done.stdout) == (70, "") and why in done.stderr
     assert not list((tmp_path / "wheels").glob("*"))
 
 
 def test_a_program_that_is_not_there(tmp_path):
-    done = made(tmp_path / "wheels", tmp_path / "none")
-    assert (done.returncode, "none cannot be started" in done.stderr, "Traceback" in done.stderr) == (70, True, False)
+    put(tmp_path / "ljserve-v2", "echo 'ljserve 0.0.1'")
+    done = made(tmp_path / "wheels", tmp_path)
+    assert (done.returncode, "ljserve-v3 cannot be started" in done.stderr, "Traceback" in done.stderr) == (70, True, False)
 
 
 def test_a_release_has_them():
     """bin/release makes them of what it has unpacked, and installs them."""
     script = (TOP / "bin" / "release").read_text()
-    assert '/packaging/wheels" "$work/$name/libexec/ljserve" "$work/$name/wheels"' in script
+    assert '/packaging/wheels" "$work/$name/libexec" "$work/$name/wheels"' in script
     assert " packaging " in script
