@@ -5,8 +5,10 @@ import shutil
 import subprocess
 import tempfile
 from typing import Sequence
+from unittest import mock
 
 from program_tests.setting import Setting
+from shared import program
 from shared.program import READ_FAULT, SECONDS, TOP, Ended, contents
 
 
@@ -74,6 +76,16 @@ def a_release_needs_no_toolchain(setting: Setting) -> None:
         setting.expect("the program of a release", seen == (0, b"OK LIST 0\n", b""), seen)
 
 
+def the_tests_take_the_program_of_any_processor(setting: Setting) -> None:
+    with tempfile.TemporaryDirectory() as folder:
+        put('#!/bin/sh\necho "$LJSERVE_CPU $*" >"$0.said"\n', folder, "bin", "ljserve", mode=0o755)
+        with mock.patch.object(program, "TOP", folder), mock.patch.dict(os.environ, LJSERVE_CPU="v3"):
+            path = program.program_at(None)
+        seen = path, contents(folder, "bin", "ljserve.said")
+        wanted = os.path.join(folder, "crates", "ljserve", "out", "ljserve"), b"v2 --version\n"
+        setting.expect("the program that is tested where another one is said", seen == wanted, seen)
+
+
 def a_look_tells_the_status_of_the_program(setting: Setting) -> None:
     told = "echo 'OK LIST 0'; echo 'ljserve: read fault' >&2; echo 'checked: ended status=1' >&2; "
     ended = told + "echo 'run=ended status=1 runners=1 races=unchecked proved=no' >&2; exit 1"
@@ -112,6 +124,7 @@ def the_list_of_wrong_bodies_follows_the_edits(setting: Setting) -> None:
 TESTS = (
     the_version_tells_kit_and_commit,
     a_release_needs_no_toolchain,
+    the_tests_take_the_program_of_any_processor,
     a_look_tells_the_status_of_the_program,
     a_look_answers_before_any_proof,
     versions_agree,
