@@ -26,7 +26,7 @@ class Trust:
         try:
             self.context = ssl.create_default_context(cafile=self.ca)
         except ssl.SSLError:
-            raise ClientError(f"{self.ca} has no certificate: ca= is a file in PEM with that of the server's issuer") from None
+            raise ClientError(f"{self.ca} has no certificate: say a file in PEM with that of the server's issuer") from None
         except OSError as error:
             raise ClientError(f"cannot read {self.ca}: {error.strerror or error}") from error
 
@@ -41,7 +41,7 @@ class Trust:
         if isinstance(error, (ssl.SSLEOFError, ssl.SSLZeroReturnError, ConnectionError)):
             return "it has ended the connection before it was encrypted: does it speak TLS at this port?"
         if isinstance(error, ssl.SSLError) and error.reason in NOT_TLS:
-            return "it does not speak TLS there: say the port that does, or leave out tls=True if the network may see the token"
+            return "it does not speak TLS there: say the port that does, or leave TLS out if the network may see the token"
         if isinstance(error, TimeoutError):
             return "it does not answer in TLS: does it speak TLS at this port?"
         return f"no TLS with it ({error.strerror or error})"
@@ -54,7 +54,8 @@ class Trust:
         if error.verify_code not in UNKNOWN_ISSUER:
             return f"its certificate is not valid ({error.verify_message}): ask its operator for a new one"
         if self.ca is None:
-            return "the issuer of its certificate is not known here: say ca=FILE, a file with that of the issuer, from its operator"
+            file = "ca=FILE or --ca FILE, a file with that of the issuer, from its operator"
+            return f"the issuer of its certificate is not known here: say {file}"
         return f"its certificate is of another issuer than that in {self.ca}: ask its operator for the right file"
 
 

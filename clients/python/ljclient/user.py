@@ -389,10 +389,15 @@ def connect(
     token = without_blanks(token) if isinstance(token, str) else ""
     if not (token.isascii() and token.isalnum()):
         raise ValueError("a token is letters and digits")
-    open_ends = _ends_opener(tls, ca)
+    open_ends = ends_opener(tls, ca)
+    return joined(lambda: open_ends(host, port, timeout), name, token, timeout)
+
+
+def joined(open_ends: Callable[[], Ends], name: str, token: str, timeout: float) -> User:
+    """A user who is let in over what is opened so, where each reply may take `timeout` seconds."""
 
     def open_wire() -> Wire:
-        wire = Wire(open_ends(host, port, timeout), timeout)
+        wire = Wire(open_ends(), timeout)
         try:
             _greet(wire, name, token)
         except BaseException:
@@ -403,7 +408,7 @@ def connect(
     return User(open_wire(), open_wire, name)
 
 
-def _ends_opener(tls: bool, ca: Optional[Path]) -> Callable[[str, int, float], Ends]:
+def ends_opener(tls: bool, ca: Optional[Path]) -> Callable[[str, int, float], Ends]:
     """What opens a connection, encrypted or not."""
     if not tls:
         if ca is not None:
@@ -422,8 +427,8 @@ def _greet(wire: Wire, name: str, token: str) -> None:
         causes = f"is another connection of {name} open? or are all --connections of the server used up?"
         raise TimedOut(f"{error} ({causes})") from error
     except ConnectionLost as error:
-        causes = "has the server no place for more connections? or are all its --connections used up? or does it want tls=True?"
-        raise ConnectionLost(f"{error} ({causes})") from error
+        causes = "has the server no place for more connections? or are all its --connections used up?"
+        raise ConnectionLost(f"{error} ({causes} or does it want tls=True or --tls?)") from error
     if reply.words != ["HELLO", name]:
         raise BadReply(f"HELLO was answered {' '.join(reply.words)[:80]!r}")
 

@@ -140,9 +140,9 @@ class Server:
 
 
 @contextlib.contextmanager
-def peer(talk):
-    """The port of a peer that talks in its own way to the one connection that it accepts."""
-    listener = socket.create_server(("127.0.0.1", 0))
+def peer(talk, port=0):
+    """The port of a peer, a free one if none is said, that talks in its own way to the one connection that it accepts."""
+    listener = socket.create_server(("127.0.0.1", port))
     listener.settimeout(SECONDS)
     stop = threading.Event()
     faults = []

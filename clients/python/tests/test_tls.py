@@ -1,62 +1,19 @@
 """Connections over TLS, through a relay that decrypts in front of a server, with certificates that openssl makes."""
-import asyncio
 import shutil
 import ssl
 import subprocess
 import sys
-import threading
 from unittest import mock
 
 import pytest
 
 from ljclient import ClientError, ConnectionLost, connect, refusals, tls, user as users
 from record_texts import DIMER_TEXT, verified, with_checks
+from relays import Relay, certificate, expired
 from support import EXAMPLES, SECONDS, TOKEN, Server, dimer, free_port, listed, peer
 from terminals import environment
 
 pytestmark = pytest.mark.skipif(shutil.which("openssl") is None, reason="openssl is not installed")
-HERE = "DNS:localhost,IP:127.0.0.1"
-
-
-def certificate(folder, name, names=HERE):
-    """A certificate for these names that is its own issuer, and its key, in files of this name."""
-    files = folder / f"{name}.pem", folder / f"{name}.key"
-    words = ["req", "-x509", "-newkey", "ec", "-pkeyopt", "ec_paramgen_curve:prime256v1", "-nodes", "-days", "2"]
-    words += ["-subj", f"/CN={name}", "-addext", f"subjectAltName={names}", "-out", files[0], "-keyout", files[1]]
-    subprocess.run(["openssl", *words], check=True, capture_output=True, timeout=SECONDS)
-    return files
-
-
-SETTINGS = f"""\
-[ca]
-default_ca = all
-[all]
-database = index
-serial = serial
-new_certs_dir = .
-default_md = sha256
-policy = names
-x509_extensions = more
-[names]
-commonName = supplied
-[more]
-subjectAltName = {HERE}
-"""
-
-
-def expired(folder):
-    """A certificate that was valid for a day of 2020, and its key."""
-    for name, text in (("settings", SETTINGS), ("index", ""), ("serial", "01\n")):
-        (folder / name).write_text(text)
-    key = ["-newkey", "ec", "-pkeyopt", "ec_paramgen_curve:prime256v1", "-nodes", "-keyout", "old.key"]
-    asked = ["req", "-new", *key, "-subj", "/CN=old", "-out", "old.csr"]
-    signed = ["ca", "-selfsign", "-batch", "-notext", "-config", "settings", "-keyfile", "old.key", "-in", "old.csr"]
-    signed += ["-startdate", "20200101000000Z", "-enddate", "20200102000000Z", "-out", "old.pem"]
-    for words in (asked, signed):
-        subprocess.run(["openssl", *words], cwd=folder, check=True, capture_output=True, timeout=SECONDS)
-    return folder / "old.pem", folder / "old.key"
-
-
 @pytest.fixture(scope="module")
 def good(tmp_path_factory):
     return certificate(tmp_path_factory.mktemp("good"), "good")
@@ -65,54 +22,6 @@ def good(tmp_path_factory):
 @pytest.fixture(scope="module")
 def other(tmp_path_factory):
     return certificate(tmp_path_factory.mktemp("other"), "other")
-
-
-class Relay:
-    """Speaks TLS on a loopback port, and hands what it decrypts to a server on another. `heard` is what clients said."""
-
-    def __init__(self, port, certificate):
-        self.heard = b""
-        self.port = free_port()
-        self._to = port
-        self._writers = []
-        context = ssl.SSLContext(ssl.PROTOCOL_TLS_SERVER)
-        context.load_cert_chain(*certificate)
-        self._loop = asyncio.new_event_loop()
-        self._loop.set_exception_handler(lambda loop, context: None)
-        starting = asyncio.start_server(self._relay, "127.0.0.1", self.port, ssl=context)
-        self._server = self._loop.run_until_complete(starting)
-        self._thread = threading.Thread(target=self._loop.run_forever, daemon=True)
-        self._thread.start()
-
-    async def _relay(self, reader, writer):
-        from_server, to_server = await asyncio.open_connection("127.0.0.1", self._to)
-        self._writers += [writer, to_server]
-        await asyncio.gather(self._pump(reader, to_server, True), self._pump(from_server, writer), return_exceptions=True)
-
-    async def _pump(self, reader, writer, is_heard=False):
-        try:
-            while data := await reader.read(1 << 16):
-                self.heard += data if is_heard else b""
-                writer.write(data)
-                await writer.drain()
-        finally:
-            writer.close()
-
-    def cut(self):
-        """Ends all connections."""
-        self._loop.call_soon_threadsafe(lambda: [writer.transport.abort() for writer in self._writers])
-
-    def __enter__(self):
-        return self
-
-    def __exit__(self, *_):
-        self._loop.call_soon_threadsafe(self._loop.stop)
-        self._thread.join(SECONDS)
-        self._server.close()
-        for task in asyncio.all_tasks(self._loop):
-            task.cancel()
-        self._loop.run_until_complete(asyncio.sleep(0))
-        self._loop.close()
 
 
 @pytest.fixture(scope="module")
@@ -166,7 +75,8 @@ def test_long_replies_and_many_commands(server, relay, good):
 
 
 def test_an_issuer_that_is_not_known(relay, other):
-    text = "the issuer of its certificate is not known here: say ca=FILE, a file with that of the issuer, from its operator"
+    file = "ca=FILE or --ca FILE, a file with that of the issuer, from its operator"
+    text = f"the issuer of its certificate is not known here: say {file}"
     assert why(relay) == text
     text = f"its certificate is of another issuer than that in {other[0]}: ask its operator for the right file"
     assert why(relay, ca=other[0]) == text
@@ -190,7 +100,7 @@ def test_a_certificate_of_another_time(server, tmp_path):
         assert relay.heard == b""
 
 
-NO_TLS = "it does not speak TLS there: say the port that does, or leave out tls=True if the network may see the token"
+NO_TLS = "it does not speak TLS there: say the port that does, or leave TLS out if the network may see the token"
 
 
 def test_a_plain_server(good):
@@ -227,7 +137,7 @@ def test_no_server(good):
 
 def test_files_that_are_no_certificates(relay, tmp_path):
     (tmp_path / "bad.pem").write_text("no certificate\n")
-    with pytest.raises(ClientError, match="bad.pem has no certificate: ca= is a file in PEM with that of the server's issuer"):
+    with pytest.raises(ClientError, match="bad.pem has no certificate: say a file in PEM with that of the server's issuer"):
         joined(relay, ca=tmp_path / "bad.pem")
     with pytest.raises(ClientError, match="cannot read .*none.pem: No such file or directory"):
         joined(relay, ca=tmp_path / "none.pem")
@@ -241,7 +151,7 @@ def test_a_wrong_token(relay, good):
 
 
 def test_a_plain_client_is_told_of_tls(relay):
-    with pytest.raises(ConnectionLost, match=r"or does it want tls=True\?\)$"):
+    with pytest.raises(ConnectionLost, match=r"or does it want tls=True or --tls\?\)$"):
         joined(relay, tls=False)
 
 

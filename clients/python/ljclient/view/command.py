@@ -13,6 +13,7 @@ from typing import Any, Callable, List, Optional, Sequence, cast
 
 from .. import ClientError, Scale, User, run, units
 from ..names import checked_name
+from ..prompt.starting import add_tls, check_tls
 from ..tokens import stored_token
 from .access import Access, for_this_machine, with_a_secret
 from .addresses import Address, address_in
@@ -31,9 +32,9 @@ Without a file it shows a crystal of 256 atoms that melts. Atoms of a file are a
 if nothing else is said. Atoms begin at rest, or with random velocities of --temperature.
 
 With HOST:PORT NAME it shows the sessions that this user has at a server, beside the crystal or the files. The token is read
-from --token-file or from LJSERVE_TOKEN, or typed into the page. What a session was loaded with is said by --edge, --sigma and
---h, or typed into the page. The server is left ten seconds after the last page stopped playing, so that the user's prompt
-gets in."""
+from --token-file or from LJSERVE_TOKEN, or typed into the page. With --tls it goes to the server encrypted. What a session was
+loaded with is said by --edge, --sigma and --h, or typed into the page. The server is left ten seconds after the last page
+stopped playing, so that the user's prompt gets in."""
 
 
 def main(arguments: List[str]) -> int:
@@ -70,10 +71,26 @@ def imported_server() -> ModuleType:
 
 def options_of(arguments: List[str]) -> argparse.Namespace:
     """The options of the command. It ends with status 2 if they are wrong."""
+    reader = reader_of_options()
+    options = reader.parse_intermixed_args(arguments)
+    options.server = None
+    if options.files and (address := address_in(options.files[0])) and not Path(options.files[0]).exists():
+        if len(options.files) < 2:
+            reader.error("NAME is missing: who asks, as in the server's file of users")
+        options.server, options.files = (address, options.files[1]), options.files[2:]
+    if (fault := fault_of(options)) is not None:
+        reader.error(fault)
+    check_tls(reader, options)
+    return options
+
+
+def reader_of_options() -> argparse.ArgumentParser:
+    """What reads the command line."""
     form = argparse.RawTextHelpFormatter
     reader = argparse.ArgumentParser("view", USAGE, TEXT, formatter_class=form, allow_abbrev=False)
     reader.add_argument("files", metavar="FILE.xyz", nargs="*", help="atoms as XYZ text, a choice of the page for each file")
     reader.add_argument("--token-file", metavar="FILE", help="a file with the user's token")
+    add_tls(reader)
     reader.add_argument("--edge", type=float, help="edge of the cubic box, for files that say no Lattice")
     reader.add_argument("--temperature", type=float, help="of the first velocities, in kelvin (with --h in epsilon / k_B)")
     reader.add_argument("--seed", type=int, default=1, help="of the random numbers for them (1)")
@@ -87,35 +104,26 @@ def options_of(arguments: List[str]) -> argparse.Namespace:
     reader.add_argument("--address", metavar="HOST", help="this machine as others reach it, where the one that is found is another")
     reader.add_argument("--program", help="the program, as ljclient.run takes it")
     reader.add_argument("--no-browser", dest="browser", action="store_false", help="only say where the page is")
-    options = reader.parse_intermixed_args(arguments)
-    options.server = None
-    if options.files and (address := address_in(options.files[0])) and not Path(options.files[0]).exists():
-        if len(options.files) < 2:
-            reader.error("NAME is missing: who asks, as in the server's file of users")
-        options.server, options.files = (address, options.files[1]), options.files[2:]
-    elif options.token_file is not None:
-        reader.error("--token-file is for HOST:PORT NAME")
-    if options.temperature is not None and not 0 <= options.temperature < float("inf"):
-        reader.error("--temperature is not below 0")
-    if not 0 <= options.port <= 65535:
-        reader.error("--port is from 0 to 65535")
-    check_listen(reader, options)
+    return reader
+
+
+def fault_of(options: argparse.Namespace) -> Optional[str]:
+    """What is wrong with the options of the command, the first if there are several."""
     physical = [options.epsilon, options.mass, options.dt]
-    if options.h is not None and physical != [None] * 3:
-        reader.error("--h stands in place of --epsilon, --mass and --dt")
-    if not options.files and options.server is None and [options.edge, options.sigma, *physical] != [None] * 5:
-        reader.error("--edge, --sigma, --epsilon, --mass and --dt are for the atoms of a file")
-    return options
-
-
-def check_listen(reader: argparse.ArgumentParser, options: argparse.Namespace) -> None:
-    """Ends with status 2 if the options of a page for others do not fit."""
-    if options.listen is not None and address_in(options.listen) is None:
-        reader.error("--listen is an ADDRESS:PORT, such as 0.0.0.0:8000")
-    if options.listen is not None and options.port:
-        reader.error("--listen says the port: leave --port out")
-    if options.listen is None and options.address is not None:
-        reader.error("--address is for --listen")
+    is_argon_said = [options.edge, options.sigma, *physical] != [None] * 5
+    faults = {
+        "--token-file is for HOST:PORT NAME": options.server is None and options.token_file is not None,
+        "--temperature is not below 0": options.temperature is not None and not 0 <= options.temperature < float("inf"),
+        "--port is from 0 to 65535": not 0 <= options.port <= 65535,
+        "--listen is an ADDRESS:PORT, such as 0.0.0.0:8000": options.listen is not None and address_in(options.listen) is None,
+        "--listen says the port: leave --port out": options.listen is not None and options.port,
+        "--address is for --listen": options.listen is None and options.address is not None,
+        "--h stands in place of --epsilon, --mass and --dt": options.h is not None and physical != [None] * 3,
+        "--edge, --sigma, --epsilon, --mass and --dt are for the atoms of a file": (
+            is_argon_said and not options.files and options.server is None
+        ),
+    }
+    return next((fault for fault, holds in faults.items() if holds), None)
 
 
 def access_of(options: argparse.Namespace) -> Access:
@@ -130,7 +138,8 @@ def users_of(options: argparse.Namespace) -> Users:
     if options.server is None:
         return Programs(functools.partial(run, options.program))
     address, name = options.server
-    account = Account(address, checked_name(name), stored_token(name, options.token_file))
+    token = stored_token(name, options.token_file)
+    account = Account(address, checked_name(name), token, tls=options.tls, ca=options.ca)
     account.check()
     return AtServer(account)
 

@@ -84,9 +84,16 @@ async def done(page: Page, connection: Connection, users: Users, act: Callable[[
         return await connection.do(act)
     task = asyncio.ensure_future(connection.do(act))
     try:
-        await asyncio.wait([task], timeout=SECONDS_UNTIL_WORD)
-        if not task.done() and (text := users.waits()) is not None:
-            await page.tell(json.dumps({"waits": text}))
+        await tell_waits(page, task, users)
         return await task
     finally:
         task.cancel()
+
+
+async def tell_waits(page: Page, task: "asyncio.Future[str]", users: Users) -> None:
+    """Tells a page what it waits for until this is done: after a moment, and again if it waits for something else."""
+    told: Optional[str] = None
+    while not (await asyncio.wait([task], timeout=SECONDS_UNTIL_WORD))[0]:
+        if (text := users.waits()) not in (None, told):
+            told = text
+            await page.tell(json.dumps({"waits": text}))

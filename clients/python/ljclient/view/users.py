@@ -6,10 +6,12 @@ import contextlib
 from dataclasses import dataclass
 from typing import List, Optional, Protocol
 
-from .. import ClientError, User, connect
-from ..ends import SocketEnds
+from .. import ClientError, User
+from ..ends import Ends
 from ..errors import TimedOut
+from ..files import Path
 from ..tokens import fault_of, without_blanks
+from ..user import ends_opener, joined
 from .addresses import Address
 from .connection import PATIENCE, Connection, OpenUser
 from .talk import Talk
@@ -17,6 +19,7 @@ from .wishes import Answer
 
 SECONDS = 600.0
 SECONDS_OF_A_TRY = 2.0
+SECONDS_OF_A_CONNECTION = 15.0
 
 
 class NoToken(ClientError):
@@ -62,20 +65,34 @@ class Programs:
 class Account:
     """A user at a server.
 
-    address  where the server listens
-    name     of the user
-    token    if it is known
+    address     where the server listens
+    name        of the user
+    token       if it is known
+    tls, ca     as `ljclient.connect` takes them
+    is_reached  whether the server was reached, over TLS if that was said, and has not let the user in yet
     """
 
     address: Address
     name: str
     token: Optional[str] = None
+    tls: bool = False
+    ca: Optional[Path] = None
+    is_reached: bool = False
 
     def open(self, seconds: float = SECONDS) -> User:
         """The user's connection. It waits for so long if another one is open."""
         if self.token is None:
             raise NoToken(f"the token of {self.name} was not said")
-        return connect(*self.address, self.name, self.token, timeout=seconds)
+        try:
+            return joined(self._ends, self.name, self.token, seconds)
+        finally:
+            self.is_reached = False
+
+    def _ends(self) -> Ends:
+        """A connection to the server. Raises ClientError, which says what to do, if there is none or it is not trusted."""
+        ends = ends_opener(self.tls, self.ca)(*self.address, SECONDS_OF_A_CONNECTION)
+        self.is_reached = True
+        return ends
 
     def take(self, token: object) -> Optional[str]:
         """Takes a token that was typed. Returns what is wrong with it, if it is none."""
@@ -89,9 +106,10 @@ class Account:
         return {"asks": "token", "name": self.name, "why": why}
 
     def check(self) -> None:
-        """Raises ClientError if there is no server, or if it denies the token. That another connection is open is no fault."""
+        """Raises ClientError if there is no server that is trusted, or if it denies the token. That another connection is open
+        is no fault."""
         if self.token is None:
-            SocketEnds(*self.address, SECONDS_OF_A_TRY).close()
+            self._ends().close()
             return
         with contextlib.suppress(TimedOut):
             self.open(SECONDS_OF_A_TRY).close()
@@ -128,7 +146,9 @@ class AtServer:
     def waits(self) -> Optional[str]:
         if self._connection is None or self._connection.is_open:
             return None
-        name = self.account.name
+        name, (host, port) = self.account.name, self.account.address
+        if not self.account.is_reached:
+            return f"{host}:{port} has not answered yet. This page goes on when it has, or says what is wrong."
         return f"{name} is in by another connection, such as a prompt or a notebook. This page goes on when that one has ended."
 
     def _open(self) -> User:

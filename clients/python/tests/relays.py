@@ -1,0 +1,98 @@
+"""A relay that speaks TLS in front of a server, with certificates that openssl makes."""
+import asyncio
+import socket
+import ssl
+import subprocess
+import threading
+
+from support import SECONDS
+
+HERE = "DNS:localhost,IP:127.0.0.1"
+
+
+def certificate(folder, name, names=HERE):
+    """A certificate for these names that is its own issuer, and its key, in files of this name."""
+    files = folder / f"{name}.pem", folder / f"{name}.key"
+    words = ["req", "-x509", "-newkey", "ec", "-pkeyopt", "ec_paramgen_curve:prime256v1", "-nodes", "-days", "2"]
+    words += ["-subj", f"/CN={name}", "-addext", f"subjectAltName={names}", "-out", files[0], "-keyout", files[1]]
+    subprocess.run(["openssl", *words], check=True, capture_output=True, timeout=SECONDS)
+    return files
+
+
+SETTINGS = f"""\
+[ca]
+default_ca = all
+[all]
+database = index
+serial = serial
+new_certs_dir = .
+default_md = sha256
+policy = names
+x509_extensions = more
+[names]
+commonName = supplied
+[more]
+subjectAltName = {HERE}
+"""
+
+
+def expired(folder):
+    """A certificate that was valid for a day of 2020, and its key."""
+    for name, text in (("settings", SETTINGS), ("index", ""), ("serial", "01\n")):
+        (folder / name).write_text(text)
+    key = ["-newkey", "ec", "-pkeyopt", "ec_paramgen_curve:prime256v1", "-nodes", "-keyout", "old.key"]
+    asked = ["req", "-new", *key, "-subj", "/CN=old", "-out", "old.csr"]
+    signed = ["ca", "-selfsign", "-batch", "-notext", "-config", "settings", "-keyfile", "old.key", "-in", "old.csr"]
+    signed += ["-startdate", "20200101000000Z", "-enddate", "20200102000000Z", "-out", "old.pem"]
+    for words in (asked, signed):
+        subprocess.run(["openssl", *words], cwd=folder, check=True, capture_output=True, timeout=SECONDS)
+    return folder / "old.pem", folder / "old.key"
+
+
+class Relay:
+    """Speaks TLS on a loopback port, and hands what it decrypts to a server on another. `heard` is what clients said."""
+
+    def __init__(self, port, certificate, listener=None):
+        listener = listener or socket.create_server(("127.0.0.1", 0))
+        self.heard = b""
+        self.port = listener.getsockname()[1]
+        self._to = port
+        self._writers = []
+        context = ssl.SSLContext(ssl.PROTOCOL_TLS_SERVER)
+        context.load_cert_chain(*certificate)
+        self._loop = asyncio.new_event_loop()
+        self._loop.set_exception_handler(lambda loop, context: None)
+        starting = asyncio.start_server(self._relay, sock=listener, ssl=context)
+        self._server = self._loop.run_until_complete(starting)
+        self._thread = threading.Thread(target=self._loop.run_forever, daemon=True)
+        self._thread.start()
+
+    async def _relay(self, reader, writer):
+        from_server, to_server = await asyncio.open_connection("127.0.0.1", self._to)
+        self._writers += [writer, to_server]
+        await asyncio.gather(self._pump(reader, to_server, True), self._pump(from_server, writer), return_exceptions=True)
+
+    async def _pump(self, reader, writer, is_heard=False):
+        try:
+            while data := await reader.read(1 << 16):
+                self.heard += data if is_heard else b""
+                writer.write(data)
+                await writer.drain()
+        finally:
+            writer.close()
+
+    def cut(self):
+        """Ends all connections."""
+        self._loop.call_soon_threadsafe(lambda: [writer.transport.abort() for writer in self._writers])
+
+    def __enter__(self):
+        return self
+
+    def __exit__(self, *_):
+        self._loop.call_soon_threadsafe(self._loop.stop)
+        self._thread.join(SECONDS)
+        self._server.close()
+        for task in asyncio.all_tasks(self._loop):
+            task.cancel()
+        self._loop.run_until_complete(asyncio.sleep(0))
+        self._loop.close()

@@ -1,0 +1,210 @@
+"""The live view of a user's sessions over TLS, through a relay that decrypts in front of a server."""
+import contextlib
+import shutil
+import socket
+import subprocess
+
+import pytest
+
+from ljclient import connect
+from relays import Relay, certificate
+from support import SECONDS, TOKEN, Server, dimer, free_port, peer
+from viewing import View, command
+
+pytestmark = pytest.mark.skipif(shutil.which("openssl") is None, reason="openssl is not installed")
+SCALE = ["--edge", 256, "--sigma", 1, "--h", 131072]
+FROM_OPERATOR = "a file with that of the issuer, from its operator"
+UNKNOWN = f"the issuer of its certificate is not known here: say ca=FILE or --ca FILE, {FROM_OPERATOR}"
+NO_TLS = "it does not speak TLS there: say the port that does, or leave TLS out if the network may see the token"
+ENDED = "it has ended the connection before it was encrypted: does it speak TLS at this port?"
+WAITS = "ann is in by another connection, such as a prompt or a notebook. This page goes on when that one has ended."
+
+
+@pytest.fixture(scope="module")
+def good(tmp_path_factory):
+    return certificate(tmp_path_factory.mktemp("good"), "good")
+
+
+@pytest.fixture(scope="module")
+def other(tmp_path_factory):
+    return certificate(tmp_path_factory.mktemp("other"), "other")
+
+
+@pytest.fixture
+def server():
+    with Server() as one:
+        yield one
+
+
+@pytest.fixture
+def relay(server, good):
+    with Relay(server.port, good) as one:
+        yield one
+
+
+@pytest.fixture
+def ann(server):
+    """Opens a connection of the user, as a prompt does, at the server itself."""
+    return lambda: connect("127.0.0.1", server.port, "ann", TOKEN, timeout=SECONDS)
+
+
+@pytest.fixture
+def token_file(tmp_path):
+    path = tmp_path / "token"
+    path.write_text(TOKEN)
+    return path
+
+
+@pytest.fixture
+def view(token_file):
+    """Opens the view of this user at a port of this machine, with a token from a file if nothing else is said."""
+    with contextlib.ExitStack() as opened:
+
+        def open_view(port, *words, said=("--token-file", token_file)):
+            one = View(f"127.0.0.1:{port}", "ann", "--tls", *said, *words, *SCALE)
+            opened.callback(lambda: one.end()[1] == "" or pytest.fail("the view has told of a fault"))
+            return one
+
+        yield open_view
+
+
+def listener(port=0):
+    """What listens at a port, and accepts nothing as yet."""
+    return socket.create_server(("127.0.0.1", port))
+
+
+def not_answered(port):
+    return {"waits": f"127.0.0.1:{port} has not answered yet. This page goes on when it has, or says what is wrong."}
+
+
+def cannot_connect(port, why):
+    return f"cannot connect to 127.0.0.1:{port}: {why}"
+
+
+def answer(page):
+    """What a page is told next, without that it waits, which it is told if this takes longer than a second."""
+    while "waits" in (told := page.receive()):
+        pass
+    return told
+
+
+def asked(page, what, **words):
+    page.send(what, **words)
+    return answer(page)
+
+
+def first(page):
+    """What a page is told first but that it waits."""
+    return answer(page) if "waits" in page.first else page.first
+
+
+def test_it_shows_and_plays_a_session(view, relay, good, ann):
+    with ann() as user:
+        dimer(user).advance(2)
+    with view(relay.port, "--ca", good[0]).page() as page:
+        told = first(page)
+        assert (told["scene"]["session"], told["step"]) == ("a", 2)
+        assert page.ask("frame", steps=1)["step"] == 3
+    assert relay.heard.startswith(f"HELLO ann {TOKEN}\n".encode())
+    with ann() as user:
+        assert user.session("a").step == 3
+
+
+def test_the_token_is_typed_into_the_page(view, relay, good, ann):
+    with ann() as user:
+        dimer(user)
+    with view(relay.port, "--ca", good[0], said=()).page() as page:
+        assert (page.first["asks"], relay.heard) == ("token", b"")
+        assert "no user ann with this token" in asked(page, "token", token="b" * 32)["why"]
+        assert asked(page, "token", token=TOKEN)["scene"]["session"] == "a"
+
+
+def refused(*words):
+    """The status of a view that does not begin, and what it says."""
+    done = subprocess.run(**command(*words), capture_output=True, timeout=SECONDS)
+    assert done.stdout == ""
+    return done.returncode, done.stderr
+
+
+@pytest.mark.parametrize("is_token_said", [True, False])
+def test_a_server_that_is_not_trusted_is_told_before_a_page(relay, server, other, token_file, tmp_path, is_token_said):
+    said = ["--tls", *(["--token-file", token_file] if is_token_said else [])]
+    (tmp_path / "bad.pem").write_text("no certificate\n")
+    elsewhere = certificate(tmp_path, "elsewhere", "DNS:md.example.org,IP:192.0.2.1")
+    name = "its certificate is of another name than 127.0.0.1: say the name that its operator gives, or ask for a new one"
+    issuer = f"its certificate is of another issuer than that in {other[0]}: ask its operator for the right file"
+    with Relay(server.port, elsewhere) as far:
+        cases = [
+            (relay.port, [], cannot_connect(relay.port, UNKNOWN)),
+            (relay.port, ["--ca", other[0]], cannot_connect(relay.port, issuer)),
+            (far.port, ["--ca", elsewhere[0]], cannot_connect(far.port, name)),
+            (relay.port, ["--ca", tmp_path / "bad.pem"], f"{tmp_path}/bad.pem has no certificate: "
+             "say a file in PEM with that of the server's issuer"),
+            (relay.port, ["--ca", tmp_path / "none.pem"], f"cannot read {tmp_path}/none.pem: No such file or directory"),
+        ]
+        for port, words, why in cases:
+            assert refused(f"127.0.0.1:{port}", "ann", *said, *words) == (1, f"view: {why}\n")
+        assert far.heard + relay.heard == b""
+
+
+def test_a_server_without_tls_is_told_before_a_page(token_file):
+    def denies(connection, stop):
+        connection.recv(1)
+        connection.sendall(b"ERR 01 DENIED\n")
+        stop.wait(SECONDS)
+
+    with peer(denies) as port:
+        told = refused(f"127.0.0.1:{port}", "ann", "--token-file", token_file, "--tls")
+    assert told == (1, f"view: {cannot_connect(port, NO_TLS)}\n")
+
+
+def test_options_that_do_not_fit(good):
+    for words, why in (
+        (["--tls"], "--tls is for a server: say HOST:PORT NAME"),
+        (["127.0.0.1:1", "ann", "--ca", good[0]], "--ca is for --tls"),
+    ):
+        status, told = refused(*words)
+        assert (status, told.splitlines()[-1]) == (2, f"view: error: {why}")
+
+
+def test_a_page_says_what_it_waits_for(view, server, good, ann):
+    """At first that its server answers, and then that the user is let in, who is in by another connection."""
+    with Relay(server.port, good) as relay:
+        shown = view(relay.port, "--ca", good[0])
+        port = relay.port
+    with ann() as user, contextlib.ExitStack() as stack:
+        dimer(user).advance(4)
+        waiting = listener(port)
+        page = stack.enter_context(shown.page())
+        assert page.first == not_answered(port)
+        stack.enter_context(Relay(server.port, good, waiting))
+        assert page.receive() == {"waits": WAITS}
+        user.close()
+        assert page.receive()["step"] == 4
+
+
+def test_a_page_that_connects_again_says_why_it_cannot(view, server, good, other, ann):
+    """Its server's certificate is exchanged for that of another issuer, and then the server for one without TLS, that says nothing
+    for a while. When the first is there again, the page goes on."""
+    port = free_port()
+    issuer = f"its certificate is of another issuer than that in {good[0]}: ask its operator for the right file"
+
+    with ann() as user:
+        dimer(user)
+    with contextlib.ExitStack() as stack:
+        with Relay(server.port, good, listener(port)) as relay:
+            page = stack.enter_context(view(port, "--ca", good[0]).page())
+            assert first(page)["step"] == 0
+            assert page.ask("frame", steps=1)["step"] == 1
+            relay.cut()
+            assert "error" in page.ask("frame", steps=1)
+        with Relay(server.port, other, listener(port)) as relay:
+            assert asked(page, "frame", steps=1) == {"error": cannot_connect(port, issuer)}
+            assert relay.heard == b""
+        with peer(lambda connection, stop: stop.wait(SECONDS), port):
+            page.send("frame", steps=1)
+            assert page.receive() == not_answered(port)
+        assert page.receive() == {"error": cannot_connect(port, ENDED)}
+        with Relay(server.port, good, listener(port)):
+            told = asked(page, "frame", steps=1)
+            assert (told["step"], told["jumped"]) == (2, True)
