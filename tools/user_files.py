@@ -7,9 +7,10 @@ import shlex
 import stat
 import sys
 import tempfile
-from typing import Dict, Iterator, List, NamedTuple, Optional, Sequence, TextIO
+from typing import Dict, Iterator, List, NamedTuple, Optional, Sequence, Set, TextIO
 
 MAX_USERS = 64
+MAX_SERVERS = 1000
 MAX_NUMBERS = {"sessions": 64, "atoms": 65536, "branches": 256}
 USUAL = [8, 16384, 16]
 TOKEN_LETTERS = "abcdefghijkmnpqrstuvwxyzABCDEFGHJKLMNPQRSTUVWXYZ23456789"
@@ -36,20 +37,38 @@ def new_users(names: Sequence[str]) -> List[User]:
     return [User(name, "".join(secrets.choice(TOKEN_LETTERS) for _ in range(TOKEN_LENGTH))) for name in names]
 
 
-def names_of(words: Sequence[str]) -> List[str]:
+class Way(NamedTuple):
+    """How users reach their server: its HOST:PORT, and whether by TLS, with a file of the certificate's issuer if one is needed."""
+
+    server: str
+    tls: bool = False
+    ca: Optional[str] = None
+
+    def options(self) -> str:
+        """What it adds to a command line of the client."""
+        return (" --tls" if self.tls else "") + (f" --ca {shlex.quote(self.ca)}" if self.ca else "")
+
+    def arguments(self) -> str:
+        """What it adds to a call of the client."""
+        return (", tls=True" if self.tls else "") + (f', ca="{self.ca}"' if self.ca else "")
+
+
+def names_of(words: Sequence[str], servers: int = 1) -> List[str]:
     """The names that the words say: themselves, or those of so many students."""
-    if len(words) == 1 and words[0].isascii() and words[0].isdecimal():
-        count = int(words[0])
-        if not 1 <= count <= MAX_USERS:
-            raise ValueError(f"a server has 1 to {MAX_USERS} users, not {count}")
+    is_count = len(words) == 1 and words[0].isascii() and words[0].isdecimal()
+    count, most = int(words[0]) if is_count else len(words), MAX_USERS * servers
+    if words and not 1 <= count <= most:
+        have = "a server has" if servers == 1 else f"{servers} servers have"
+        raise ValueError(f"{have} 1 to {most} users, not {count}")
+    if is_count:
         return [f"student{number:02}" for number in range(1, count + 1)]
-    if len(words) > MAX_USERS:
-        raise ValueError(f"a server has 1 to {MAX_USERS} users, not {len(words)}")
-    for place, word in enumerate(words):
+    seen: Set[str] = set()
+    for word in words:
         if not NAME.fullmatch(word.encode("utf-8", "surrogateescape")):
             raise ValueError(f"{word!r} is no name: 1 to 16 of A-Z a-z 0-9 _ -")
-        if word in words[:place]:
+        if word in seen:
             raise ValueError(f"the name {word} is said twice")
+        seen.add(word)
     return list(words)
 
 
@@ -65,12 +84,12 @@ def check_quota(quota: Sequence[int]) -> None:
             raise ValueError(f"a user has 0 to {most} {name}, not {number}")
 
 
-def slip_of(user: User, server: str) -> str:
+def slip_of(user: User, way: Way) -> str:
     """What a user is handed out."""
-    host, _, port = server.rpartition(":")
+    host, _, port = way.server.rpartition(":")
     return f"""\
 ------------------------------------------------------------------------
-{user.name} at {server}
+{user.name} at {way.server}
 
     token   {in_groups(user.token)}
 
@@ -82,13 +101,13 @@ The client is in the folder of ljserve, and needs Python 3.9 or later. There, on
 
 (or `export PYTHONPATH=clients/python` in each shell). Then a prompt, which asks for the token:
 
-    python3 -m ljclient {server} {user.name}
+    python3 -m ljclient {way.server} {user.name}{way.options()}
 
 or in Python:
 
     from ljclient import connect
     user = connect("{host.strip('[]')}", {port}, "{user.name}",
-                   "{in_groups(user.token)}")
+                   "{in_groups(user.token)}"{way.arguments()})
 """
 
 
@@ -109,10 +128,10 @@ class Files(NamedTuple):
     may_replace: bool
 
 
-def make_users(names: Sequence[str], quota: Sequence[int], server: str, files: Files) -> None:
+def make_users(names: Sequence[str], quota: Sequence[int], way: Way, files: Files) -> None:
     """Writes or prints a file of new users, with the slips in it or in a file of their own."""
     users = new_users(names)
-    slips = [slip_of(user, server) for user in users]
+    slips = [slip_of(user, way) for user in users]
     text = text_of(users, quota, [] if files.slips else slips)
     texts = {files.users: text, files.slips: "\n".join(slips)}
     write_secrets({path: secret for path, secret in texts.items() if path is not None}, files.may_replace)

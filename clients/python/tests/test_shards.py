@@ -54,6 +54,27 @@ def test_each_user_is_at_one_server(users, tmp_path):
     assert [line in (tmp_path / "shards" / f"users{number}").read_text().splitlines() for number in (1, 2, 3)].count(True) == 1
 
 
+def test_users_of_several_servers_who_come_by_tls(tmp_path):
+    """tools/users makes as many as several servers take, with slips of the way through HAProxy."""
+    by = [sys.executable, str(TOP / "tools" / "users"), "130", "--server", "class.example:4443", "--out", "users", "--slips", "slips"]
+
+    def made(*words):
+        done = subprocess.run([*by, *words], cwd=tmp_path, capture_output=True, text=True, timeout=SECONDS)
+        return done.returncode, done.stderr.splitlines()[-1:]
+
+    assert made() == (2, ["users: a server has 1 to 64 users, not 130"])
+    assert made("--servers", "2") == (2, ["users: 2 servers have 1 to 128 users, not 130"])
+    assert made("--servers", "1001") == (2, ["users: there are 1 to 1000 servers, not 1001"])
+    assert made("--servers", "3", "--ca", "class.crt") == (2, ["users: --ca is for --tls"])
+    assert made("--servers", "3", "--tls", "--ca", "class.crt") == (0, [])
+    slips = (tmp_path / "slips").read_text()
+    assert slips.count("\n    python3 -m ljclient class.example:4443 student130 --tls --ca class.crt\n") == 1
+    calls = re.findall(r'connect\("class.example", 4443, "(student\d+)",\n +"[\w ]{39}", tls=True, ca="class.crt"\)\n', slips)
+    assert calls == [f"student{number:02}" for number in range(1, 131)]
+    assert told(tmp_path, "users", 3)[0] == 0
+    assert sorted(map(len, spread(tmp_path).values())) == [43, 43, 44]
+
+
 def test_the_map_has_hashes_and_no_token(users, tmp_path):
     told(tmp_path, users(5), 2)
     folder = tmp_path / "shards"

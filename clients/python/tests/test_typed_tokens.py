@@ -9,7 +9,7 @@ from support import TOKEN, TOP, Server
 from terminals import PROMPT, Terminal, environment
 
 sys.path.append(str(TOP / "tools"))
-from user_files import User, slip_of  # noqa: E402
+from user_files import User, Way, slip_of  # noqa: E402
 
 TYPED = "abcdefghijkmnpqrstuvwxyz23456789"
 GROUPS = "abcd efgh ijkm npqr stuv wxyz 2345 6789"
@@ -124,7 +124,7 @@ def test_connect_takes_the_groups_of_a_slip():
 
 def test_the_python_of_a_slip_runs(tmp_path):
     with Server(lines=LINES) as server:
-        slip = slip_of(User("abcd", TYPED), f"127.0.0.1:{server.port}")
+        slip = slip_of(User("abcd", TYPED), Way(f"127.0.0.1:{server.port}"))
         names = {}
         exec("\n".join(line.strip() for line in slip[slip.index("    from ljclient") :].splitlines()), names)
         with names["user"] as user:
@@ -133,7 +133,7 @@ def test_the_python_of_a_slip_runs(tmp_path):
 
 
 def test_a_slip_says_how_to_come_by_the_client():
-    slip = slip_of(User("abcd", TYPED), "192.0.2.10:4000")
+    slip = slip_of(User("abcd", TYPED), Way("192.0.2.10:4000"))
     folder = re.search("^    pip install (.*)$", slip, re.M)[1]
     assert f"`export PYTHONPATH={folder}`" in slip and "the folder of ljserve" in slip
     assert (TOP / folder / "pyproject.toml").is_file() and (TOP / folder / "ljclient").is_dir()
