@@ -6,7 +6,9 @@ that is compared. Addresses are replaced by that of a server on a loopback port.
 import ast
 import contextlib
 import itertools
+import os
 import re
+import shutil
 import socket
 import subprocess
 import time
@@ -201,6 +203,57 @@ def is_told(connection, commands):
 def serves(block, folder):
     with begun(block.text, folder) as connection:
         assert is_told(connection, "HELLO alice aliceExampleToken000000000000001\nLIST\n") == "OK HELLO alice\nOK LIST 0\n"
+
+
+def done_as_root(block, folder):
+    """Runs the lines of a block that change no machine, with a folder in place of the machine's."""
+    left_out = ("apt-get", "tar", "systemctl")
+    for each in ("etc/systemd/system", "etc/default", "etc/ljserve"):
+        (folder.path / each).mkdir(parents=True, exist_ok=True)
+    lines = [line for line in block.text.splitlines() if not line.startswith(left_out)]
+    return folder.shell("\n".join(lines).replace("/etc/", f"{folder.path}/etc/").replace("/opt/ljserve", str(folder.path)))
+
+
+def first_user(path):
+    """The HELLO of the first user of a file."""
+    name, token = re.search(r"^(\w+) (\w{32}) ", path.read_text(), re.M).groups()
+    return f"HELLO {name} {token}\n", f"OK HELLO {name}\n"
+
+
+def first_server(block, folder):
+    """The unit begins a server of the users that were made."""
+    done_as_root(block, folder)
+    users = folder.path / "etc" / "ljserve" / "users"
+    unit = (folder.path / "etc" / "systemd" / "system" / "ljserve.service").read_text()
+    (command,) = re.findall(r"^ExecStart=/opt/ljserve/libexec/(.*)$", unit, re.M)
+    hello, told = first_user(users)
+    with begun(f"bin/{command}".replace("${CREDENTIALS_DIRECTORY}/users", str(users)), folder) as connection:
+        assert is_told(connection, hello) == told
+    assert (users.stat().st_mode & 0o777, len(re.findall(r"^student\d+ ", users.read_text(), re.M))) == (0o600, 20)
+
+
+def servers_behind_haproxy(block, folder):
+    """Each server has its users and the words of its unit, and HAProxy takes the config that its defaults name."""
+    if shutil.which("openssl") is None:
+        pytest.skip("openssl is not installed")
+    done_as_root(block, folder)
+    shards = folder.path / "etc" / "ljserve" / "shards"
+    assert [len((shards / f"users{number}").read_text().splitlines()) for number in (1, 2, 3)] == [50, 50, 50]
+    unit = (folder.path / "etc" / "systemd" / "system" / "ljserve@.service").read_text()
+    (command,) = re.findall(r"^ExecStart=/opt/ljserve/libexec/(.*)$", unit, re.M)
+    words = {name: f'"${{{name}}}"' for name in ("LISTEN", "WORKERS", "CONNECTIONS")}
+    assert all(f"${{{name}}}" in command for name in words)
+    hello, told = first_user(shards / "users2")
+    env = dict(line.split("=") for line in (shards / "server2.env").read_text().splitlines())
+    command = command.replace("${CREDENTIALS_DIRECTORY}/users", env["USERS"]).replace("${LISTEN}", "127.0.0.1:4000")
+    with begun(f"bin/{re.sub('[$]{([A-Z]+)}', lambda name: env[name[1]], command)}", folder) as connection:
+        assert is_told(connection, hello) == told
+    haproxy = shutil.which("haproxy", path=f"{os.environ['PATH']}:/usr/sbin")
+    if haproxy is None:
+        pytest.skip("haproxy is not installed")
+    where = f"export LJSERVE_FOLDER={shards} LJSERVE_HAPROXY={folder.path}/packaging/haproxy"
+    told = folder.shell(f'{where}\n. etc/default/haproxy\n{haproxy} -c -f "$CONFIG" $EXTRAOPTS 2>&1')
+    assert told == "Configuration file is valid\n"
 
 
 def dialogue_of_a_connection(block, _):
@@ -427,9 +480,9 @@ BLOCKS = {
         "NAME TOKEN": FORM,
         "HELLO NAME TOKEN": FORM,
         "$ nc": dialogue_of_a_connection,
-        "tools/shards": "clients/python/tests/test_haproxy.py runs what it needs no systemd for, at ports that are free",
+        "apt-get install python3": first_server,
+        "apt-get install haproxy": servers_behind_haproxy,
         "tools/watch --metrics": "clients/python/tests/test_watch_metrics.py runs it, at ports that are free",
-        "sudo": "needs systemd, and changes the machine",
     },
     "docs/SOAK.md": {"bench/soak serve": TAKES_HOURS, "bench/soak bytes": TAKES_HOURS},
     "clients/python/README.md": {
