@@ -82,8 +82,14 @@ class Relay:
             writer.close()
 
     def cut(self):
-        """Ends all connections."""
-        self._loop.call_soon_threadsafe(lambda: [writer.transport.abort() for writer in self._writers])
+        """Ends all connections, and returns when they have ended."""
+        asyncio.run_coroutine_threadsafe(self._cut(), self._loop).result(SECONDS)
+
+    async def _cut(self):
+        open_writers = [writer for writer in self._writers if not writer.is_closing()]
+        for writer in open_writers:
+            writer.transport.abort()
+        await asyncio.gather(*(writer.wait_closed() for writer in open_writers), return_exceptions=True)
 
     def __enter__(self):
         return self

@@ -6,6 +6,7 @@ import subprocess
 
 import pytest
 
+from browsing import CHROMIUM, Browser
 from ljclient import connect
 from relays import Relay, certificate
 from support import SECONDS, TOKEN, Server, dimer, free_port, peer
@@ -208,3 +209,27 @@ def test_a_page_that_connects_again_says_why_it_cannot(view, server, good, other
         with Relay(server.port, good, listener(port)):
             told = asked(page, "frame", steps=1)
             assert (told["step"], told["jumped"]) == (2, True)
+
+
+@pytest.mark.skipif(not CHROMIUM, reason="Chromium is not installed")
+def test_the_page_shows_why_it_cannot_connect_and_what_it_waits_for(view, server, good, other, ann):
+    port = free_port()
+    with ann() as user:
+        dimer(user)
+    with Browser() as page:
+        with Relay(server.port, good, listener(port)) as relay:
+            page.open(f"http://{view(port, '--ca', good[0]).url}/")
+            page.wait_for("document.getElementById('about')?.textContent.startsWith('2 atoms')")
+            relay.cut()
+            page.click("one")
+            page.wait_for("document.getElementById('message').className.includes('bad')")
+        with Relay(server.port, other, listener(port)):
+            page.click("one")
+            page.wait_for("document.getElementById('message').textContent.includes('its certificate is of another issuer than that in')")
+        waiting = listener(port)
+        page.click("one")
+        page.wait_for(f"document.getElementById('waits').textContent === {not_answered(port)['waits']!r}")
+        with Relay(server.port, good, waiting):
+            page.wait_for("document.getElementById('step').textContent === '1'")
+            assert page.text("waits") == ""
+        assert page.faults == []
