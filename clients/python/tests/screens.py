@@ -1,4 +1,5 @@
 """A program in a real terminal, tmux, and what its screen shows."""
+import pathlib
 import re
 import shutil
 import subprocess
@@ -7,7 +8,10 @@ import time
 
 import pytest
 
-from support import SECONDS
+from support import SECONDS, wait_until
+
+# A program whose exit status is written to a file: tmux at times knows that a program has ended, and never its status.
+WITH_STATUS = 'trap : INT; "$@"; echo $? > "$0"'
 
 needs_tmux = pytest.mark.skipif(shutil.which("tmux") is None, reason="tmux is not installed")
 
@@ -18,6 +22,8 @@ class Screen:
     def __init__(self, words, env, columns=80, rows=40, cwd=None):
         self._folder = tempfile.TemporaryDirectory()
         self._socket = f"{self._folder.name}/tmux"
+        self._status = pathlib.Path(self._folder.name, "status")
+        words = ["sh", "-c", WITH_STATUS, str(self._status), *words]
         self._env = env
         size = ["-x", str(columns), "-y", str(rows)]
         self._tmux("new-session", "-d", *size, *(["-c", str(cwd)] if cwd else []), *words, ";", "set", "remain-on-exit", "on")
@@ -63,11 +69,8 @@ class Screen:
 
     def ended(self):
         """The exit status of the program, once it has ended."""
-        end = time.monotonic() + SECONDS
-        while len(told := self._tmux("display", "-p", "#{pane_dead} #{pane_dead_status}").split()) < 2:
-            assert time.monotonic() < end, "the program has not ended"
-            time.sleep(0.05)
-        return int(told[1])
+        wait_until(lambda: self._status.exists() and self._status.read_text().endswith("\n"))
+        return int(self._status.read_text())
 
     def close(self):
         subprocess.run(["tmux", "-S", self._socket, "kill-server"], capture_output=True, timeout=SECONDS)
