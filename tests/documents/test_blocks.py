@@ -241,12 +241,11 @@ def servers_behind_haproxy(block, folder):
     assert [len((shards / f"users{number}").read_text().splitlines()) for number in (1, 2, 3)] == [50, 50, 50]
     unit = (folder.path / "etc" / "systemd" / "system" / "ljserve@.service").read_text()
     (command,) = re.findall(r"^ExecStart=/opt/ljserve/libexec/(.*)$", unit, re.M)
-    words = {name: f'"${{{name}}}"' for name in ("LISTEN", "WORKERS", "CONNECTIONS")}
-    assert all(f"${{{name}}}" in command for name in words)
     hello, told = first_user(shards / "users2")
     env = dict(line.split("=") for line in (shards / "server2.env").read_text().splitlines())
     command = command.replace("${CREDENTIALS_DIRECTORY}/users", env["USERS"]).replace("${LISTEN}", "127.0.0.1:4000")
-    with begun(f"bin/{re.sub('[$]{([A-Z]+)}', lambda name: env[name[1]], command)}", folder) as connection:
+    command = re.sub(r"\$\{(\w+)\}", lambda name: env[name[1]], command)
+    with begun(f"bin/{command}", folder) as connection:
         assert is_told(connection, hello) == told
     haproxy = shutil.which("haproxy", path=f"{os.environ['PATH']}:/usr/sbin")
     if haproxy is None:
