@@ -225,7 +225,7 @@ def first_server(block, folder):
     done_as_root(block, folder)
     users = folder.path / "etc" / "ljserve" / "users"
     unit = (folder.path / "etc" / "systemd" / "system" / "ljserve.service").read_text()
-    (command,) = re.findall(r"^ExecStart=/opt/ljserve/libexec/(.*)$", unit, re.M)
+    (command,) = re.findall(r"^ExecStart=/opt/ljserve/bin/(.*)$", unit, re.M)
     hello, told = first_user(users)
     with begun(f"bin/{command}".replace("${CREDENTIALS_DIRECTORY}/users", str(users)), folder) as connection:
         assert is_told(connection, hello) == told
@@ -240,7 +240,7 @@ def servers_behind_haproxy(block, folder):
     shards = folder.path / "etc" / "ljserve" / "shards"
     assert [len((shards / f"users{number}").read_text().splitlines()) for number in (1, 2, 3)] == [50, 50, 50]
     unit = (folder.path / "etc" / "systemd" / "system" / "ljserve@.service").read_text()
-    (command,) = re.findall(r"^ExecStart=/opt/ljserve/libexec/(.*)$", unit, re.M)
+    (command,) = re.findall(r"^ExecStart=/opt/ljserve/bin/(.*)$", unit, re.M)
     hello, told = first_user(shards / "users2")
     env = dict(line.split("=") for line in (shards / "server2.env").read_text().splitlines())
     command = command.replace("${CREDENTIALS_DIRECTORY}/users", env["USERS"]).replace("${LISTEN}", "127.0.0.1:4000")
