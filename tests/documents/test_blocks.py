@@ -462,6 +462,7 @@ BLOCKS = {
         "pub fn hello": stands_in("crates/lj_access/src/directory.rt"),
         "pub fn visit": stands_in("crates/lj_visit/src/visiting.rt"),
         "  pub greets": stands_in("crates/lj_visit/specs/Visits.antt"),
+        "  pub seen": stands_in("crates/lj_visit/specs/Visits.antt"),
         "  pub happens": stands_in("crates/lj_visit/specs/Visits.antt"),
         "bin/ljserve --version": NEEDS_KIT,
     },
