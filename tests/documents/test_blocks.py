@@ -483,6 +483,8 @@ BLOCKS = {
         "apt-get install python3": first_server,
         "apt-get install haproxy": servers_behind_haproxy,
         "tools/watch --metrics": "clients/python/tests/test_watch_metrics.py runs it, at ports that are free",
+        "sudo apt": "clients/python/tests/test_debian_packages.py installs both, in a root of its own",
+        "sudo cat": "clients/python/tests/test_debian_packages.py reads the token there, and lets the prompt read it",
     },
     "docs/SOAK.md": {"bench/soak serve": TAKES_HOURS, "bench/soak bytes": TAKES_HOURS},
     "clients/python/README.md": {

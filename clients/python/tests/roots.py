@@ -1,0 +1,87 @@
+"""A root of its own: this machine's files under a layer in memory, in namespaces of their own, so that nothing of it stays."""
+import contextlib
+import pathlib
+import re
+import subprocess
+import time
+
+from support import SECONDS
+
+PATH = "/usr/sbin:/usr/bin:/sbin:/bin"
+# The tables of mounts, processes and network end with the first process of the namespaces.
+BEGIN = """
+mount -t tmpfs tmpfs "$1"
+mkdir "$1/upper" "$1/work" "$1/root"
+mount -t overlay overlay -o "lowerdir=/,upperdir=$1/upper,workdir=$1/work" "$1/root"
+mount -t proc proc "$1/root/proc"
+mount --bind /dev "$1/root/dev"
+mount -t tmpfs tmpfs "$1/root/run"
+mount -t tmpfs tmpfs "$1/root/tmp"
+chroot "$1/root" /usr/bin/python3 -c "$2"
+echo begun
+exec chroot "$1/root" sleep infinity
+"""
+# Brings the loopback of the namespace up: SIOCSIFFLAGS of `lo`, IFF_UP.
+LOOPBACK = """
+import fcntl, socket, struct
+with socket.socket(socket.AF_INET, socket.SOCK_DGRAM) as any_socket:
+    fcntl.ioctl(any_socket, 0x8914, struct.pack("16sh", b"lo", 1))
+"""
+
+
+class NoRoot(Exception):
+    """Why there is no root of its own here."""
+
+
+class Root:
+    """A root that was begun. `path` is where its files are from outside."""
+
+    def __init__(self, process):
+        (number,) = pathlib.Path(f"/proc/{process.pid}/task/{process.pid}/children").read_text().split()
+        self.number = number
+        self.path = pathlib.Path(f"/proc/{number}/root")
+
+    def command(self, *words):
+        """A command in it, for a process of this machine to begin, with nothing of the environment of this one."""
+        within = ["nsenter", "--target", self.number, "--mount", "--net", "--pid", "--root", "--wd"]
+        return [*within, "env", "-i", f"PATH={PATH}", "LC_ALL=C.UTF-8", "HOME=/root", "DEBIAN_FRONTEND=noninteractive", *words]
+
+    def run(self, *words, given="", status=0):
+        """What a command prints in it."""
+        how = {"stdout": subprocess.PIPE, "stderr": subprocess.STDOUT, "text": True, "timeout": 10 * SECONDS}
+        done = subprocess.run(self.command(*words), input=given, **how)
+        assert done.returncode == status, done
+        return done.stdout
+
+    def put(self, path, text, mode=0o644):
+        """Writes a file in it. One that is there is not changed, but replaced."""
+        target = self.path / path
+        target.unlink(missing_ok=True)
+        target.parent.mkdir(parents=True, exist_ok=True)
+        target.write_text(text)
+        target.chmod(mode)
+
+    def await_listener(self, port):
+        """Waits until something listens at a port of 127.0.0.1."""
+        row = re.compile(rf"0100007F:{port:04X} 00000000:0000 0A ")
+        end = time.monotonic() + 4 * SECONDS
+        while not row.search(pathlib.Path(f"/proc/{self.number}/net/tcp").read_text()):
+            assert time.monotonic() < end, f"nothing listens at port {port}"
+            time.sleep(0.05)
+
+
+@contextlib.contextmanager
+def root_of_its_own(folder):
+    """A root that is gone at the end, with all that runs in it. Raises NoRoot if none can be had here."""
+    words = ["unshare", "--mount", "--net", "--pid", "--fork", "--kill-child", "sh", "-ec", BEGIN, "sh", str(folder), LOOPBACK]
+    try:
+        process = subprocess.Popen(words, stdin=subprocess.DEVNULL, stdout=subprocess.PIPE, stderr=subprocess.PIPE, text=True)
+    except OSError as error:
+        raise NoRoot(str(error)) from error
+    with process:
+        try:
+            if process.stdout.readline() != "begun\n":
+                raise NoRoot(process.communicate()[1].strip())
+            yield Root(process)
+        finally:
+            process.kill()
