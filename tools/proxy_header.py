@@ -4,10 +4,9 @@ https://www.haproxy.org/download/2.6/doc/proxy-protocol.txt
 """
 import ipaddress
 import re
-import socket
 import struct
 import time
-from typing import Optional
+from typing import Optional, Protocol, Tuple
 
 SECONDS_FOR_HEADER = 10.0
 SIGNATURE = b"\r\n\r\n\0\r\nQUIT\n"
@@ -18,7 +17,44 @@ LOCAL, PROXY = 0x20, 0x21
 SIZES = {0x11: 4, 0x21: 16}
 
 
-def source_of(stream: socket.socket) -> Optional[str]:
+class NotWhole(Exception):
+    """More bytes are to come."""
+
+
+class Stream(Protocol):
+    """What a header is read from: a socket, or bytes that have come."""
+
+    def settimeout(self, seconds: Optional[float], /) -> None:
+        """Says how long to wait."""
+
+    def recv(self, count: int, /) -> bytes:
+        """At most so many bytes."""
+
+
+class Held:
+    """Bytes that have come, read as a socket is."""
+
+    def __init__(self, data: bytes):
+        self.data = data
+
+    def settimeout(self, _: Optional[float], /) -> None:
+        """Nothing is waited for."""
+
+    def recv(self, count: int, /) -> bytes:
+        piece, self.data = self.data[:count], self.data[count:]
+        if not piece:
+            raise NotWhole
+        return piece
+
+
+def source_of_bytes(data: bytes) -> Tuple[Optional[str], bytes]:
+    """What the header at the start of some bytes names as the source, as `source_of` does, and the bytes behind it. Raises
+    `NotWhole` if more are needed, and ValueError if there is no header."""
+    held = Held(data)
+    return source_of(held), held.data
+
+
+def source_of(stream: Stream) -> Optional[str]:
     """Reads the header at the start of a connection, and no byte more. Returns the HOST:PORT that it names as the source, or None
     where it names none, as of a balancer's own checks. Raises ValueError if there is no header, and OSError if it does not come."""
     until = time.monotonic() + SECONDS_FOR_HEADER
@@ -28,7 +64,7 @@ def source_of(stream: socket.socket) -> Optional[str]:
     return source
 
 
-def source_of_version_1(stream: socket.socket, head: bytes, until: float) -> Optional[str]:
+def source_of_version_1(stream: Stream, head: bytes, until: float) -> Optional[str]:
     """The source that a line of text names."""
     while head.startswith(b"PROXY ") and not head.endswith(b"\r\n") and len(head) < MAX_TEXT:
         head += received(stream, 1, until)
@@ -38,7 +74,7 @@ def source_of_version_1(stream: socket.socket, head: bytes, until: float) -> Opt
     return joined(found[1].decode(), int(found[2])) if found[1] else None
 
 
-def source_of_version_2(stream: socket.socket, until: float) -> Optional[str]:
+def source_of_version_2(stream: Stream, until: float) -> Optional[str]:
     """The source that a header in binary names. Further fields are passed over."""
     command, family, size = struct.unpack("!BBH", received(stream, 4, until))
     body = received(stream, size, until)
@@ -61,7 +97,7 @@ def joined(host: str, port: int) -> str:
     return f"[{address}]:{port}" if address.version == 6 else f"{address}:{port}"
 
 
-def received(stream: socket.socket, count: int, until: float) -> bytes:
+def received(stream: Stream, count: int, until: float) -> bytes:
     """So many bytes, no later than a time. Raises ValueError if the connection ends before."""
     data = b""
     while len(data) < count:

@@ -1,0 +1,53 @@
+"""Who may come in: the users of a file, the first line of a connection, and what a server is handed of the users."""
+import hmac
+import pathlib
+import re
+import secrets
+from typing import Dict, NamedTuple, Optional
+
+from keeping.items import MAX_LINE, words_of
+from user_files import Checked, Fault
+
+DENIED = b"ERR 01 DENIED\n"
+
+
+class Account(NamedTuple):
+    token: bytes
+    quota: str
+
+
+Accounts = Dict[str, Account]
+
+
+def accounts_at(path: pathlib.Path) -> Accounts:
+    """The users of a file. Raises Fault if it cannot be read or something is wrong with it."""
+    try:
+        text = path.read_bytes()
+    except OSError as error:
+        raise Fault(f"cannot read {path}: {error.strerror}") from error
+    checked = Checked()
+    checked.read(text)
+    if checked.faults:
+        raise Fault(f"{path}: {checked.faults[0]}")
+    rows = [re.split(rb"[ \t]+", line.strip(b" \t")) for line in text.split(b"\n") if not line.startswith(b"#")]
+    return {row[0].decode(): Account(row[1], b" ".join(row[2:]).decode()) for row in rows if row[0]}
+
+
+def user_of(line: bytes, accounts: Accounts) -> Optional[str]:
+    """The user whose name and token a first line has, without its line feed."""
+    words = words_of(line)
+    if len(line) > MAX_LINE or len(words) != 3 or words[0] != b"HELLO":
+        return None
+    name = words[1].decode(errors="replace")
+    token = accounts[name].token if name in accounts else b""
+    return name if hmac.compare_digest(token, words[2]) and token else None
+
+
+def new_tokens(accounts: Accounts) -> Dict[str, str]:
+    """Tokens for one server alone, so that nobody comes to it but through what has begun it."""
+    return {name: secrets.token_hex(16) for name in accounts}
+
+
+def server_text(accounts: Accounts, tokens: Dict[str, str]) -> bytes:
+    """The file of users that a server is handed."""
+    return "".join(f"{name} {tokens[name]} {each.quota}\n" for name, each in accounts.items()).encode()

@@ -1,0 +1,253 @@
+"""Both ends of what passes: the connection of a client, and that of a user to the server."""
+from __future__ import annotations
+
+import asyncio
+from collections import deque
+from typing import TYPE_CHECKING, Deque, Optional, Protocol
+
+from keeping.accounts import DENIED
+from keeping.items import MAX_ITEMS, MAX_LINE, Item, ItemReader, ReplyReader
+from proxy_header import NotWhole, source_of_bytes
+from watching import Connection, prepare, written
+
+if TYPE_CHECKING:
+    from keeping.user import User
+
+SECONDS_FOR_HELLO = 30.0
+SECONDS_AFTER_END = 1.0
+MAX_BYTES_WAITING = 1 << 16
+
+
+class Door(Protocol):
+    """What lets clients in."""
+
+    has_header: bool
+
+    def begins(self, client: Client) -> None:
+        """A connection was accepted."""
+
+    def ends(self, client: Client) -> None:
+        """A connection has ended."""
+
+    def user_of(self, line: bytes) -> Optional[User]:
+        """The user that a first line asks for, if it may be let in."""
+
+    def is_let_in(self, client: Client) -> None:
+        """A user is told so."""
+
+    def new_connection(self, origin: str) -> Connection:
+        """What is shown of a connection."""
+
+
+class Client(asyncio.Protocol):
+    """The connection of a client, from its first line on."""
+
+    def __init__(self, door: Door):
+        self._door = door
+        self._transport: asyncio.Transport
+        self._items: Deque[Item] = deque()
+        self._bytes = 0
+        self._reader = ItemReader()
+        self._first = b""
+        self._has_header = door.has_header
+        self._is_over = self._is_lost = self._has_sent_all = False
+        self._is_paused = False
+        self.user: Optional[User] = None
+        self.is_full = False
+        self.seen: Connection
+
+    # What happens.
+
+    def connection_made(self, transport: asyncio.BaseTransport) -> None:
+        assert isinstance(transport, asyncio.Transport)
+        self._transport = transport
+        prepare(transport.get_extra_info("socket"))
+        self.seen = self._door.new_connection(written(transport.get_extra_info("peername")))
+        self._timer = asyncio.get_running_loop().call_later(SECONDS_FOR_HELLO, self.abort)
+        self._door.begins(self)
+
+    def data_received(self, data: bytes) -> None:
+        if self._is_over:
+            return
+        if self.user is None:
+            self._first += data
+            self._hear_first()
+        else:
+            self._hear(data)
+            self.user.go_on()
+
+    def _hear(self, data: bytes) -> None:
+        """Takes items. As long as many of them wait no more are read."""
+        for item in self._reader.feed(data):
+            self._items.append(item)
+            self._bytes += len(item.raw)
+        if self._bytes > MAX_BYTES_WAITING and not self._is_paused:
+            self._is_paused = True
+            self._transport.pause_reading()
+
+    def _hear_first(self) -> None:
+        """Takes the header of PROXY and the first line, when they are whole."""
+        if self._has_header and not self._takes_header():
+            return
+        line, end, rest = self._first.partition(b"\n")
+        if not end and len(line) <= MAX_LINE:
+            return
+        self._timer.cancel()
+        self.seen.hear_client(line + b"\n")
+        self.user = self._door.user_of(line) if end else None
+        if self.user is None:
+            self.deny()
+            return
+        self._first = b""
+        self._hear(rest)
+        self.user.enter(self)
+
+    def _takes_header(self) -> bool:
+        """Takes the header off if it is whole. A connection without one is closed."""
+        try:
+            source, self._first = source_of_bytes(self._first)
+        except NotWhole:
+            return False
+        except ValueError as error:
+            self.seen.refusal = f"no PROXY header: {error}"
+            self.abort()
+            return False
+        self._has_header = False
+        self.seen.origin = source or self.seen.origin
+        return True
+
+    def eof_received(self) -> bool:
+        """The client sends no more. Who waits and has sent nothing behind its first line is taken as gone."""
+        self._has_sent_all = self.seen.is_gone = True
+        is_waiting = self.user is not None and self in self.user.waiting
+        if self.user is None or self._is_over or is_waiting and not self._items:
+            self._transport.close()
+        else:
+            self.user.go_on()
+        return True
+
+    def connection_lost(self, error: Optional[Exception]) -> None:
+        self._timer.cancel()
+        self._is_lost, self.is_full = True, False
+        self._items.clear()
+        if self.user is not None:
+            self.user.leave(self)
+        self._door.ends(self)
+
+    def pause_writing(self) -> None:
+        self.is_full = True
+        if self.user is not None:
+            self.user.go_on()
+
+    def resume_writing(self) -> None:
+        self.is_full = False
+        if self.user is not None:
+            self.user.go_on()
+
+    # What its user does with it.
+
+    def next_item(self) -> Optional[Item]:
+        """The next item of those that wait, if there is one."""
+        if not self._items:
+            return None
+        item = self._items.popleft()
+        self._bytes -= len(item.raw)
+        if self._is_paused and self._bytes <= MAX_BYTES_WAITING:
+            self._is_paused = False
+            self._transport.resume_reading()
+        return item
+
+    def has_ended(self) -> bool:
+        """Whether no more items will come."""
+        return not self._items and (self._is_lost or self._has_sent_all or self._reader.has_ended)
+
+    def let_in(self) -> None:
+        self.tell(b"OK HELLO %s\n" % self.user.name.encode() if self.user else b"")
+        self._door.is_let_in(self)
+
+    def tell(self, replies: bytes) -> None:
+        if not self._is_lost:
+            self.seen.hear_server(replies)
+            self._transport.write(replies)
+
+    def deny(self) -> None:
+        self.tell(DENIED)
+        self.finish()
+
+    def finish(self) -> None:
+        """Ends the connection behind what was told. What is still sent is read for a second, so that the last reply is not lost."""
+        if self._is_lost or self._is_over:
+            return
+        self._is_over = True
+        if self._has_sent_all:
+            self._transport.close()
+            return
+        self._transport.write_eof()
+        if self._is_paused:
+            self._transport.resume_reading()
+        asyncio.get_running_loop().call_later(SECONDS_AFTER_END, self._transport.close)
+
+    def abort(self) -> None:
+        """Ends the connection at once."""
+        self._is_over = True
+        self._transport.abort()
+
+
+class Owner(Protocol):
+    """What has begun the server."""
+
+    def link_is_lost(self, link: Link) -> None:
+        """A connection to the server has ended by itself, or the server does not let a user in."""
+
+
+class Link(asyncio.Protocol):
+    """The connection of a user to the server, from its first line on. `left` is how many items it still may have."""
+
+    most_items = MAX_ITEMS
+
+    def __init__(self, user: User, token: str, is_new: bool, owner: Owner):
+        self.user, self._is_new, self._owner = user, is_new, owner
+        self.left = self.most_items
+        self._hello = f"HELLO {user.name} {token}\n".encode()
+        self._reader = ReplyReader()
+        self._transport: asyncio.Transport
+        self._is_in = self._is_closed = self._is_held = False
+
+    def connection_made(self, transport: asyncio.BaseTransport) -> None:
+        assert isinstance(transport, asyncio.Transport)
+        self._transport = transport
+        transport.write(self._hello)
+
+    def data_received(self, data: bytes) -> None:
+        if self._is_closed:
+            return
+        replies = self._reader.feed(data)
+        if not self._is_in and replies:
+            self._begin(replies.pop(0))
+        if replies and not self._is_closed:
+            self.user.hear(replies)
+
+    def _begin(self, reply: bytes) -> None:
+        if reply != b"OK HELLO %s\n" % self.user.name.encode():
+            self._owner.link_is_lost(self)
+            return
+        self._is_in = True
+        self.user.begin(self, self._is_new)
+
+    def connection_lost(self, error: Optional[Exception]) -> None:
+        if not self._is_closed:
+            self._is_closed = True
+            self._owner.link_is_lost(self)
+
+    def send(self, items: bytes) -> None:
+        self._transport.write(items)
+
+    def hold(self, is_held: bool) -> None:
+        """Reads no replies for as long as they cannot be told."""
+        if is_held != self._is_held and not self._is_closed:
+            self._is_held = is_held
+            (self._transport.pause_reading if is_held else self._transport.resume_reading)()
+
+    def close(self) -> None:
+        self._is_closed = True
+        self._transport.close()

@@ -1,0 +1,245 @@
+"""A front: it owns a server, keeps what its users do, and begins another server when one has ended."""
+import asyncio
+import contextlib
+import os
+import pathlib
+import signal
+import socket
+import time
+from typing import Dict, NamedTuple, Optional, Set
+
+from keeping.accounts import Accounts, accounts_at, user_of
+from keeping.disk import Disk
+from keeping.ends import Client, Link
+from keeping.items import words_of
+from keeping.journal import Damaged, Journal
+from keeping.script import Otherwise, Script
+from keeping.server import Server, Words, begin, version_of
+from keeping.status import Folder
+from keeping.user import User
+from user_files import Fault
+from watching import Board, Connection
+
+MAX_OPEN = 1000
+SECONDS_BETWEEN_TRIES = 0.01
+SECONDS_OF_A_START = 1.0
+VERSION = "version"
+
+
+class Options(NamedTuple):
+    """What the command line says."""
+
+    listener: socket.socket
+    folder: Folder
+    words: Words
+    sync: str
+    has_header: bool
+
+
+class Front:
+    """Lets users in, each to its own journal and its own connection to the server."""
+
+    def __init__(self, options: Options, board: Board):
+        """Raises Fault if the users or the folder cannot be used."""
+        self.has_header = options.has_header
+        self._options, self._board = options, board
+        self._folder = options.folder
+        self._disk = Disk(options.sync, self.fail)
+        self._accounts: Accounts = {}
+        self._users: Dict[str, User] = {}
+        self._damaged: Dict[str, str] = {}
+        self._clients: Set[Client] = set()
+        self._server: Optional[Server] = None
+        self._is_ending = asyncio.Event()
+        self._status = 0
+        self._known = {"since": time.time(), "process": os.getpid(), "begun": 0, "last_end": "", "end": ""}
+        self._take_users(accounts_at(pathlib.Path(options.words.users)))
+
+    # Users.
+
+    def _take_users(self, accounts: Accounts) -> None:
+        """Has these users in place of those there were. Who was stopped is tried again."""
+        self._damaged = {}
+        for name in [*self._users]:
+            user = self._users[name]
+            if name not in accounts or user.stopped and not user.is_busy():
+                self._give_up(self._users.pop(name))
+        self._accounts = accounts
+        for name in accounts:
+            if name not in self._users:
+                self._open(name)
+
+    def _give_up(self, user: User) -> None:
+        if not user.stopped:
+            user.stop("it is no user any more")
+        user.close()
+
+    def _open(self, name: str) -> None:
+        """Reads the journal of a user. One that is damaged stops that user alone."""
+        try:
+            journal = Journal(self._folder.path, name)
+            script = script_of(journal)
+        except (Damaged, Otherwise) as error:
+            self._damaged[name] = f"its journal is damaged: {error}"
+            self._note("stopped", user=name, why=self._damaged[name])
+        except OSError as error:
+            raise Fault(f"cannot use the journal of {name}: {error.strerror}") from error
+        else:
+            self._users[name] = User(name, journal, script, self._disk, self._note, self._renew)
+
+    # What clients ask of it.
+
+    def begins(self, client: Client) -> None:
+        self._clients.add(client)
+        self._board.begins(client.seen)
+        if len(self._clients) > MAX_OPEN:
+            client.abort()
+
+    def ends(self, client: Client) -> None:
+        self._clients.discard(client)
+        self._board.ends(client.seen)
+
+    def user_of(self, line: bytes) -> Optional[User]:
+        name = user_of(line, self._accounts)
+        return self._users.get(name) if name else None
+
+    def is_let_in(self, client: Client) -> None:
+        self._board.is_passed()
+        self._board.is_let_in(client.seen)
+
+    def new_connection(self, origin: str) -> Connection:
+        return Connection(origin, self._board.sessions)
+
+    # The server.
+
+    async def run(self) -> int:
+        """Serves until it is told to end, and returns the exit status."""
+        loop = asyncio.get_running_loop()
+        loop.add_signal_handler(signal.SIGHUP, self._begin_anew)
+        for number in (signal.SIGTERM, signal.SIGINT):
+            loop.add_signal_handler(number, self._end)
+        listening = await loop.create_server(lambda: Client(self), sock=self._options.listener, backlog=128)
+        tasks = [asyncio.create_task(work) for work in (self._own_servers(), self._disk.sync_on())]
+        await self._is_ending.wait()
+        listening.close()
+        for task in tasks:
+            task.cancel()
+        await asyncio.gather(*tasks, return_exceptions=True)
+        await self._close()
+        return self._status
+
+    async def _close(self) -> None:
+        if self._server is not None:
+            self._server.kill()
+            await self._server.ended()
+            self._server = None
+        for client in [*self._clients]:
+            client.abort()
+        self._disk.close()
+        self._put_status()
+
+    async def _own_servers(self) -> None:
+        """Begins a server, and another one when it has ended."""
+        while True:
+            begun = time.monotonic()
+            try:
+                ended = await self._own_server()
+            except Fault as fault:
+                ended = str(fault)
+            self._known["last_end"] = ended
+            self._note("server ended", why=ended)
+            if time.monotonic() < begun + SECONDS_OF_A_START:
+                await asyncio.sleep(SECONDS_OF_A_START)
+
+    async def _own_server(self) -> str:
+        """Begins a server, connects all users to it, and returns how it has ended."""
+        self._server = server = await begin(self._options.words, self._accounts)
+        self._known["begun"] = int(str(self._known["begun"])) + 1
+        self._note("server begun", process=server.process.pid)
+        others = [asyncio.create_task(self._connect(user, True)) for user in self._users.values() if not user.stopped]
+        others.append(asyncio.create_task(self._note_version()))
+        ended = await server.ended()
+        self._server = None
+        for task in others:
+            task.cancel()
+        for user in self._users.values():
+            user.lose_link()
+        return ended
+
+    async def _connect(self, user: User, is_new: bool) -> None:
+        """Connects a user to the server, as soon as that listens."""
+        loop, server = asyncio.get_running_loop(), self._server
+        while server is not None and server is self._server and server.is_there():
+            try:
+                link = Link(user, server.tokens[user.name], is_new, self)
+                await loop.create_connection(lambda: link, "127.0.0.1", server.port)
+                return
+            except OSError:
+                await asyncio.sleep(SECONDS_BETWEEN_TRIES)
+
+    def _renew(self, user: User) -> None:
+        """Connects a user to the same server again."""
+        asyncio.get_running_loop().create_task(self._connect(user, False))
+
+    def link_is_lost(self, link: Link) -> None:
+        """A server that has closed a connection may have done what it did not reply, so it is ended, and all is told again."""
+        if self._server is not None:
+            self._server.kill()
+
+    async def _note_version(self) -> None:
+        """Has a file name the version of the program, and notes if that is another."""
+        version = "\n".join(await version_of(self._options.words.program)) or "unknown"
+        path = self._folder.path / VERSION
+        before = path.read_text().rstrip("\n") if path.exists() else version
+        if before != version:
+            self._note("program", version=version, before=before)
+        with contextlib.suppress(OSError):
+            self._folder.put(VERSION, f"{version}\n")
+
+    # What it is told from outside.
+
+    def _begin_anew(self) -> None:
+        """Reads the users again, and begins a new server, whose program may be another."""
+        try:
+            self._take_users(accounts_at(pathlib.Path(self._options.words.users)))
+        except Fault as fault:
+            self._note("not begun anew", why=str(fault))
+            return
+        self._note("begins anew")
+        if self._server is not None:
+            self._server.kill()
+
+    def _end(self) -> None:
+        self._known["end"] = "it was told to end"
+        self._is_ending.set()
+
+    def fail(self, error: OSError) -> None:
+        """Ends all, since something cannot be written: nobody is told what is not kept."""
+        why = f"cannot write a journal: {error.strerror}"
+        self._status = 1
+        self._known["end"] = why
+        self._note("failed", why=why)
+        self._is_ending.set()
+        for client in [*self._clients]:
+            client.abort()
+
+    def _note(self, event: str, **known: object) -> None:
+        """Says what happens to users and servers, and has it in the log and in the status."""
+        self._board.notes(event, **known)
+        self._board.says(" ".join([event, *(f"{name} {value}" for name, value in known.items())]))
+        self._put_status()
+
+    def _put_status(self) -> None:
+        users: Dict[str, Dict[str, object]] = {name: each.known() for name, each in self._users.items()}
+        users |= {name: {"state": "stopped", "why": why} for name, why in self._damaged.items()}
+        server = self._server.process.pid if self._server else None
+        self._folder.put_status({**self._known, "server": server, "users": users})
+
+
+def script_of(journal: Journal) -> Script:
+    """What is left of the commands of a journal. Raises `Otherwise` if a reply does not follow from them."""
+    script = Script()
+    for record in journal.records:
+        script.take(record.item, words_of(record.item.partition(b"\n")[0]), record.reply)
+    journal.records.clear()
+    return script

@@ -1,0 +1,108 @@
+"""The server that is owned: a child that is ended with its parent, whatever ends that."""
+import asyncio
+import contextlib
+import ctypes
+import os
+import signal
+import socket
+import subprocess
+from typing import Callable, Dict, List, Sequence, Tuple
+
+from keeping.accounts import Accounts, new_tokens, server_text
+from user_files import Fault
+
+MAX_CONNECTIONS = 1_000_000
+SET_PDEATHSIG = 1
+SECONDS_FOR_VERSION = 30.0
+OWN = ("--listen", "--connections")
+
+
+class Words:
+    """The command line of a server: its program, and the file of users, which is not handed on."""
+
+    def __init__(self, words: Sequence[str]):
+        """Raises ValueError if they are none of a server to be owned."""
+        if len(words) < 2 or words[1] != "serve":
+            raise ValueError("say the server behind --, such as bin/ljserve serve --users FILE --workers 4 --pool queue")
+        for option in OWN:
+            if option in words:
+                raise ValueError(f"leave out {option}: it is said to the server by what begins it")
+        if words.count("--users") != 1 or words[-1] == "--users":
+            raise ValueError("say --users FILE behind --")
+        at = words.index("--users")
+        self.program, self.users = words[0], words[at + 1]
+        self._before, self._behind = list(words[:at]), list(words[at + 2 :])
+
+    def command(self, port: int, users: int) -> List[str]:
+        """What begins a server on a port, which reads its users from an open file."""
+        own = ["--listen", f"127.0.0.1:{port}", "--connections", str(MAX_CONNECTIONS), "--users", f"/proc/self/fd/{users}"]
+        return [*self._before, *own, *self._behind]
+
+
+class Server:
+    """A server that was begun. `tokens` are those of its users, which nobody else knows."""
+
+    def __init__(self, process: asyncio.subprocess.Process, port: int, tokens: Dict[str, str]):
+        self.process, self.port, self.tokens = process, port, tokens
+
+    def is_there(self) -> bool:
+        return self.process.returncode is None
+
+    def kill(self) -> None:
+        with contextlib.suppress(ProcessLookupError):
+            self.process.kill()
+
+    async def ended(self) -> str:
+        """Waits for its end, and returns how it ended."""
+        return how_it_ended(await self.process.wait())
+
+
+def how_it_ended(status: int) -> str:
+    return f"it ended with status {status}" if status >= 0 else f"it was ended by signal {-status}"
+
+
+async def begin(words: Words, accounts: Accounts) -> Server:
+    """Begins a server on a port that is free. Raises Fault if there is no such program."""
+    with socket.create_server(("127.0.0.1", 0)) as free:
+        port = free.getsockname()[1]
+    tokens = new_tokens(accounts)
+    users = os.memfd_create("users", 0)
+    try:
+        os.write(users, server_text(accounts, tokens))
+        process = await asyncio.create_subprocess_exec(
+            *words.command(port, users),
+            stdin=subprocess.DEVNULL,
+            stdout=subprocess.DEVNULL,
+            pass_fds=[users],
+            preexec_fn=dying_with_parent(),
+            start_new_session=True,
+        )
+    except OSError as error:
+        raise Fault(f"cannot start {words.program}: {error.strerror}") from error
+    finally:
+        os.close(users)
+    return Server(process, port, tokens)
+
+
+def dying_with_parent() -> Callable[[], None]:
+    """What a child does so that the system kills it when this process ends."""
+    prctl, parent = ctypes.CDLL(None, use_errno=True).prctl, os.getpid()
+
+    def prepare() -> None:
+        prctl(SET_PDEATHSIG, signal.SIGKILL)
+        if os.getppid() != parent:
+            os._exit(1)
+
+    return prepare
+
+
+async def version_of(program: str) -> Tuple[str, ...]:
+    """The lines in which a program tells its version, none if it does not."""
+    try:
+        process = await asyncio.create_subprocess_exec(
+            program, "--version", stdin=subprocess.DEVNULL, stdout=subprocess.PIPE, stderr=subprocess.DEVNULL
+        )
+        out, _ = await asyncio.wait_for(process.communicate(), SECONDS_FOR_VERSION)
+    except (OSError, asyncio.TimeoutError):
+        return ()
+    return tuple(out.decode(errors="replace").splitlines())

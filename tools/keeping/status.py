@@ -1,0 +1,87 @@
+"""The status of a front in a file of its folder, and how it is told."""
+import contextlib
+import fcntl
+import json
+import os
+import pathlib
+import sys
+import time
+from typing import Dict, Iterator, Optional
+
+from user_files import Fault
+
+STATUS, LOCK = "status.json", "lock"
+Known = Dict[str, object]
+
+
+class Folder:
+    """The folder of a front, which no other one uses at the same time."""
+
+    def __init__(self, path: pathlib.Path):
+        """Makes the folder if it is not there. Raises Fault if it cannot be used."""
+        self.path = path
+        try:
+            path.mkdir(mode=0o700, exist_ok=True)
+            if path.stat().st_mode & 0o077:
+                raise Fault(f"the mode of {path} lets others in: `chmod 700` leaves it to its owner")
+            self._lock = os.open(path / LOCK, os.O_RDWR | os.O_CREAT | os.O_CLOEXEC, 0o600)
+        except OSError as error:
+            raise Fault(f"cannot use {path}: {error.strerror}") from error
+        if not is_taken(self._lock):
+            raise Fault(f"{path} is in use")
+
+    def put(self, name: str, text: str) -> None:
+        """Writes a file anew, whole or not at all. Raises OSError if it cannot be written."""
+        path = self.path / f"{name}.new"
+        path.write_text(text)
+        path.replace(self.path / name)
+
+    def put_status(self, known: Known) -> None:
+        """Writes the status. A disk that is full stops nothing here: what was told is in the journals."""
+        with contextlib.suppress(OSError):
+            self.put(STATUS, json.dumps(known) + "\n")
+
+
+def is_taken(lock: int) -> bool:
+    """Takes a lock if nobody has it. Returns whether it is had."""
+    try:
+        fcntl.flock(lock, fcntl.LOCK_EX | fcntl.LOCK_NB)
+    except BlockingIOError:
+        return False
+    return True
+
+
+def is_running(path: pathlib.Path) -> bool:
+    """Whether a front has a folder."""
+    lock = os.open(path / LOCK, os.O_RDONLY | os.O_CLOEXEC)
+    try:
+        return not is_taken(lock)
+    finally:
+        os.close(lock)
+
+
+def tell_status(path: pathlib.Path) -> int:
+    """Prints the status of a folder. Returns 0 if a front has it and each user may come in, else 1."""
+    try:
+        known, runs = json.loads((path / STATUS).read_text()), is_running(path)
+    except (OSError, ValueError) as error:
+        cause = error.strerror if isinstance(error, OSError) else "it has no status"
+        print(f"keep: cannot read {path}: {cause}", file=sys.stderr)
+        return 1
+    for line in lines_of(known, runs):
+        print(line)
+    return int(not runs or any(each["state"] == "stopped" for each in known["users"].values()))
+
+
+def lines_of(known: Known, runs: bool) -> Iterator[str]:
+    """What is told of a status."""
+    since = time.strftime("%Y-%m-%d %H:%M:%S", time.localtime(float(str(known["since"]))))
+    yield f"runs since {since}, process {known['process']}" if runs else f"does not run: {known['end'] or 'it was killed'}"
+    server: Optional[object] = known["server"] if runs else None
+    yield f"server: {f'process {server}' if server else 'is not there'}, begun {known['begun']} times"
+    if known["last_end"]:
+        yield f"last end of the server: {known['last_end']}"
+    users = known["users"]
+    assert isinstance(users, dict)
+    for name, each in users.items():
+        yield f"{name:<16} {each['state']}" + (f": {each['why']}" if each["why"] else f", {each['bytes']} bytes")
