@@ -2,11 +2,10 @@
 from __future__ import annotations
 
 import asyncio
-from collections import deque
-from typing import TYPE_CHECKING, Deque, Optional, Protocol
+from typing import TYPE_CHECKING, Optional, Protocol
 
 from keeping.accounts import DENIED
-from keeping.items import MAX_ITEMS, MAX_LINE, Item, ItemReader, ReplyReader
+from keeping.items import MAX_BODY, MAX_ITEMS, MAX_LINE, Item, ItemReader, ReplyReader
 from proxy_header import NotWhole, source_of_bytes
 from watching import Connection, prepare, written
 
@@ -15,7 +14,7 @@ if TYPE_CHECKING:
 
 SECONDS_FOR_HELLO = 30.0
 SECONDS_AFTER_END = 1.0
-MAX_BYTES_WAITING = 1 << 16
+MAX_BYTES_WAITING = MAX_BODY + MAX_LINE + 1
 
 
 class Door(Protocol):
@@ -45,9 +44,8 @@ class Client(asyncio.Protocol):
     def __init__(self, door: Door):
         self._door = door
         self._transport: asyncio.Transport
-        self._items: Deque[Item] = deque()
-        self._bytes = 0
         self._reader = ItemReader()
+        self._next: Optional[Item] = None
         self._first = b""
         self._has_header = door.has_header
         self._is_over = self._is_lost = self._has_sent_all = False
@@ -77,11 +75,9 @@ class Client(asyncio.Protocol):
             self.user.go_on()
 
     def _hear(self, data: bytes) -> None:
-        """Takes items. As long as many of them wait no more are read."""
-        for item in self._reader.feed(data):
-            self._items.append(item)
-            self._bytes += len(item.raw)
-        if self._bytes > MAX_BYTES_WAITING and not self._is_paused:
+        """Takes bytes. If there is more than an item among those that wait, no more are read."""
+        self._reader.feed(data)
+        if self._reader.held > MAX_BYTES_WAITING and not self._is_paused:
             self._is_paused = True
             self._transport.pause_reading()
 
@@ -120,7 +116,7 @@ class Client(asyncio.Protocol):
         """The client sends no more. Who waits and has sent nothing behind its first line is taken as gone."""
         self._has_sent_all = self.seen.is_gone = True
         is_waiting = self.user is not None and self in self.user.waiting
-        if self.user is None or self._is_over or is_waiting and not self._items:
+        if self.user is None or self._is_over or is_waiting and not self._reader.held:
             self._transport.close()
         else:
             self.user.go_on()
@@ -129,7 +125,7 @@ class Client(asyncio.Protocol):
     def connection_lost(self, error: Optional[Exception]) -> None:
         self._timer.cancel()
         self._is_lost, self.is_full = True, False
-        self._items.clear()
+        self._next = None
         if self.user is not None:
             self.user.leave(self)
         self._door.ends(self)
@@ -147,19 +143,20 @@ class Client(asyncio.Protocol):
     # What its user does with it.
 
     def next_item(self) -> Optional[Item]:
-        """The next item of those that wait, if there is one."""
-        if not self._items:
-            return None
-        item = self._items.popleft()
-        self._bytes -= len(item.raw)
-        if self._is_paused and self._bytes <= MAX_BYTES_WAITING:
+        """The next item, if it is whole."""
+        item, self._next = self._next or self._cut(), None
+        if self._is_paused and self._reader.held <= MAX_BYTES_WAITING:
             self._is_paused = False
             self._transport.resume_reading()
         return item
 
+    def _cut(self) -> Optional[Item]:
+        return None if self._is_lost else self._reader.next()
+
     def has_ended(self) -> bool:
         """Whether no more items will come."""
-        return not self._items and (self._is_lost or self._has_sent_all or self._reader.has_ended)
+        self._next = self._next or self._cut()
+        return self._next is None and (self._is_lost or self._has_sent_all or self._reader.has_ended)
 
     def let_in(self) -> None:
         self.tell(b"OK HELLO %s\n" % self.user.name.encode() if self.user else b"")

@@ -38,41 +38,42 @@ def body_of(words: Words) -> Optional[int]:
 
 
 class ItemReader:
-    """Cuts a stream into items, up to the one that ends it."""
+    """Cuts a stream into items, up to the one that ends it. `held` is how many bytes are not cut yet."""
 
     def __init__(self, most: int = MAX_ITEMS) -> None:
         self._held = bytearray()
         self._left = most
         self.has_ended = False
 
-    def feed(self, data: bytes) -> List[Item]:
-        """Takes some bytes, and returns the items that are whole now."""
-        self._held += data
-        items: List[Item] = []
-        at = 0
-        while not self.has_ended and (item := self._item_at(at)):
-            at += len(item.raw)
-            items.append(item)
-            self._count(item, items)
-        del self._held[:at]
+    @property
+    def held(self) -> int:
+        return len(self._held)
+
+    def feed(self, data: bytes) -> None:
+        """Takes some bytes. Those behind the end are dropped."""
+        if not self.has_ended:
+            self._held += data
+
+    def next(self) -> Optional[Item]:
+        """The next item, if it is whole. Behind the last one that a connection may have stands what ends it."""
         if self.has_ended:
-            self._held.clear()
-        return items
-
-    def _count(self, item: Item, items: List[Item]) -> None:
-        """Notes an item. Behind the last one that a connection may have stands what ends it."""
+            return None
+        item = self._first() if self._left else Item(b"", (), ENOUGH)
+        if item is None:
+            return None
         self._left -= 1
-        self.has_ended = bool(item.last_reply)
-        if not self._left and not self.has_ended:
+        del self._held[: len(item.raw)]
+        if item.last_reply:
             self.has_ended = True
-            items.append(Item(b"", (), ENOUGH))
+            self._held.clear()
+        return item
 
-    def _item_at(self, at: int) -> Optional[Item]:
-        """The item that begins at a byte, if it is whole."""
-        end = self._held.find(b"\n", at, at + MAX_UNENDED) + 1
+    def _first(self) -> Optional[Item]:
+        """The item that begins what is held, if it is whole."""
+        end = self._held.find(b"\n", 0, MAX_UNENDED) + 1
         if not end:
-            return Item(b"", (), LONG) if len(self._held) - at >= MAX_UNENDED else None
-        line = bytes(self._held[at:end])
+            return Item(b"", (), LONG) if len(self._held) >= MAX_UNENDED else None
+        line = bytes(self._held[:end])
         if len(line) > MAX_LINE + 1:
             return Item(line, ())
         words = words_of(line[:-1])
@@ -83,7 +84,7 @@ class ItemReader:
             return Item(line, words, BODY)
         if len(self._held) < end + count:
             return None
-        return Item(bytes(self._held[at : end + count]) if count else line, words)
+        return Item(bytes(self._held[: end + count]) if count else line, words)
 
 
 class ReplyReader:

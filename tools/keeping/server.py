@@ -49,8 +49,8 @@ class Server:
         return self.process.returncode is None
 
     def kill(self) -> None:
-        with contextlib.suppress(ProcessLookupError):
-            self.process.kill()
+        """Kills it, with what it has begun."""
+        kill_group(self.process)
 
     async def ended(self) -> str:
         """Waits for its end, and returns how it ended."""
@@ -100,9 +100,22 @@ async def version_of(program: str) -> Tuple[str, ...]:
     """The lines in which a program tells its version, none if it does not."""
     try:
         process = await asyncio.create_subprocess_exec(
-            program, "--version", stdin=subprocess.DEVNULL, stdout=subprocess.PIPE, stderr=subprocess.DEVNULL
-        )
-        out, _ = await asyncio.wait_for(process.communicate(), SECONDS_FOR_VERSION)
-    except (OSError, asyncio.TimeoutError):
+            program, "--version", stdin=subprocess.DEVNULL, stdout=subprocess.PIPE, stderr=subprocess.DEVNULL,
+            preexec_fn=dying_with_parent(), start_new_session=True,
+        )  # fmt: skip
+    except OSError:
         return ()
+    try:
+        out, _ = await asyncio.wait_for(process.communicate(), SECONDS_FOR_VERSION)
+    except asyncio.TimeoutError:
+        return ()
+    finally:
+        kill_group(process)
     return tuple(out.decode(errors="replace").splitlines())
+
+
+def kill_group(process: asyncio.subprocess.Process) -> None:
+    """Kills a process that leads a group, with all of that. One that nobody has waited for keeps its number."""
+    if process.returncode is None:
+        with contextlib.suppress(ProcessLookupError):
+            os.killpg(process.pid, signal.SIGKILL)

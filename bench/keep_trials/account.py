@@ -1,0 +1,43 @@
+"""What a user may be told, by the reference of conformance/: of commands whose replies were lost it is not known which were done."""
+import copy
+import io
+import sys
+from typing import List, Sequence
+
+from keep_trials.keeper import TOP, Quota
+
+sys.path.append(str(TOP / "conformance"))
+from reference import User, replies_to  # noqa: E402
+
+NAMES = ("a", "b", "c_-9")
+# What is asked to find out where a user stands.
+QUESTIONS = [b"LIST\n", *(f"{verb} {name}\n".encode() for name in NAMES for verb in ("LIST", "MEASURE", "DUMP"))]
+
+
+class Wrong(Exception):
+    """Something was told that cannot be."""
+
+
+class Account:
+    """A user as it may stand: one state, or several after replies were lost, until replies tell which it is."""
+
+    def __init__(self, quota: Quota):
+        self._states = [User(quota)]
+
+    def hear(self, item: bytes, reply: bytes) -> None:
+        """Takes the reply to an item. Raises `Wrong` if no state has it."""
+        replies = [next(replies_to(io.BytesIO(item), state)) for state in self._states]
+        self._states = [state for state, each in zip(self._states, replies) if each == reply]
+        if not self._states:
+            raise Wrong(f"{reply[:200]!r} to {item[:200]!r}, and not {replies[0][:200]!r}")
+
+    def lose(self, items: Sequence[bytes]) -> None:
+        """The replies to items were lost: all of them were done, or some of the first, or none."""
+        states: List[User] = []
+        for state in self._states:
+            states.append(state)
+            for item in items:
+                state = copy.deepcopy(state)
+                next(replies_to(io.BytesIO(item), state))
+                states.append(state)
+        self._states = states

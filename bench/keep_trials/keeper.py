@@ -1,0 +1,138 @@
+"""A front that owns a server, in a folder of its own, and whose ends can be had."""
+import contextlib
+import json
+import os
+import pathlib
+import signal
+import socket
+import subprocess
+import sys
+import time
+from typing import Any, Callable, Dict, List, Optional, Sequence, Tuple, TypeVar
+
+TOP = pathlib.Path(__file__).resolve().parents[2]
+TOOL = (sys.executable, str(TOP / "tools" / "keep"))
+TOKEN = "k" * 32
+SECONDS = 120
+USUAL = (8, 16384, 16)
+Quota = Tuple[int, int, int]
+Found = TypeVar("Found")
+
+
+def until(holds: Callable[[], Found]) -> Found:
+    """Waits until something holds, and returns what it is."""
+    end = time.monotonic() + SECONDS
+    while not (found := holds()):
+        if time.monotonic() > end:
+            raise TimeoutError("it does not come to hold")
+        time.sleep(0.01)
+    return found
+
+
+def is_alive(process: int) -> bool:
+    """Whether a process runs: one that has ended and was not waited for does not."""
+    try:
+        return pathlib.Path(f"/proc/{process}/stat").read_text().rpartition(")")[2].split()[0] != "Z"
+    except OSError:
+        return False
+
+
+class Keeper:
+    """`tools/keep` in front of a program, for users of one token, each with a quota."""
+
+    def __init__(
+        self, top: pathlib.Path, program: str, users: Dict[str, Quota], options: Sequence[str] = (), tool: Sequence[str] = TOOL,
+        more: Sequence[str] = ("--workers", "2"), prepare: Optional[Callable[[], None]] = None,
+    ):  # fmt: skip
+        """`more` are the words of the server behind its users, and `prepare` is called in the process of the front."""
+        self.folder, self.users, self.log = top / "kept", top / "users", top / "log"
+        self.program, self.options, self.tool, self.more, self.prepare = program, options, tool, more, prepare
+        self.errors = top / "errors"
+        self.put_users(users)
+        self.begin()
+
+    def put_users(self, users: Dict[str, Quota]) -> None:
+        text = "".join("{} {} {} {} {}\n".format(name, TOKEN, *quota) for name, quota in users.items())
+        self.users.write_text(text)
+        self.users.chmod(0o600)
+
+    def begin(self) -> None:
+        """Begins the front, and waits until it listens."""
+        kept = ["127.0.0.1:0", str(self.folder), "--log", str(self.log), *self.options]
+        words = [*self.tool, *kept, "--", self.program, "serve", "--users", str(self.users), *self.more]
+        before = len(self.events("listens"))
+        with open(self.errors, "ab") as errors:
+            self.child = subprocess.Popen(
+                words, stdin=subprocess.DEVNULL, stdout=subprocess.DEVNULL, stderr=errors, preexec_fn=self.prepare
+            )
+        until(lambda: self.child.poll() is not None or len(self.events("listens")) > before)
+        if self.child.poll() is None:
+            self.port = int(str(self.events("listens")[-1]["at"]).rpartition(":")[2])
+
+    def events(self, event: str) -> List[Dict[str, Any]]:
+        """The events of a kind that are in the log so far."""
+        lines = self.log.read_text().splitlines() if self.log.exists() else []
+        return [told for line in lines if (told := json.loads(line))["event"] == event]
+
+    def known(self) -> Dict[str, Any]:
+        """The status as it is now."""
+        with contextlib.suppress(OSError, ValueError):
+            told: Dict[str, Any] = json.loads((self.folder / "status.json").read_text())
+            return told
+        return {"server": None, "process": None, "begun": 0, "users": {}}
+
+    def server(self) -> int:
+        """The process of the server, as soon as there is one."""
+        return until(lambda: int(self.known()["server"] or 0))
+
+    def is_ready(self) -> bool:
+        """Whether there is a server, and each user that is not stopped may come in at once."""
+        known = self.known()
+        is_there = known["server"] is not None and known["process"] == self.child.pid
+        return is_there and all(each["state"] in ("ready", "stopped") for each in known["users"].values())
+
+    def kill_server(self) -> int:
+        """Kills the server, waits until another one is there, and returns that."""
+        before = self.server()
+        os.kill(before, signal.SIGKILL)
+        return until(lambda: (now := int(self.known()["server"] or 0)) != before and now)
+
+    def kill(self) -> None:
+        """Kills the front, and waits until the server is gone with it."""
+        server = self.known()["server"]
+        self.child.kill()
+        self.child.wait(SECONDS)
+        until(lambda: server is None or not is_alive(server))
+
+    def raw(self, name: str, token: str = TOKEN) -> socket.socket:
+        """A connection that has said who it is."""
+        stream = socket.create_connection(("127.0.0.1", self.port), SECONDS)
+        stream.setsockopt(socket.IPPROTO_TCP, socket.TCP_NODELAY, 1)
+        stream.sendall(f"HELLO {name} {token}\n".encode())
+        return stream
+
+    def told(self, sent: bytes, name: str, token: str = TOKEN) -> bytes:
+        """What is replied to some bytes, behind which nothing comes."""
+        with self.raw(name, token) as stream:
+            stream.sendall(sent)
+            stream.shutdown(socket.SHUT_WR)
+            with stream.makefile("rb") as replies:
+                return replies.read()
+
+    def status(self) -> Tuple[int, str]:
+        done = subprocess.run([*self.tool, "--status", str(self.folder)], capture_output=True, text=True, timeout=SECONDS)
+        return done.returncode, done.stdout + done.stderr
+
+    def end(self) -> int:
+        """Ends the front, and returns its status."""
+        self.child.terminate()
+        status: int = self.child.wait(SECONDS)
+        return status
+
+    def __enter__(self) -> "Keeper":
+        return self
+
+    def __exit__(self, *_: object) -> None:
+        if self.child.poll() is None:
+            self.end()
+

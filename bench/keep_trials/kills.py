@@ -1,0 +1,56 @@
+"""Kills of the server, or of front and server together, while users work: none of them may be told anything that cannot be."""
+import pathlib
+import random
+import tempfile
+import time
+from typing import Dict, List, Sequence
+
+from keep_trials.keeper import SECONDS, Keeper, until
+from keep_trials.visitor import Visitor, quota_of
+
+USERS = 8
+SECONDS_BETWEEN = (0.02, 0.4)
+# How often users break their connections off, and whether a kill may end these.
+KINDS = {"server": (0.0, False), "ends": (0.15, False), "both": (0.0, True)}
+
+
+def kill(program: str, kind: str, kills: int, seed: str, options: Sequence[str] = ()) -> Dict[str, int]:
+    """Has users work while so many kills of a kind happen, each when all have been told again what was kept. Returns what was done.
+    Raises what a user found at fault."""
+    names = [f"user{number}" for number in range(USERS)]
+    with tempfile.TemporaryDirectory() as top:
+        users = {name: quota_of(seed, name) for name in names}
+        with Keeper(pathlib.Path(top), program, users, options) as keeper:
+            breaks, may_be_cut = KINDS[kind]
+            visitors = [Visitor(keeper, name, seed, breaks, may_be_cut) for name in names]
+            for visitor in visitors:
+                visitor.start()
+            kill_in_turn(keeper, kind, kills, random.Random(seed), visitors)
+            return ended(visitors)
+
+
+def kill_in_turn(keeper: Keeper, kind: str, kills: int, rnd: random.Random, visitors: List[Visitor]) -> None:
+    for _ in range(kills):
+        until(lambda: keeper.is_ready() or any(each.fault for each in visitors))
+        time.sleep(rnd.uniform(*SECONDS_BETWEEN))
+        if any(each.fault for each in visitors):
+            return
+        if kind == "both":
+            keeper.kill()
+            keeper.begin()
+        else:
+            keeper.kill_server()
+
+
+def ended(visitors: List[Visitor]) -> Dict[str, int]:
+    """Ends all visitors, and returns what they did. Raises the fault of the first one that has one."""
+    for visitor in visitors:
+        visitor.is_to_end = True
+    for visitor in visitors:
+        visitor.join(SECONDS)
+        if visitor.fault:
+            raise visitor.fault
+        if visitor.is_alive():
+            raise TimeoutError(f"{visitor.name} does not end")
+    words = ("commands", "checks", "connections")
+    return {word: sum(getattr(each, word) for each in visitors) for word in words}

@@ -1,0 +1,146 @@
+"""A user with random commands, each reply of which is held against an account."""
+import contextlib
+import random
+import socket
+import struct
+import sys
+import threading
+import time
+from typing import List, Optional, Sequence
+
+from keep_trials.account import QUESTIONS, Account, Wrong
+from keep_trials.keeper import SECONDS, TOP, Keeper, Quota
+
+sys.path += [str(TOP / "tools"), str(TOP / "conformance")]
+from chance import Chance, bounded  # noqa: E402
+from keeping.items import ItemReader, ReplyReader  # noqa: E402
+
+MOST_STEPS = 25
+MOST_ATOMS = 5
+MOST_AT_ONCE = 20
+
+
+def quota_of(seed: str, name: str) -> Quota:
+    """The quota of a user."""
+    quota: Quota = Chance(f"{seed} {name}").quota
+    return quota
+
+
+class Visitor(threading.Thread):
+    """Visits a front until it is told to end. `breaks` says how often it breaks its connection off, of 1."""
+
+    def __init__(self, keeper: Keeper, name: str, seed: str, breaks: float, may_be_cut: bool):
+        super().__init__(daemon=True)
+        self.keeper, self.name, self.breaks, self.may_be_cut = keeper, name, breaks, may_be_cut
+        self.fault: Optional[BaseException] = None
+        self.is_to_end = False
+        self.commands = self.checks = self.connections = 0
+        self._rnd = random.Random(f"{seed} {name}")
+        self._chance = Chance(f"{seed} {name}")
+        self._chance.most_atoms = MOST_ATOMS
+        self._account = Account(self._chance.quota)
+
+    def run(self) -> None:
+        try:
+            self._ask_in_new_connection(QUESTIONS)
+            while not self.is_to_end:
+                self._visit()
+            self._ask_in_new_connection(QUESTIONS)
+        except BaseException as fault:
+            self.fault = fault
+
+    def items(self) -> List[bytes]:
+        """Some random items, none of which ends the connection."""
+        rnd, weights = self._rnd, self._chance.weights
+        kinds = rnd.choices([*weights], [*weights.values()], k=rnd.choice((1, 1, 2, 5, MOST_AT_ONCE)))
+        sent = bounded("".join(kind() for kind in kinds).encode("latin-1"), MOST_STEPS)
+        reader = ItemReader()
+        reader.feed(sent)
+        return [each.raw for each in iter(reader.next, None) if not each.last_reply]
+
+    def _visit(self) -> None:
+        """A connection with some rounds of items. If it ends before it should, what was done is asked on the next one."""
+        try:
+            with self._joined() as stream:
+                for _ in range(self._rnd.randrange(1, 30)):
+                    if self._rnd.random() < self.breaks:
+                        self._break_off(stream)
+                        return
+                    self._ask(stream, self.items())
+                    if self.is_to_end:
+                        break
+                self._ask(stream, [b"BYE\n"])
+        except (OSError, EOFError):
+            if not self.may_be_cut:
+                raise
+            self._ask_in_new_connection(QUESTIONS)
+
+    def _break_off(self, stream: socket.socket) -> None:
+        """Sends items, and goes away in one way or another before all replies have come."""
+        items = self.items()
+        heard = self._rnd.randrange(len(items) + 1)
+        stream.sendall(b"".join(items))
+        self._hear(stream, items[:heard], items[heard:])
+        if self._rnd.random() < 0.5:
+            stream.setsockopt(socket.SOL_SOCKET, socket.SO_LINGER, struct.pack("ii", 1, 0))
+        stream.close()
+        self._ask_in_new_connection(QUESTIONS)
+
+    def _ask_in_new_connection(self, items: Sequence[bytes]) -> None:
+        """Asks where the user stands, as often as it takes until that is told."""
+        while True:
+            with contextlib.suppress(OSError, EOFError), self._joined() as stream:
+                self._ask(stream, items)
+                self.checks += 1
+                return
+
+    def _joined(self) -> socket.socket:
+        """A connection that was let in."""
+        end = time.monotonic() + SECONDS
+        while time.monotonic() < end:
+            try:
+                stream = self.keeper.raw(self.name)
+            except OSError:
+                time.sleep(0.02)
+                continue
+            if (line := first_line(stream)) == f"OK HELLO {self.name}\n".encode():
+                self.connections += 1
+                return stream
+            stream.close()
+            if line:
+                raise Wrong(f"{line!r} to HELLO {self.name}")
+        raise Wrong("nobody lets it in")
+
+    def _ask(self, stream: socket.socket, items: Sequence[bytes]) -> None:
+        try:
+            stream.sendall(b"".join(items))
+        except OSError:
+            self._account.lose(items)
+            raise
+        self._hear(stream, items)
+
+    def _hear(self, stream: socket.socket, items: Sequence[bytes], more: Sequence[bytes] = ()) -> None:
+        """Hears the replies to items, behind which more were sent. What is not heard is lost."""
+        reader, left = ReplyReader(), list(items)
+        try:
+            while left:
+                data = stream.recv(1 << 16)
+                if not data:
+                    raise EOFError
+                for reply in reader.feed(data)[: len(left)]:
+                    self._take(left.pop(0), reply)
+        finally:
+            self._account.lose([*left, *more])
+
+    def _take(self, item: bytes, reply: bytes) -> None:
+        self._account.hear(item, reply)
+        self.commands += 1
+
+
+def first_line(stream: socket.socket) -> bytes:
+    """The first line that comes, byte by byte, or what comes of it."""
+    line = b""
+    with contextlib.suppress(OSError):
+        while not line.endswith(b"\n") and (byte := stream.recv(1)):
+            line += byte
+    return line
