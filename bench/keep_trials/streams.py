@@ -26,6 +26,7 @@ class Player:
         self._pieces = [stream.sent[at : at + size] for at in range(0, pieces * size, size)]
         self._greeting = f"OK HELLO {name}\n".encode()
         self._socket = keeper.raw(name)
+        self._socket.settimeout(SECONDS_OF_A_STREAM)
         self._told = bytearray()
         self._reader = threading.Thread(target=self._read, daemon=True)
         self._reader.start()

@@ -1,14 +1,24 @@
-"""A server that is kept by `tools/keep`: whatever ends, its users go on as if it had not."""
+"""A server that is kept by `tools/keep`: whatever ends, its users go on as if it had not, or are not let in."""
+import json
 import os
+import pathlib
+import resource
 import signal
+import socket
+import stat
+import subprocess
+import sys
+import threading
 
 import pytest
 
-from keepers import LOAD, Keeper
-from support import dimer
+from keepers import HELLO, LOAD, LOADED, TOKEN, USUAL, Keeper, first_line, until
+from support import PROGRAM, SECONDS, TOP, dimer
 
-# By docs/PROTOCOL.md, "A step in half a page".
-AFTER_TWO = (1774, 0, 0)
+# Of the two atoms after two steps: docs/PROTOCOL.md, "A step in half a page".
+SHOW, SHOWN = b"SHOW a 0\n", b"OK SHOW a 2 0 1774 0 0\n"
+DENIED = b"ERR 01 DENIED\n"
+SYNCS = ("group", "second", "always")
 
 
 def test_a_user_goes_on_when_the_server_was_killed(tmp_path):
@@ -17,13 +27,433 @@ def test_a_user_goes_on_when_the_server_was_killed(tmp_path):
         a.advance(1)
         keeper.kill_server()
         a.advance(1)
-        assert a.place(0) == AFTER_TWO
+        assert a.place(0) == (1774, 0, 0)
+        status, text = keeper.status()
+        assert status == 0 and "last end of the server: it was ended by signal 9" in text
+        assert [each["why"] for each in keeper.events("server ended")] == ["it was ended by signal 9"]
 
 
-def test_a_user_goes_on_when_front_and_server_were_killed(tmp_path):
-    with Keeper(tmp_path) as keeper:
-        with keeper.connected() as user:
-            dimer(user).advance(1)
+@pytest.mark.parametrize("sync", SYNCS)
+def test_what_was_told_is_there_when_front_and_server_were_killed(tmp_path, sync):
+    with Keeper(tmp_path, "--sync", sync) as keeper:
+        with keeper.raw("ann") as stream:
+            stream.sendall(LOAD + b"ADVANCE a 1\nBRANCH a k\nSTART a 5\n")
+            assert [first_line(stream) for _ in range(5)] == [
+                HELLO, LOADED, b"OK ADVANCE a 1\n", b"OK BRANCH a k 1\n", b"OK START a 6\n"
+            ]  # fmt: skip
             keeper.kill()
         keeper.begin()
-        assert keeper.told(b"ADVANCE a 1\nSHOW a 0\n") == b"OK HELLO ann\nOK ADVANCE a 2\nOK SHOW a 2 0 1774 0 0\n"
+        told = b"OK LIST 1\na 6 2 1\nOK RESTORE a k 1\nOK ADVANCE a 2\n" + SHOWN
+        assert keeper.told(b"LIST\nRESTORE a k\nADVANCE a 1\n" + SHOW, "ann") == HELLO + told
+
+
+def test_what_is_in_flight_is_done_once(tmp_path):
+    """A wait is cut off by a kill, with more behind it."""
+    with Keeper(tmp_path) as keeper, keeper.raw("ann") as stream:
+        stream.sendall(LOAD + b"ADVANCE a 1\nSTART a 500\n")
+        assert [first_line(stream) for _ in range(4)] == [HELLO, LOADED, b"OK ADVANCE a 1\n", b"OK START a 501\n"]
+        stream.sendall(b"REVERSE a\nREVERSE a\nTUG a 0 1 0 0\nTUG a 0 -1 0 0\n" + b"ADVANCE a 1\nREVERSE a\n" * 20)
+        keeper.kill_server()
+        told = [b"OK REVERSE a 500\n", b"OK REVERSE a 501\n", *[b"OK TUG a 0 501\n"] * 2]
+        told += [b"OK ADVANCE a 502\n", b"OK REVERSE a 501\n", b"OK ADVANCE a 500\n", b"OK REVERSE a 501\n"] * 10
+        assert [first_line(stream) for _ in told] == told
+        stream.sendall(b"REVERSE a\nADVANCE a 500\nREVERSE a\nADVANCE a 1\n" + SHOW)
+        assert [first_line(stream) for _ in range(5)] == [
+            b"OK REVERSE a 500\n", b"OK ADVANCE a 0\n", b"OK REVERSE a 1\n", b"OK ADVANCE a 2\n", SHOWN
+        ]  # fmt: skip
+
+
+# A front whose fdatasync notes its calls, and waits for a file.
+WAITING = """
+import os, pathlib, runpy, sys, time
+go, calls, keep = map(pathlib.Path, sys.argv[1:4])
+def wait(descriptor):
+    with calls.open("a") as file:
+        file.write("called\\n")
+    while not go.exists():
+        time.sleep(0.01)
+os.fdatasync = wait
+sys.path.insert(0, str(keep.parent))
+sys.argv[:4] = [str(keep)]
+runpy.run_path(str(keep), None, "__main__")
+"""
+
+
+@pytest.mark.parametrize("sync, calls", [("group", 1), ("always", 3)])
+def test_what_is_told_is_on_the_disk(tmp_path, sync, calls):
+    go, noted = tmp_path / "go", tmp_path / "calls"
+    tool = [sys.executable, "-c", WAITING, str(go), str(noted), str(TOP / "tools" / "keep")]
+    with Keeper(tmp_path, "--sync", sync, tool=tool) as keeper, keeper.raw("ann") as stream:
+        stream.sendall(b"LIST\n")
+        assert (first_line(stream), first_line(stream)) == (HELLO, b"OK LIST 0\n")
+        stream.sendall(LOAD + b"REVERSE a\nREVERSE a\nLIST a\n")
+        until(noted.exists)
+        stream.settimeout(0.3)
+        with pytest.raises(socket.timeout):
+            stream.recv(1)
+        stream.settimeout(SECONDS)
+        go.touch()
+        assert [first_line(stream) for _ in range(4)] == [LOADED, b"OK REVERSE a -1\n", b"OK REVERSE a 0\n", b"OK LIST a 0\n"]
+        assert noted.read_text() == "called\n" * calls
+
+
+def test_what_is_told_is_written_where_it_is_on_the_disk_within_a_second(tmp_path):
+    go, noted = tmp_path / "go", tmp_path / "calls"
+    tool = [sys.executable, "-c", WAITING, str(go), str(noted), str(TOP / "tools" / "keep")]
+    with Keeper(tmp_path, "--sync", "second", tool=tool) as keeper, keeper.raw("ann") as stream:
+        stream.sendall(LOAD)
+        assert (first_line(stream), first_line(stream)) == (HELLO, LOADED)
+        assert LOAD in (keeper.folder / "ann.journal").read_bytes()
+        until(noted.exists)
+        stream.sendall(b"REVERSE a\n")
+        assert first_line(stream) == b"OK REVERSE a -1\n"
+        go.touch()
+
+
+def test_nothing_is_seen_of_the_tokens_and_its_owner_alone_may_look(tmp_path):
+    wrong = "w" * 32
+    with Keeper(tmp_path) as keeper:
+        keeper.told(LOAD, "ann")
+        assert keeper.told(b"", "ann", wrong) == DENIED
+        assert keeper.told(b"", wrong) == DENIED
+        keeper.killed_server()
+        words = [pathlib.Path(f"/proc/{process}/cmdline").read_bytes() for process in (keeper.child.pid, keeper.server())]
+        text = keeper.everything() + b"".join(words)
+        assert TOKEN.encode() not in text and wrong.encode() not in text
+        assert stat.S_IMODE(keeper.folder.stat().st_mode) == 0o700
+        assert {stat.S_IMODE(each.stat().st_mode) for each in keeper.folder.iterdir()} == {0o600}
+
+
+def test_a_server_lets_nobody_in_but_through_the_front(tmp_path):
+    with Keeper(tmp_path) as keeper:
+        words = pathlib.Path(f"/proc/{keeper.server()}/cmdline").read_text().split("\0")
+        port = int(words[words.index("--listen") + 1].rpartition(":")[2])
+        until(keeper.is_ready)
+        with socket.create_connection(("127.0.0.1", port), SECONDS) as stream:
+            stream.sendall(f"HELLO ann {TOKEN}\n".encode())
+            assert first_line(stream) == DENIED
+
+
+def test_a_damaged_journal_stops_its_user_alone(tmp_path):
+    with Keeper(tmp_path, users=("ann", "ben")) as keeper:
+        for name in ("ann", "ben"):
+            keeper.told(LOAD + b"ADVANCE a 1\n", name)
+        keeper.kill()
+        path = keeper.folder / "ann.journal"
+        data = path.read_bytes()
+        path.write_bytes(data.replace(b"1.5", b"1.4"))
+        keeper.begin()
+        assert keeper.told(LOAD, "ann") == DENIED
+        assert keeper.told(b"ADVANCE a 1\n" + SHOW, "ben") == b"OK HELLO ben\nOK ADVANCE a 2\n" + SHOWN
+        assert keeper.stopped("ann") == "its journal is damaged: the record at byte 22 was changed"
+        status, text = keeper.status()
+        assert status == 1 and "ann              stopped: its journal is damaged" in text
+        assert [(each["user"], each["why"]) for each in keeper.events("stopped")] == [("ann", keeper.stopped("ann"))]
+        path.write_bytes(data)
+        keeper.child.send_signal(signal.SIGHUP)
+        until(lambda: keeper.known()["users"]["ann"]["state"] == "ready")
+        assert keeper.told(b"ADVANCE a 1\n" + SHOW, "ann") == HELLO + b"OK ADVANCE a 2\n" + SHOWN
+
+
+def test_a_quota_that_was_lowered_stops_its_user_alone_until_it_is_raised(tmp_path):
+    with Keeper(tmp_path, users=("ann", "ben")) as keeper, keeper.connected("ben") as ben:
+        keeper.told(LOAD, "ann")
+        b = dimer(ben)
+        keeper.put_users({"ann": (1, 1, 1), "ben": USUAL})
+        keeper.child.send_signal(signal.SIGHUP)
+        assert keeper.stopped("ann") == "the program replied ERR 21 QUOTA_ATOMS in place of OK LOAD a 0 2, when told again"
+        assert keeper.told(b"", "ann") == DENIED
+        b.advance(2)
+        assert b.place(0) == (1774, 0, 0)
+        keeper.put_users({"ann": USUAL, "ben": USUAL})
+        keeper.child.send_signal(signal.SIGHUP)
+        until(lambda: keeper.known()["users"]["ann"]["state"] == "ready")
+        assert keeper.told(b"ADVANCE a 2\n" + SHOW, "ann") == HELLO + b"OK ADVANCE a 2\n" + SHOWN
+
+
+def test_new_users_with_clients_connected(tmp_path):
+    with Keeper(tmp_path, users=("ann", "ben")) as keeper, keeper.connected("ann") as ann, keeper.raw("ben") as ben:
+        a = dimer(ann)
+        a.advance(1)
+        assert first_line(ben) == b"OK HELLO ben\n"
+        keeper.put_users({"ann": USUAL, "cleo": USUAL})
+        keeper.child.send_signal(signal.SIGHUP)
+        assert keeper_lets_in(keeper, "cleo")
+        a.advance(1)
+        assert a.place(0) == (1774, 0, 0)
+        assert ben.recv(1) == b""
+        assert keeper.told(b"", "ben") == DENIED
+
+
+def keeper_lets_in(keeper, name):
+    return until(lambda: keeper.told(b"", name) == f"OK HELLO {name}\n".encode())
+
+
+def test_users_with_a_fault_change_nothing(tmp_path):
+    with Keeper(tmp_path) as keeper:
+        server = keeper.server()
+        keeper.users.write_text("ann short 8 16384 16\n")
+        keeper.child.send_signal(signal.SIGHUP)
+        (told,) = until(lambda: keeper.events("not begun anew"))
+        assert told["why"] == f"{keeper.users}: line 1: the token is too short: it has 5 characters, and not 32"
+        assert keeper.told(LOAD, "ann") == HELLO + LOADED
+        assert keeper.server() == server
+
+
+def wrapped(path, before, after):
+    """A program that is the reference of conformance/ as a server, with something in it replaced."""
+    server = TOP / "clients" / "python" / "tests" / "reference_server.py"
+    path.write_text(f"#!/bin/sh\nexec {sys.executable} {server} {before!r} {after!r} \"$@\"\n")
+    path.chmod(0o700)
+    return str(path)
+
+
+# What another program does otherwise: it pushes twice as hard, or gives another number to the second step.
+OTHERWISE = {
+    "a changed push": ("PUSHES = [", "PUSHES = [2 * ", "MEASURE"),
+    "another reply": ('    return f"{target}"', '    return f"{target + (target == 2)}"', "START"),
+}
+
+
+@pytest.mark.parametrize("before, after, verb", OTHERWISE.values(), ids=OTHERWISE)
+def test_a_program_that_answers_otherwise_stops_who_has_a_session(tmp_path, before, after, verb):
+    program = tmp_path / "program"
+    before, after = ("PUSHES = [int_div(24", "PUSHES = [int_div(48") if verb == "MEASURE" else (before, after)
+    wrapped(program, "", "")
+    with Keeper(tmp_path, users=("ann", "ben"), program=str(program)) as keeper:
+        assert keeper.told(LOAD + b"ADVANCE a 2\n" + SHOW, "ann") == HELLO + LOADED + b"OK ADVANCE a 2\n" + SHOWN
+        # Each session that has changed is measured when its user is gone.
+        until(lambda: b"MEASURE a\n" in (keeper.folder / "ann.journal").read_bytes())
+        wrapped(program, before, after)
+        keeper.child.send_signal(signal.SIGHUP)
+        assert verb in keeper.stopped("ann") and "in place of" in keeper.stopped("ann")
+        assert keeper.told(b"", "ann") == DENIED
+        assert keeper.told(b"LIST\n", "ben") == b"OK HELLO ben\nOK LIST 0\n"
+        wrapped(program, "", "")
+        keeper.child.send_signal(signal.SIGHUP)
+        until(lambda: keeper.known()["users"]["ann"]["state"] == "ready")
+        assert keeper.told(SHOW, "ann") == HELLO + SHOWN
+
+
+def test_a_program_that_answers_otherwise_at_once_is_not_told(tmp_path):
+    """What it replies to a client is held against what follows from the commands."""
+    program = wrapped(tmp_path / "program", 'return f"{target}"', 'return f"{target + (target == 2)}"')
+    with Keeper(tmp_path, program=program) as keeper:
+        assert keeper.told(LOAD + b"ADVANCE a 1\n", "ann") == HELLO + LOADED + b"OK ADVANCE a 1\n"
+        assert keeper.told(b"ADVANCE a 1\n", "ann") == HELLO
+        assert keeper.stopped("ann") == "the program replied OK ADVANCE a 3 in place of OK ADVANCE a 2"
+
+
+def test_a_file_names_the_version_of_the_program(tmp_path):
+    program = tmp_path / "program"
+    wrapped(program, "", "")
+    with Keeper(tmp_path, program=str(program)) as keeper:
+        version = keeper.folder / "version"
+        until(lambda: version.exists() and version.read_text() == "reference\n")
+        program.write_text(program.read_text().replace("exec", 'test "$1" = --version && exec echo new\nexec'))
+        keeper.child.send_signal(signal.SIGHUP)
+        until(lambda: version.read_text() == "new\n")
+        (told,) = keeper.events("program")
+        assert (told["before"], told["version"]) == ("reference", "new")
+
+
+def test_a_disk_that_is_full_ends_front_and_server_before_anyone_is_told(tmp_path):
+    """No file may have more than 20,000 bytes, as on a disk that is full."""
+    limit = 20_000
+
+    def prepare():
+        resource.setrlimit(resource.RLIMIT_FSIZE, (limit, limit))
+
+    with Keeper(tmp_path, prepare=prepare) as keeper:
+        server = keeper.server()
+        with keeper.raw("ann") as stream:
+            stream.sendall(LOAD + b"TUG a 0 1 0 0\nADVANCE a 1\n" * 50)
+            assert [first_line(stream) for _ in range(102)][-1] == b"OK ADVANCE a 50\n"
+            for step in range(51, 300):
+                stream.sendall(b"TUG a 0 1 0 0\nADVANCE a 1\n")
+                if not first_line(stream) or first_line(stream) != b"OK ADVANCE a %d\n" % step:
+                    break
+        assert keeper.child.wait(SECONDS) == 1
+        assert not os.path.exists(f"/proc/{server}")
+        assert b"cannot write a journal: File too large" in keeper.everything()
+        assert 51 < step < 299
+        assert keeper.status()[0] == 1 and "does not run" in keeper.status()[1]
+        keeper.prepare = None
+        keeper.begin()
+        # What was told is there, and what was written and not told may be.
+        (now,) = [int(line.split()[3]) for line in keeper.told(SHOW, "ann").splitlines()[1:]]
+        assert now in (step - 1, step)
+
+
+def test_a_journal_is_rewritten_when_less_than_half_is_left(tmp_path):
+    with Keeper(tmp_path) as keeper:
+        told = keeper.told(LOAD + b"ADVANCE a 1\nREVERSE a\n" * 700 + b"ADVANCE a 2\n", "ann")
+        assert told.endswith(b"OK ADVANCE a 2\n")
+        assert keeper.told(b"ADVANCE a 0\n", "ann") == HELLO + b"OK ADVANCE a 2\n"
+        # 1,402 records have 53 bytes and more each.
+        assert (keeper.folder / "ann.journal").stat().st_size < 65_536 < 1402 * 53
+        keeper.killed_server()
+        assert keeper.told(SHOW, "ann") == HELLO + SHOWN
+        keeper.kill()
+        keeper.begin()
+        assert keeper.told(SHOW, "ann") == HELLO + SHOWN
+
+
+def test_other_connections_of_a_user_wait_at_the_front(tmp_path):
+    with Keeper(tmp_path) as keeper, keeper.raw("ann") as first, keeper.raw("ann") as second, keeper.raw("ann") as gone:
+        assert first_line(first) == HELLO
+        second.sendall(LOAD)
+        gone.shutdown(socket.SHUT_WR)
+        assert gone.recv(1) == b""
+        keeper.killed_server()
+        first.sendall(b"LIST\n")
+        assert first_line(first) == b"OK LIST 0\n"
+        second.settimeout(0.2)
+        with pytest.raises(socket.timeout):
+            second.recv(1)
+        second.settimeout(SECONDS)
+        first.sendall(b"BYE\nLIST\n")
+        assert (first_line(first), first_line(first)) == (b"OK BYE\n", b"")
+        assert (first_line(second), first_line(second)) == (HELLO, LOADED)
+
+
+def test_who_is_gone_in_the_middle_has_done_what_the_server_had(tmp_path):
+    with Keeper(tmp_path) as keeper:
+        with keeper.raw("ann") as stream:
+            stream.sendall(LOAD + b"ADVANCE a 1\n")
+            assert [first_line(stream) for _ in range(3)][-1] == b"OK ADVANCE a 1\n"
+            stream.sendall(b"START a 2000\n")
+            assert first_line(stream) == b"OK START a 2001\n"
+            stream.sendall(b"REVERSE a\n")
+        # REVERSE may have come or not.
+        assert keeper.told(b"LIST\n", "ann") in {HELLO + b"OK LIST 1\na %d 2 0\n" % step for step in (2000, 2001)}
+
+
+ENDS = {
+    "BYE": (b"LIST\nBYE\nLIST\n", b"OK LIST 0\nOK BYE\n"),
+    "BODY": (b"LOAD a\nLIST\n", b"ERR 04 BODY\n"),
+    "LONG": (b"x" * 65536 + b"LIST\n", b"ERR 05 LONG\n"),
+    "no line feed": (b"LIST\nLIST", b"OK LIST 0\n"),
+    "a body that is cut short": (b"LOAD a 256 1 1 rest 12\n1\n", b""),
+    "another HELLO": (f"HELLO ann {TOKEN}\n".encode(), b"ERR 06 COMMAND\n"),
+}
+
+
+@pytest.fixture(scope="module")
+def kept(tmp_path_factory):
+    with Keeper(tmp_path_factory.mktemp("kept")) as keeper:
+        yield keeper
+
+
+@pytest.mark.parametrize("sent, told", ENDS.values(), ids=ENDS)
+def test_how_a_connection_ends(kept, sent, told):
+    assert kept.told(sent, "ann") == HELLO + told
+
+
+FIRST_LINES = {
+    "no HELLO": b"LIST\n",
+    "a long line": f"HELLO ann {TOKEN}{' ' * 257}\n".encode(),
+    "another name": f"HELLO ben {TOKEN}\n".encode(),
+    "more words": f"HELLO ann {TOKEN} x\n".encode(),
+    "an empty line": b"\n",
+    "no end of it": b"x" * 300,
+}
+
+
+@pytest.mark.parametrize("line", FIRST_LINES.values(), ids=FIRST_LINES)
+def test_who_is_denied(kept, line):
+    with socket.create_connection(("127.0.0.1", kept.port), SECONDS) as stream:
+        stream.sendall(line)
+        assert (first_line(stream), stream.recv(1)) == (DENIED, b"")
+
+
+def test_a_first_line_with_tabs_and_in_pieces(kept):
+    with socket.create_connection(("127.0.0.1", kept.port), SECONDS) as stream:
+        for byte in f"\tHELLO \tann {TOKEN}\r\nLI".encode():
+            stream.sendall(bytes([byte]))
+        stream.sendall(b"ST\n")
+        assert (first_line(stream), first_line(stream)) == (HELLO, b"OK LIST 0\n")
+
+
+def test_a_client_that_does_not_read_holds_nobody_else_up(tmp_path):
+    with Keeper(tmp_path, users=("ann", "ben")) as keeper, keeper.raw("ann") as deaf:
+        sender = threading.Thread(target=deaf.sendall, args=(LOAD + b"DUMP a\n" * 200_000,), daemon=True)
+        sender.start()
+        assert keeper.told(LOAD + b"ADVANCE a 2\n" + SHOW, "ben").endswith(SHOWN)
+        memory = int(next(line for line in pathlib.Path(f"/proc/{keeper.child.pid}/status").open() if "VmRSS" in line).split()[1])
+        assert memory < 150_000
+        deaf.shutdown(socket.SHUT_RDWR)
+        assert keeper.told(b"LIST\n", "ann").startswith(HELLO + b"OK LIST 1\na 0 2 0\n")
+
+
+def test_a_connection_to_the_server_has_as_many_items_as_it_may(tmp_path):
+    """In place of a million it is 50 here: 2,000 commands of two connections, and then the replay of as many."""
+    keep = str(TOP / "tools" / "keep")
+    few = "from keeping.ends import Link; Link.most_items = 50"
+    run = f"import runpy; runpy.run_path({keep!r}, None, '__main__')"
+    tool = [sys.executable, "-c", f"import sys; sys.path.insert(0, {str(TOP / 'tools')!r}); {few}; {run}"]
+    with Keeper(tmp_path, tool=tool) as keeper:
+        told = keeper.told(LOAD + b"TUG a 0 1 0 0\nADVANCE a 1\n" * 500, "ann")
+        assert told.count(b"OK ") == 1002
+        shown = keeper.told(SHOW, "ann")
+        keeper.killed_server()
+        assert keeper.told(SHOW + b"ADVANCE a 0\n" * 100, "ann") == shown + b"OK ADVANCE a 500\n" * 100
+
+
+def test_behind_a_balancer(tmp_path):
+    with Keeper(tmp_path, "--proxy") as keeper:
+        with socket.create_connection(("127.0.0.1", keeper.port), SECONDS) as stream:
+            stream.sendall(f"PROXY TCP4 192.0.2.7 127.0.0.1 4242 4000\r\nHELLO ann {TOKEN}\nLIST\n".encode())
+            assert (first_line(stream), first_line(stream)) == (HELLO, b"OK LIST 0\n")
+        assert until(lambda: keeper.events("ended"))[0]["from"] == "192.0.2.7:4242"
+        assert keeper.told(b"", "ann") == b""
+        assert until(lambda: keeper.events("not in"))[0]["refusal"] == "no PROXY header: the first bytes are none"
+
+
+WORDS = {
+    "nothing": [],
+    "no folder": ["127.0.0.1:0", "--", PROGRAM, "serve", "--users", "x"],
+    "no server": ["127.0.0.1:0", "kept"],
+    "no address": ["x", "kept", "--", PROGRAM, "serve", "--users", "x"],
+    "no users": ["127.0.0.1:0", "kept", "--", PROGRAM, "serve"],
+    "--listen": ["127.0.0.1:0", "kept", "--", PROGRAM, "serve", "--users", "x", "--listen", "127.0.0.1:4001"],
+    "another --sync": ["--sync", "never", "127.0.0.1:0", "kept", "--", PROGRAM, "serve", "--users", "x"],
+}
+
+
+@pytest.mark.parametrize("words", WORDS.values(), ids=WORDS)
+def test_words_that_are_none(tmp_path, words):
+    status, err = ended(tmp_path, words)
+    assert status == 2 and err.startswith("keep: ") and not list(tmp_path.iterdir())
+
+
+def ended(folder, words):
+    """The status of the tool, and what it says of a fault."""
+    done = subprocess.run([sys.executable, TOP / "tools" / "keep", *words], cwd=folder, capture_output=True, text=True, timeout=SECONDS)
+    return done.returncode, done.stderr
+
+
+def test_what_cannot_be_begun(tmp_path, kept):
+    server = ["--", PROGRAM, "serve", "--users", str(kept.users)]
+    status, err = ended(tmp_path, ["127.0.0.1:0", str(kept.folder), *server])
+    assert (status, err) == (1, f"keep: {kept.folder} is in use\n")
+    status, err = ended(tmp_path, [f"127.0.0.1:{kept.port}", "kept", *server])
+    assert (status, err) == (1, f"keep: cannot listen on 127.0.0.1:{kept.port}: Address already in use\n")
+    (tmp_path / "open").mkdir(mode=0o755)
+    status, err = ended(tmp_path, ["127.0.0.1:0", "open", *server])
+    assert (status, err) == (1, "keep: the mode of open lets others in: `chmod 700` leaves it to its owner\n")
+    status, err = ended(tmp_path, ["127.0.0.1:0", "kept", *server[:-1], "none"])
+    assert (status, err) == (1, "keep: cannot read none: No such file or directory\n")
+    status, err = ended(tmp_path, ["--status", "none"])
+    assert (status, err) == (1, "keep: cannot read none: No such file or directory\n")
+
+
+def test_it_ends_when_it_is_told_to(tmp_path):
+    with Keeper(tmp_path) as keeper, keeper.raw("ann") as stream:
+        assert first_line(stream) == HELLO
+        server = keeper.server()
+        assert keeper.end() == 0
+        assert stream.recv(1) == b"" and not os.path.exists(f"/proc/{server}")
+        assert keeper.status()[1].startswith("does not run: it was told to end\n")
+        assert json.loads((keeper.folder / "status.json").read_text())["server"] is None
+        assert keeper.errors.read_bytes() == b""
