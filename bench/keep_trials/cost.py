@@ -9,6 +9,7 @@ import time
 from typing import Iterator, List, Sequence
 
 from keep_trials.keeper import TOKEN, USUAL, Keeper, until
+from serving import processor_seconds
 from shared.loads import LOAD, LOADED
 from shared.program import end_of
 from shared.serving import begun, options_of, user_line
@@ -57,7 +58,10 @@ def cost(program: str, syncs: Sequence[str], folder: pathlib.Path, commands: int
             with Keeper(pathlib.Path(top), program, dict.fromkeys(names, USUAL), ["--sync", sync]) as keeper:
                 until(keeper.is_ready)
                 talk = Talk(keeper.raw(names[0]), names[0])
+                before = processor_seconds(keeper.child)
                 yield f"--sync {sync}: {of_talk(talk, commands)}"
+                spent = (processor_seconds(keeper.child) - before) / commands / len(COMMANDS)
+                yield f"--sync {sync}: processor time of the front {spent * 1e6:.0f} us a command"
                 talk.ask(b"DROP a\n", b"OK DROP a\n")
                 talk.end()
                 yield f"--sync {sync}: {of_lesson(keeper, names)}"

@@ -482,6 +482,7 @@ BLOCKS = {
         "$ nc": dialogue_of_a_connection,
         "apt-get install python3": first_server,
         "apt-get install haproxy": servers_behind_haproxy,
+        "tools/keep 0.0.0.0": "clients/python/tests/test_keep.py runs it, at ports that are free",
         "tools/watch --metrics": "clients/python/tests/test_watch_metrics.py runs it, at ports that are free",
         "sudo apt": "clients/python/tests/test_debian_packages.py installs both, in a root of its own",
         "sudo cat": "clients/python/tests/test_debian_packages.py reads the token there, and lets the prompt read it",

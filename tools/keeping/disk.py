@@ -45,10 +45,8 @@ class Disk:
 
     def _is_done(self, done: "Future[None]", then: Then) -> None:
         error = done.exception()
-        if isinstance(error, OSError):
-            self.has_failed(error)
-        elif error:
-            raise error
+        if error:
+            self.has_failed(error if isinstance(error, OSError) else OSError(0, repr(error)))
         elif not self._has_failed:
             then()
 

@@ -14,7 +14,7 @@ from keeping.ends import Client, Link
 from keeping.items import words_of
 from keeping.journal import Damaged, Journal
 from keeping.script import Otherwise, Script
-from keeping.server import Server, Words, begin, version_of
+from keeping.server import Server, Words, begin, how_it_ended, version_of
 from keeping.status import Folder
 from keeping.user import User
 from user_files import Fault
@@ -24,6 +24,9 @@ MAX_OPEN = 1000
 SECONDS_BETWEEN_TRIES = 0.01
 SECONDS_OF_A_START = 1.0
 VERSION = "version"
+# The status of a server whose words or users are none.
+BAD_WORDS = 2
+HAS_BAD_WORDS = how_it_ended(BAD_WORDS)
 
 
 class Options(NamedTuple):
@@ -148,12 +151,17 @@ class Front:
                 ended = str(fault)
             self._known["last_end"] = ended
             self._note("server ended", why=ended)
+            if ended == HAS_BAD_WORDS and self._known["begun"] == 1:
+                self._fail(f"the server cannot be begun: {ended}", BAD_WORDS)
             if time.monotonic() < begun + SECONDS_OF_A_START:
                 await asyncio.sleep(SECONDS_OF_A_START)
 
     async def _own_server(self) -> str:
         """Begins a server, connects all users to it, and returns how it has ended."""
-        self._server = server = await begin(self._options.words, self._accounts)
+        accounts = self._accounts
+        self._server = server = await begin(self._options.words, accounts)
+        if accounts is not self._accounts:
+            server.kill()
         self._known["begun"] = int(str(self._known["begun"])) + 1
         self._note("server begun", process=server.process.pid)
         others = [asyncio.create_task(self._connect(user, True)) for user in self._users.values() if not user.stopped]
@@ -215,8 +223,10 @@ class Front:
 
     def fail(self, error: OSError) -> None:
         """Ends all, since something cannot be written: nobody is told what is not kept."""
-        why = f"cannot write a journal: {error.strerror}"
-        self._status = 1
+        self._fail(f"cannot write a journal: {error.strerror}", 1)
+
+    def _fail(self, why: str, status: int) -> None:
+        self._status = status
         self._known["end"] = why
         self._note("failed", why=why)
         self._is_ending.set()

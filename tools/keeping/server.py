@@ -3,6 +3,7 @@ import asyncio
 import contextlib
 import ctypes
 import os
+import shutil
 import signal
 import socket
 import subprocess
@@ -29,6 +30,8 @@ class Words:
                 raise ValueError(f"leave out {option}: it is said to the server by what begins it")
         if words.count("--users") != 1 or words[-1] == "--users":
             raise ValueError("say --users FILE behind --")
+        if shutil.which(words[0]) is None:
+            raise ValueError(f"there is no program {words[0]}")
         at = words.index("--users")
         self.program, self.users = words[0], words[at + 1]
         self._before, self._behind = list(words[:at]), list(words[at + 2 :])

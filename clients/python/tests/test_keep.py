@@ -387,11 +387,8 @@ def test_a_client_that_does_not_read_holds_nobody_else_up(tmp_path):
 
 
 def test_a_connection_to_the_server_has_as_many_items_as_it_may(tmp_path):
-    """In place of a million it is 50 here: 2,000 commands of two connections, and then the replay of as many."""
-    keep = str(TOP / "tools" / "keep")
-    few = "from keeping.ends import Link; Link.most_items = 50"
-    run = f"import runpy; runpy.run_path({keep!r}, None, '__main__')"
-    tool = [sys.executable, "-c", f"import sys; sys.path.insert(0, {str(TOP / 'tools')!r}); {few}; {run}"]
+    """In place of a million it is 50 here: 1,000 commands, and then the replay of as many."""
+    tool = patched("import keeping.ends; keeping.ends.Link.most_items = 50")
     with Keeper(tmp_path, tool=tool) as keeper:
         told = keeper.told(LOAD + b"TUG a 0 1 0 0\nADVANCE a 1\n" * 500, "ann")
         assert told.count(b"OK ") == 1002
@@ -417,6 +414,7 @@ WORDS = {
     "no address": ["x", "kept", "--", PROGRAM, "serve", "--users", "x"],
     "no users": ["127.0.0.1:0", "kept", "--", PROGRAM, "serve"],
     "--listen": ["127.0.0.1:0", "kept", "--", PROGRAM, "serve", "--users", "x", "--listen", "127.0.0.1:4001"],
+    "no program": ["127.0.0.1:0", "kept", "--", "./none", "serve", "--users", "x"],
     "another --sync": ["--sync", "never", "127.0.0.1:0", "kept", "--", PROGRAM, "serve", "--users", "x"],
 }
 
@@ -446,6 +444,32 @@ def test_what_cannot_be_begun(tmp_path, kept):
     assert (status, err) == (1, "keep: cannot read none: No such file or directory\n")
     status, err = ended(tmp_path, ["--status", "none"])
     assert (status, err) == (1, "keep: cannot read none: No such file or directory\n")
+
+
+def test_words_of_the_server_that_are_none(tmp_path, kept):
+    words = ["127.0.0.1:0", "kept", "--", PROGRAM, "serve", "--users", str(kept.users), "--workers", "99"]
+    status, err = ended(tmp_path, words)
+    assert status == 2 and "--workers" in err
+    assert "the server cannot be begun: it ended with status 2" in (tmp_path / "kept" / "status.json").read_text()
+
+
+def patched(words):
+    """The tool after some words of Python."""
+    run = f"import runpy, sys; sys.path.insert(0, {str(TOP / 'tools')!r}); {words}; "
+    return [sys.executable, "-c", f"{run}runpy.run_path({str(TOP / 'tools' / 'keep')!r}, None, '__main__')"]
+
+
+def test_who_says_nothing_and_who_is_one_too_many(tmp_path):
+    tool = patched("import keeping.ends, keeping.front; keeping.ends.SECONDS_FOR_HELLO = 0.5; keeping.front.MAX_OPEN = 2")
+    with Keeper(tmp_path, tool=tool) as keeper, keeper.raw("ann") as stream:
+        assert first_line(stream) == HELLO
+        with socket.create_connection(("127.0.0.1", keeper.port), SECONDS) as silent:
+            with socket.create_connection(("127.0.0.1", keeper.port), SECONDS) as third:
+                assert third.recv(1) == b""
+            silent.sendall(b"HELLO")
+            assert silent.recv(1) == b""
+        stream.sendall(b"LIST\n")
+        assert first_line(stream) == b"OK LIST 0\n"
 
 
 def test_it_ends_when_it_is_told_to(tmp_path):
