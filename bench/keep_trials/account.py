@@ -1,8 +1,8 @@
-"""What a user may be told, by the reference of conformance/: of commands whose replies were lost it is not known which were done."""
+"""What a user may be told, by the reference. Of commands whose replies were lost it is not known which were done."""
 import copy
 import io
 import sys
-from typing import List, Sequence
+from typing import Iterator, Sequence
 
 from keep_trials.keeper import TOP, Quota
 
@@ -33,11 +33,13 @@ class Account:
 
     def lose(self, items: Sequence[bytes]) -> None:
         """The replies to items were lost: all of them were done, or some of the first, or none."""
-        states: List[User] = []
-        for state in self._states:
-            states.append(state)
-            for item in items:
-                state = copy.deepcopy(state)
-                next(replies_to(io.BytesIO(item), state))
-                states.append(state)
-        self._states = states
+        self._states = [each for state in self._states for each in states_after(state, items)]
+
+
+def states_after(state: User, items: Sequence[bytes]) -> Iterator[User]:
+    """A state, and those after the first item, the second, and so on."""
+    yield state
+    for item in items:
+        state = copy.deepcopy(state)
+        next(replies_to(io.BytesIO(item), state))
+        yield state

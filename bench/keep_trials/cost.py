@@ -4,8 +4,8 @@ import pathlib
 import socket
 import statistics
 import tempfile
-import threading
 import time
+from concurrent.futures import ThreadPoolExecutor
 from typing import Iterator, List, Sequence
 
 from keep_trials.keeper import TOKEN, USUAL, Keeper, until
@@ -85,26 +85,24 @@ def of_talk(talk: Talk, commands: int) -> str:
     return "one at a time " + ", ".join(f"{name} {median:.0f} us" for name, median in medians.items())
 
 
+def times_of_a_lesson(talk: Talk, begin: float) -> List[float]:
+    """How long each of one user's ADVANCEs takes, which come at a steady rate."""
+    times = []
+    for turn in range(SECONDS_OF_A_LESSON * ADVANCES_A_SECOND):
+        time.sleep(max(begin + turn / ADVANCES_A_SECOND - time.monotonic(), 0))
+        times.append(talk.time_of(b"ADVANCE a 1\n"))
+    return times
+
+
 def of_lesson(keeper: Keeper, names: Sequence[str]) -> str:
     """How long replies take while all users ask for some ADVANCEs a second, each at times of its own."""
-    times: List[float] = []
     talks = [Talk(keeper.raw(name), name) for name in names]
     begin = time.monotonic() + 1
-
-    def ask(number: int, talk: Talk) -> None:
-        for turn in range(SECONDS_OF_A_LESSON * ADVANCES_A_SECOND):
-            due = begin + (turn + number / len(names)) / ADVANCES_A_SECOND
-            time.sleep(max(due - time.monotonic(), 0))
-            times.append(talk.time_of(b"ADVANCE a 1\n"))
-
-    threads = [threading.Thread(target=ask, args=each) for each in enumerate(talks)]
-    for thread in threads:
-        thread.start()
-    for thread in threads:
-        thread.join()
-    spent = time.monotonic() - begin
-    for talk in talks:
-        talk.end()
+    with ThreadPoolExecutor(len(names)) as threads:
+        begins = [begin + number / len(names) / ADVANCES_A_SECOND for number in range(len(names))]
+        times = [each for told in threads.map(times_of_a_lesson, talks, begins) for each in told]
+        spent = time.monotonic() - begin
+        list(threads.map(Talk.end, talks))
     high = statistics.quantiles(times, n=100)[-1]
     rate = f"{len(times) / spent:.0f} ADVANCEs a second of {len(names)} users"
     return f"{rate}, median {statistics.median(times) / 1000:.2f} ms, 99 of 100 within {high / 1000:.1f} ms"

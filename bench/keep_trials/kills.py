@@ -5,7 +5,7 @@ import tempfile
 import time
 from typing import Dict, List, Sequence
 
-from keep_trials.keeper import SECONDS, Keeper, until
+from keep_trials.keeper import Keeper, until
 from keep_trials.visitor import Visitor, quota_of
 
 USERS = 8
@@ -45,12 +45,6 @@ def kill_in_turn(keeper: Keeper, kind: str, kills: int, rnd: random.Random, visi
 def ended(visitors: List[Visitor]) -> Dict[str, int]:
     """Ends all visitors, and returns what they did. Raises the fault of the first one that has one."""
     for visitor in visitors:
-        visitor.is_to_end = True
-    for visitor in visitors:
-        visitor.join(SECONDS)
-        if visitor.fault:
-            raise visitor.fault
-        if visitor.is_alive():
-            raise TimeoutError(f"{visitor.name} does not end")
+        visitor.end()
     words = ("commands", "checks", "connections")
     return {word: sum(getattr(each, word) for each in visitors) for word in words}

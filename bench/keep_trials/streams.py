@@ -5,9 +5,11 @@ import socket
 import sys
 import tempfile
 import threading
+from concurrent.futures import ThreadPoolExecutor
+from itertools import repeat
 from typing import Iterator, List, Sequence
 
-from keep_trials.keeper import SECONDS, TOP, Keeper, until
+from keep_trials.keeper import TOP, Keeper, until
 
 sys.path.append(str(TOP / "conformance"))
 from playing import Stream, difference  # noqa: E402
@@ -75,8 +77,5 @@ def play_at_once(program: str, streams: Sequence[Stream], kills: int, options: S
 
 def send_all(players: List[Player], number: int) -> None:
     """Sends a piece of each stream, all of them at once."""
-    threads = [threading.Thread(target=player.send, args=(number,)) for player in players]
-    for thread in threads:
-        thread.start()
-    for thread in threads:
-        thread.join(SECONDS)
+    with ThreadPoolExecutor(len(players)) as threads:
+        list(threads.map(Player.send, players, repeat(number)))

@@ -127,14 +127,24 @@ class Visitor(threading.Thread):
                 data = stream.recv(1 << 16)
                 if not data:
                     raise EOFError
-                for reply in reader.feed(data)[: len(left)]:
-                    self._take(left.pop(0), reply)
+                self._take(left, reader.feed(data))
         finally:
             self._account.lose([*left, *more])
 
-    def _take(self, item: bytes, reply: bytes) -> None:
-        self._account.hear(item, reply)
-        self.commands += 1
+    def _take(self, left: List[bytes], replies: Sequence[bytes]) -> None:
+        """Takes replies to the first of the items that are left, which are then left no more."""
+        for reply in replies[: len(left)]:
+            self._account.hear(left.pop(0), reply)
+            self.commands += 1
+
+    def end(self) -> None:
+        """Ends it. Raises what it found at fault."""
+        self.is_to_end = True
+        self.join(SECONDS)
+        if self.fault:
+            raise self.fault
+        if self.is_alive():
+            raise TimeoutError(f"{self.name} does not end")
 
 
 def first_line(stream: socket.socket) -> bytes:

@@ -59,9 +59,12 @@ class Disk:
         """Has what was written in a second on the disk, if nothing else has."""
         while self._sync == "second":
             await asyncio.sleep(SECONDS_BETWEEN_SYNCS)
-            dirty, self._dirty = self._dirty, set()
-            for journal in dirty:
-                self._perform(journal.sync, lambda: None)
+            self._sync_dirty()
+
+    def _sync_dirty(self) -> None:
+        dirty, self._dirty = self._dirty, set()
+        for journal in dirty:
+            self._perform(journal.sync, lambda: None)
 
     def close(self) -> None:
         """Waits until what was begun is written."""

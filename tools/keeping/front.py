@@ -63,18 +63,19 @@ class Front:
     def _take_users(self, accounts: Accounts) -> None:
         """Has these users in place of those there were. Who was stopped is tried again."""
         self._damaged = {}
-        for name in [*self._users]:
-            user = self._users[name]
-            if name not in accounts or user.stopped and not user.is_busy():
-                self._give_up(self._users.pop(name))
         self._accounts = accounts
-        for name in accounts:
-            if name not in self._users:
-                self._open(name)
+        for user in [*self._users.values()]:
+            self._give_up(user)
+        for name in [each for each in accounts if each not in self._users]:
+            self._open(name)
 
     def _give_up(self, user: User) -> None:
+        """Lets go of a user that is none any more, or was stopped."""
+        if user.name in self._accounts and (not user.stopped or user.is_busy()):
+            return
         if not user.stopped:
             user.stop("it is no user any more")
+        del self._users[user.name]
         user.close()
 
     def _open(self, name: str) -> None:
@@ -119,8 +120,8 @@ class Front:
         """Serves until it is told to end, and returns the exit status."""
         loop = asyncio.get_running_loop()
         loop.add_signal_handler(signal.SIGHUP, self._begin_anew)
-        for number in (signal.SIGTERM, signal.SIGINT):
-            loop.add_signal_handler(number, self._end)
+        loop.add_signal_handler(signal.SIGTERM, self._end)
+        loop.add_signal_handler(signal.SIGINT, self._end)
         listening = await loop.create_server(lambda: Client(self), sock=self._options.listener, backlog=128)
         tasks = [asyncio.create_task(work) for work in (self._own_servers(), self._disk.sync_on())]
         await self._is_ending.wait()
@@ -164,12 +165,11 @@ class Front:
             server.kill()
         self._known["begun"] = int(str(self._known["begun"])) + 1
         self._note("server begun", process=server.process.pid)
-        others = [asyncio.create_task(self._connect(user, True)) for user in self._users.values() if not user.stopped]
-        others.append(asyncio.create_task(self._note_version()))
+        connections = [self._connect(user, True) for user in self._users.values() if not user.stopped]
+        others = asyncio.gather(self._note_version(), *connections, return_exceptions=True)
         ended = await server.ended()
         self._server = None
-        for task in others:
-            task.cancel()
+        others.cancel()
         for user in self._users.values():
             user.lose_link()
         return ended

@@ -13,6 +13,7 @@ What is left keeps its order over all sessions, so no quota is passed on the way
 """
 import re
 from dataclasses import dataclass, field
+from itertools import chain
 from typing import Callable, Dict, Iterator, List, NamedTuple, Tuple, Type, Union
 
 from keeping.items import LOADS, Words
@@ -297,7 +298,8 @@ class Script:
     def told(self) -> Iterator[Told]:
         """The items that lead to the same state, with their replies. Checks of what did not change since are the last ones."""
         positions: Dict[bytes, Position] = {}
-        for _, name, entry in sorted(self._in_order(), key=lambda each: each[0]):
+        parts = chain.from_iterable(self._parts_of(name) for name in self.sessions)
+        for _, name, entry in sorted(parts, key=lambda each: each[0]):
             if isinstance(entry, Load):
                 positions[name] = Position()
                 yield Told(entry.item, entry.reply)
@@ -306,12 +308,13 @@ class Script:
             else:
                 yield from told_of(positions[name], name, entry)
 
-    def _in_order(self) -> Iterator[Tuple[int, bytes, Union[Load, Entry]]]:
-        for name, session in self.sessions.items():
-            yield session.load.at, name, session.load
-            for entry in session.entries:
-                is_last = isinstance(entry, Check) and entry is session.entries[-1]
-                yield entry.at + is_last * self._at, name, entry
+    def _parts_of(self, name: bytes) -> Iterator[Tuple[int, bytes, Union[Load, Entry]]]:
+        """The load of a session and what is left since, each with its place in the order of all."""
+        session = self.sessions[name]
+        yield session.load.at, name, session.load
+        for entry in session.entries:
+            is_last = isinstance(entry, Check) and entry is session.entries[-1]
+            yield entry.at + is_last * self._at, name, entry
 
 
 def told_of(position: Position, name: bytes, entry: Entry) -> Iterator[Told]:

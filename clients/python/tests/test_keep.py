@@ -427,7 +427,8 @@ def test_words_that_are_none(tmp_path, words):
 
 def ended(folder, words):
     """The status of the tool, and what it says of a fault."""
-    done = subprocess.run([sys.executable, TOP / "tools" / "keep", *words], cwd=folder, capture_output=True, text=True, timeout=SECONDS)
+    tool = [sys.executable, TOP / "tools" / "keep"]
+    done = subprocess.run([*tool, *words], cwd=folder, capture_output=True, text=True, timeout=SECONDS)
     return done.returncode, done.stderr
 
 

@@ -1,5 +1,6 @@
 """The journals of `tools/keep`: what is cut off, what is damage, and how they are rewritten."""
 import hashlib
+import itertools
 import os
 import stat
 import sys
@@ -53,11 +54,10 @@ def test_what_a_power_cut_may_leave_is_cut_off(tmp_path):
 
 def test_each_changed_byte_of_a_whole_record_is_damage(tmp_path):
     data = written(tmp_path).read_bytes()
-    for at in range(len(data)):
-        for bit in (1, 0x80):
-            changed = data[:at] + bytes([data[at] ^ bit]) + data[at + 1 :]
-            with pytest.raises(Damaged):
-                read(changed, "ann")
+    for at, bit in itertools.product(range(len(data)), (1, 0x80)):
+        changed = data[:at] + bytes([data[at] ^ bit]) + data[at + 1 :]
+        with pytest.raises(Damaged):
+            read(changed, "ann")
 
 
 def test_a_record_that_is_missing_is_damage(tmp_path):
@@ -124,7 +124,12 @@ def test_what_is_new_is_on_the_disk_before_it_has_its_name_and_the_folder_after(
     assert done == [str(tmp_path / "ann.new"), "replace", str(tmp_path)]
 
 
-SIZES = {"small": (65535, 0, False), "half": (65536, 32768, False), "less than half": (65536, 32767, True), "all": (10**6, 10**6, False)}
+SIZES = {
+    "small": (65535, 0, False),
+    "half": (65536, 32768, False),
+    "less than half": (65536, 32767, True),
+    "all": (10**6, 10**6, False),
+}
 
 
 @pytest.mark.parametrize("size, left, is_worth", SIZES.values(), ids=SIZES)
