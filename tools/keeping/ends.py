@@ -198,9 +198,10 @@ class Owner(Protocol):
 
 
 class Link(asyncio.Protocol):
-    """The connection of a user to the server, from its first line on. `left` is how many items it still may have."""
+    """The connection of a user to the server, from its first line on. `left` is how many items it still may have: with the last one
+    of those that a connection may have the server would end it."""
 
-    most_items = MAX_ITEMS
+    most_items = MAX_ITEMS - 1
 
     def __init__(self, user: User, token: str, is_new: bool, owner: Owner):
         self.user, self._is_new, self._owner = user, is_new, owner

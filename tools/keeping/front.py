@@ -50,7 +50,7 @@ class Front:
         self._disk = Disk(options.sync, self.fail)
         self._accounts: Accounts = {}
         self._users: Dict[str, User] = {}
-        self._damaged: Dict[str, str] = {}
+        self._refused: Dict[str, str] = {}
         self._clients: Set[Client] = set()
         self._server: Optional[Server] = None
         self._is_ending = asyncio.Event()
@@ -62,7 +62,7 @@ class Front:
 
     def _take_users(self, accounts: Accounts) -> None:
         """Has these users in place of those there were. Who was stopped is tried again."""
-        self._damaged = {}
+        self._refused = {}
         self._accounts = accounts
         for user in [*self._users.values()]:
             self._give_up(user)
@@ -79,17 +79,20 @@ class Front:
         user.close()
 
     def _open(self, name: str) -> None:
-        """Reads the journal of a user. One that is damaged stops that user alone."""
+        """Reads the journal of a user. One that cannot be read stops that user alone."""
         try:
             journal = Journal(self._folder.path, name)
             script = script_of(journal)
         except (Damaged, Otherwise) as error:
-            self._damaged[name] = f"its journal is damaged: {error}"
-            self._note("stopped", user=name, why=self._damaged[name])
+            self._refuse(name, f"its journal is damaged: {error}")
         except OSError as error:
-            raise Fault(f"cannot use the journal of {name}: {error.strerror}") from error
+            self._refuse(name, f"its journal cannot be used: {error.strerror}")
         else:
             self._users[name] = User(name, journal, script, self._disk, self._note, self._renew)
+
+    def _refuse(self, name: str, why: str) -> None:
+        self._refused[name] = why
+        self._note("stopped", user=name, why=why)
 
     # What clients ask of it.
 
@@ -241,7 +244,7 @@ class Front:
 
     def _put_status(self) -> None:
         users: Dict[str, Dict[str, object]] = {name: each.known() for name, each in self._users.items()}
-        users |= {name: {"state": "stopped", "why": why} for name, why in self._damaged.items()}
+        users |= {name: {"state": "stopped", "why": why} for name, why in self._refused.items()}
         server = self._server.process.pid if self._server else None
         self._folder.put_status({**self._known, "server": server, "users": users})
 

@@ -155,6 +155,17 @@ def test_a_damaged_journal_stops_its_user_alone(tmp_path):
         assert keeper.told(b"ADVANCE a 1\n" + SHOW, "ann") == HELLO + b"OK ADVANCE a 2\n" + SHOWN
 
 
+def test_a_journal_that_cannot_be_read_stops_its_user_alone(tmp_path):
+    with Keeper(tmp_path, users=("ann", "ben")) as keeper:
+        keeper.kill()
+        (keeper.folder / "ann.journal").unlink()
+        (keeper.folder / "ann.journal").mkdir()
+        keeper.begin()
+        assert keeper.told(LOAD, "ann") == DENIED
+        assert keeper.told(LOAD, "ben") == b"OK HELLO ben\n" + LOADED
+        assert keeper.stopped("ann") == "its journal cannot be used: Is a directory"
+
+
 def test_a_quota_that_was_lowered_stops_its_user_alone_until_it_is_raised(tmp_path):
     with Keeper(tmp_path, users=("ann", "ben")) as keeper, keeper.connected("ben") as ben:
         keeper.told(LOAD, "ann")

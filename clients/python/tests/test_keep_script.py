@@ -60,9 +60,14 @@ def frames(sim):
     return [tuple(map(tuple, sim.prev)), tuple(map(tuple, sim.cur)), sim.step, sim.dir]
 
 
-@settings(max_examples=400, deadline=None)
+@settings(max_examples=400, deadline=None, derandomize=True, database=None)
 @given(STREAMS)
 def test_what_is_told_again_leads_to_the_same_state(items):
+    hold_alike(items)
+
+
+def hold_alike(items):
+    """Holds that what is kept of some items, told to another user, leads to the same state, and is kept as it is."""
     user, script, count = taken(items)
     told = list(script.told())
     other = User(QUOTA)
