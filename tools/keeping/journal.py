@@ -118,14 +118,14 @@ class Journal:
         self._folder = folder
         self._lock = threading.Lock()
         self.path = folder / f"{name}.journal"
+        self._look_at = LEAST_TO_REWRITE
         self._descriptor = os.open(self.path, os.O_RDWR | os.O_CREAT | os.O_APPEND | os.O_CLOEXEC, 0o600)
         try:
             self.records, self._chain, self.size = read(self.path.read_bytes(), name)
+            self._begin()
         except BaseException:
             os.close(self._descriptor)
             raise
-        self._look_at = LEAST_TO_REWRITE
-        self._begin()
 
     def _begin(self) -> None:
         """Cuts the file to what was read, or writes its first line."""
