@@ -155,8 +155,10 @@ class Client(asyncio.Protocol):
 
     def has_ended(self) -> bool:
         """Whether no more items will come."""
+        if not (self._is_lost or self._has_sent_all or self._reader.has_ended):
+            return False
         self._next = self._next or self._cut()
-        return self._next is None and (self._is_lost or self._has_sent_all or self._reader.has_ended)
+        return self._next is None
 
     def let_in(self) -> None:
         self.tell(b"OK HELLO %s\n" % self.user.name.encode() if self.user else b"")

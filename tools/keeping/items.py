@@ -56,7 +56,7 @@ class ItemReader:
 
     def next(self) -> Optional[Item]:
         """The next item, if it is whole. Behind the last one that a connection may have stands what ends it."""
-        if self.has_ended:
+        if self.has_ended or self._left and not self._held:
             return None
         item = self._first() if self._left else Item(b"", (), ENOUGH)
         if item is None:
