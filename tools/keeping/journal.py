@@ -181,10 +181,10 @@ class Journal:
 
 def write_all(descriptor: int, data: bytes) -> int:
     """Writes all of some bytes, and returns how many. Raises OSError if that cannot be done."""
-    view = memoryview(data)
-    while view:
-        view = view[os.write(descriptor, view) :]
-    return len(data)
+    written = os.write(descriptor, data)
+    while written < len(data):
+        written += os.write(descriptor, memoryview(data)[written:])
+    return written
 
 
 def sync_folder(folder: pathlib.Path) -> None:

@@ -19,7 +19,7 @@ from typing import Callable, Dict, Iterator, List, NamedTuple, Tuple, Type, Unio
 from keeping.items import LOADS, Words
 
 MAX_STEPS = 1_000_000
-RING = 2**32
+RING, HALF = 2**32, 2**31
 KEPT = frozenset((*LOADS, *b"ADVANCE START REVERSE BRANCH RESTORE FORGET TUG DROP".split()))
 # What is answered when nothing is owed to the session any more.
 WAITS = frozenset(b"ADVANCE REVERSE BRANCH RESTORE TUG MEASURE SHOW DUMP".split())
@@ -121,8 +121,11 @@ def push_tugs(entries: List[Entry], tugs: Tugs) -> None:
 
 def on_ring(one: Displacement, other: Displacement) -> Displacement:
     """The sum of two displacements, as the least one that moves as far on the ring."""
-    x, y, z = ((a + b + RING // 2) % RING - RING // 2 for a, b in zip(one, other))
-    return x, y, z
+    return least(one[0] + other[0]), least(one[1] + other[1]), least(one[2] + other[2])
+
+
+def least(part: int) -> int:
+    return (part + HALF) % RING - HALF
 
 
 def push_restore(entries: List[Entry], restore: Restore) -> None:
@@ -267,6 +270,7 @@ class Script:
             raise Otherwise(f"{shown(reply)} of a session that is not there")
         if words[0] == b"MEASURE":
             push(session.entries, Check(self._at, reply))
+            session.is_owed = False
             return
         unless_alike(session.position, words, reply)
         if words[0] == b"DROP":

@@ -161,10 +161,11 @@ class User:
 
     def _note_done(self, item: Item, reply: bytes, is_check: bool) -> None:
         """Notes a command that was replied OK."""
-        self.script.is_answered(item.words)
         if item.words[0] in KEPT or is_check:
             self.script.take(item.raw, item.words, reply)
             self._records.append(Told(item.raw, reply))
+        else:
+            self.script.is_answered(item.words)
 
     def _hold(self, reply: bytes) -> None:
         self._held.append(reply)
