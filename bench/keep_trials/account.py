@@ -33,7 +33,14 @@ class Account:
 
     def lose(self, items: Sequence[bytes]) -> None:
         """The replies to items were lost: all of them were done, or some of the first, or none."""
-        self._states = [each for state in self._states for each in states_after(state, items)]
+        states = (each for state in self._states for each in states_after(state, items))
+        self._states = [*{known(state): state for state in states}.values()]
+
+
+def known(state: User) -> str:
+    """All that is known of a user, by which states are told apart."""
+    rows = [(name, each.edge, each.symbols, each.atoms, each.sim, each.saved) for name, each in state.sessions.items()]
+    return repr(rows)
 
 
 def states_after(state: User, items: Sequence[bytes]) -> Iterator[User]:
