@@ -73,6 +73,20 @@ def test_the_source_is_told_and_no_byte_more_is_read(pair, header, source):
     assert (pair[1].recv(100), pair[1].gettimeout()) == (b"HELLO", None)
 
 
+@pytest.mark.parametrize("header, source", SOURCES.values(), ids=SOURCES)
+def test_bytes_that_have_come(header, source):
+    assert proxy_header.source_of_bytes(header + b"HELLO") == (source, b"HELLO")
+    for end in range(len(header)):
+        with pytest.raises(proxy_header.NotWhole):
+            proxy_header.source_of_bytes(header[:end])
+
+
+@pytest.mark.parametrize("name", ["HELLO", "a bad address", "a bad port", "version 3", "another command", "too short"])
+def test_bytes_that_are_no_header(name):
+    with pytest.raises(ValueError):
+        proxy_header.source_of_bytes(NONE[name])
+
+
 @pytest.mark.parametrize("name", ["TCP6", "2 with a field"])
 def test_byte_by_byte(pair, name):
     header, source = SOURCES[name]

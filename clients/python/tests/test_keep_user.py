@@ -1,0 +1,233 @@
+"""What one user of `tools/keep` does at each event, with ends and a disk that only note what is asked of them."""
+import sys
+
+import pytest
+
+from keepers import HELLO, LOAD, LOADED, TOKEN
+from support import TOP
+
+sys.path.append(str(TOP / "tools"))
+from keeping.accounts import accounts_at, server_text, user_of  # noqa: E402
+from keeping.items import ItemReader  # noqa: E402
+from keeping.journal import Journal  # noqa: E402
+from keeping.script import Script  # noqa: E402
+from keeping.server import Words  # noqa: E402
+from keeping.user import MAX_SENT, User  # noqa: E402
+from user_files import Fault  # noqa: E402
+
+
+class Client:
+    """A client that has sent some bytes."""
+
+    is_full = False
+
+    def __init__(self, sent=b"", has_sent_all=False):
+        self.told, self.is_over, self.has_sent_all = b"", "", has_sent_all
+        self.reader = ItemReader()
+        self.reader.feed(sent)
+        self.next = None
+
+    def next_item(self):
+        item, self.next = self.next or self.reader.next(), None
+        return item
+
+    def has_ended(self):
+        self.next = self.next or self.reader.next()
+        return self.next is None and (self.has_sent_all or self.reader.has_ended)
+
+    def let_in(self):
+        self.told += HELLO
+
+    def tell(self, replies):
+        self.told += replies
+
+    def deny(self):
+        self.is_over = "denied"
+
+    def finish(self):
+        self.is_over = "finished"
+
+    def abort(self):
+        self.is_over = "aborted"
+
+
+class Link:
+    """A connection to a server that replies nothing by itself."""
+
+    def __init__(self, left=10**6):
+        self.sent, self.left, self.is_held, self.is_closed = b"", left, False, False
+
+    def send(self, items):
+        self.sent += items
+
+    def hold(self, is_held):
+        self.is_held = is_held
+
+    def close(self):
+        self.is_closed = True
+
+
+class Disk:
+    """A disk that has written what it was given when `done` is called."""
+
+    def __init__(self):
+        self.given = []
+
+    def keep(self, journal, records, then):
+        self.given.append((records, then))
+        return False
+
+    def done(self):
+        (_, then) = self.given.pop(0)
+        then()
+
+
+@pytest.fixture
+def user(tmp_path):
+    renewed = []
+    user = User("ann", Journal(tmp_path, "ann"), Script(), Disk(), lambda *_, **known: renewed.append(known), renewed.append)
+    user.disk, user.noted = user._disk, renewed
+    return user
+
+
+def let_in(user, client, link=None):
+    """A client that is in, over a connection to a new server."""
+    link = link or Link()
+    user.begin(link, True)
+    user.enter(client)
+    return link
+
+
+def test_nothing_is_told_before_it_is_written(user):
+    client = Client(LOAD + b"LIST\nREVERSE a\n")
+    link = let_in(user, client)
+    assert link.sent == LOAD + b"LIST\nREVERSE a\n"
+    user.hear([LOADED, b"OK LIST 1\na 0 2 0\n"])
+    assert client.told == HELLO
+    user.hear([b"OK REVERSE a -1\n"])
+    assert [each.reply for each in user.disk.given[0][0]] == [LOADED] and len(user.disk.given) == 1
+    user.disk.done()
+    assert client.told == HELLO + LOADED + b"OK LIST 1\na 0 2 0\n"
+    assert [each.item for each in user.disk.given[0][0]] == [b"REVERSE a\n"]
+    user.disk.done()
+    assert client.told.endswith(b"OK REVERSE a -1\n")
+
+
+def test_what_changes_nothing_is_told_at_once(user):
+    client = Client(b"LIST\nREVERSE a\n")
+    let_in(user, client)
+    user.hear([b"OK LIST 0\n", b"ERR 10 NO_SESSION\n"])
+    assert client.told == HELLO + b"OK LIST 0\nERR 10 NO_SESSION\n" and not user.disk.given
+
+
+def test_a_new_server_is_told_what_was_kept_and_then_what_was_not_replied(user):
+    client = Client(LOAD + b"ADVANCE a 2\nREVERSE a\nLIST\n")
+    let_in(user, client)
+    user.hear([LOADED, b"OK ADVANCE a 2\n"])
+    user.lose_link()
+    link = Link()
+    user.begin(link, True)
+    assert link.sent == LOAD + b"START a 2\n"
+    user.hear([LOADED])
+    assert link.sent == LOAD + b"START a 2\n"
+    user.hear([b"OK START a 2\n"])
+    assert link.sent == LOAD + b"START a 2\nREVERSE a\nLIST\n"
+    user.disk.done()
+    assert client.told == HELLO + LOADED + b"OK ADVANCE a 2\n"
+
+
+def test_a_reply_of_the_replay_that_is_another_stops_the_user(user):
+    client, other = Client(LOAD), Client()
+    let_in(user, client)
+    user.enter(other)
+    user.hear([LOADED])
+    user.lose_link()
+    user.begin(Link(), True)
+    user.hear([b"OK LOAD a 0 3\n"])
+    assert user.stopped == "the program replied OK LOAD a 0 3 in place of OK LOAD a 0 2, when told again"
+    assert (client.is_over, other.is_over) == ("aborted", "denied")
+    late = Client()
+    user.enter(late)
+    assert late.is_over == "denied"
+
+
+def test_one_client_after_the_other_with_a_measure_between(user):
+    first, second = Client(LOAD, has_sent_all=True), Client(b"LIST\n")
+    link = let_in(user, first)
+    user.enter(second)
+    user.hear([LOADED])
+    assert (first.is_over, second.told) == ("", b"")
+    user.disk.done()
+    assert (first.is_over, second.told) == ("finished", b"")
+    assert link.sent == LOAD + b"MEASURE a\n"
+    user.hear([b"OK MEASURE a 0 2 0 0 0 0 -5349132\n"])
+    assert second.told == b""
+    user.disk.done()
+    assert second.told == HELLO and link.sent.endswith(b"MEASURE a\nLIST\n")
+
+
+def test_what_owes_steps_is_not_measured(user):
+    first = Client(LOAD + b"START a 9\n", has_sent_all=True)
+    link = let_in(user, first)
+    user.hear([LOADED, b"OK START a 9\n"])
+    user.disk.done()
+    assert first.is_over == "finished" and link.sent == LOAD + b"START a 9\n"
+
+
+def test_what_ends_a_connection_is_replied_behind_all_else(user):
+    client = Client(b"LIST\nBYE\nLIST\n")
+    link = let_in(user, client)
+    assert link.sent == b"LIST\n" and client.told == HELLO
+    user.hear([b"OK LIST 0\n"])
+    assert client.told == HELLO + b"OK LIST 0\nOK BYE\n" and client.is_over == "finished"
+
+
+def test_so_many_items_are_on_their_way_and_no_more(user):
+    link = let_in(user, Client(b"LIST\n" * (MAX_SENT + 2)))
+    assert link.sent == b"LIST\n" * MAX_SENT
+    user.hear([b"OK LIST 0\n"])
+    assert link.sent == b"LIST\n" * (MAX_SENT + 1)
+
+
+def test_a_client_that_does_not_read_holds_the_server(user):
+    client = Client(b"LIST\n")
+    link = let_in(user, client)
+    client.is_full = True
+    user.go_on()
+    assert link.is_held
+    client.is_full = False
+    user.go_on()
+    assert not link.is_held
+
+
+def test_another_connection_to_the_server_is_asked_for_when_one_is_used_up(user):
+    link = let_in(user, Client(b"LIST\n" * 3), Link(left=2))
+    assert link.sent == b"LIST\n" * 2
+    user.hear([b"OK LIST 0\n"])
+    assert not link.is_closed
+    user.hear([b"OK LIST 0\n"])
+    assert link.is_closed and user.noted[-1] is user
+    another = Link()
+    user.begin(another, False)
+    assert another.sent == b"LIST\n"
+
+
+def test_who_is_a_user(tmp_path):
+    path = tmp_path / "users"
+    path.write_text(f"# users\n\n ann\t{TOKEN}  1 2 3 \nben {'b' * 32} 0 0 0\n")
+    accounts = accounts_at(path)
+    assert server_text(accounts, {"ann": "x", "ben": "y"}) == b"ann x 1 2 3\nben y 0 0 0\n"
+    assert user_of(f" HELLO\tann {TOKEN}\r".encode(), accounts) == "ann"
+    for words in (f"ann {'b' * 32}", f"cleo {TOKEN}", f"ann {TOKEN} x", f"ann {TOKEN[:-1]}", "ann", "\xe9 x"):
+        assert user_of(f"HELLO {words}".encode("latin-1"), accounts) is None
+    path.write_text(f"ann {TOKEN} 1 2\n")
+    with pytest.raises(Fault, match="line 1: it has 4 words, and not 5"):
+        accounts_at(path)
+
+
+def test_what_begins_the_server():
+    words = Words([sys.executable, "serve", "--workers", "4", "--users", "FILE", "--pool", "queue"])
+    own = ["--listen", "127.0.0.1:4001", "--connections", "1000000", "--users", "/proc/self/fd/9"]
+    assert (words.users, words.command(4001, 9)) == (
+        "FILE", [sys.executable, "serve", "--workers", "4", *own, "--pool", "queue"]
+    )  # fmt: skip
