@@ -487,7 +487,11 @@ BLOCKS = {
         "sudo apt": "clients/python/tests/test_debian_packages.py installs both, in a root of its own",
         "sudo cat": "clients/python/tests/test_debian_packages.py reads the token there, and lets the prompt read it",
     },
-    "docs/SOAK.md": {"bench/soak serve": TAKES_HOURS, "bench/soak bytes": TAKES_HOURS},
+    "docs/SOAK.md": {
+        "bench/soak serve": TAKES_HOURS,
+        "bench/soak bytes": TAKES_HOURS,
+        "bench/keep kills": "takes minutes; clients/python/tests/test_keep_trials.py has a few kills and streams",
+    },
     "clients/python/README.md": {
         "export PYTHONPATH": path_of_the_client,
         "python3 -m venv": "clients/python/tests/test_wheels.py runs it, in a folder with the wheels",
