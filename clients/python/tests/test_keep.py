@@ -1,4 +1,5 @@
 """A server that is kept by `tools/keep`: whatever ends, its users go on as if it had not, or are not let in."""
+import contextlib
 import json
 import os
 import pathlib
@@ -14,6 +15,7 @@ import pytest
 
 from keepers import HELLO, LOAD, LOADED, TOKEN, USUAL, Keeper, first_line, until
 from support import PROGRAM, SECONDS, TOP, dimer
+from test_watch import reset
 
 # Of the two atoms after two steps: docs/PROTOCOL.md, "A step in half a page".
 SHOW, SHOWN = b"SHOW a 0\n", b"OK SHOW a 2 0 1774 0 0\n"
@@ -387,13 +389,20 @@ def test_a_first_line_with_tabs_and_in_pieces(kept):
 
 
 def test_a_client_that_does_not_read_holds_nobody_else_up(tmp_path):
+    def send(stream):
+        with contextlib.suppress(OSError):
+            stream.sendall(LOAD + b"DUMP a\n" * 200_000)
+
     with Keeper(tmp_path, users=("ann", "ben")) as keeper, keeper.raw("ann") as deaf:
-        sender = threading.Thread(target=deaf.sendall, args=(LOAD + b"DUMP a\n" * 200_000,), daemon=True)
+        sender = threading.Thread(target=send, args=(deaf,), daemon=True)
         sender.start()
         assert keeper.told(LOAD + b"ADVANCE a 2\n" + SHOW, "ben").endswith(SHOWN)
         memory = int(next(line for line in pathlib.Path(f"/proc/{keeper.child.pid}/status").open() if "VmRSS" in line).split()[1])
         assert memory < 150_000
-        deaf.shutdown(socket.SHUT_RDWR)
+        # That it is gone is told by a reset: the system asks a peer that reads nothing more and more seldom.
+        deaf.shutdown(socket.SHUT_WR)
+        sender.join(SECONDS)
+        reset(deaf)
         assert keeper.told(b"LIST\n", "ann").startswith(HELLO + b"OK LIST 1\na 0 2 0\n")
 
 
