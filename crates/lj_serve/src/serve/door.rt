@@ -1,7 +1,8 @@
 //! The door of a server, where tickets wait for the states of their users.
-ghost use Rattle.std.specs.Prelude.{◌≡◌, List, IfErr, OnErr, OnOk};
+ghost use Rattle.std.specs.Prelude.{◌≡◌, [], ◌∷◌, ◌++◌, List, IfErr, OnErr, OnOk};
 ghost use Rattle.std.specs.List.{All};
-ghost use Rattle.lj_access.specs.Passing.{IsNext, PassesOver};
+ghost use Rattle.std.specs.List.Sorted.{IsPermutation};
+ghost use Rattle.lj_access.specs.Passing.{IsNext, PassesOver, tickets_passed};
 ghost use Rattle.lj_access.specs.Rows.{Row};
 ghost use Rattle.lj_serve.specs.Entries.{ComesHome, IsReached};
 
@@ -44,7 +45,10 @@ impl Hall {
     // Keeps a ticket that was given up. It is passed over at once, if its turn has come.
     fn give_up(&mut self, ticket: Ticket) -> Result<(), Ticket>
         ensures back { IfErr result (λ back. back ≡ ticket) }
-        ensures kept { OnErr result (self.new.directory ≡ self.old.directory) }
+        ensures unchanged { OnErr result (self.new.directory ≡ self.old.directory) }
+        ensures unlost { OnErr result (self.new.given_up ≡ self.old.given_up) }
+        ensures kept { OnOk result (IsPermutation (self.old.given_up ++ ticket ∷ [])
+            (self.new.given_up ++ tickets_passed ticket.user self.old.directory self.new.directory)) }
         ensures passed { OnOk result (PassesOver ticket.user self.old.directory self.new.directory) }
         ensures waiting { OnOk result
             (All (λ other. ¬ IsNext self.new.directory ticket.user other) self.new.given_up) }
@@ -58,7 +62,9 @@ impl Hall {
     // Takes a state home, and passes over the next tickets of its user that were given up.
     fn leave(&mut self, ticket: Ticket, state: UserState)
         ensures passed { (home : List Row) × ComesHome ticket state self.old.directory home
-            × PassesOver ticket.user home self.new.directory }
+            × PassesOver ticket.user home self.new.directory
+            × IsPermutation self.old.given_up
+            (self.new.given_up ++ tickets_passed ticket.user home self.new.directory) }
         ensures waiting { All (λ other. ¬ IsNext self.new.directory ticket.user other) self.new.given_up }
     {
         let user = ticket.user();
