@@ -147,7 +147,11 @@ impl<S: Source> LineReader<S> {
     /// Whether the next item is among the bytes that are held: they have a whole line, of which no body follows. Of a LOAD the answer
     /// is false.
     pub fn holds_item(&self) -> bool {
-        let Some((line, _)) = split_line(self.input.held()) else {
+        let held = self.input.held();
+        if begins_no_load(held) && held.last() == Some(&b'\n') {
+            return true;
+        }
+        let Some((line, _)) = split_line(held) else {
             return false;
         };
         match words_in(line).next() {
@@ -170,4 +174,10 @@ impl<S: Source> LineReader<S> {
         } = self;
         input.into_source()
     }
+}
+
+/// Whether the first letter of a stream tells that it does not begin with a load. It is false of some others that do not.
+#[inline]
+fn begins_no_load(stream: &[u8]) -> bool {
+    matches!(stream.first(), Some(b'A'..=b'K' | b'M'..=b'Z'))
 }
