@@ -34,8 +34,9 @@ impl<'p, L: Ledger + Send + Sync, R: Host + Sync> Stage<R> for LockStage<'p, L, 
 
     fn work<G: Gate>(&self, rt: &R, gate: &G) -> Worked {
         let share = next(rt, &mut self.shares.lock(rt));
+        let before = share.count();
         let share = work(rt, self.pool, share, gate, &Table::new());
-        let credited = share.count();
+        let credited = share.count().saturating_sub(before);
         put_back(rt, &mut self.shares.lock(rt), share);
         Worked {
             credited,

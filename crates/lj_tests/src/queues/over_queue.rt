@@ -41,9 +41,10 @@ impl<'p, L: Room + Send + Sync, R: Host + Sync> Stage<R> for QueueStage<'p, L, R
     fn work<G: Gate>(&self, rt: &R, gate: &G) -> Worked {
         let share = next(rt, &mut self.shares.lock(rt));
         let pass = next(rt, &mut self.passes.lock(rt));
+        let before = share.count();
         let (share, pass) = work_queue(rt, self.pool, share, pass, gate, &Table::new());
         let worked = Worked {
-            credited: share.count(),
+            credited: share.count().saturating_sub(before),
             pass: Some(pass.number()),
         };
         put_back(rt, &mut self.shares.lock(rt), share);

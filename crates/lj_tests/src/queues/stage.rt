@@ -18,7 +18,7 @@ impl<R: AllocGlobal + Threads + Wait + Clock + Abort> Host for R {}
 /// What a worker did.
 #[derive(Clone, Copy, PartialEq, Eq, Debug)]
 pub struct Worked {
-    /// How many results its share was credited.
+    /// How many results its share was credited since it began: a late worker may have the share of one that has ended.
     pub credited: u64,
     /// The number of its pass, if the pool has passes.
     pub pass: Option<usize>,
