@@ -1,7 +1,9 @@
 """The live view of a user's sessions at a server: who is in, what is shown, and when the server is left."""
+import asyncio
 import os
 import pathlib
 import subprocess
+import threading
 import time
 
 import pytest
@@ -99,6 +101,28 @@ def test_the_server_is_left_when_nobody_plays(view, ann):
             assert page.receive() == {"waits": WAITS}
         told = page.receive()
         assert (told["step"], told["jumped"]) == (6, True)
+
+
+def test_a_connection_is_not_open_while_it_is_given_up():
+    """Closing takes a while, and a page that asks meanwhile has to be told that it waits."""
+    closes, may_end = threading.Event(), threading.Event()
+
+    class Leaving:
+        closed = False
+
+        def close(self):
+            closes.set()
+            may_end.wait(SECONDS)
+
+    async def play():
+        shared = connection.Connection(Leaving, patience=0.01)
+        await shared.do(lambda user: None)
+        assert await asyncio.to_thread(closes.wait, SECONDS)
+        assert not shared.is_open
+        may_end.set()
+        await shared.close()
+
+    asyncio.run(play())
 
 
 def test_exact_counts_places_to_the_bit(view, ann):

@@ -66,10 +66,10 @@ class Connection:
         return self._acts.get()
 
     def _leave(self) -> None:
-        """Takes leave of the server, if the user is in."""
-        if self._user is not None:
-            self._user.close()
-            self._user = None
+        """Takes leave of the server, if the user is in. Who asks meanwhile has to wait for another connection."""
+        user, self._user = self._user, None
+        if user is not None:
+            user.close()
 
     def _do(self, act: Act, future: "asyncio.Future[Any]") -> None:
         try:
