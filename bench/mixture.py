@@ -30,13 +30,10 @@ MIXES = {"equal": ALIKE, "different": ARGON_KRYPTON}
 
 def words(classes: Classes, sigmas: Sequence[str], h: int) -> str:
     """Sigma, step factor and weight of each class, as LOADMIX takes them; h is the first one's step factor."""
-    return " ".join(
-        f"{sigma} {round(h * one.epsilon / one.sigma ** 2)} {round(256 * one.epsilon)}"
-        for sigma, one in zip(sigmas, classes)
-    )
+    return " ".join(f"{sigma} {round(h * one.epsilon / one.sigma ** 2)} {round(256 * one.epsilon)}" for sigma, one in zip(sigmas, classes))
 
 
 def mean_sigma(classes: Classes) -> float:
     """The sigma whose cube is the mean over pairs, with which the mixture is as dense as a liquid of one species."""
-    first, mixed, second = (one.sigma ** 3 for one in classes)
+    first, mixed, second = (one.sigma**3 for one in classes)
     return ((first + 2 * mixed + second) / 4) ** (1 / 3)

@@ -55,7 +55,7 @@ class Chance:
             at = self.rnd.randrange(len(texts))
             others: List[List[str]] = [[], [texts[at]] * 2, [self.rnd.choice(STRANGE_WORDS)], [texts[at].lower()]]
             texts[at : at + 1] = self.rnd.choice(others)
-        blank, end = ((" ", "\n") if self.rnd.random() < 0.9 else self.rnd.choice(((" \t ", "\n"), ("\t", " \r\n"), (" ", "\r\n"))))
+        blank, end = (" ", "\n") if self.rnd.random() < 0.9 else self.rnd.choice(((" \t ", "\n"), ("\t", " \r\n"), (" ", "\r\n")))
         return blank.join(texts) + end
 
     def name(self) -> str:

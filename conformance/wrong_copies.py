@@ -127,25 +127,13 @@ WRONG: List[Tuple[str, str, str]] = [
     ),
     (
         "a used-up quota is found before a name that is taken",
-        (
-            'unless(name not in self.sessions, "11 EXISTS")\n'
-            '        unless(len(self.sessions) < self.most[0], "20 QUOTA_SESSIONS")'
-        ),
-        (
-            'unless(len(self.sessions) < self.most[0], "20 QUOTA_SESSIONS")\n'
-            '        unless(name not in self.sessions, "11 EXISTS")'
-        ),
+        ('unless(name not in self.sessions, "11 EXISTS")\n' '        unless(len(self.sessions) < self.most[0], "20 QUOTA_SESSIONS")'),
+        ('unless(len(self.sessions) < self.most[0], "20 QUOTA_SESSIONS")\n' '        unless(name not in self.sessions, "11 EXISTS")'),
     ),
     (
         "a weight is looked at before its step factor",
-        (
-            'unless(1 <= numbers.strength <= 2**24, "38 STEP_FACTOR")\n'
-            '    unless(1 <= numbers.weight <= 65536, "40 WEIGHT")'
-        ),
-        (
-            'unless(1 <= numbers.weight <= 65536, "40 WEIGHT")\n'
-            '    unless(1 <= numbers.strength <= 2**24, "38 STEP_FACTOR")'
-        ),
+        ('unless(1 <= numbers.strength <= 2**24, "38 STEP_FACTOR")\n' '    unless(1 <= numbers.weight <= 65536, "40 WEIGHT")'),
+        ('unless(1 <= numbers.weight <= 65536, "40 WEIGHT")\n' '    unless(1 <= numbers.strength <= 2**24, "38 STEP_FACTOR")'),
     ),
     (
         "classes are looked at from the last one on",
@@ -155,10 +143,7 @@ WRONG: List[Tuple[str, str, str]] = [
     (
         "the body is looked at before the classes",
         "        classes = [class_of_numbers",
-        (
-            "        frame_at(lines_of(body), 0, species)\n"
-            "        classes = [class_of_numbers"
-        ),
+        ("        frame_at(lines_of(body), 0, species)\n" "        classes = [class_of_numbers"),
     ),
     (
         "the quota of branches is that of a session",

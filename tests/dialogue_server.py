@@ -51,9 +51,7 @@ def play(server: DialogueServer, number: int, dialogue: Dialogue, size: Optional
     return first, server.visit(greeted(number, iter([b"LIST\nBYE\n"])), 0, True)
 
 
-def play_batch(
-    program: str, dialogues: Sequence[Dialogue], size: Optional[int], expect: Expect, options: Sequence[str]
-) -> None:
+def play_batch(program: str, dialogues: Sequence[Dialogue], size: Optional[int], expect: Expect, options: Sequence[str]) -> None:
     """Plays these dialogues on one server, each as a user of its own."""
     server = DialogueServer(program, users_of(dialogues), 2 * len(dialogues), options)
     with ThreadPoolExecutor(AT_ONCE) as threads:
@@ -72,10 +70,8 @@ def play_batch(
     expect("the end of a server of dialogues", ended == (0, 2 * len(dialogues), b""), (status, out, err))
 
 
-def play_all(
-    program: str, dialogues: Sequence[Dialogue], expect: Expect, options: Sequence[str] = ()
-) -> None:
+def play_all(program: str, dialogues: Sequence[Dialogue], expect: Expect, options: Sequence[str] = ()) -> None:
     """Each of these dialogues is to be answered so by a server, and to leave the state that it says."""
     for size in SIZES:
         for first in range(0, len(dialogues), MOST_USERS):
-            play_batch(program, dialogues[first:first + MOST_USERS], size, expect, options)
+            play_batch(program, dialogues[first : first + MOST_USERS], size, expect, options)

@@ -63,7 +63,7 @@ class Dialogue:
         sizes = cycle(UNEVEN_SIZES if len(text) > LONG_STREAM else (most,))
         for end in sorted({*self.ends_of_parts(), *ends_of_bodies(text)}):
             while at < end:
-                piece = text[at:min(at + next(sizes), end)]
+                piece = text[at : min(at + next(sizes), end)]
                 yield piece
                 at += len(piece)
 

@@ -111,6 +111,6 @@ OTHERS = (
 def changed() -> Iterator[Tuple[str, str]]:
     """Schedules that lack one of the events, or have another one in its place, with what is changed in them."""
     for number, event in enumerate(EVENTS):
-        yield f"without {event!r}", USERS + "".join(EVENTS[:number] + EVENTS[number + 1:])
+        yield f"without {event!r}", USERS + "".join(EVENTS[:number] + EVENTS[number + 1 :])
     for event, other in OTHERS:
         yield f"{other!r} in place of {event!r}", SCHEDULE.replace(event, other, 1)

@@ -20,8 +20,8 @@ def breaks_of_reads(most: Optional[int]) -> Iterator[Break]:
     """Each read fails in turn, and at last none does, where one gives so many bytes at most."""
     pieces = cut([HELLO, *ITEMS], most)
     for number in range(1, len(pieces) + 3):
-        given = b"".join(pieces[:number - 1])
-        said, items = given[:len(HELLO)], given[len(HELLO):]
+        given = b"".join(pieces[: number - 1])
+        said, items = given[: len(HELLO)], given[len(HELLO) :]
         told = WELCOME + replies_in(items) if said == HELLO else b""
         yield f"r{number}", told, whole_in(ITEMS, len(items))
 
@@ -30,7 +30,7 @@ def breaks_of_writes(kind: str, most: Optional[int]) -> Iterator[Break]:
     """Each write fails (w) or takes nothing (e) in turn, and at last none does. It takes so many bytes at most."""
     parts = cut([WELCOME, *REPLIES], most)
     for number in range(1, len(parts) + 2):
-        told = b"".join(parts[:number - 1])
+        told = b"".join(parts[: number - 1])
         left = len(told) - len(WELCOME)
         # The item whose reply is not written was answered.
         yield f"{kind}{number}", told, min(whole_in(REPLIES, left) + 1, len(ITEMS)) if left >= 0 else 0
@@ -65,7 +65,7 @@ class Breaking:
         """What a look tells after the first items."""
         told, replies = run(b"".join(ITEMS[:count]) + LOOK, QUOTA), b"".join(REPLIES[:count])
         self.expect(f"the replies to {count} items", told.startswith(replies), told)
-        return told[len(replies):]
+        return told[len(replies) :]
 
     def play(self, breaks: List[Break], **most: object) -> None:
         """Breaks a connection after the other on one server, and looks after each."""

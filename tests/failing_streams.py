@@ -58,7 +58,7 @@ class Failing:
         """Each read fails in turn, and at last none does. The items come in pieces of at most so many bytes."""
         pieces = cut(ITEMS, most)
         for number in range(1, len(pieces) + 3):
-            given = b"".join(pieces[:number - 1])
+            given = b"".join(pieces[: number - 1])
             wanted = (1, replies_in(given), READ_FAULT) if number <= len(pieces) + 1 else (0, b"".join(REPLIES), b"")
             yield f"read {number} of at most {most} bytes fails", self.told(pieces, FAILING=f"r{number}"), wanted
 
@@ -66,7 +66,7 @@ class Failing:
         """Each write fails (w) or takes nothing (e) in turn, and at last none does. It takes at most so many bytes."""
         parts = cut(REPLIES, most)
         for number in range(1, len(parts) + 2):
-            told = b"".join(parts[:number - 1])
+            told = b"".join(parts[: number - 1])
             wanted = (1, told, WRITE_FAULT) if number <= len(parts) else (0, told, b"")
             seen = self.told(pieces, FAILING=f"{kind}{number}", MOST_WRITTEN=most)
             yield f"write {kind}{number} of at most {most} bytes", seen, wanted
@@ -105,7 +105,7 @@ class Failing:
             number, told = 1, b""
             while told != LISTED:
                 env = shims.variables(self.library, FAILING=f"{kind}{number}", MOST_WRITTEN=most)
-                told = LISTED[:(number - 1) * (most or len(LISTED))]
+                told = LISTED[: (number - 1) * (most or len(LISTED))]
                 wanted = (0, told, b"") if told == LISTED else (1, told, WRITE_FAULT)
                 yield f"write {kind}{number} of a replay", self.run(["replay", path], env=env), wanted
                 number += 1

@@ -40,7 +40,7 @@ LOOK_TILES = 4
 
 def cut(texts: Iterable[bytes], most: Optional[int]) -> List[bytes]:
     """These texts in pieces of at most so many bytes, none of which is of two texts."""
-    return [text[at:at + (most or len(text))] for text in texts for at in range(0, len(text), most or len(text))]
+    return [text[at : at + (most or len(text))] for text in texts for at in range(0, len(text), most or len(text))]
 
 
 def whole_in(texts: Sequence[bytes], size: int) -> int:
@@ -53,7 +53,7 @@ def whole_in(texts: Sequence[bytes], size: int) -> int:
 
 def replies_in(given: bytes) -> bytes:
     """The replies to the items that are whole in these bytes."""
-    return b"".join(REPLIES[:whole_in(ITEMS, len(given))])
+    return b"".join(REPLIES[: whole_in(ITEMS, len(given))])
 
 
 def tiles_after(count: int) -> int:

@@ -203,9 +203,7 @@ PRINTED = (
     long_line(65_536, "A 1 ERR 05 LONG\n"),
     (
         of_user(
-            "arrive 1 LIST\r\narrive 1\tLIST\narrive 1  LIST \narrive 1 \narrive 1 LIST x y\narrive 1 BYE\n"
-            + "next 1\n" * 7
-            + "leave 1\n"
+            "arrive 1 LIST\r\narrive 1\tLIST\narrive 1  LIST \narrive 1 \narrive 1 LIST x y\narrive 1 BYE\n" + "next 1\n" * 7 + "leave 1\n"
         ),
         "A 1 OK LIST 0\nA 1 OK LIST 0\nA 1 OK LIST 0\nA 1 ERR 03 SYNTAX\nA 1 ERR 03 SYNTAX\nA 1 OK BYE\n",
     ),

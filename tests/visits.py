@@ -9,9 +9,7 @@ from shared.tally import Expect
 
 HELLO = b"HELLO A " + b"a" * 32 + b"\n"
 LOAD_CHAIN = load("c", CHAIN)
-USERS = (
-    b"# name, token, sessions, atoms, branches\nA " + b"a" * 32 + b" 4 128 4\n\nB " + b"b" * 32 + b" 4 64 4\n"
-)
+USERS = b"# name, token, sessions, atoms, branches\nA " + b"a" * 32 + b" 4 128 4\n\nB " + b"b" * 32 + b" 4 64 4\n"
 
 
 @dataclass(frozen=True)

@@ -135,4 +135,3 @@ class Keeper:
     def __exit__(self, *_: object) -> None:
         if self.child.poll() is None:
             self.end()
-

@@ -11,8 +11,19 @@ LINE_FAULTS = {2: "LINE", 3: "SYNTAX", 6: "COMMAND"}
 LAST_FAULTS = {4: "BODY", 5: "LONG", 8: "ENOUGH"}
 XYZ_FAULTS = {30: "XYZ_COUNT", 31: "XYZ_SHORT", 32: "XYZ_SYMBOL", 33: "XYZ_NUMBER", 34: "XYZ_RANGE", 35: "XYZ_PAIR"}
 REFUSALS = {
-    10: "NO_SESSION", 11: "EXISTS", 12: "NO_BRANCH", 13: "BRANCH_EXISTS", 14: "NO_ATOM", 20: "QUOTA_SESSIONS",
-    21: "QUOTA_ATOMS", 22: "QUOTA_BRANCHES", 23: "STEP_RANGE", 36: "EDGE", 37: "SIGMA", 38: "STEP_FACTOR", 90: "MEMORY",
+    10: "NO_SESSION",
+    11: "EXISTS",
+    12: "NO_BRANCH",
+    13: "BRANCH_EXISTS",
+    14: "NO_ATOM",
+    20: "QUOTA_SESSIONS",
+    21: "QUOTA_ATOMS",
+    22: "QUOTA_BRANCHES",
+    23: "STEP_RANGE",
+    36: "EDGE",
+    37: "SIGMA",
+    38: "STEP_FACTOR",
+    90: "MEMORY",
 }
 
 # A reply: what stands after its first words as a pattern, or the number of a refusal.
@@ -22,7 +33,7 @@ Form = Union[bytes, int]
 def documented(data: bytes, account: "Account") -> Iterator[bytes]:
     """For each item of a stream the form of its reply, as a pattern, up to the last reply."""
     at = 0
-    for _ in range(10 ** 6):
+    for _ in range(10**6):
         end = data.find(b"\n", at, at + 65536)
         if end < 0:
             if len(data) - at >= 65536:
@@ -72,7 +83,7 @@ def refusal(number: int) -> bytes:
 
 
 def has_shape(shape: bytes, word: bytes) -> bool:
-    return re.fullmatch(shape, word, re.S) is not None and (shape != SIGNED or -2 ** 31 <= int(word) < 2 ** 31)
+    return re.fullmatch(shape, word, re.S) is not None and (shape != SIGNED or -(2**31) <= int(word) < 2**31)
 
 
 @dataclass
@@ -136,7 +147,7 @@ class Account:
 
     def advance(self, name: bytes, one: Session, steps: bytes) -> List[Form]:
         step = one.step + one.way * int(steps)
-        if int(steps) > 10 ** 6 or abs(step) > 10 ** 12:
+        if int(steps) > 10**6 or abs(step) > 10**12:
             return [23]
         one.step = step
         return [b" %s %d" % (name, step)]

@@ -73,5 +73,5 @@ class Tiles:
         for words in lines:
             if words[:1] == [b"MEASURE"]:
                 self.unsure += most
-            elif words[:1] in ([b"ADVANCE"], [b"START"]) and words[-1].isdigit() and int(words[-1]) <= 10 ** 6:
+            elif words[:1] in ([b"ADVANCE"], [b"START"]) and words[-1].isdigit() and int(words[-1]) <= 10**6:
                 self.unsure += most * int(words[-1])

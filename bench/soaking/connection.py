@@ -26,7 +26,7 @@ class Connection:
         """Sends bytes in pieces. Where the other end has ended the connection, what it told is still to be read."""
         try:
             for at in range(0, len(data), size):
-                self.socket.sendall(data[at:at + size])
+                self.socket.sendall(data[at : at + size])
                 if pause and at < 100 * size:
                     time.sleep(pause)
         except (BrokenPipeError, ConnectionResetError):

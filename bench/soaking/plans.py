@@ -9,8 +9,11 @@ from soaking.words import SESSIONS
 CLEAN = {
     "bye": [(b"BYE\n", b"OK BYE\n")],
     "more": [(b"BYE\nDROP a\nDROP b\n" + b"LIST\n" * 50, b"OK BYE\n"), (b"BYE\n" + b"x" * 30000, b"OK BYE\n")],
-    "body": [(b"LOAD a\nDROP a\n", b"ERR 04 BODY\n"), (b"LOAD b 16 1 1 rest 1048577\nDROP a\n", b"ERR 04 BODY\n"),
-             (b"LOAD\n", b"ERR 04 BODY\n")],
+    "body": [
+        (b"LOAD a\nDROP a\n", b"ERR 04 BODY\n"),
+        (b"LOAD b 16 1 1 rest 1048577\nDROP a\n", b"ERR 04 BODY\n"),
+        (b"LOAD\n", b"ERR 04 BODY\n"),
+    ],
     "long": [(b"x" * 65536 + b"\nDROP a\n", b"ERR 05 LONG\n"), (b"DROP a " + b" " * 65530, b"ERR 05 LONG\n")],
     "half": [(b"", b"")],
     "unfinished": [(b"DROP a", b""), (b"DROP a\r", b""), (b"LOAD x 16 1 1 rest 12\n1\nc\nX 0 0 0", b""), (b"x" * 65535, b"")],
@@ -43,7 +46,7 @@ class Plan:
         self.is_slow = rnd.random() < 0.05
         self.leaves_late = self.breaks == "hasty"
         whole = b"".join(self.items) + self.last_said
-        self.said = whole[:rnd.randrange(len(whole) + 1)] if self.breaks and self.breaks != "deaf" else whole
+        self.said = whole[: rnd.randrange(len(whole) + 1)] if self.breaks and self.breaks != "deaf" else whole
 
     def whole_items(self) -> Tuple[List[bytes], bool]:
         """The items that are said whole, and whether the last words are too."""

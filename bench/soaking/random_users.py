@@ -23,7 +23,7 @@ def soak_server(options: argparse.Namespace) -> bool:
     folder = options.keep or tempfile.mkdtemp(prefix="soak_")
     job = Job(options, server.port, folder)
     print(f"seed {options.seed}, {options.users} users, {options.workers} workers, pool {options.pool or 'as usual'}", flush=True)
-    pipes = started(visit_all, ((job, range(options.users)[first::options.processes]) for first in range(options.processes)))
+    pipes = started(visit_all, ((job, range(options.users)[first :: options.processes]) for first in range(options.processes)))
     start = time.monotonic()
     try:
         faults = rounds(options, server, job, pipes)
@@ -52,8 +52,11 @@ def rounds(options: argparse.Namespace, server: Server, job: Job, pipes: Sequenc
         if not server.is_there():
             return [*faults, f"the server has ended with {server.child.returncode}"]
         held = server.held_at_rest()
-        print(f"round {number}: {total(found, 'connections') + server.made} connections, {total(found, 'commands')} commands; "
-              f"at rest {held}; at most {watch.most}", flush=True)
+        print(
+            f"round {number}: {total(found, 'connections') + server.made} connections, {total(found, 'commands')} commands; "
+            f"at rest {held}; at most {watch.most}",
+            flush=True,
+        )
         faults += grown(held, idle)
         if time.monotonic() > job.deadline or faults or any(fault for _, fault in found):
             return faults

@@ -37,8 +37,7 @@ class Speaker:
         return b" ".join(words) + b"\n"
 
     def advance(self) -> bytes:
-        steps = self.rnd.choices([self.rnd.randrange(6), 20, 200, 1000001, "0" * 18 + "1", 10 ** 18, 10 ** 19],
-                                 [60, 10, 2, 2, 2, 1, 1])[0]
+        steps = self.rnd.choices([self.rnd.randrange(6), 20, 200, 1000001, "0" * 18 + "1", 10**18, 10**19], [60, 10, 2, 2, 2, 1, 1])[0]
         return self.line(b"ADVANCE", self.session(), steps)
 
     def start(self) -> bytes:
@@ -48,17 +47,17 @@ class Speaker:
         return self.line(b"REVERSE", self.session())
 
     def tug(self) -> bytes:
-        atom = self.rnd.choice([0, 0, 1, 1, 1, 64, 4096, 10 ** 18])
+        atom = self.rnd.choice([0, 0, 1, 1, 1, 64, 4096, 10**18])
         far: List[Union[int, str]] = [self.rnd.randrange(-99999, 99999) for _ in range(3)]
         if self.rnd.random() < 0.2:
-            far[self.rnd.randrange(3)] = self.rnd.choice([-2 ** 31, 2 ** 31 - 1, 2 ** 31, -2 ** 31 - 1, "-0", "--1", "+1"])
+            far[self.rnd.randrange(3)] = self.rnd.choice([-(2**31), 2**31 - 1, 2**31, -(2**31) - 1, "-0", "--1", "+1"])
         return self.line(b"TUG", self.session(), atom, *far)
 
     def measure(self) -> bytes:
         return self.line(b"MEASURE", self.session())
 
     def show(self) -> bytes:
-        return self.line(b"SHOW", self.session(), self.rnd.choice([0, 1, 2, 63, 64, 129, 130, 10 ** 18]))
+        return self.line(b"SHOW", self.session(), self.rnd.choice([0, 1, 2, 63, 64, 129, 130, 10**18]))
 
     def list(self) -> bytes:
         return self.line(b"LIST") if self.rnd.random() < 0.5 else self.line(b"LIST", self.session())
@@ -93,11 +92,11 @@ class Speaker:
         count = rnd.choices([1, 2, 3, 9, 64, 65, 130], [10, 40, 20, 10, 5, 3, 2])[0]
         mode = rnd.choice(["rest", "rest", "pair"])
         text = self.frame(count) + (self.frame(count) if mode == "pair" else "")
-        edge, sigma, strength = 16, rnd.choice([1, 1, "1.5", "+.9e0"]), rnd.choice([1, 131072, 2 ** 24])
+        edge, sigma, strength = 16, rnd.choice([1, 1, "1.5", "+.9e0"]), rnd.choice([1, 131072, 2**24])
         if rnd.random() < 0.25:
             text = self.worse_body(text)
         if rnd.random() < 0.1:
-            bad = [(0, 1, 1), ("1e7", 1, 1), (16, 9, 1), (16, "x", 1), (16, 1, 0), (16, 1, 2 ** 24 + 1)]
+            bad = [(0, 1, 1), ("1e7", 1, 1), (16, 9, 1), (16, "x", 1), (16, 1, 0), (16, 1, 2**24 + 1)]
             edge, sigma, strength = rnd.choice(bad)
         body = text.encode("latin-1")
         return self.line(b"LOAD", rnd.choices(SESSIONS, [4, 4, 1])[0], edge, sigma, strength, mode, len(body)) + body
@@ -106,7 +105,7 @@ class Speaker:
         rnd = self.rnd
         ways = [
             lambda: "",
-            lambda: text[:rnd.randrange(len(text))],
+            lambda: text[: rnd.randrange(len(text))],
             lambda: text.replace("X", "X x", 1),
             lambda: text.replace("X", "x" * 17, 1),
             lambda: text.replace(".", "..", 1),
@@ -114,20 +113,36 @@ class Speaker:
             lambda: "\n \t\r\n" + text.replace("\n", "\r\n"),
             lambda: text + "more\n" * rnd.randrange(99),
             lambda: text.replace("\n", "\n\n", 1),
-            lambda: str(rnd.choice([0, 4097, 10 ** 18])) + text,
+            lambda: str(rnd.choice([0, 4097, 10**18])) + text,
             lambda: "".join(chr(rnd.randrange(256)) for _ in range(rnd.randrange(200))),
         ]
-        return (text + "x" * (2 ** 20 - len(text))) if rnd.random() < 0.01 else rnd.choice(ways)()
+        return (text + "x" * (2**20 - len(text))) if rnd.random() < 0.01 else rnd.choice(ways)()
 
     def bad(self) -> bytes:
         rnd = self.rnd
-        return rnd.choice([
-            b"\n", b" \t\r\n", b"\r\n", b"\0\n",
-            b"ADVANCE a\n", b"advance a 1\n", b"MEASURE a b\n", b"LIST a b\n", b"OK LIST 0\n",
-            b"HELLO A " + b"0" * 32 + b"\n", b"SHOW a -1\n", b"DROP " + b"a" * 17 + b"\n", b"DROP a!\n", b"BYE 1\n",
-            b"x" * rnd.choice([255, 256, 257, 300, 65535]) + b"\n", b"LOAD a 16 1 1 rest 3\n1\nc", b"LOAD a 0\n",
-            b"LOAD " + b"a" * 17 + b" 16 1 1 rest 5\nBYE\n\n", b"LOAD a 16 1 1 best 0000004\nBYE\n",
-        ])
+        return rnd.choice(
+            [
+                b"\n",
+                b" \t\r\n",
+                b"\r\n",
+                b"\0\n",
+                b"ADVANCE a\n",
+                b"advance a 1\n",
+                b"MEASURE a b\n",
+                b"LIST a b\n",
+                b"OK LIST 0\n",
+                b"HELLO A " + b"0" * 32 + b"\n",
+                b"SHOW a -1\n",
+                b"DROP " + b"a" * 17 + b"\n",
+                b"DROP a!\n",
+                b"BYE 1\n",
+                b"x" * rnd.choice([255, 256, 257, 300, 65535]) + b"\n",
+                b"LOAD a 16 1 1 rest 3\n1\nc",
+                b"LOAD a 0\n",
+                b"LOAD " + b"a" * 17 + b" 16 1 1 rest 5\nBYE\n\n",
+                b"LOAD a 16 1 1 best 0000004\nBYE\n",
+            ]
+        )
 
     def bent(self) -> bytes:
         """A line that was changed somewhere, which is one item still."""

@@ -31,8 +31,8 @@ class Standing:
     def agree(self, item: bytes, seen: bytes, at: int) -> int:
         """Compares the reply to an item that was answered, as far as it came through, and returns where it ends."""
         reply = self.ask(item)
-        told = seen[at:at + len(reply)]
-        if told != reply[:len(told)] or len(told) < len(reply) and at + len(told) < len(seen):
+        told = seen[at : at + len(reply)]
+        if told != reply[: len(told)] or len(told) < len(reply) and at + len(told) < len(seen):
             raise Fault(f"{shown(item)} is told {shown(told)} in place of {shown(reply)}")
         return at + len(told)
 

@@ -26,7 +26,7 @@ class Streams:
         data = self.dialogue(rnd)
         for _ in range(rnd.choice([0, 1, 1, 2, 3, 5, 9, 30])):
             data = rnd.choice(CHANGES)(rnd, data, self)
-        return bounded(data[:3 << 20]), rnd.choice([64, 256, 1024, 4096, 65536])
+        return bounded(data[: 3 << 20]), rnd.choice([64, 256, 1024, 4096, 65536])
 
     def dialogue(self, rnd: random.Random) -> bytes:
         if rnd.random() < 0.1:
@@ -54,13 +54,30 @@ def flip(rnd: random.Random, data: bytes, _: Streams) -> bytes:
 
 def put(rnd: random.Random, data: bytes, _: Streams) -> bytes:
     at = place(rnd, data)
-    word = rnd.choice([b"\0", b"\xff", b"\r", b"\r\n", b"\n", b"\t", b" ", b"-", b".", b"LOAD ", b"\nBYE\n",
-                       b"x" * 300, b" " * 256, b"x" * 65535, bytes(rnd.randrange(256) for _ in range(rnd.randrange(30)))])
+    word = rnd.choice(
+        [
+            b"\0",
+            b"\xff",
+            b"\r",
+            b"\r\n",
+            b"\n",
+            b"\t",
+            b" ",
+            b"-",
+            b".",
+            b"LOAD ",
+            b"\nBYE\n",
+            b"x" * 300,
+            b" " * 256,
+            b"x" * 65535,
+            bytes(rnd.randrange(256) for _ in range(rnd.randrange(30))),
+        ]
+    )
     return data[:at] + word + data[at:]
 
 
 def cut(rnd: random.Random, data: bytes, _: Streams) -> bytes:
-    return data[:place(rnd, data)] if rnd.random() < 0.3 else data
+    return data[: place(rnd, data)] if rnd.random() < 0.3 else data
 
 
 def leave_out(rnd: random.Random, data: bytes, _: Streams) -> bytes:
@@ -75,7 +92,7 @@ def repeat(rnd: random.Random, data: bytes, _: Streams) -> bytes:
 
 def splice(rnd: random.Random, data: bytes, streams: Streams) -> bytes:
     other = streams.dialogue(rnd)
-    return data[:place(rnd, data)] + other[place(rnd, other):]
+    return data[: place(rnd, data)] + other[place(rnd, other) :]
 
 
 def number_out(rnd: random.Random, data: bytes, _: Streams) -> bytes:
@@ -84,9 +101,38 @@ def number_out(rnd: random.Random, data: bytes, _: Streams) -> bytes:
     if not found:
         return data
     one = rnd.choice(found)
-    limits = [0, 1, 63, 64, 65, 256, 257, 4096, 4097, 65536, 10 ** 6, 10 ** 6 + 1, 2 ** 20, 2 ** 20 + 1, 2 ** 24, 2 ** 24 + 1,
-              2 ** 31, 2 ** 32, 2 ** 63, 2 ** 64, 10 ** 12, 10 ** 15, 10 ** 19 - 1, 10 ** 19, "1e6", "9" * 40, "1e-999", "-0", ""]
-    return data[:one.start()] + str(rnd.choice(limits)).encode() + data[one.end():]
+    limits = [
+        0,
+        1,
+        63,
+        64,
+        65,
+        256,
+        257,
+        4096,
+        4097,
+        65536,
+        10**6,
+        10**6 + 1,
+        2**20,
+        2**20 + 1,
+        2**24,
+        2**24 + 1,
+        2**31,
+        2**32,
+        2**63,
+        2**64,
+        10**12,
+        10**15,
+        10**19 - 1,
+        10**19,
+        "1e6",
+        "9" * 40,
+        "1e-999",
+        "-0",
+        "",
+    ]
+    return data[: one.start()] + str(rnd.choice(limits)).encode() + data[one.end() :]
 
 
 def exchange_lines(rnd: random.Random, data: bytes, _: Streams) -> bytes:
@@ -101,7 +147,8 @@ CHANGES = [flip, flip, put, cut, leave_out, repeat, splice, number_out, number_o
 
 def bounded(data: bytes) -> bytes:
     """The same with few steps in place of many, so that no stream computes for long."""
+
     def few(found: Match[bytes]) -> bytes:
-        return found[1] + (b"%d" % (int(found[2]) % 20) if 20 < int(found[2]) <= 10 ** 6 else found[2])
+        return found[1] + (b"%d" % (int(found[2]) % 20) if 20 < int(found[2]) <= 10**6 else found[2])
 
     return re.sub(rb"((?:ADVANCE|START)[ \t]+[^ \t]+[ \t]+)([0-9]+)", few, data)

@@ -143,7 +143,7 @@ class User:
             self.idle.append(self.connect())
         elif way < 0.12:
             connection = self.connect()
-            connection.send(self.hello()[:self.rnd.randrange(len(self.hello()))])
+            connection.send(self.hello()[: self.rnd.randrange(len(self.hello()))])
             self.leave_unheard(connection)
         if self.idle and self.rnd.random() < 0.1:
             self.leave_unheard(self.idle.pop())
@@ -159,11 +159,23 @@ class User:
         connection.reset() if way == "reset" else connection.close()
 
     def be_denied(self) -> None:
-        line = self.rnd.choice([
-            b"\n", b"LIST\n", b"BYE\n", b"HELLO\n", b"HELLO " + self.name + b"\n", b"HELLO nobody " + self.token + b"\n",
-            self.hello()[:-1] + b"0\n", self.hello()[:-2] + b"!\n", self.hello().lower(), b"x" * 300 + b"\n", b"x" * 65536,
-            b"LOAD a 16 1 1 rest 4\nBYE\n", bytes(self.rnd.randrange(11, 256) for _ in range(50)) + b"\n",
-        ])
+        line = self.rnd.choice(
+            [
+                b"\n",
+                b"LIST\n",
+                b"BYE\n",
+                b"HELLO\n",
+                b"HELLO " + self.name + b"\n",
+                b"HELLO nobody " + self.token + b"\n",
+                self.hello()[:-1] + b"0\n",
+                self.hello()[:-2] + b"!\n",
+                self.hello().lower(),
+                b"x" * 300 + b"\n",
+                b"x" * 65536,
+                b"LOAD a 16 1 1 rest 4\nBYE\n",
+                bytes(self.rnd.randrange(11, 256) for _ in range(50)) + b"\n",
+            ]
+        )
         connection = self.connect()
         connection.send(line + self.rnd.choice([b"", self.hello(), b"x" * 9999]))
         connection.half_close()
@@ -202,9 +214,9 @@ class User:
         """Sends what is to be said: each item after the reply to the one before, or in pieces."""
         data = plan.said
         if plan.is_in_step:
-            for item in plan.whole_items()[0][:-1 if plan.breaks else None]:
+            for item in plan.whole_items()[0][: -1 if plan.breaks else None]:
                 connection.send(item)
-                data = data[len(item):]
+                data = data[len(item) :]
                 at = connection.hear_reply(at)
                 if at < 0:
                     return
@@ -214,7 +226,7 @@ class User:
         """Compares what was told with what `run` replies."""
         self.standing.tiles.connection_ends()
         seen, welcome = bytes(connection.seen), self.welcome()
-        if seen[:len(welcome)] != welcome[:len(seen)]:
+        if seen[: len(welcome)] != welcome[: len(seen)]:
             raise Fault(f"told {shown(seen)} in place of {shown(welcome)}")
         if not plan.breaks and len(seen) < len(welcome):
             raise Fault(f"cut short: told {shown(seen)}")

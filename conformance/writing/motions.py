@@ -94,7 +94,7 @@ def blocks() -> Iterator[str]:
     """Atoms in numbers beside those of whole blocks of 64."""
     rnd = random.Random("blocks")
     for atoms in (1, 2, 63, 64, 65, 127, 129, 192):
-        side = next(side for side in range(1, 9) if side**3 >= atoms)
+        side = next(side for side in range(1, 9) if side ** 3 >= atoms)
         spots = [(x, y, z) for x in range(side) for y in range(side) for z in range(side)]
         rows = [("PQ"[rnd.randrange(2)], *(f"{1.15 * part + rnd.uniform(-0.1, 0.1):.4f}" for part in spot)) for spot in spots[:atoms]]
         rnd.shuffle(rows)

@@ -62,8 +62,7 @@ BODIES = (
             ("X 1 0 0\n", 1),
             ("SHOW a 255\nSHOW a 256\nMEASURE a\n", 1),
         ),
-        "OK LOAD a 0 256\nOK SHOW a 0 255 16777216 0 0\nERR 14 NO_ATOM\n"
-        "OK MEASURE a 0 256 0 0 0 0 115761635748825\n",
+        "OK LOAD a 0 256\nOK SHOW a 0 255 16777216 0 0\nERR 14 NO_ATOM\n" "OK MEASURE a 0 256 0 0 0 0 115761635748825\n",
         "OK LIST 1\na 0 256 0\n",
     ),
     Dialogue(
@@ -79,8 +78,7 @@ BODIES = (
             ("X 0 0 0\n", 4_096),
             ("LOAD s5 256 1 1 rest 12\n1\nc\nX 0 0 0\nSHOW s4 4095\n", 1),
         ),
-        "OK LOAD s1 0 4096\nOK LOAD s2 0 4096\nOK LOAD s3 0 4096\nOK LOAD s4 0 4096\n"
-        "ERR 21 QUOTA_ATOMS\nOK SHOW s4 0 4095 0 0 0\n",
+        "OK LOAD s1 0 4096\nOK LOAD s2 0 4096\nOK LOAD s3 0 4096\nOK LOAD s4 0 4096\n" "ERR 21 QUOTA_ATOMS\nOK SHOW s4 0 4095 0 0 0\n",
         "OK LIST 4\ns1 0 4096 0\ns2 0 4096 0\ns3 0 4096 0\ns4 0 4096 0\n",
     ),
     Dialogue(

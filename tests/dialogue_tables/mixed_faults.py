@@ -25,11 +25,7 @@ GOOD = {
 NAME: Fault = ("11 EXISTS", {"session": "a"})
 WORDS: Tuple[Fault, ...] = (
     ("36 EDGE", {"edge": "1e7"}),
-    *(
-        (refusal, {f"{word}{number}": bad})
-        for number, bad in enumerate(BAD_WORDS)
-        for word, refusal in WORDS_OF_CLASS
-    ),
+    *((refusal, {f"{word}{number}": bad}) for number, bad in enumerate(BAD_WORDS) for word, refusal in WORDS_OF_CLASS),
 )
 
 # Atom lines of the first frame with a fault each, and the count line of the second frame.

@@ -142,8 +142,7 @@ DIALOGUES = (
     Dialogue(
         "a start and what waits for nothing are answered at once",
         ((LOAD, 1), ("START a 1000000\n", 3), ("LIST\nLIST a\nBYE\n", 1)),
-        "OK LOAD a 0 2\nOK START a 1000000\nOK START a 2000000\nOK START a 3000000\nOK LIST 1\na 3000000 2 0\nOK LIST a 0\n"
-        "OK BYE\n",
+        "OK LOAD a 0 2\nOK START a 1000000\nOK START a 2000000\nOK START a 3000000\nOK LIST 1\na 3000000 2 0\nOK LIST a 0\n" "OK BYE\n",
         "OK LIST 1\na 3000000 2 0\n",
         ending=Ending.BYE,
     ),

@@ -32,15 +32,13 @@ MOTION_AND_WHAT_IS_SAVED = (
             ("LOAD b 256 1 1 pair 44\n1\np\nH -0.0000003 0 0\n1\nc\nH -0.000000001 0 0\n", 1),
             ("SHOW b 0\nADVANCE b 1\nSHOW b 0\nMEASURE b\n", 1),
         ),
-        "OK LOAD b 0 1\nOK SHOW b 0 0 4294967295 0 0\n"
-        "OK ADVANCE b 1\nOK SHOW b 1 0 4 0 0\nOK MEASURE b 1 1 5 0 0 25 0\n",
+        "OK LOAD b 0 1\nOK SHOW b 0 0 4294967295 0 0\n" "OK ADVANCE b 1\nOK SHOW b 1 0 4 0 0\nOK MEASURE b 1 1 5 0 0 25 0\n",
         "OK LIST 1\nb 1 1 0\n",
     ),
     Dialogue(
         "atoms at one place stay there",
         (("LOAD c 256 1 131072 rest 20\n2\nz\nX 1 1 1\nX 1 1 1\n", 1), ("ADVANCE c 3\nSHOW c 0\nMEASURE c\n", 1)),
-        "OK LOAD c 0 2\nOK ADVANCE c 3\nOK SHOW c 3 0 16777216 16777216 16777216\n"
-        "OK MEASURE c 3 2 0 0 0 0 3574550947\n",
+        "OK LOAD c 0 2\nOK ADVANCE c 3\nOK SHOW c 3 0 16777216 16777216 16777216\n" "OK MEASURE c 3 2 0 0 0 0 3574550947\n",
         "OK LIST 1\nc 3 2 0\n",
     ),
     Dialogue(
@@ -50,8 +48,7 @@ MOTION_AND_WHAT_IS_SAVED = (
             ("ADVANCE d 1\nSHOW d 1\nMEASURE d\n", 1),
             ("LOAD e 4.99 1 131072 rest 22\n2\nh\nX 0 0 0\nX 2.5 0 0\n", 1),
         ),
-        "OK LOAD d 0 2\nOK ADVANCE d 1\nOK SHOW d 1 1 2147483648 0 0\n"
-        "OK MEASURE d 1 2 0 0 0 0 0\nERR 37 SIGMA\n",
+        "OK LOAD d 0 2\nOK ADVANCE d 1\nOK SHOW d 1 1 2147483648 0 0\n" "OK MEASURE d 1 2 0 0 0 0 0\nERR 37 SIGMA\n",
         "OK LIST 1\nd 1 2 0\n",
     ),
     Dialogue(
@@ -94,8 +91,7 @@ QUOTAS_AND_ENDS = (
     Dialogue(
         "a quota of one session",
         ((LOAD, 1), (LOAD_B, 1), (LOAD, 1), ("DROP a\n", 1), (LOAD_B, 1), ("LIST\n", 1)),
-        "OK LOAD a 0 2\nERR 20 QUOTA_SESSIONS\nERR 11 EXISTS\n"
-        "OK DROP a\nOK LOAD b 0 2\nOK LIST 1\nb 0 2 0\n",
+        "OK LOAD a 0 2\nERR 20 QUOTA_SESSIONS\nERR 11 EXISTS\n" "OK DROP a\nOK LOAD b 0 2\nOK LIST 1\nb 0 2 0\n",
         "OK LIST 1\nb 0 2 0\n",
         quota=ONE_SESSION,
     ),

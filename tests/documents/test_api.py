@@ -86,11 +86,15 @@ def test_how_docstrings_are_shown(page):
     assert re.search(r"edge: Optional\[(units\.)?Number\] = None", re.sub(r"<[^>]+>", "", load))
 
 
-@pytest.mark.parametrize("path, text, spoilt, told", [
-    ("docs/api/errors.md", "\n- `Refused`", "\n[none](none.md)\n- `Refused`", "none.md"),
-    (SESSION, "\n        seed         velocities", "\n        seed        velocities", "Session.heat: the texts"),
-    (SESSION, '"""Gives up what was saved', '"""Gives ``up what was saved', "without end-string"),
-], ids=["link", "table", "mark"])
+@pytest.mark.parametrize(
+    "path, text, spoilt, told",
+    [
+        ("docs/api/errors.md", "\n- `Refused`", "\n[none](none.md)\n- `Refused`", "none.md"),
+        (SESSION, "\n        seed         velocities", "\n        seed        velocities", "Session.heat: the texts"),
+        (SESSION, '"""Gives up what was saved', '"""Gives ``up what was saved', "without end-string"),
+    ],
+    ids=["link", "table", "mark"],
+)
 def test_a_warning_is_an_error(tmp_path, path, text, spoilt, told):
     for folder in ("docs/api", "docs/pictures", "clients/python/ljclient"):
         shutil.copytree(TOP / folder, tmp_path / folder)

@@ -39,6 +39,7 @@ def at_port(text, port):
 
 # Checks that several blocks have.
 
+
 def runs(but=None):
     """Holds that the lines of a block end with status 0, but for those that begin with words that are named with a reason."""
 
@@ -113,6 +114,7 @@ def is_frame_after(steps):
 
 # README.md
 
+
 def stored_run(block, folder):
     runs({"bin/try": NEEDS_KIT, "bin/test": NEEDS_KIT})(block, folder)
     (command,) = [line for line in block.text.splitlines() if line.startswith("bin/ljserve")]
@@ -130,12 +132,13 @@ def lines_of_protocol(block, folder):
 
 # docs/
 
+
 def first_dialogue(block, folder):
     """The replies are those of the table below, behind that of DUMP the four lines that are shown at its end."""
     below = contents("docs/PROTOCOL.md").split(block.text)[1]
     table, frame = below.split("The four lines behind `OK DUMP a 1 4`:\n\n```\n")
     told = [word for row in table.splitlines() if row.startswith("| `") for word in CODE.findall(row.split("|")[3])]
-    told[told.index("OK DUMP a 1 4") + 1:1 + told.index("OK DUMP a 1 4")] = frame.split("```")[0].splitlines()
+    told[told.index("OK DUMP a 1 4") + 1 : 1 + told.index("OK DUMP a 1 4")] = frame.split("```")[0].splitlines()
     assert replies(folder, block.text) == told
 
 
@@ -304,6 +307,7 @@ def after_the_lesson(block, folder):
 
 # clients/python/README.md and docs/api/
 
+
 def path_of_the_client(block, folder):
     assert folder.shell(block.text, "import ljclient\nprint(ljclient.run().sessions())\n", client=False) == "[]\n"
 
@@ -366,8 +370,9 @@ def prompt_in_a_pipe(block, folder):
 
 # conformance/README.md
 
+
 def streams_of_a_port(block, folder):
-    folder.put("my_port", "#!/bin/sh\nshift 2\nexec bin/ljserve run \"$@\"\n")
+    folder.put("my_port", '#!/bin/sh\nshift 2\nexec bin/ljserve run "$@"\n')
     assert folder.shell(block.text.splitlines()[1]).endswith(" streams agree, 0 differ\n")
 
 

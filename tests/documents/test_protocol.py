@@ -54,15 +54,18 @@ def test_the_bits_hold_the_range_and_are_no_more(least, most, bits):
     assert bits == needed
 
 
-@pytest.mark.parametrize("name, least, most", [
-    ("step, target", -(10**12), 10**12),
-    ("place", 0, reference.RING - 1),
-    ("momentum, for each axis", 4096 * reference.image(0, 2**31), 4096 * reference.image(2**31 - 1, 0)),
-    ("kinetic number", 0, 4096 * 3 * reference.image(0, 2**31) ** 2),
-    ("potential after LOAD", PAIRS * LEAST, PAIRS * GREATEST),
-    ("potential after LOADMIX", PAIRS * weighted(LEAST), PAIRS * weighted(GREATEST)),
-    ("number of lines", 1 + 2, 4096 + 2),
-])
+@pytest.mark.parametrize(
+    "name, least, most",
+    [
+        ("step, target", -(10**12), 10**12),
+        ("place", 0, reference.RING - 1),
+        ("momentum, for each axis", 4096 * reference.image(0, 2**31), 4096 * reference.image(2**31 - 1, 0)),
+        ("kinetic number", 0, 4096 * 3 * reference.image(0, 2**31) ** 2),
+        ("potential after LOAD", PAIRS * LEAST, PAIRS * GREATEST),
+        ("potential after LOADMIX", PAIRS * weighted(LEAST), PAIRS * weighted(GREATEST)),
+        ("number of lines", 1 + 2, 4096 + 2),
+    ],
+)
 def test_a_range_is_that_of_the_reference(name, least, most):
     assert RANGES[name][:2] == (least, most)
 
@@ -139,15 +142,18 @@ def test_the_pair_that_is_worked_by_hand():
     assert [int(row[6]) for row in worked] == [589, 596]
 
 
-@pytest.mark.parametrize("sent, reply", [
-    ("HELLO ann TOKEN\n", "OK HELLO ann\n"),
-    ("  HELLO\tann  TOKEN \r\n", "OK HELLO ann\n"),
-    (f"HELLO ann TOKEN{' ' * 256}\n", "ERR 01 DENIED\n"),
-    ("HELLO ann\n", "ERR 01 DENIED\n"),
-    ("\nHELLO ann TOKEN\n", "ERR 01 DENIED\n"),
-    ("LIST\n", "ERR 01 DENIED\n"),
-    ("HELLO ann TOKEN", ""),
-])
+@pytest.mark.parametrize(
+    "sent, reply",
+    [
+        ("HELLO ann TOKEN\n", "OK HELLO ann\n"),
+        ("  HELLO\tann  TOKEN \r\n", "OK HELLO ann\n"),
+        (f"HELLO ann TOKEN{' ' * 256}\n", "ERR 01 DENIED\n"),
+        ("HELLO ann\n", "ERR 01 DENIED\n"),
+        ("\nHELLO ann TOKEN\n", "ERR 01 DENIED\n"),
+        ("LIST\n", "ERR 01 DENIED\n"),
+        ("HELLO ann TOKEN", ""),
+    ],
+)
 def test_the_first_line_of_a_connection(sent, reply):
     with Server() as server, socket.create_connection(("127.0.0.1", server.port), SECONDS) as connection:
         connection.sendall(sent.replace("TOKEN", TOKEN).encode())

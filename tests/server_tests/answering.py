@@ -38,7 +38,7 @@ def is_told_in_pieces(setting: Setting, data: bytes, size: int, replies: bytes) 
     server = setting.serve(user("A"), 1, workers=1)
     client = server.connect()
     for at in range(0, len(data), size):
-        client.send(data[at:at + size])
+        client.send(data[at : at + size])
     client.is_told_last(replies)
     server.finish(tiles=2)
 

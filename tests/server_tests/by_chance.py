@@ -20,22 +20,24 @@ class Dialogue:
 
     def __init__(self, rnd: random.Random) -> None:
         self.items = b"".join(random_item(rnd) for _ in range(rnd.randrange(4, 24))) + WAIT_FOR_ALL
-        self.end, self.last_words = rnd.choice([
-            (b"BYE\n", b"OK BYE\n"),
-            (b"BYE\nDROP a\nDROP b\n", b"OK BYE\n"),
-            (b"LOAD a\nDROP a\n", b"ERR 04 BODY\n"),
-            (b"x" * 65536 + b"\nDROP a\n", b"ERR 05 LONG\n"),
-            (b"", b""),
-            (b"DROP a", b""),
-            (b"LOAD x 16 1 1 rest 12\n1\nc\nX 0 0 0", b""),
-        ])
+        self.end, self.last_words = rnd.choice(
+            [
+                (b"BYE\n", b"OK BYE\n"),
+                (b"BYE\nDROP a\nDROP b\n", b"OK BYE\n"),
+                (b"LOAD a\nDROP a\n", b"ERR 04 BODY\n"),
+                (b"x" * 65536 + b"\nDROP a\n", b"ERR 05 LONG\n"),
+                (b"", b""),
+                (b"DROP a", b""),
+                (b"LOAD x 16 1 1 rest 12\n1\nc\nX 0 0 0", b""),
+            ]
+        )
         self.is_sent_early = rnd.random() < 0.5
         self.size = rnd.choice([1, 7, 100, 1000, 100000])
 
     def pieces(self) -> List[bytes]:
         data = self.items + self.end
         size = max(self.size, len(data) // 50)
-        return [data[at:at + size] for at in range(0, len(data), size)]
+        return [data[at : at + size] for at in range(0, len(data), size)]
 
 
 def random_item(rnd: random.Random) -> bytes:
@@ -64,9 +66,7 @@ def random_item(rnd: random.Random) -> bytes:
 def random_load(rnd: random.Random, session: str) -> str:
     frames = rnd.choice([1, 1, 2])
     count = rnd.choice([1, 2, 9, 20, 64, 65])
-    frame = [f"{count}", "random"] + [
-        "X " + " ".join("%.3f" % rnd.uniform(0, 16) for _ in range(3)) for _ in range(count)
-    ]
+    frame = [f"{count}", "random"] + ["X " + " ".join("%.3f" % rnd.uniform(0, 16) for _ in range(3)) for _ in range(count)]
     text = "".join(line + "\n" for line in frame * frames)
     if rnd.random() < 0.1:
         text = text.replace("X", "X x", 1)
@@ -85,8 +85,20 @@ def random_mixture(rnd: random.Random, session: str) -> str:
 
 
 def random_bad_line(rnd: random.Random) -> str:
-    return rnd.choice(["\n", " \t\r\n", "ADVANCE a\n", "advance a 1\n", "x" * 300 + "\n", "LOAD a 16 1 1 rest 3\n1\nc",
-                       "HELLO A " + token("A") + "\n", "TUG a 0 0 0 --1\n", "ADVANCE a 1000001\n", "MEASURE a b\n"])
+    return rnd.choice(
+        [
+            "\n",
+            " \t\r\n",
+            "ADVANCE a\n",
+            "advance a 1\n",
+            "x" * 300 + "\n",
+            "LOAD a 16 1 1 rest 3\n1\nc",
+            "HELLO A " + token("A") + "\n",
+            "TUG a 0 0 0 --1\n",
+            "ADVANCE a 1000001\n",
+            "MEASURE a b\n",
+        ]
+    )
 
 
 def replies_are_those_of_a_run_alone(setting: Setting) -> None:
@@ -140,10 +152,8 @@ def told_between(setting: Setting, name: str, told: Sequence[bytes], dialogues: 
         front, end = welcome(name), dialogue.last_words
         fits = text.startswith(front) and text.endswith(end)
         setting.expect(f"a connection of {name} begins with HELLO and ends as it should", fits, text)
-        between += text[len(front):len(text) - len(end)]
+        between += text[len(front) : len(text) - len(end)]
     return between
 
 
-TESTS = (
-    replies_are_those_of_a_run_alone,
-)
+TESTS = (replies_are_those_of_a_run_alone,)

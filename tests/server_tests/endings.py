@@ -91,11 +91,27 @@ def tasks_that_are_left_take_no_room(setting: Setting) -> None:
 def first_lines_are_denied(setting: Setting) -> None:
     known = token("A").encode()
     lines = [
-        b"\n", b"LIST\n", b"BYE\n", LOAD, b"\xff\0\n", b"x" * 300 + b"\n", b"x" * 70000, b"x" * 70000 + b"\n",
-        b"HELLO\n", b"HELLO A\n", b"hello A " + known + b"\n", b"OK HELLO A " + known + b"\n",
-        b"HELLO " + known + b" A\n", b"HELLO a " + known + b"\n", b"HELLO A " + known + b" 1\n", hello("B"),
-        b"HELLO A " + known[:-1] + b"\n", b"HELLO A " + known + b"0\n", b"HELLO A " + known[:-1] + b"B\n",
-        b"HELLO A " + b"-" * 32 + b"\n", b"HELLO A " + known + b" " * 300 + b"\n",
+        b"\n",
+        b"LIST\n",
+        b"BYE\n",
+        LOAD,
+        b"\xff\0\n",
+        b"x" * 300 + b"\n",
+        b"x" * 70000,
+        b"x" * 70000 + b"\n",
+        b"HELLO\n",
+        b"HELLO A\n",
+        b"hello A " + known + b"\n",
+        b"OK HELLO A " + known + b"\n",
+        b"HELLO " + known + b" A\n",
+        b"HELLO a " + known + b"\n",
+        b"HELLO A " + known + b" 1\n",
+        hello("B"),
+        b"HELLO A " + known[:-1] + b"\n",
+        b"HELLO A " + known + b"0\n",
+        b"HELLO A " + known[:-1] + b"B\n",
+        b"HELLO A " + b"-" * 32 + b"\n",
+        b"HELLO A " + known + b" " * 300 + b"\n",
     ]
     server = setting.serve(user("A"), len(lines) + 7)
     for line in lines:
@@ -120,8 +136,14 @@ def first_lines_are_denied(setting: Setting) -> None:
 def wrong_tokens_and_unknown_names_are_denied(setting: Setting) -> None:
     first, second = "0" * 32, "0" * 31 + "1"
     denied = [
-        ("u00", second), ("u01", "0" * 30 + "11"), ("u01", "1" + "0" * 30 + "1"), ("u01", "0" * 31), ("u01", ""),
-        ("u02", second), ("u0", second), ("", ""),
+        ("u00", second),
+        ("u01", "0" * 30 + "11"),
+        ("u01", "1" + "0" * 30 + "1"),
+        ("u01", "0" * 31),
+        ("u01", ""),
+        ("u02", second),
+        ("u0", second),
+        ("", ""),
     ]
     server = setting.serve(f"u00 {first} 1 1 1\nu01 {second} 1 1 1\n".encode(), len(denied) + 1)
     for name, shown_token in denied:
@@ -163,7 +185,7 @@ def last_replies_are_not_lost(setting: Setting) -> None:
     ]:
         client = server.connect()
         for at in range(0, len(data), 90000):
-            client.send(data[at:at + 90000])
+            client.send(data[at : at + 90000])
             time.sleep(0.1)
         client.is_told_last(reply)
         client.close()

@@ -13,11 +13,15 @@ from shared.tally import shown
 
 def usage_faults_are_told(setting: Setting) -> None:
     good = {"--listen": "127.0.0.1:1", "--users": "/none/such", "--workers": "1", "--connections": "1"}
-    faults = [{**good, option: value} for option, values in {
-        "--workers": ["0", "17", "x", "", "-1", "1.5", "18446744073709551617"],
-        "--connections": ["0", "1000001", "x", "", "-1", "1e3"],
-        "--pool": ["x", "", "Lock", "QUEUE", "locks", "1"],
-    }.items() for value in values]
+    faults = [
+        {**good, option: value}
+        for option, values in {
+            "--workers": ["0", "17", "x", "", "-1", "1.5", "18446744073709551617"],
+            "--connections": ["0", "1000001", "x", "", "-1", "1e3"],
+            "--pool": ["x", "", "Lock", "QUEUE", "locks", "1"],
+        }.items()
+        for value in values
+    ]
     faults += [{name: value for name, value in good.items() if name != missing} for missing in good]
     words = [[word for option in fault.items() for word in option] for fault in faults]
     whole = [word for option in good.items() for word in option]

@@ -67,8 +67,7 @@ def more_tasks_than_there_is_room_for_are_computed(setting: Setting) -> None:
 def tasks_are_computed_beside_two_workers(setting: Setting) -> None:
     """65 atoms in a row: each step has one task of the full block, and one of it and the atom beside it."""
     walk = b"ADVANCE c 125\nREVERSE c\nADVANCE c 125\nREVERSE c\nMEASURE c\n"
-    walked = (b"OK ADVANCE c 125\nOK REVERSE c 124\nOK ADVANCE c -1\nOK REVERSE c 0\n"
-              b"OK MEASURE c 0 65 0 0 0 0 -342344448\n")
+    walked = b"OK ADVANCE c 125\nOK REVERSE c 124\nOK ADVANCE c -1\nOK REVERSE c 0\n" b"OK MEASURE c 0 65 0 0 0 0 -342344448\n"
     one_step = b"OK ADVANCE c 1\nOK MEASURE c 1 65 0 0 0 693842 -342445638\n"
     for asked, told, tiles in [(b"ADVANCE c 1\nMEASURE c\n", one_step, 4), (walk, walked, 502)]:
         server = setting.serve(user("u0"), 1, workers=2)

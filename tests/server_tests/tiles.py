@@ -33,6 +33,6 @@ def items_of(data: bytes) -> Iterator[List[bytes]]:
         words = line.split()
         yield words
         if words and words[0] in LOADS:
-            data = data[int(words[-1]):]
+            data = data[int(words[-1]) :]
         if words[:1] == [b"BYE"]:
             return

@@ -137,7 +137,7 @@ def users_come_in_turn_round_after_round(setting: Setting) -> None:
                 waiting[name].send(hello(name) + b"LIST\n")
             for number in reversed(range(count)):
                 name = names[number]
-                are_waiting = all(waiting[other].is_quiet(0) for other in names[:number + 1])
+                are_waiting = all(waiting[other].is_quiet(0) for other in names[: number + 1])
                 setting.expect(f"the next connections wait, of the users up to {name}", are_waiting)
                 inside[name].leaves()
                 waiting[name].is_told(welcome(name) + lists[name], name)

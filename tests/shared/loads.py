@@ -30,7 +30,7 @@ def liquid_stream(atoms: Union[int, str], *words: str) -> bytes:
 def liquid(atoms: int, name: str = "a") -> bytes:
     """A LOAD of a liquid."""
     line, _, rest = liquid_stream(atoms, "--name", name).partition(b"\n")
-    return line + b"\n" + rest[:int(line.split()[-1])]
+    return line + b"\n" + rest[: int(line.split()[-1])]
 
 
 def tiles_of_step(atoms: int) -> int:

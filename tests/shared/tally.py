@@ -9,13 +9,13 @@ Expect = Callable[..., None]
 def shown(seen: object, most: int = 400) -> str:
     """What Python shows of this, without its middle where it is longer than that."""
     text = repr(seen)
-    return text if len(text) <= most else text[:most // 2] + " .. " + text[-(most // 2):]
+    return text if len(text) <= most else text[: most // 2] + " .. " + text[-(most // 2) :]
 
 
 def difference(seen: bytes, wanted: bytes) -> Tuple[int, int, int, bytes, bytes]:
     """Where two texts differ first, how long they are, and what each has there."""
     at = len(os.path.commonprefix([seen, wanted]))
-    return at, len(seen), len(wanted), seen[max(0, at - 60):at + 60], wanted[max(0, at - 60):at + 60]
+    return at, len(seen), len(wanted), seen[max(0, at - 60) : at + 60], wanted[max(0, at - 60) : at + 60]
 
 
 class Tally:

@@ -19,9 +19,7 @@ from . import refusals, units
 from .arrays import distance, least_images
 from .energy_watch import EnergyWarning
 from .ensemble import Job, ensemble
-from .errors import (
-    BadReply, CannotStart, ClientError, Closed, ConnectionLost, Damaged, Missing, NotRecorded, Refused, TimedOut
-)
+from .errors import BadReply, CannotStart, ClientError, Closed, ConnectionLost, Damaged, Missing, NotRecorded, Refused, TimedOut
 from .measurement import Measurement
 from .mixture import Mixture
 from .motion import Motion

@@ -12,9 +12,7 @@ from .errors import CannotStart
 
 BUILD_SECONDS = 3600.0
 VERSION_SECONDS = 30.0
-NONE_FOUND = (
-    "there is no ljserve: say run(program), set LJSERVE, install the wheel ljserve beside ljclient, or put it on the PATH"
-)
+NONE_FOUND = "there is no ljserve: say run(program), set LJSERVE, install the wheel ljserve beside ljclient, or put it on the PATH"
 
 
 def find_program() -> str:
@@ -60,9 +58,7 @@ def _of_repository(package: pathlib.Path) -> Optional[str]:
 def _build(script: pathlib.Path) -> None:
     """Has the repository's program built, if it is not; it says itself on standard error that this takes minutes."""
     try:
-        done = subprocess.run(
-            [str(script), "--version"], stdin=subprocess.DEVNULL, stdout=subprocess.DEVNULL, timeout=BUILD_SECONDS
-        )
+        done = subprocess.run([str(script), "--version"], stdin=subprocess.DEVNULL, stdout=subprocess.DEVNULL, timeout=BUILD_SECONDS)
     except (OSError, subprocess.TimeoutExpired) as error:
         raise CannotStart(f"{script} cannot be started: {error}") from error
     if done.returncode != 0:
@@ -72,9 +68,7 @@ def _build(script: pathlib.Path) -> None:
 def version_of(program: str, env: Optional[Dict[str, str]] = None) -> List[str]:
     """The lines in which a program tells its version, none if it tells none."""
     try:
-        done = subprocess.run(
-            [program, "--version"], stdin=subprocess.DEVNULL, capture_output=True, timeout=VERSION_SECONDS, env=env
-        )
+        done = subprocess.run([program, "--version"], stdin=subprocess.DEVNULL, capture_output=True, timeout=VERSION_SECONDS, env=env)
     except (OSError, subprocess.TimeoutExpired):
         return []
     return done.stdout.decode("ascii", "replace").splitlines() if done.returncode == 0 else []

@@ -149,9 +149,7 @@ class Loader:
         checked_name(name)
         frames = xyz.frames_of(source, before, symbols, pair)
         edge = _edge_of(edge, source, frames)
-        mixture = Mixture.of(
-            edge, species, first=first, second=second, mixed=mixed, mass=mass, dt=dt, classes=classes, epsilon=epsilon
-        )
+        mixture = Mixture.of(edge, species, first=first, second=second, mixed=mixed, mass=mass, dt=dt, classes=classes, epsilon=epsilon)
         motion = motion_of(source, mixture.scale) if before is None and not pair else None
         words = f"{units.word(edge)} {mixture.words}"
         known = Known(mixture.scale, mixture, is_sorted=is_in_space(order), watch=EnergyWatch(watch))

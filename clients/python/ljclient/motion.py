@@ -31,9 +31,7 @@ class Motion:
     def of(velocities: Sequence[Sequence[float]], scale: Scale) -> "Motion":
         """The motion of these velocities, in angstrom per femtosecond. ValueError where the time step is not known."""
         if scale.dt is None:
-            raise ValueError(
-                "the atoms have velocities, which need epsilon= and mass=; atoms.set_momenta(None) takes velocities away"
-            )
+            raise ValueError("the atoms have velocities, which need epsilon= and mass=; atoms.set_momenta(None) takes velocities away")
         unit = checked_positive("edge", scale.edge) / (RING * checked_positive("dt", scale.dt))
         wanted = [[part / unit for part in velocity] for velocity in velocities]
         rounded = tuple(_rounded(atom, parts) for atom, parts in enumerate(wanted))

@@ -28,9 +28,7 @@ def reporter(wanted: Union[bool, Report], name: str, delay: float = 0.0) -> Iter
 
 
 @contextlib.contextmanager
-def reporters(
-    wanted: Union[bool, NamedReport], names: Sequence[str], delay: float = 0.0
-) -> Iterator[List[Optional[Report]]]:
+def reporters(wanted: Union[bool, NamedReport], names: Sequence[str], delay: float = 0.0) -> Iterator[List[Optional[Report]]]:
     """The same for each of several sessions. A function is told the name of the session first."""
     if callable(wanted):
         yield [functools.partial(wanted, name) for name in names]

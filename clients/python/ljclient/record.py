@@ -16,9 +16,7 @@ HEAD = FORMAT + b"1"
 CHECK_DIGITS = 8
 LOADS = (b"LOAD", b"LOADMIX")
 # The commands that name a session.
-OF_A_SESSION = frozenset(
-    b"LOAD LOADMIX ADVANCE START REVERSE BRANCH RESTORE FORGET TUG MEASURE SHOW DUMP LIST DROP".split()
-)
+OF_A_SESSION = frozenset(b"LOAD LOADMIX ADVANCE START REVERSE BRANCH RESTORE FORGET TUG MEASURE SHOW DUMP LIST DROP".split())
 # Refusals that no command of the session alone brings about: by the connection, by other sessions, and for want of memory.
 FROM_OUTSIDE = (1, 4, 5, 8, 20, 21, 22, 90)
 NO_SESSION = 10

@@ -211,9 +211,7 @@ class Session:
         self._set_in_motion(moved, heating.rescaled(moved, temperature, scale))
         return self.measure().temperature
 
-    def equilibrate(
-        self, temperature: float, steps: int, every: int = 50, progress: sampling.Progress = False, seed: int = 0
-    ) -> float:
+    def equilibrate(self, temperature: float, steps: int, every: int = 50, progress: sampling.Progress = False, seed: int = 0) -> float:
         """Goes on by so many steps, and rescales the velocities to a temperature at the start, after each `every` steps and at the
         end. Returns the temperature at the end, as `rescale` does.
 
@@ -344,9 +342,7 @@ class Session:
         period = (RING if exact else float(self.scale.edge)) if unwrap else None
         return sampling.sample(self, take, every, frames, progress, period)
 
-    def frames(
-        self, every: snapshots.Every, n: Optional[int] = None, progress: sampling.Progress = False
-    ) -> Iterator[snapshots.Snapshot]:
+    def frames(self, every: snapshots.Every, n: Optional[int] = None, progress: sampling.Progress = False) -> Iterator[snapshots.Snapshot]:
         """Goes on, and gives frames on the way, each when it is there: `Snapshot`, with step, time, positions, velocities, forces,
         displacements and energies.
 

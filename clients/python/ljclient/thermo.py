@@ -8,7 +8,7 @@ from .errors import ClientError
 from .going import Ask
 from .interrupts import held
 from .measurement import Measurement, known
-from .sampling import Progress, checked_stops, stops
+from .sampling import Progress, stops
 
 if TYPE_CHECKING:
     from .session import Session

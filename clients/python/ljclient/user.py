@@ -74,9 +74,7 @@ class User(Loader):
     def __enter__(self) -> "User":
         return self
 
-    def __exit__(
-        self, kind: Optional[Type[BaseException]], error: Optional[BaseException], trace: Optional[TracebackType]
-    ) -> None:
+    def __exit__(self, kind: Optional[Type[BaseException]], error: Optional[BaseException], trace: Optional[TracebackType]) -> None:
         self.close()
 
     def session(
@@ -368,9 +366,7 @@ def dropped_by(commands: Sequence[Command]) -> Set[str]:
     return {each[1] for each in words if len(each) == 2 and each[0] == "DROP"}
 
 
-def connect(
-    host: str, port: int, name: str, token: str, *, timeout: float = 60.0, tls: bool = False, ca: Optional[Path] = None
-) -> User:
+def connect(host: str, port: int, name: str, token: str, *, timeout: float = 60.0, tls: bool = False, ca: Optional[Path] = None) -> User:
     """A user's connection to `ljserve serve`.
 
     token    as on a slip: blanks in it are left out

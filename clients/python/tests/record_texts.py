@@ -93,9 +93,7 @@ def commands(path):
 def verified(*words, **variables):
     """The status of verify, the lines that it writes, and those on standard error."""
     command = [sys.executable, "-m", "ljclient", "verify", *map(str, words)]
-    done = subprocess.run(
-        command, env=environment(**variables), stdin=subprocess.DEVNULL, capture_output=True, text=True, timeout=120
-    )
+    done = subprocess.run(command, env=environment(**variables), stdin=subprocess.DEVNULL, capture_output=True, text=True, timeout=120)
     return done.returncode, done.stdout.splitlines(), done.stderr.splitlines()
 
 

@@ -68,8 +68,14 @@ class Terminal:
         fcntl.ioctl(theirs, termios.TIOCSWINSZ, struct.pack("HHHH", 40, columns, 0, 0))
         env = {**os.environ, "TERM": "xterm", "COLUMNS": str(columns), "LINES": "40", "INPUTRC": "/dev/null", **(env or {})}
         self.child = subprocess.Popen(
-            words, stdin=theirs, stdout=theirs, stderr=theirs, env=env, cwd=cwd,
-            start_new_session=True, preexec_fn=begin_at_terminal,
+            words,
+            stdin=theirs,
+            stdout=theirs,
+            stderr=theirs,
+            env=env,
+            cwd=cwd,
+            start_new_session=True,
+            preexec_fn=begin_at_terminal,
         )
         os.close(theirs)
         self.written, self.shown = "", ""

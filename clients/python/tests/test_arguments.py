@@ -43,12 +43,15 @@ def test_a_mixture_has_one_mass():
         Mixture.of(**{**PAIRS, "mass": (40, 84)})
 
 
-@pytest.mark.parametrize("said, told", [
-    ({"first": 3.4}, "first= is (sigma, epsilon), not 3.4"),
-    ({"second": (3.6, 0.012, 84)}, "second= is (sigma, epsilon), not (3.6, 0.012, 84)"),
-    ({"mixed": (3.5,)}, "mixed= is (sigma, epsilon), not (3.5,)"),
-    ({"first": (3.4, "deep")}, "epsilon is one number, not 'deep'"),
-])
+@pytest.mark.parametrize(
+    "said, told",
+    [
+        ({"first": 3.4}, "first= is (sigma, epsilon), not 3.4"),
+        ({"second": (3.6, 0.012, 84)}, "second= is (sigma, epsilon), not (3.6, 0.012, 84)"),
+        ({"mixed": (3.5,)}, "mixed= is (sigma, epsilon), not (3.5,)"),
+        ({"first": (3.4, "deep")}, "epsilon is one number, not 'deep'"),
+    ],
+)
 def test_a_pair_is_sigma_and_epsilon(said, told):
     with names(told):
         Mixture.of(**{**PAIRS, **said})
@@ -60,17 +63,20 @@ def test_a_class_is_sigma_and_h_and_weight(classes):
         Mixture.of(21, ("Ar", "Kr"), classes=classes)
 
 
-@pytest.mark.parametrize("act, told", [
-    (lambda a: a.advance(2.5), "a number of steps is a whole number (int), not 2.5"),
-    (lambda a: a.advance(2, piece="x"), "a piece is a whole number (int), not 'x'"),
-    (lambda a: a.place("1"), "an atom number is a whole number (int), not '1'"),
-    (lambda a: a.tug(1, (1, 2)), "a displacement is three whole numbers (int), in ring units along x, y and z, not (1, 2)"),
-    (lambda a: a.tug(1, (1.5, 2, 3)), "a displacement is three whole numbers (int)"),
-    (lambda a: a.tug(1, 5), "a displacement is three whole numbers (int)"),
-    (lambda a: a.heat("hot"), "a temperature is one number, not 'hot'"),
-    (lambda a: a.sample("x", 2), "every is a whole number (int), not 'x'"),
-    (lambda a: a.thermo(1, 2.0), "rows is a whole number (int), not 2.0"),
-])
+@pytest.mark.parametrize(
+    "act, told",
+    [
+        (lambda a: a.advance(2.5), "a number of steps is a whole number (int), not 2.5"),
+        (lambda a: a.advance(2, piece="x"), "a piece is a whole number (int), not 'x'"),
+        (lambda a: a.place("1"), "an atom number is a whole number (int), not '1'"),
+        (lambda a: a.tug(1, (1, 2)), "a displacement is three whole numbers (int), in ring units along x, y and z, not (1, 2)"),
+        (lambda a: a.tug(1, (1.5, 2, 3)), "a displacement is three whole numbers (int)"),
+        (lambda a: a.tug(1, 5), "a displacement is three whole numbers (int)"),
+        (lambda a: a.heat("hot"), "a temperature is one number, not 'hot'"),
+        (lambda a: a.sample("x", 2), "every is a whole number (int), not 'x'"),
+        (lambda a: a.thermo(1, 2.0), "rows is a whole number (int), not 2.0"),
+    ],
+)
 def test_what_is_no_number_of_a_session_is_named(user, act, told):
     a = dimer(user)
     with names(told):
@@ -83,16 +89,19 @@ def test_h_is_a_whole_number():
         Scale.of(256, 1, "131072")
 
 
-@pytest.mark.parametrize("source, symbols, told", [
-    (TWO, 18, "symbols= is a string, or a list of one for each atom, not 18"),
-    (TWO, ["Ar", 18], "a symbol is a word such as 'Ar', and that of atom 1 is 18"),
-    (TWO, [None, 18], "a symbol is a word such as 'Ar', and that of atom 0 is None"),
-    ([(18, 0, 0, 0), (18, 1, 0, 0)], None, "positions need symbols='Ar', or rows of (symbol, x, y, z), whose symbols are strings"),
-    ([1, 2], None, "positions need symbols='Ar', or rows of (symbol, x, y, z)"),
-    ([[0, 0, 0], [1, 0]], "Ar", "a position is three numbers, and that of atom 1 is [1, 0]"),
-    ([["x", 0, 0]], "Ar", "a position is three numbers, and that of atom 0 is ['x', 0, 0]"),
-    (5, None, "the atoms are a path, a file, a text, `Atoms` of ASE or a list, not 5"),
-])
+@pytest.mark.parametrize(
+    "source, symbols, told",
+    [
+        (TWO, 18, "symbols= is a string, or a list of one for each atom, not 18"),
+        (TWO, ["Ar", 18], "a symbol is a word such as 'Ar', and that of atom 1 is 18"),
+        (TWO, [None, 18], "a symbol is a word such as 'Ar', and that of atom 0 is None"),
+        ([(18, 0, 0, 0), (18, 1, 0, 0)], None, "positions need symbols='Ar', or rows of (symbol, x, y, z), whose symbols are strings"),
+        ([1, 2], None, "positions need symbols='Ar', or rows of (symbol, x, y, z)"),
+        ([[0, 0, 0], [1, 0]], "Ar", "a position is three numbers, and that of atom 1 is [1, 0]"),
+        ([["x", 0, 0]], "Ar", "a position is three numbers, and that of atom 0 is ['x', 0, 0]"),
+        (5, None, "the atoms are a path, a file, a text, `Atoms` of ASE or a list, not 5"),
+    ],
+)
 def test_what_is_no_atom_is_named(user, source, symbols, told):
     with names(told):
         user.load("a", source, symbols=symbols, **DIMER_SCALE)

@@ -54,10 +54,13 @@ def test_the_first_difference_stops_it():
     ]
 
 
-@pytest.mark.parametrize("word, edit, pipe", [
-    ("ends/limits_05", "s/OK/KO/;s/04 BODY/04/", "zcat streams/ends/limits_05.in.gz | "),
-    ("tables/worked_dialogues_c", "s/20/21/", "sh -c"),
-])
+@pytest.mark.parametrize(
+    "word, edit, pipe",
+    [
+        ("ends/limits_05", "s/OK/KO/;s/04 BODY/04/", "zcat streams/ends/limits_05.in.gz | "),
+        ("tables/worked_dialogues_c", "s/20/21/", "sh -c"),
+    ],
+)
 def test_the_line_of_replay_plays_the_stream_again(word, edit, pipe):
     """The quota of the stream included."""
     status, lines = told("--only", word, *port(edit))

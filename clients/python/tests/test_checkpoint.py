@@ -10,7 +10,7 @@ import unittest
 import zlib
 from unittest import mock
 
-from ljclient import Damaged, checkpoint, connect, refusals, run, units
+from ljclient import Damaged, connect, refusals, run, units
 from support import ARGON, DIMER, EXAMPLES, PROGRAM, RING, TOKEN, TOP, Server, dimer, go_on_alike, listed
 
 MIX = {"species": ("Ar", "Kr"), "edge": 21.04, "first": (3.4, 119.8 * units.kelvin), "second": (3.65, 164 * units.kelvin)}

@@ -103,7 +103,7 @@ def test_a_student_comes_in_by_what_the_slip_says(begin, tmp_path):
     assert [stat.S_IMODE((tmp_path / name).stat().st_mode) for name in ("slips.txt", "users")] == [0o600, 0o600]
     slip = (tmp_path / "slips.txt").read_text()
     assert slip.count(f"at 127.0.0.1:{lesson.port}\n") == 2
-    name, token = re.search(rf"^(student02) at .*?^ +token   ([^\n]*)$", slip, re.M | re.S).groups()
+    name, token = re.search(r"^(student02) at .*?^ +token   ([^\n]*)$", slip, re.M | re.S).groups()
     with connect("127.0.0.1", lesson.port, name, token) as user:
         assert dimer(user).advance(2) == 2
         assert re.search(rf" in +{name} ", lesson.child.stdout.readline())

@@ -74,7 +74,9 @@ class Differences(unittest.TestCase):
         found = difference(Stream("s", self.SENT, self.REPLIES), self.REPLIES[:10], "ended with status 3")
         self.assertIn("differ at byte 10, in line 2; the program ended with status 3", found)
         self.assertIn("'LOAD a 256 1 1 rest 12'", found)
-        self.assertIn("but the program ended with status 3", difference(Stream("s", self.SENT, self.REPLIES), self.REPLIES, "ended with status 3"))
+        self.assertIn(
+            "but the program ended with status 3", difference(Stream("s", self.SENT, self.REPLIES), self.REPLIES, "ended with status 3")
+        )
 
     def test_lines_and_their_replies(self):
         self.assertEqual(list(numbers_of_replies(self.REPLIES))[:9], [0, 1, 2, 2, 3, 3, 3, 3, 4])

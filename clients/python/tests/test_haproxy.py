@@ -184,9 +184,15 @@ def test_each_user_lands_at_its_own_server(farm, tls):
             assert read_all(stream) == b"ERR 01 DENIED\n"
 
 
-@pytest.mark.parametrize("sent", [
-    b"HELLO {0} {1}\nLIST\nBYE\n", b" \tHELLO\t{0} \t {1} \nLIST\nBYE\n", b"HELLO {0} {1}\r\nLIST\r\nBYE\r\n",
-], ids=["with commands behind", "blanks", "CR LF"])
+@pytest.mark.parametrize(
+    "sent",
+    [
+        b"HELLO {0} {1}\nLIST\nBYE\n",
+        b" \tHELLO\t{0} \t {1} \nLIST\nBYE\n",
+        b"HELLO {0} {1}\r\nLIST\r\nBYE\r\n",
+    ],
+    ids=["with commands behind", "blanks", "CR LF"],
+)
 @pytest.mark.parametrize("size", [1, 7, 4096])
 def test_a_first_line_of_any_shape(farm, sent, size):
     name = farm.at[1][3]

@@ -65,9 +65,7 @@ class Heating(unittest.TestCase):
 
     def test_two_species(self):
         pairs = {"first": (3.4, 0.0103), "second": (3.6, 0.0141), "mass": 48.0, "dt": 10}
-        mix = self.user.load_mix(
-            "m", CRYSTAL.read_text().replace("Ar", "Kr", 100), edge=21.04, species=("Ar", "Kr"), **pairs
-        )
+        mix = self.user.load_mix("m", CRYSTAL.read_text().replace("Ar", "Kr", 100), edge=21.04, species=("Ar", "Kr"), **pairs)
         self.assertAlmostEqual(mix.heat(80), 80, places=4)
 
     def test_what_is_no_temperature(self):

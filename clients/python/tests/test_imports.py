@@ -29,16 +29,29 @@ def test_the_package_and_the_prompt():
     assert not HEAVY & imported("import ljclient, ljclient.prompt")
 
 
-@pytest.mark.parametrize("work", [
-    "a.advance(600)", "a.measure()", "a.place(0)", "a.reverse(); a.branch('b'); a.restore('b')", "a.tug(0, (1, 0, 0))",
-])
+@pytest.mark.parametrize(
+    "work",
+    [
+        "a.advance(600)",
+        "a.measure()",
+        "a.place(0)",
+        "a.reverse(); a.branch('b'); a.restore('b')",
+        "a.tug(0, (1, 0, 0))",
+    ],
+)
 def test_work_without_arrays(work):
     assert "numpy" not in imported(f"{LOADED}{work}\nuser.close()")
 
 
-@pytest.mark.parametrize("work", [
-    "a.places()", "a.positions()", "a.sample(every=1, frames=2)", "import ljclient; ljclient.distance([], [])",
-])
+@pytest.mark.parametrize(
+    "work",
+    [
+        "a.places()",
+        "a.positions()",
+        "a.sample(every=1, frames=2)",
+        "import ljclient; ljclient.distance([], [])",
+    ],
+)
 def test_arrays(work):
     pytest.importorskip("numpy", reason="numpy is not installed")
     assert "numpy" in imported(f"{LOADED}{work}\nuser.close()")

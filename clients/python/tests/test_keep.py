@@ -216,7 +216,7 @@ def test_users_with_a_fault_change_nothing(tmp_path):
 def wrapped(path, before, after):
     """A program that is the reference of conformance/ as a server, with something in it replaced."""
     server = TOP / "clients" / "python" / "tests" / "reference_server.py"
-    path.write_text(f"#!/bin/sh\nexec {sys.executable} {server} {before!r} {after!r} \"$@\"\n")
+    path.write_text(f'#!/bin/sh\nexec {sys.executable} {server} {before!r} {after!r} "$@"\n')
     path.chmod(0o700)
     return str(path)
 

@@ -41,8 +41,14 @@ def test_both_have_the_same_liquid(tmp_path):
     by_lammps, ours, temperature = map(float, re.findall(r"-?\d+\.\d+", energies))
     assert abs(by_lammps - ours) < 0.0025 and abs(temperature - 0.69) < 0.02
     assert lines == [
-        "True True", "True True", "True LAMMPS, lj/cut", "True LAMMPS, lj/cut/opt", "True run, in the order of space",
-        "True run, shuffled", 'True client, order="space"']
+        "True True",
+        "True True",
+        "True LAMMPS, lj/cut",
+        "True LAMMPS, lj/cut/opt",
+        "True run, in the order of space",
+        "True run, shuffled",
+        'True client, order="space"',
+    ]
 
 
 def test_without_lammps(tmp_path):

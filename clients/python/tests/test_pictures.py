@@ -32,12 +32,15 @@ def drawn(code):
     return json.loads(out.splitlines()[-1])
 
 
-@pytest.mark.parametrize("script, name, why", [
-    *((script, "missing/x.png", "No such file or directory") for script in SCRIPTS),
-    ("energy.py", "folder.png", "Is a directory"),
-    ("energy.py", "x.bmp", "the name of a picture ends with .png, .svg or .pdf"),
-    ("energy.py", "x", "the name of a picture ends with .png, .svg or .pdf"),
-])
+@pytest.mark.parametrize(
+    "script, name, why",
+    [
+        *((script, "missing/x.png", "No such file or directory") for script in SCRIPTS),
+        ("energy.py", "folder.png", "Is a directory"),
+        ("energy.py", "x.bmp", "the name of a picture ends with .png, .svg or .pdf"),
+        ("energy.py", "x", "the name of a picture ends with .png, .svg or .pdf"),
+    ],
+)
 def test_a_bad_file_is_told_before_the_run(script, name, why, tmp_path):
     (tmp_path / "folder.png").mkdir()
     path = tmp_path / name
@@ -103,14 +106,17 @@ def test_the_species_have_a_legend():
     assert drawn(told_of)[0] == ["species A", "species B"]
 
 
-@pytest.mark.parametrize("words, why", [
-    (["missing.xyz", "a", "8", "1", "1"], "missing.xyz: No such file or directory"),
-    ([".", "a", "8", "1", "1"], ".: Is a directory"),
-    (["--sorted", "argon_256.xyz", "a", "21,04", "3.4", "1"], "the edge 21,04 is no number from 0.001 to 1000000"),
-    (["--sorted", "argon_256.xyz", "a", "0", "3.4", "1"], "the edge 0 is no number from 0.001 to 1000000"),
-    (["--sorted", "argon_256.xyz", "a", "nan", "3.4", "1"], "the edge nan is no number from 0.001 to 1000000"),
-    (["--sorted=missing/order", "argon_256.xyz", "a", "21.04", "3.4", "1"], "missing/order: No such file or directory"),
-])
+@pytest.mark.parametrize(
+    "words, why",
+    [
+        (["missing.xyz", "a", "8", "1", "1"], "missing.xyz: No such file or directory"),
+        ([".", "a", "8", "1", "1"], ".: Is a directory"),
+        (["--sorted", "argon_256.xyz", "a", "21,04", "3.4", "1"], "the edge 21,04 is no number from 0.001 to 1000000"),
+        (["--sorted", "argon_256.xyz", "a", "0", "3.4", "1"], "the edge 0 is no number from 0.001 to 1000000"),
+        (["--sorted", "argon_256.xyz", "a", "nan", "3.4", "1"], "the edge nan is no number from 0.001 to 1000000"),
+        (["--sorted=missing/order", "argon_256.xyz", "a", "21.04", "3.4", "1"], "missing/order: No such file or directory"),
+    ],
+)
 def test_a_file_or_a_number_that_cannot_be_loaded(words, why):
     assert told("load", *words) == (1, "", f"load: {why}\n")
 

@@ -31,8 +31,9 @@ def stand_in(name, version="echo ljserve 1.2.3"):
 def begun(program, *words, path=os.environ["PATH"], **environment):
     """How a run of a program ended, and the number of its process."""
     command = [str(program), *words]
-    with subprocess.Popen(command, stdin=subprocess.DEVNULL, stdout=subprocess.PIPE, stderr=subprocess.PIPE, text=True,
-                          env={"PATH": path, **environment}) as child:
+    with subprocess.Popen(
+        command, stdin=subprocess.DEVNULL, stdout=subprocess.PIPE, stderr=subprocess.PIPE, text=True, env={"PATH": path, **environment}
+    ) as child:
         out, err = child.communicate(timeout=SECONDS)
         return child.returncode, out, err, child.pid
 
@@ -46,9 +47,18 @@ def release(tmp_path):
     return tmp_path
 
 
-@pytest.mark.parametrize("status, said, wanted", [
-    (0, None, "v3"), (0, "", "v3"), (0, "v2", "v2"), (0, "v3", "v3"), (127, None, "v2"), (127, "v2", "v2"), (1, None, "v3"),
-])
+@pytest.mark.parametrize(
+    "status, said, wanted",
+    [
+        (0, None, "v3"),
+        (0, "", "v3"),
+        (0, "v2", "v2"),
+        (0, "v3", "v3"),
+        (127, None, "v2"),
+        (127, "v2", "v2"),
+        (1, None, "v3"),
+    ],
+)
 def test_the_program_that_fits(release, status, said, wanted):
     """It takes the place of the script, so that a signal to the process reaches it."""
     put(release / "libexec" / "ljserve-v3", stand_in("v3", f"exit {status}"))
@@ -68,9 +78,14 @@ def test_a_processor_that_lacks_what_is_asked_for(release):
 
 
 @pytest.mark.parametrize("word", ["--version", "-V"])
-@pytest.mark.parametrize("version, rest", [
-    (None, ""), ("ljserve 1.2.3\nkit 4\ncommit 5\n", "kit 4\ncommit 5\n"), ("of something else\nthat stands there\n", ""),
-])
+@pytest.mark.parametrize(
+    "version, rest",
+    [
+        (None, ""),
+        ("ljserve 1.2.3\nkit 4\ncommit 5\n", "kit 4\ncommit 5\n"),
+        ("of something else\nthat stands there\n", ""),
+    ],
+)
 def test_the_version(release, word, version, rest):
     if version is not None:
         (release / "VERSION").write_text(version)
@@ -105,8 +120,7 @@ def test_the_repository_builds_the_one_beside_the_other(repository):
     calls = (repository / "calls").read_text().splitlines()
     assert calls == ["build", "compile x86-64-v3 out/v3", "build", f"rt run --jobs {len(os.sched_getaffinity(0))}"]
     out = repository / "crates" / "ljserve" / "out"
-    assert sorted(str(path.relative_to(out)) for path in out.rglob("*")) == [
-        "build.log", "ljserve", "v3", "v3/build.log", "v3/ljserve"]
+    assert sorted(str(path.relative_to(out)) for path in out.rglob("*")) == ["build.log", "ljserve", "v3", "v3/build.log", "v3/ljserve"]
 
 
 @pytest.mark.parametrize("source", ["bin/ljserve", "packaging/ljserve/ljserve"])

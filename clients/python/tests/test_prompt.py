@@ -87,12 +87,25 @@ class Loads(unittest.TestCase):
 
     def test_lines_of_the_protocol(self):
         for line, size in [
-            ("LOAD a 256 1 131072 rest 28", 28), ("LOAD a x 1 131072 rest 28", 28), ("LOAD a .5 1 131072 28", 28),
-            ("LOADMIX m x A B 1 2 3 1 2 3 1 2 3 pair 007\r", 7), ("LOAD a x 1 28", 28), ("LOAD a 1 1 1 rest rest", 0),
-            ("LOAD a x.xyz 1 1 1 1 1", 1), ("LIST 9\r\r", 0), ("LOAD a 256 1 1 rest 28\r\r", 0),
-            ("LOAD 9", 9), ("LOAD", 0), ("LOAD a 256 1 1 rest", 0),
-            ("LOAD a 1 1 1 rest 1048576", 1048576), ("LOAD a 1 1 1 rest 1048577", 0), ("LOAD a 1 1 1 rest 00000028", 0),
-            ("LOAD " + "a" * 252 + " 28", 0), ("load a 256 1 131072 rest 28", 0), ("LIST 28", 0), ("", 0),
+            ("LOAD a 256 1 131072 rest 28", 28),
+            ("LOAD a x 1 131072 rest 28", 28),
+            ("LOAD a .5 1 131072 28", 28),
+            ("LOADMIX m x A B 1 2 3 1 2 3 1 2 3 pair 007\r", 7),
+            ("LOAD a x 1 28", 28),
+            ("LOAD a 1 1 1 rest rest", 0),
+            ("LOAD a x.xyz 1 1 1 1 1", 1),
+            ("LIST 9\r\r", 0),
+            ("LOAD a 256 1 1 rest 28\r\r", 0),
+            ("LOAD 9", 9),
+            ("LOAD", 0),
+            ("LOAD a 256 1 1 rest", 0),
+            ("LOAD a 1 1 1 rest 1048576", 1048576),
+            ("LOAD a 1 1 1 rest 1048577", 0),
+            ("LOAD a 1 1 1 rest 00000028", 0),
+            ("LOAD " + "a" * 252 + " 28", 0),
+            ("load a 256 1 131072 rest 28", 0),
+            ("LIST 28", 0),
+            ("", 0),
         ]:
             self.assertEqual((loading.from_file(line), loading.size_of_body(line)), (None, size), line)
 
@@ -206,9 +219,14 @@ class Words(unittest.TestCase):
 
     def test_words_that_are_none(self):
         for words, why in [
-            (["127.0.0.1:1"], "NAME is missing"), (["127.0.0.1", "ann"], "no HOST:PORT"), (["h:0", "ann"], "no HOST:PORT"),
-            (["h:65536", "ann"], "no HOST:PORT"), (["--frob"], "no option --frob"), (["--timeout", "0"], "above 0"),
-            (["--timeout", "nan"], "above 0"), (["--timeout", "x"], "invalid"),
+            (["127.0.0.1:1"], "NAME is missing"),
+            (["127.0.0.1", "ann"], "no HOST:PORT"),
+            (["h:0", "ann"], "no HOST:PORT"),
+            (["h:65536", "ann"], "no HOST:PORT"),
+            (["--frob"], "no option --frob"),
+            (["--timeout", "0"], "above 0"),
+            (["--timeout", "nan"], "above 0"),
+            (["--timeout", "x"], "invalid"),
         ]:
             status, out, err = filtered("", *words)
             self.assertEqual((status, out), (2, ""))
@@ -232,12 +250,24 @@ class Completion(unittest.TestCase):
             dimer(user, "alpha").branch("k1")
             dimer(user, "beta")
             for before, word, wanted in [
-                ([], "AD", ["ADVANCE "]), ([], "ad", ["advance "]), ([], "h", ["help "]), (["help"], "LOADM", ["LOADMIX "]),
-                (["ADVANCE"], "", ["alpha ", "beta "]), (["ADVANCE"], "b", ["beta "]), (["ADVANCE", "alpha"], "", []),
-                (["FORGET", "alpha"], "", ["k1 "]), (["BRANCH", "alpha"], "", []), (["RESTORE", "none"], "", []),
-                (["LIST"], "a", ["alpha "]), (["LOAD", "x"], f"{ARGON}"[:-5], [f"{ARGON} "]),
-                (["LOAD", "x"], f"{EXAMPLES}", [f"{EXAMPLES}/"]), (["LOAD"], "", []), (["BYE"], "", []), (["NONE"], "", []),
-                (["LOAD", "x", "y", "9", "1", "1"], "p", ["pair "]), (["DUMP", "alpha", "more"], "", []),
+                ([], "AD", ["ADVANCE "]),
+                ([], "ad", ["advance "]),
+                ([], "h", ["help "]),
+                (["help"], "LOADM", ["LOADMIX "]),
+                (["ADVANCE"], "", ["alpha ", "beta "]),
+                (["ADVANCE"], "b", ["beta "]),
+                (["ADVANCE", "alpha"], "", []),
+                (["FORGET", "alpha"], "", ["k1 "]),
+                (["BRANCH", "alpha"], "", []),
+                (["RESTORE", "none"], "", []),
+                (["LIST"], "a", ["alpha "]),
+                (["LOAD", "x"], f"{ARGON}"[:-5], [f"{ARGON} "]),
+                (["LOAD", "x"], f"{EXAMPLES}", [f"{EXAMPLES}/"]),
+                (["LOAD"], "", []),
+                (["BYE"], "", []),
+                (["NONE"], "", []),
+                (["LOAD", "x", "y", "9", "1", "1"], "p", ["pair "]),
+                (["DUMP", "alpha", "more"], "", []),
             ]:
                 self.assertEqual(completion.candidates(before, word, user), wanted, (before, word))
         self.assertEqual(completion.candidates(["ADVANCE"], "", user), [])

@@ -78,8 +78,19 @@ def test_a_simulation_is_saved_and_goes_on(dimer):
     assert says(dimer, "load_saved a.saved b") == "  b goes on at step 20, with 2 atoms\n"
     assert says(dimer, "ADVANCE a 30") == "OK ADVANCE a 50\n"
     assert says(dimer, "ADVANCE b 30") == "OK ADVANCE b 50\n"
-    for line in ("SHOW {} 0..1", "DUMP {}", "MEASURE {}", "REVERSE {}", "BRANCH {} k", "LIST {}", "START {} 3", "SHOW {} 1",
-                 "RESTORE {} k", "TUG {} 1 5 0 0", "FORGET {} k"):
+    for line in (
+        "SHOW {} 0..1",
+        "DUMP {}",
+        "MEASURE {}",
+        "REVERSE {}",
+        "BRANCH {} k",
+        "LIST {}",
+        "START {} 3",
+        "SHOW {} 1",
+        "RESTORE {} k",
+        "TUG {} 1 5 0 0",
+        "FORGET {} k",
+    ):
         told = says(dimer, line.format("a"))
         assert told.startswith("OK ")
         assert says(dimer, line.format("b")) == told.replace(" a", " b", 1).replace("\nOK SHOW a", "\nOK SHOW b")
@@ -132,8 +143,15 @@ def test_files_that_read_one_another_end(terminal, tmp_path):
     assert says(terminal, "LIST") == "OK LIST 0\n"
 
 
-@pytest.mark.parametrize("words", ["edge=21.04 dt=2fs argon", "argon edge=2.104nm dt=0.002ps", "edge=21.04 dt=2 argon rest",
-                                   "edge=21.04A sigma=3.4A epsilon=119.8K mass=39.948u dt=2fs"])
+@pytest.mark.parametrize(
+    "words",
+    [
+        "edge=21.04 dt=2fs argon",
+        "argon edge=2.104nm dt=0.002ps",
+        "edge=21.04 dt=2 argon rest",
+        "edge=21.04A sigma=3.4A epsilon=119.8K mass=39.948u dt=2fs",
+    ],
+)
 def test_physical_units(user, words):
     h = round(exact_step_factor(2e-15))
     load = physical.load_of(f"LOAD a {ARGON} {words}")
@@ -146,13 +164,20 @@ def test_physical_units(user, words):
     assert [row.replace("SHOW a", "SHOW b") for row in shown[:3]] == shown[3:]
 
 
-@pytest.mark.parametrize("words, why", [
-    ("dt=10fs", "say the time step and the substance"), ("argon", "say the time step"), ("dt=10as argon", "fs or ps may follow"),
-    ("dt=fast argon", "a number comes behind dt="), ("dt=2fs xenonn", "`xenonn` is none of edge="),
-    ("h=1.5 argon", "h is a whole number"), ("dt=2fs argon", "say the edge of the box"),
-    ("edge=21.04 dt=2fs h=4295 argon", "say either the step factor h, or the time step dt"),
-    ("edge=21.04 dt=900fs argon", "dt is from"),
-])
+@pytest.mark.parametrize(
+    "words, why",
+    [
+        ("dt=10fs", "say the time step and the substance"),
+        ("argon", "say the time step"),
+        ("dt=10as argon", "fs or ps may follow"),
+        ("dt=fast argon", "a number comes behind dt="),
+        ("dt=2fs xenonn", "`xenonn` is none of edge="),
+        ("h=1.5 argon", "h is a whole number"),
+        ("dt=2fs argon", "say the edge of the box"),
+        ("edge=21.04 dt=2fs h=4295 argon", "say either the step factor h, or the time step dt"),
+        ("edge=21.04 dt=900fs argon", "dt is from"),
+    ],
+)
 def test_physical_units_that_are_wrong(user, words, why):
     with pytest.raises(loading.Fault, match=re.escape(why)):
         physical.load_of(f"LOAD a {ARGON} {words}").perform(user)
@@ -172,14 +197,17 @@ def test_a_faulty_line_of_a_file_is_shown(terminal, tmp_path):
     assert told.startswith("ERR 33 XYZ_NUMBER line 4\n") and "  bad.xyz, line 4: Ar one 0 0\n" in told
 
 
-@pytest.mark.parametrize("line, told", [
-    ("ADVANCE a ten", "`ten` is not n, how many steps, from 0 to 1000000"),
-    ("ADVANCE a", "missing: n, how many steps, from 0 to 1000000"),
-    ("ADVANCE a 1 2", "`2` is a word too many"),
-    ("SHOW a -1", "`-1` is not i, the number of an atom, from 0"),
-    ("BRANCH a b/c", "`b/c` is not b, the name under which a simulation is saved: 1 to 16 letters, digits, `_` or `-`"),
-    ("TUG a 0 1 2 0.5", "`0.5` is not dz, whole numbers of ring units, 2^-32 of the edge, from -2147483648 to 2147483647"),
-])
+@pytest.mark.parametrize(
+    "line, told",
+    [
+        ("ADVANCE a ten", "`ten` is not n, how many steps, from 0 to 1000000"),
+        ("ADVANCE a", "missing: n, how many steps, from 0 to 1000000"),
+        ("ADVANCE a 1 2", "`2` is a word too many"),
+        ("SHOW a -1", "`-1` is not i, the number of an atom, from 0"),
+        ("BRANCH a b/c", "`b/c` is not b, the name under which a simulation is saved: 1 to 16 letters, digits, `_` or `-`"),
+        ("TUG a 0 1 2 0.5", "`0.5` is not dz, whole numbers of ring units, 2^-32 of the edge, from -2147483648 to 2147483647"),
+    ],
+)
 def test_the_word_that_is_wrong(user, line, told):
     with pytest.raises(Refused) as refused:
         user.ask(line)
@@ -192,24 +220,43 @@ def test_a_load_that_is_not_sent_names_the_word(terminal):
     assert "not sent: a LOAD is said as" in told and told.endswith("is a word too many")
 
 
-@pytest.mark.parametrize("text, to_come, told", [
-    ("", "", "`help` lists the commands, Tab completes, Ctrl-D ends"),
-    ("ADV", "ANCE s n", ""), ("adv", "ance s n", ""), ("B", "", ""),
-    ("ADVANCE a", " n", "s: the name of a session"), ("ADVANCE a ", "n", "n: how many steps"), ("ADVANCE a 5 ", "", ""),
-    ("LOAD a x.xyz dt=2fs ", "SUBSTANCE [edge=..] [rest|pair]", "dt=2fs, argon"), ("SHOW a ", "i", "i: the number of an atom"),
-    ("TUG a 0 1 ", "dy dz", "dy: whole numbers"), ("SHOWW a ", "", "there is no command `SHOWW`: is SHOW meant?"),
-    ("# a comment", "", ""), ("save a ", "FILE", "FILE: a file"), ("LIST ", "[s]", ""),
-    ("DUMP a ", "[> FILE]", ""), ("ADVANCE a 5 # five ", "", ""),
-])
+@pytest.mark.parametrize(
+    "text, to_come, told",
+    [
+        ("", "", "`help` lists the commands, Tab completes, Ctrl-D ends"),
+        ("ADV", "ANCE s n", ""),
+        ("adv", "ance s n", ""),
+        ("B", "", ""),
+        ("ADVANCE a", " n", "s: the name of a session"),
+        ("ADVANCE a ", "n", "n: how many steps"),
+        ("ADVANCE a 5 ", "", ""),
+        ("LOAD a x.xyz dt=2fs ", "SUBSTANCE [edge=..] [rest|pair]", "dt=2fs, argon"),
+        ("SHOW a ", "i", "i: the number of an atom"),
+        ("TUG a 0 1 ", "dy dz", "dy: whole numbers"),
+        ("SHOWW a ", "", "there is no command `SHOWW`: is SHOW meant?"),
+        ("# a comment", "", ""),
+        ("save a ", "FILE", "FILE: a file"),
+        ("LIST ", "[s]", ""),
+        ("DUMP a ", "[> FILE]", ""),
+        ("ADVANCE a 5 # five ", "", ""),
+    ],
+)
 def test_hints(text, to_come, told):
     assert hinting.words_to_come(text) == to_come
     assert hinting.told(text).startswith(told) and bool(told) == bool(hinting.told(text))
 
 
-@pytest.mark.parametrize("line, left", [
-    ("LIST # all", "LIST "), ("# all", ""), ("LIST", "LIST"), ("LOAD a 'x #1.xyz' 9 1 1 # it", "LOAD a 'x #1.xyz' 9 1 1 "),
-    ("LOAD a x#1.xyz 9 1 1", "LOAD a x#1.xyz 9 1 1"), ("A" * 5000, "A" * 5000),
-])
+@pytest.mark.parametrize(
+    "line, left",
+    [
+        ("LIST # all", "LIST "),
+        ("# all", ""),
+        ("LIST", "LIST"),
+        ("LOAD a 'x #1.xyz' 9 1 1 # it", "LOAD a 'x #1.xyz' 9 1 1 "),
+        ("LOAD a x#1.xyz 9 1 1", "LOAD a x#1.xyz 9 1 1"),
+        ("A" * 5000, "A" * 5000),
+    ],
+)
 def test_comments(line, left):
     assert loading.without_comment(line) == left
 
@@ -229,13 +276,22 @@ def test_a_long_history_is_cut(tmp_path):
     assert path.read_text().count("\n") == 1000
 
 
-@pytest.mark.parametrize("before, word, found", [
-    (["save"], "", ["a "]), (["save", "a"], "dim", ["dimer.xyz "]), ([".read"], "dim", ["dimer.xyz "]),
-    (["load_saved"], "d", ["dimer.xyz "]),
-    (["DUMP", "a", ">"], "d", ["dimer.xyz "]), (["dump"], "", ["a "]), ([], ".r", [".read "]),
-    ([], "loa", ["load ", "loadmix ", "load_saved "]),
-    (["LOAD", "b", "x"], "ar", ["argon "]), (["LOAD", "b", "x", "argon"], "d", ["dt="]), (["LOAD", "b", "x"], "", []),
-])
+@pytest.mark.parametrize(
+    "before, word, found",
+    [
+        (["save"], "", ["a "]),
+        (["save", "a"], "dim", ["dimer.xyz "]),
+        ([".read"], "dim", ["dimer.xyz "]),
+        (["load_saved"], "d", ["dimer.xyz "]),
+        (["DUMP", "a", ">"], "d", ["dimer.xyz "]),
+        (["dump"], "", ["a "]),
+        ([], ".r", [".read "]),
+        ([], "loa", ["load ", "loadmix ", "load_saved "]),
+        (["LOAD", "b", "x"], "ar", ["argon "]),
+        (["LOAD", "b", "x", "argon"], "d", ["dt="]),
+        (["LOAD", "b", "x"], "", []),
+    ],
+)
 def test_completion_of_what_is_said_here(user, tmp_path, monkeypatch, before, word, found):
     (tmp_path / "dimer.xyz").write_text(DIMER)
     monkeypatch.chdir(tmp_path)

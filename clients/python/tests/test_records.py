@@ -63,9 +63,7 @@ def test_what_is_replied_is_in_the_file_before_it_is_told(user, path):
     assert without_checks(path)[-2] == "< OK DUMP a 2 4"
 
 
-@pytest.mark.parametrize(
-    "body", ["2\r\nx\r\nAr 0 0 0\r\nAr 1.5 0 0", "\n\n2\n\u00e5ngstr\u00f6m : > + end\nAr 0 0 0\nAr 1.5 0 0\nmore\n"]
-)
+@pytest.mark.parametrize("body", ["2\r\nx\r\nAr 0 0 0\r\nAr 1.5 0 0", "\n\n2\n\u00e5ngstr\u00f6m : > + end\nAr 0 0 0\nAr 1.5 0 0\nmore\n"])
 def test_a_body_is_kept_to_the_byte(user, path, body):
     count = len(body.encode())
     user.load("a", body, edge=256, sigma=1, h=131072, record=path)
@@ -112,7 +110,10 @@ def test_a_mixture(user, path):
     assert m.place(1) == (25164646, 0, 0)
     user.close()
     assert commands(path) == [
-        "LOADMIX m 256 Na Cl 1 131072 256 1 262144 512 1 131072 256 rest 26", "MEASURE m", "ADVANCE m 1", "SHOW m 1",
+        "LOADMIX m 256 Na Cl 1 131072 256 1 262144 512 1 131072 256 rest 26",
+        "MEASURE m",
+        "ADVANCE m 1",
+        "SHOW m 1",
     ]
     assert is_the_same(path) == []
 
@@ -434,6 +435,7 @@ def test_a_file_that_can_no_longer_be_written(user, path):
 
 # Over a server
 
+
 @pytest.fixture
 def server():
     with Server() as server:
@@ -498,7 +500,10 @@ def test_replies_that_are_on_their_way_when_a_new_connection_begins(server, path
         assert argon.step == 10000
         argon.drop()
     assert [line for line in without_checks(path) if line[0] in ">c"][-4:] == [
-        "> ADVANCE argon 10000", "connection", "> ADVANCE argon 0", "> DROP argon",
+        "> ADVANCE argon 10000",
+        "connection",
+        "> ADVANCE argon 0",
+        "> DROP argon",
     ]
     assert is_the_same(path) == []
 

@@ -11,7 +11,7 @@ import unittest
 from unittest import mock
 
 from ljclient import arrays, refusals, run, units
-from support import DIMER, DIMER_SCALE, EXAMPLES, PROGRAM, dimer, listed
+from support import EXAMPLES, PROGRAM, dimer, listed
 
 try:
     import ase.io

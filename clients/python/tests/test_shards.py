@@ -129,12 +129,15 @@ def test_a_server_that_is_no_more(users, tmp_path):
     assert list(spread(tmp_path)) == [1, 2] and not (tmp_path / "shards" / "server3.env").exists()
 
 
-@pytest.mark.parametrize("count, servers, words, cause", [
-    (129, 2, [], "there are 129 users, and 2 servers have room for 128"),
-    (2, 3, [], "server 3 would have no user, and a server has at least one"),
-    (3, 2, ["--move", "eve=1"], "there is no user eve to move"),
-    (66, 2, ["--move", *(f"user{number}=1" for number in range(65))], "server 1 would have 65 users, and a server has at most 64"),
-])
+@pytest.mark.parametrize(
+    "count, servers, words, cause",
+    [
+        (129, 2, [], "there are 129 users, and 2 servers have room for 128"),
+        (2, 3, [], "server 3 would have no user, and a server has at least one"),
+        (3, 2, ["--move", "eve=1"], "there is no user eve to move"),
+        (66, 2, ["--move", *(f"user{number}=1" for number in range(65))], "server 1 would have 65 users, and a server has at most 64"),
+    ],
+)
 def test_no_room_changes_nothing(users, tmp_path, count, servers, words, cause):
     told(tmp_path, users(4), 2)
     before = {path.name: path.read_text() for path in (tmp_path / "shards").iterdir()}
@@ -142,11 +145,14 @@ def test_no_room_changes_nothing(users, tmp_path, count, servers, words, cause):
     assert {path.name: path.read_text() for path in (tmp_path / "shards").iterdir()} == before
 
 
-@pytest.mark.parametrize("text, cause", [
-    ("ann short 8 16384 16\n", "line 1: the token is too short: it has 5 characters, and not 32"),
-    (f"ann {TOKEN} 8 16384 16\nann {TOKEN} 8 16384 16\n", "line 2: the name ann is there twice"),
-    ("# none\n", "there is no user"),
-])
+@pytest.mark.parametrize(
+    "text, cause",
+    [
+        ("ann short 8 16384 16\n", "line 1: the token is too short: it has 5 characters, and not 32"),
+        (f"ann {TOKEN} 8 16384 16\nann {TOKEN} 8 16384 16\n", "line 2: the name ann is there twice"),
+        ("# none\n", "there is no user"),
+    ],
+)
 def test_a_file_that_is_none_of_users(tmp_path, text, cause):
     (tmp_path / "users").write_text(text)
     status, out, error = told(tmp_path, "users", 2)
@@ -154,10 +160,21 @@ def test_a_file_that_is_none_of_users(tmp_path, text, cause):
     assert TOKEN not in error and not (tmp_path / "shards").exists()
 
 
-@pytest.mark.parametrize("words", [
-    [], ["users"], ["users", "0"], ["users", "x"], ["users", "2", "--workers", "17"], ["users", "2", "--port", "65535"],
-    ["users", "2", "--host", "here"], ["users", "2", "--move", "ann"], ["users", "2", "--move", "ann=3"], ["--certificate", "a b"],
-])
+@pytest.mark.parametrize(
+    "words",
+    [
+        [],
+        ["users"],
+        ["users", "0"],
+        ["users", "x"],
+        ["users", "2", "--workers", "17"],
+        ["users", "2", "--port", "65535"],
+        ["users", "2", "--host", "here"],
+        ["users", "2", "--move", "ann"],
+        ["users", "2", "--move", "ann=3"],
+        ["--certificate", "a b"],
+    ],
+)
 def test_words_that_are_none(tmp_path, words):
     status, out, error = told(tmp_path, *words)
     assert (status, out, error.count("\n")) == (2, "", 1) and error.startswith("shards: ")

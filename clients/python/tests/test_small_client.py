@@ -74,14 +74,18 @@ def test_numbers_that_a_double_does_not_hold(tmp_path):
     assert f", kinetic number {kinetic}, " in told(PROGRAM, path, 10, 1, 2**24, 1)[1]
 
 
-@pytest.mark.parametrize("words, cause", [
-    (["/no/such/program", *ARGON, "1"], "spawn /no/such/program ENOENT"),
-    ([PROGRAM, "/no/such.xyz", "1", "1", "1", "1"], "ENOENT: no such file or directory, open '/no/such.xyz'"),
-    ([PROGRAM, *ARGON, "x"], "ERR 03 SYNTAX"),
-    ([PROGRAM, *ARGON[:3], "0", "1"], "ERR 38 STEP_FACTOR"),
-    (["127.0.0.1", "ann", *ARGON, "1"], "127.0.0.1 is no HOST:PORT"),
-    ([*ARGON], "say HOST:PORT NAME or PROGRAM, then FILE.xyz EDGE SIGMA STEPFACTOR STEPS"),
-], ids=["program", "file", "word", "factor", "address", "words"])
+@pytest.mark.parametrize(
+    "words, cause",
+    [
+        (["/no/such/program", *ARGON, "1"], "spawn /no/such/program ENOENT"),
+        ([PROGRAM, "/no/such.xyz", "1", "1", "1", "1"], "ENOENT: no such file or directory, open '/no/such.xyz'"),
+        ([PROGRAM, *ARGON, "x"], "ERR 03 SYNTAX"),
+        ([PROGRAM, *ARGON[:3], "0", "1"], "ERR 38 STEP_FACTOR"),
+        (["127.0.0.1", "ann", *ARGON, "1"], "127.0.0.1 is no HOST:PORT"),
+        ([*ARGON], "say HOST:PORT NAME or PROGRAM, then FILE.xyz EDGE SIGMA STEPFACTOR STEPS"),
+    ],
+    ids=["program", "file", "word", "factor", "address", "words"],
+)
 def test_what_is_at_fault_is_told_in_a_line(words, cause):
     assert told(*words) == (1, "", f"small_client: {cause}\n")
 

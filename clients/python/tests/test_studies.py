@@ -95,5 +95,3 @@ def test_the_notebook_runs():
     text = told("-c", code.replace("energies(user, h)", "energies(user, h, 400)"))
     assert "back at the crystal, to the bit: True" in text
     assert "both are back, to the bit: True" in text
-
-

@@ -24,9 +24,7 @@ def test_kob_and_andersen():
     wanted = Mixture.of(9.4, ("A", "B"), mass=1.0, dt=dt, **pairs)
     mixture = Mixture.of(9.4, **units.KOB_ANDERSEN)
     assert mixture == Mixture.of(9.4, ("A", "B"), classes=[(1, 4096, 256), (0.8, 9600, 384), (0.88, 2645, 128)])
-    assert [(each.sigma, each.h, each.weight) for each in mixture.classes] == [
-        (each.sigma, each.h, each.weight) for each in wanted.classes
-    ]
+    assert [(each.sigma, each.h, each.weight) for each in mixture.classes] == [(each.sigma, each.h, each.weight) for each in wanted.classes]
     assert units.kob_andersen(64)["classes"] == [(1, 64, 256), (0.8, 150, 384), (0.88, 41, 128)]
     with run(PROGRAM) as user:
         mix = user.load_mix("ka", "2\n\nA 0 0 0\nB 0.9 0 0\n", edge=9.4, **units.KOB_ANDERSEN)

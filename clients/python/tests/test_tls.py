@@ -14,6 +14,8 @@ from support import EXAMPLES, SECONDS, TOKEN, Server, dimer, free_port, listed, 
 from terminals import environment
 
 pytestmark = pytest.mark.skipif(shutil.which("openssl") is None, reason="openssl is not installed")
+
+
 @pytest.fixture(scope="module")
 def good(tmp_path_factory):
     return certificate(tmp_path_factory.mktemp("good"), "good")

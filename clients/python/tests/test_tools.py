@@ -75,9 +75,16 @@ class Users(unittest.TestCase):
 
     def test_words_that_say_no_users(self):
         for words, why in [
-            ([], "say how many"), (["0"], "1 to 64"), (["65"], "1 to 64"), (["a b"], "no name"), (["ann", "ann"], "twice"),
-            (["x" * 17], "no name"), (["3", "--quota", "65", "1", "1"], "0 to 64"), (["3", "--server", "x"], "HOST:PORT"),
-            (["3", "--check", "x"], "say how many"), (["--quota"], "expected 3"),
+            ([], "say how many"),
+            (["0"], "1 to 64"),
+            (["65"], "1 to 64"),
+            (["a b"], "no name"),
+            (["ann", "ann"], "twice"),
+            (["x" * 17], "no name"),
+            (["3", "--quota", "65", "1", "1"], "0 to 64"),
+            (["3", "--server", "x"], "HOST:PORT"),
+            (["3", "--check", "x"], "say how many"),
+            (["--quota"], "expected 3"),
         ]:
             status, out, err = told(*words)
             self.assertEqual((status, out), (2, ""), words)
@@ -137,9 +144,13 @@ class Checks(unittest.TestCase):
 
     def test_good_files(self):
         for text, count in [
-            (GOOD, "1 user"), (GOOD.rstrip() + "\n\n# end", "1 user"), (f"\tann  {TOKEN}\t0 0 0 ", "1 user"),
-            ("".join(GOOD.replace("ann", f"u{number}") for number in range(64)), "64 users"), (told("9")[1], "9 users"),
-            ((EXAMPLES / "users").read_text(), "2 users"), (f"ann {TOKEN} 0000000000000000064 65536 256\n", "1 user"),
+            (GOOD, "1 user"),
+            (GOOD.rstrip() + "\n\n# end", "1 user"),
+            (f"\tann  {TOKEN}\t0 0 0 ", "1 user"),
+            ("".join(GOOD.replace("ann", f"u{number}") for number in range(64)), "64 users"),
+            (told("9")[1], "9 users"),
+            ((EXAMPLES / "users").read_text(), "2 users"),
+            (f"ann {TOKEN} 0000000000000000064 65536 256\n", "1 user"),
         ]:
             with self.subTest(text), file_of(text) as path:
                 self.assertEqual(told("--check", path), (0, f"{count}\n", ""))

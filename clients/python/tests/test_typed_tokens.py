@@ -137,4 +137,4 @@ def test_a_slip_says_how_to_come_by_the_client():
     folder = re.search("^    pip install (.*)$", slip, re.M)[1]
     assert f"`export PYTHONPATH={folder}`" in slip and "the folder of ljserve" in slip
     assert (TOP / folder / "pyproject.toml").is_file() and (TOP / folder / "ljclient").is_dir()
-    assert f' {folder} ' in re.search(r"^contents=\((.*)\)$", (TOP / "bin" / "release").read_text(), re.M)[1]
+    assert f" {folder} " in re.search(r"^contents=\((.*)\)$", (TOP / "bin" / "release").read_text(), re.M)[1]

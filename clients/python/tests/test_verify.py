@@ -92,8 +92,12 @@ def test_the_program_of_another_version(path, tmp_path):
     ("wanted", "other", "line", "here"),
     [
         ("OK SHOW a 1 0 589 0 0", "OK SHOW a 1 0 590 0 0", 12, "`OK SHOW a 1 0 589 0 0`, and `OK SHOW a 1 0 590 0 0` here"),
-        ("Ar 1.499894 0.000000 0.000000", "Ar 1.499895 0.000000 0.000000", 19,
-         "`OK DUMP a 2 4`, and here too, but the lines below it are others"),
+        (
+            "Ar 1.499894 0.000000 0.000000",
+            "Ar 1.499895 0.000000 0.000000",
+            19,
+            "`OK DUMP a 2 4`, and here too, but the lines below it are others",
+        ),
         ("OK LOAD a 0 2", "ERR 37 SIGMA", 4, "`OK LOAD a 0 2`, and `ERR 37 SIGMA` here"),
         ("ERR 12 NO_BRANCH", "OK RESTORE a z 1", 22, "`ERR 12 NO_BRANCH`, and `OK RESTORE a z 1` here"),
     ],
@@ -204,16 +208,23 @@ def test_files_that_are_no_records(path, head, why):
         ("rest 28", "rest 17", 8, "here a reply should stand"),
         ("rest 28", "rest x", 5, "here a reply should stand"),
         ("< OK SHOW a 1 0 589 0 0", "quota sessions 1 atoms 2 branches 0", 13, "here a reply should stand"),
-        ("quota sessions 1 atoms 2 branches 1", "quota sessions 1 atoms 2 branches 257", 14,
-         "a quota is of sessions, atoms and branches, at most 64, 65536 and 256"),
-        ("quota sessions 1 atoms 2 branches 1", "quota 1 2 1", 14,
-         "a quota is of sessions, atoms and branches, at most 64, 65536 and 256"),
+        (
+            "quota sessions 1 atoms 2 branches 1",
+            "quota sessions 1 atoms 2 branches 257",
+            14,
+            "a quota is of sessions, atoms and branches, at most 64, 65536 and 256",
+        ),
+        ("quota sessions 1 atoms 2 branches 1", "quota 1 2 1", 14, "a quota is of sessions, atoms and branches, at most 64, 65536 and 256"),
         ("quota sessions 1 atoms 2 branches 1", "< OK SHOW a 1 0 589 0 0", 14, "the line stands below no command"),
         ("quota sessions 1 atoms 2 branches 1", "branches 1", 14, "there is no line of this kind"),
         ("quota sessions 1 atoms 2 branches 1", "end", 15, "the record goes on below its end"),
         ("quota sessions 1 atoms 2 branches 1", "moved", 15, "here a session should begin with a LOAD or LOADMIX"),
-        ("> LOAD a 256 1 131072 rest 28\n: 2\n: dimer\n: Ar 0 0 0\n: Ar 1.5 0 0\n< OK LOAD a 0 2\n", "", 4,
-         "here a session should begin with a LOAD or LOADMIX"),
+        (
+            "> LOAD a 256 1 131072 rest 28\n: 2\n: dimer\n: Ar 0 0 0\n: Ar 1.5 0 0\n< OK LOAD a 0 2\n",
+            "",
+            4,
+            "here a session should begin with a LOAD or LOADMIX",
+        ),
         ("< OK DUMP a 2 4\n+", "< OK DUMP a 2 4\n>", 21, "here the sum of the lines of a reply should stand"),
     ],
 )
@@ -270,6 +281,7 @@ def test_more_commands_than_a_program_takes(path):
 
 
 # Over a server
+
 
 def over(server, name="ann"):
     return ["--server", f"127.0.0.1:{server.port}", name]

@@ -264,7 +264,12 @@ class Told(unittest.TestCase):
         for what, words in (
             *(("frame", {"steps": steps}) for steps in (-1, 1001, True, 1.0, "1", None)),
             *(("tug", {"atom": 0, "by": by}) for by in ([0, 0], "abc", [2**31, 0, 0], [0, 0, 0.5], None)),
-            ("tug", {"atom": 2, "by": [0, 0, 0]}), ("load", {"scene": 1}), ("frame", {}), ("exit", {}), (None, {}), ([], {}),
+            ("tug", {"atom": 2, "by": [0, 0, 0]}),
+            ("load", {"scene": 1}),
+            ("frame", {}),
+            ("exit", {}),
+            (None, {}),
+            ([], {}),
         ):
             self.assertEqual(list(page.ask(what, **words)), ["error"])
         for message in ("", "{", "[]", "1", "[" * 60000):

@@ -158,8 +158,12 @@ class InABrowser(unittest.TestCase):
         """Of a session at a server that may be any step. At least a hundred steps are shown, and earlier ones if they are there."""
         chart = "new script.Chart(document.createElement('canvas'), [], [0, 1])"
         for steps, per, wanted in (
-            ([0], 1, [0, 100]), ([0, 400, 8], 1, [0, 400]), ([101000], 1, [101000, 101100]),
-            ([101000, 102384], 1, [101000, 102384]), ([2000, 1500], 1, [1500, 2100]), ([2000, 2400], 0.5, [1000, 1200]),
+            ([0], 1, [0, 100]),
+            ([0, 400, 8], 1, [0, 400]),
+            ([101000], 1, [101000, 101100]),
+            ([101000, 102384], 1, [101000, 102384]),
+            ([2000, 1500], 1, [1500, 2100]),
+            ([2000, 2400], 0.5, [1000, 1200]),
         ):
             rows = str([{"step": step} for step in steps])
             shown = self.of_script("charts.js", f"{{ const chart = {chart}; chart.per = {per}; return chart.stepsOf({rows}); }}")

@@ -121,12 +121,15 @@ def test_a_tug_is_no_burst(opened):
     assert page.text("warning") == ""
 
 
-@pytest.mark.parametrize("rows", [
-    [[0, 0], [12345, 12345]],
-    [[0, -6], [123456, 123456]],
-    [[-200000, -98765], [987654, 876543]],
-    [[0, 0], [12345678, 8e11]],
-])
+@pytest.mark.parametrize(
+    "rows",
+    [
+        [[0, 0], [12345, 12345]],
+        [[0, -6], [123456, 123456]],
+        [[-200000, -98765], [987654, 876543]],
+        [[0, 0], [12345678, 8e11]],
+    ],
+)
 def test_labels_are_whole_and_apart(opened, rows):
     page = opened(APART, "--h", 131072)
     written = page.value(WRITTEN.replace("ROWS", json.dumps(rows)))
@@ -136,9 +139,18 @@ def test_labels_are_whole_and_apart(opened, rows):
     assert all(one["right"] < other["left"] for one, other in zip(steps, steps[1:])), steps
 
 
-@pytest.mark.parametrize("value, text", [
-    (0, "0"), (-0.05, "−0.05"), (0.00002, "2e−5"), (12000, "12,000"), (-250000, "−250,000"), (1200000, "1.2e6"), (-8e11, "−8e11"),
-])
+@pytest.mark.parametrize(
+    "value, text",
+    [
+        (0, "0"),
+        (-0.05, "−0.05"),
+        (0.00002, "2e−5"),
+        (12000, "12,000"),
+        (-250000, "−250,000"),
+        (1200000, "1.2e6"),
+        (-8e11, "−8e11"),
+    ],
+)
 def test_a_label_has_few_letters(opened, value, text):
     page = opened(APART, "--h", 131072)
     assert page.value(f"import('./charts.js').then(script => script.label({value}))") == text

@@ -100,9 +100,11 @@ def of_script(page, name, text):
 
 def show(page, *charts):
     """Ticks the boxes of these charts, and of no other."""
-    page.value(f"""document.querySelectorAll('#charts input').forEach(box => {{
+    page.value(
+        f"""document.querySelectorAll('#charts input').forEach(box => {{
       if (box.checked !== {list(charts)}.includes(box.value)) box.click();
-    }})""")
+    }})"""
+    )
 
 
 def test_speeds_and_distances_are_shown_of_the_frame(page):
@@ -121,7 +123,9 @@ def test_the_radial_distribution_of_a_crystal(page):
     which lie anywhere."""
     sites = [
         [(cell + part) * 2**30 for cell, part in zip((i, j, k), face)]
-        for i in range(4) for j in range(4) for k in range(4)
+        for i in range(4)
+        for j in range(4)
+        for k in range(4)
         for face in ((0, 0, 0), (0.5, 0.5, 0), (0.5, 0, 0.5), (0, 0.5, 0.5))
     ]
     flat = [part for site in sites for part in site]
@@ -210,8 +214,15 @@ def test_a_picture_and_the_rows_are_saved(page, tmp_path):
     with files[".csv"].open(newline="") as file:
         rows = list(csv.reader(file))
     assert rows[0] == [
-        "step", "time (tau)", "direction", "distance (sigma)", "kinetic (epsilon)", "potential (epsilon)", "total (epsilon)",
-        "temperature (epsilon/k)", "apart (sigma)",
+        "step",
+        "time (tau)",
+        "direction",
+        "distance (sigma)",
+        "kinetic (epsilon)",
+        "potential (epsilon)",
+        "total (epsilon)",
+        "temperature (epsilon/k)",
+        "apart (sigma)",
     ]
     assert [row[0] for row in rows[1:]] == ["0", "1", "2"]
     assert abs(float(rows[3][1]) - 2 * (131072 / 2**32) ** 0.5) < 1e-12

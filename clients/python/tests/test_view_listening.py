@@ -73,11 +73,14 @@ def test_it_stays_when_a_page_is_closed_and_ends_by_an_interrupt(view):
     assert view.end() == (0, "")
 
 
-@pytest.mark.parametrize("words, told", [
-    (["--listen", "8000"], "--listen is an ADDRESS:PORT"),
-    (["--listen", "0.0.0.0:8000", "--port", "1"], "leave --port out"),
-    (["--address", "class.example"], "--address is for --listen"),
-])
+@pytest.mark.parametrize(
+    "words, told",
+    [
+        (["--listen", "8000"], "--listen is an ADDRESS:PORT"),
+        (["--listen", "0.0.0.0:8000", "--port", "1"], "leave --port out"),
+        (["--address", "class.example"], "--address is for --listen"),
+    ],
+)
 def test_words_that_do_not_fit(words, told):
     done = subprocess.run(**command(*words), capture_output=True, timeout=SECONDS)
     assert (done.returncode, told in done.stderr) == (2, True)

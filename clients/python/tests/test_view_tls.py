@@ -139,8 +139,11 @@ def test_a_server_that_is_not_trusted_is_told_before_a_page(relay, server, other
             (relay.port, [], cannot_connect(relay.port, UNKNOWN)),
             (relay.port, ["--ca", other[0]], cannot_connect(relay.port, issuer)),
             (far.port, ["--ca", elsewhere[0]], cannot_connect(far.port, name)),
-            (relay.port, ["--ca", tmp_path / "bad.pem"], f"{tmp_path}/bad.pem has no certificate: "
-             "say a file in PEM with that of the server's issuer"),
+            (
+                relay.port,
+                ["--ca", tmp_path / "bad.pem"],
+                f"{tmp_path}/bad.pem has no certificate: " "say a file in PEM with that of the server's issuer",
+            ),
             (relay.port, ["--ca", tmp_path / "none.pem"], f"cannot read {tmp_path}/none.pem: No such file or directory"),
         ]
         for port, words, why in cases:

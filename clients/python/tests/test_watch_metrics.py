@@ -176,17 +176,20 @@ def test_a_host_of_which_one_address_cannot_be_had(monkeypatch):
     assert server_process.hosts_here("localhost") == here
 
 
-@pytest.mark.parametrize("words, accepts", [
-    ("ljserve serve --listen 127.0.0.1:4000 --users u --workers 4 --connections 70", 70),
-    ("sh bin/ljserve serve --connections 8 --listen 0.0.0.0:4000", 8),
-    ("ljserve serve --listen [::]:4000 --connections 9", 9),
-    ("ljserve serve --listen 127.0.0.1:4001 --connections 70", None),
-    ("ljserve serve --listen 127.0.0.2:4000 --connections 70", None),
-    ("ljserve serve --listen 127.0.0.1:4000", None),
-    ("ljserve serve --listen 127.0.0.1:4000 --connections", None),
-    ("ljserve serve --listen 127.0.0.1:4000 --connections many", None),
-    ("watch 127.0.0.1:4000 127.0.0.1:4001", None),
-])
+@pytest.mark.parametrize(
+    "words, accepts",
+    [
+        ("ljserve serve --listen 127.0.0.1:4000 --users u --workers 4 --connections 70", 70),
+        ("sh bin/ljserve serve --connections 8 --listen 0.0.0.0:4000", 8),
+        ("ljserve serve --listen [::]:4000 --connections 9", 9),
+        ("ljserve serve --listen 127.0.0.1:4001 --connections 70", None),
+        ("ljserve serve --listen 127.0.0.2:4000 --connections 70", None),
+        ("ljserve serve --listen 127.0.0.1:4000", None),
+        ("ljserve serve --listen 127.0.0.1:4000 --connections", None),
+        ("ljserve serve --listen 127.0.0.1:4000 --connections many", None),
+        ("watch 127.0.0.1:4000 127.0.0.1:4001", None),
+    ],
+)
 def test_the_words_of_a_server(words, accepts):
     assert server_process.connections_of(words.split(), server_process.hosts_here("127.0.0.1"), 4000) == accepts
 

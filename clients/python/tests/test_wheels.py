@@ -155,12 +155,15 @@ def test_the_same_sources_give_the_same_bytes(tmp_path, programs):
     assert len(one) == 2 and one == other
 
 
-@pytest.mark.parametrize("texts, why", [
-    (["echo 'ljserve 0.0.1'"] * 2, f"ljclient-{ljclient.__version__}-py3-none-any.whl is not of the program's version, 0.0.1"),
-    (["echo 'ljserve 0.0.1'", "echo 'ljserve 0.0.2'"], "has programs of two versions, 0.0.1 and 0.0.2"),
-    (["echo 'ljserve 0.0.1'", "echo hello"], "ljserve-v3 is not a built ljserve: it tells no version"),
-    (["echo hello", "echo 'ljserve 0.0.1'"], "ljserve-v2 is not a built ljserve: it tells no version"),
-])
+@pytest.mark.parametrize(
+    "texts, why",
+    [
+        (["echo 'ljserve 0.0.1'"] * 2, f"ljclient-{ljclient.__version__}-py3-none-any.whl is not of the program's version, 0.0.1"),
+        (["echo 'ljserve 0.0.1'", "echo 'ljserve 0.0.2'"], "has programs of two versions, 0.0.1 and 0.0.2"),
+        (["echo 'ljserve 0.0.1'", "echo hello"], "ljserve-v3 is not a built ljserve: it tells no version"),
+        (["echo hello", "echo 'ljserve 0.0.1'"], "ljserve-v2 is not a built ljserve: it tells no version"),
+    ],
+)
 def test_programs_that_do_not_fit(tmp_path, texts, why):
     for name, text in zip(NAMES, texts):
         put(tmp_path / name, text)

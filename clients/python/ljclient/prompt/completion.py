@@ -13,6 +13,7 @@ from .shapes import usages, wrong_words
 
 PATIENCE = 1.0
 
+
 def candidates(before: Sequence[str], word: str, user: Optional[User]) -> List[str]:
     """What a word may be, after the words before it in the line."""
     known = [name.lower() if word[:1].islower() else name for name in first_words()]

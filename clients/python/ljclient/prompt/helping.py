@@ -79,9 +79,7 @@ def on_own(forms: List[Own], width: int, follows: bool) -> List[str]:
 
 def wrapped(text: str, first: str, indent: str, width: int) -> List[str]:
     """A text as lines of so many columns at most, of which the first begins with something else than the others."""
-    return textwrap.wrap(
-        text, width, initial_indent=first, subsequent_indent=indent, break_long_words=False, break_on_hyphens=False
-    )
+    return textwrap.wrap(text, width, initial_indent=first, subsequent_indent=indent, break_long_words=False, break_on_hyphens=False)
 
 
 def refusal_named(word: str) -> "Optional[type[Refused]]":

@@ -98,4 +98,3 @@ def read_body(path: str) -> bytes:
 def line_of(load: FromFile, body: bytes) -> str:
     """The command of the protocol for a load from a file."""
     return " ".join([*load.words, str(len(body))])
-

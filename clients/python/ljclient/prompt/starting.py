@@ -25,10 +25,7 @@ SECONDS_OF_A_PROGRAM = 1_000_000.0
 SECONDS_UNTIL_WORD = 2.0
 TRIES = 3
 KEYS = "`help` lists the commands, Ctrl-D ends."
-MISSING = (
-    "For hints, completion and a history install prompt_toolkit: `pip install prompt_toolkit`, or Debian's "
-    "python3-prompt-toolkit."
-)
+MISSING = "For hints, completion and a history install prompt_toolkit: `pip install prompt_toolkit`, or Debian's " "python3-prompt-toolkit."
 ABOUT = """\
 A prompt for the commands of the protocol. Without HOST:PORT it starts a program of its own, and what is loaded is gone when it
 ends. `help` lists the commands. With an input that is no terminal it writes the replies alone.

@@ -4,7 +4,7 @@ Each answer has the frame as it then is. Steps are those of the server, and the 
 """
 from __future__ import annotations
 
-from typing import Any, Callable, Dict, List, NamedTuple, Optional, Tuple
+from typing import Any, Callable, Dict, List, NamedTuple, Tuple
 
 from .. import ClientError, Measurement, Scale, Session, User
 from ..refusals import NoSession
@@ -122,9 +122,7 @@ class Stage:
     def compare(self) -> Answer:
         """How many atoms have the very places that they had at the start, and when it was saved."""
         present = self._present()
-        same = {
-            NAMES[name]: sum(one == other for one, other in zip(present, places)) for name, places in self._places.items()
-        }
+        same = {NAMES[name]: sum(one == other for one, other in zip(present, places)) for name, places in self._places.items()}
         return {"same": same, "atoms": len(present), **self._when(self._now.direction)}
 
     def both(self) -> Answer:
