@@ -16,7 +16,7 @@ import ljclient  # noqa: E402
 
 project = "ljclient"
 release = version = ljclient.__version__
-copyright = "the ljserve authors"
+copyright = "The ljserve developers"
 extensions = ["sphinx.ext.autodoc", "myst_parser"]
 default_role = "py:obj"
 html_theme = "alabaster"
