@@ -143,7 +143,7 @@ def first_dialogue(block, folder):
 
 
 def commands_of_a_checkpoint(block, folder):
-    told = re.search(r"The replies are `(.*?)`, `(.*?)` and `(.*?)`", contents("docs/CHECKPOINTS.md")).groups()
+    told = re.search(r"The replies are `(.*?)`, `(.*?)` and `(.*?)`", contents(block.document)).groups()
     assert replies(folder, block.text) == list(told)
 
 
@@ -153,11 +153,12 @@ def recorded_run(block, folder):
 
 def played_record(block, folder):
     """The record is that of the block above."""
-    (script,) = re.findall(r"```python\n(.*?)```", contents("docs/RECORDS.md"), re.S)
+    text = contents(block.document)
+    (script,) = [each.text for each in all_blocks() if each.document == block.document and "record=" in each.text]
     folder.python(script)
     *_, verdict = folder.shell(block.text).splitlines()
-    said = re.search(r"`(all \d+ replies are the same)`", contents("docs/RECORDS.md"))[1]
-    (command,) = re.findall(r"`(sed .*? sha256sum)`", contents("docs/RECORDS.md"))
+    said = re.search(r"`(all \d+ replies are the same)`", text)[1]
+    (command,) = re.findall(r"`(sed .*? sha256sum)`", text)
     assert verdict == f"argon.lj: {said}; SHA-256 {folder.shell(command).split()[0]}"
 
 
@@ -169,7 +170,7 @@ def file_of_a_record(block, folder):
 def own_file(block, folder):
     told = folder.shell(block.text).splitlines()
     assert told[:2] == ["OK LOAD a 0 256", "OK ADVANCE a 100"]
-    assert f"`{told[2]}`" in contents("docs/EXAMPLES.md")
+    assert f"`{told[2]}`" in contents("docs/api/examples.md")
 
 
 def connected(port, child):
@@ -365,7 +366,7 @@ def prompt_at_a_terminal(block, folder):
 def prompt_in_a_pipe(block, folder):
     told = folder.shell(block.text).splitlines()
     assert told[:2] == ["OK LOAD a 0 256", "OK ADVANCE a 100"]
-    assert f"`{told[2]}`" in contents("docs/EXAMPLES.md")
+    assert f"`{told[2]}`" in contents("docs/api/examples.md")
 
 
 # conformance/README.md
@@ -413,6 +414,15 @@ BLOCKS = {
     "docs/ARCHITECTURE.md": {"                      lock: Hall": DRAWING},
     "docs/api/ase.md": {"ReversibleVerlet(": driver_of_ase},
     "docs/api/ensemble.md": {"partial(begin": many_runs},
+    "docs/api/examples.md": {"(examples/load": own_file},
+    "docs/api/files.md": {
+        "argon.save(": prints("500 1000", "0.0"),
+        "ljserve checkpoint 1": "clients/python/tests/test_checkpoint.py compares it with a file that is written by hand",
+        "LOAD a 4294.967296": commands_of_a_checkpoint,
+        "argon.advance(100, piece=100)": recorded_run,
+        "python3 -m ljclient verify": played_record,
+        "ljserve record 1": file_of_a_record,
+    },
     "docs/api/loading.md": {
         "user.load_mix(": two_species,
         "Ar with Ar": "compared with what the block above it prints",
@@ -428,11 +438,6 @@ BLOCKS = {
         "python3 -m ljclient view 127": "needs a browser; clients/python/tests/test_view_server.py begins it without one",
         "python3 -m ljclient view --listen": "needs a browser; clients/python/tests/test_view_listening.py begins it without one",
     },
-    "docs/CHECKPOINTS.md": {
-        "argon.save(": prints("500 1000", "0.0"),
-        "ljserve checkpoint 1": "clients/python/tests/test_checkpoint.py compares it with a file that is written by hand",
-        "LOAD a 4294.967296": commands_of_a_checkpoint,
-    },
     "docs/CLASS.md": {
         "tools/class": "clients/python/tests/test_class.py begins it, at ports that are free",
         "22 users in": "clients/python/tests/test_class.py compares such lines, whose times and addresses differ",
@@ -445,7 +450,6 @@ BLOCKS = {
         "3 open": "clients/python/tests/test_watch.py compares such lines, whose times and addresses differ",
         "from ljclient import": after_the_lesson,
     },
-    "docs/EXAMPLES.md": {"(examples/load": own_file},
     "docs/PROTOCOL.md": {
         LOADED: first_dialogue,
         "2\nstep 1": is_frame_after(1),
@@ -454,11 +458,6 @@ BLOCKS = {
         "OK DUMP a 2 4": is_frame_after(2),
         "TUG a 0 -2147483648": is_dialogue(LOADED),
         "ljserve run": runs(),
-    },
-    "docs/RECORDS.md": {
-        "argon.advance(100, piece=100)": recorded_run,
-        "python3 -m ljclient verify": played_record,
-        "ljserve record 1": file_of_a_record,
     },
     "docs/READING.md": {
         "pub fn image": stands_in("crates/lj_ring/src/coordinates.rt"),
@@ -492,7 +491,7 @@ BLOCKS = {
         "sudo apt": "clients/python/tests/test_debian_packages.py installs both, in a root of its own",
         "sudo cat": "clients/python/tests/test_debian_packages.py reads the token there, and lets the prompt read it",
     },
-    "docs/SOAK.md": {
+    "bench/README.md": {
         "bench/soak serve": TAKES_HOURS,
         "bench/soak bytes": TAKES_HOURS,
         "bench/keep kills": "takes minutes; clients/python/tests/test_keep_trials.py has a few kills and streams",

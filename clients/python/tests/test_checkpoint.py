@@ -274,10 +274,10 @@ class Restarts(Saves):
 
 
 class Document(unittest.TestCase):
-    """What docs/CHECKPOINTS.md shows; tests/documents runs its code and its commands."""
+    """What docs/api/files.md shows; tests/documents runs its code and its commands."""
 
     def test_the_file(self):
-        (file,) = re.findall(r"```\n(ljserve checkpoint.*?)```", (TOP / "docs" / "CHECKPOINTS.md").read_text(), re.S)
+        (file,) = re.findall(r"```\n(ljserve checkpoint.*?)```", (TOP / "docs" / "api" / "files.md").read_text(), re.S)
         self.assertEqual(file, with_checks(DIMER_FILE))
 
 

@@ -55,7 +55,7 @@ class WithoutModules(unittest.TestCase):
     def test_what_the_notebook_needs_is_told(self):
         needs = "".join(NOTEBOOK["cells"][0]["source"])
         self.assertIn("python3 -m pip install ipykernel matplotlib", needs)
-        self.assertIn("python3 -m pip install ipykernel matplotlib", (TOP / "docs" / "EXAMPLES.md").read_text())
+        self.assertIn("python3 -m pip install ipykernel matplotlib", (TOP / "docs" / "api" / "examples.md").read_text())
 
     def test_the_python_of_these_tests_is_told(self):
         words = [sys.executable, TOP / "tests" / "client", PROGRAM, "--only", "no_test_has_this_name"]
@@ -79,7 +79,7 @@ class OnAServer(unittest.TestCase):
         self.assertEqual((done.returncode, done.stdout.splitlines()[:2]), (0, ["256", "step 100"]))
         place = "638484 804537 4294921034"
         self.assertIn(f"step 100: atom 0 at {place}\nmomentum 0 0 0, ", done.stderr)
-        self.assertIn(f"`OK SHOW a 100 0 {place}`", (TOP / "docs" / "EXAMPLES.md").read_text())
+        self.assertIn(f"`OK SHOW a 100 0 {place}`", (TOP / "docs" / "api" / "examples.md").read_text())
 
     def test_a_wrong_token(self):
         done = self.ran("w" * 32)

@@ -147,9 +147,9 @@ class Filters(unittest.TestCase):
 
     def test_a_file_in_place_of_the_count(self):
         stream = f"LOAD a {ARGON} 21.04 3.4 3706\nADVANCE a 100\nSHOW a 0\n"
-        # The place that docs/EXAMPLES.md tells of the same run without the client.
+        # The place that docs/api/examples.md tells of the same run without the client.
         place = "OK SHOW a 100 0 638484 804537 4294921034"
-        self.assertIn(place, (TOP / "docs" / "EXAMPLES.md").read_text())
+        self.assertIn(place, (TOP / "docs" / "api" / "examples.md").read_text())
         self.assertEqual(filtered(stream), (0, f"OK LOAD a 0 256\nOK ADVANCE a 100\n{place}\n", ""))
 
     def test_refusals_are_replies(self):

@@ -49,7 +49,7 @@ def test_over_a_server_where_nothing_is_left(pair):
 
 
 def test_a_crystal_of_argon():
-    """The place of atom 0 is that of docs/EXAMPLES.md."""
+    """The place of atom 0 is that of docs/api/examples.md."""
     status, out, _ = told(PROGRAM, *ARGON, 100)
     assert status == 0 and "OK ADVANCE run 100: atom 0 at 638484 804537 4294921034," in out
     assert out.endswith("all 256 atoms are where they began\n")
