@@ -447,7 +447,6 @@ BLOCKS = {
         "LOAD argon": lesson_at_the_prompt,
         "python3 -m ljclient view 192.0.2.10": ELSEWHERE,
         "python3 -m ljclient view --listen": "clients/python/tests/test_view_listening.py begins it, at a port that is free",
-        "3 open": "clients/python/tests/test_watch.py compares such lines, whose times and addresses differ",
         "from ljclient import": after_the_lesson,
     },
     "docs/PROTOCOL.md": {
@@ -487,6 +486,7 @@ BLOCKS = {
         "apt-get install python3": first_server,
         "apt-get install haproxy": servers_behind_haproxy,
         "tools/keep 0.0.0.0": "clients/python/tests/test_keep.py runs it, at ports that are free",
+        "3 open": "clients/python/tests/test_watch.py compares such lines, whose times and addresses differ",
         "tools/watch --metrics": "clients/python/tests/test_watch_metrics.py runs it, at ports that are free",
         "sudo apt": "clients/python/tests/test_debian_packages.py installs both, in a root of its own",
         "sudo cat": "clients/python/tests/test_debian_packages.py reads the token there, and lets the prompt read it",
