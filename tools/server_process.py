@@ -77,7 +77,10 @@ def rows_of_sockets() -> Iterator[Row]:
 
 
 def processes_at(hosts: FrozenSet[str], port: int) -> Iterator[Tuple[Tuple[int, str], int]]:
-    """Each process that is a server at an address by its words, and how many connections it accepts."""
+    """Each process that is a server at an address by its words, and how many connections it accepts.
+
+    All users may read a process' words, and its owner alone the sockets that it has open.
+    """
     for folder in PROC.glob("[0-9]*"):
         try:
             words = (folder / "cmdline").read_text(errors="replace").split("\0")

@@ -191,6 +191,7 @@ def put(temporary: str, path: str, may_replace: bool) -> None:
         if may_replace:
             os.replace(temporary, path)
         else:
+            # Unlike a rename, it fails if the name is taken, also since a moment ago.
             os.link(temporary, path)
     except FileExistsError:
         raise Fault(f"{path} is there already: choose another name, or write it anew by --replace") from None

@@ -20,5 +20,6 @@ def equilibrate(session: "Session", temperature: float, steps: int, every: int, 
     with bars.reporter(progress, session.name) as report:
         for made in range(0, total, every):
             session.advance(min(every, total - made), onward(report, made, total) if report else False)
+            # Also after the last steps, so that the temperature that is told is the one that was asked for.
             reached = session.rescale(temperature)
     return reached
