@@ -116,21 +116,3 @@ def uses(child: Child) -> Dict[int, Use]:
 def use_of(thread: str) -> Use:
     """What a thread has used, whose folder of /proc this is."""
     return Use(spent(thread), status_of(thread, "voluntary_ctxt_switches"))
-
-
-class Host(NamedTuple):
-    """What all processors have spent, in clock ticks, and what of it the host took away."""
-
-    ticks: int
-    stolen: int
-
-    @classmethod
-    def now(cls) -> Host:
-        with open("/proc/stat", encoding="utf-8") as file:
-            ticks = [int(word) for word in file.readline().split()[1:9]]
-        return cls(sum(ticks), ticks[7])
-
-    def stolen_since(self) -> float:
-        """What part of all time the host has taken away since."""
-        now = Host.now()
-        return (now.stolen - self.stolen) / max(now.ticks - self.ticks, 1)

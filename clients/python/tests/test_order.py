@@ -347,7 +347,7 @@ class Script(Sessions):
     def test_files_without_a_frame(self):
         for text, line in [("", 0), ("2\n\nAr 0 0 0\n", 4), ("1\n\nAr 0 0\n", 3), ("1\n\nAr 0 0 x\n", 3), ("x\n", 1)]:
             self.assertIn(f"atoms.xyz has no whole frame: line {line}", self.printed(text, "--sorted", status=1))
-        self.assertIn("usage: load", self.printed("", "--shuffled", status=1))
+        self.assertEqual("load: unrecognized arguments: --shuffled\n", self.printed("", "--shuffled", status=2))
 
 
 if __name__ == "__main__":

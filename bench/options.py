@@ -1,0 +1,47 @@
+"""The words of a measurement's command line."""
+from __future__ import annotations
+
+import argparse
+import os
+import shutil
+from typing import Any, List, NoReturn, Sequence, Tuple
+
+
+def path_of(program: str) -> str:
+    """The whole path of a program, which may be one on the PATH."""
+    found = shutil.which(program)
+    if found is None:
+        raise argparse.ArgumentTypeError(f"there is no program {program}")
+    return os.path.abspath(found)
+
+
+class Parser(argparse.ArgumentParser):
+    """The words of a script, whose help is the text at its head: what it measures, after `usage: ` its words, and what they mean."""
+
+    def __init__(self, about: str = "", **words: Any) -> None:
+        measured, _, rest = about.strip().partition("usage: ")
+        usage, _, more = rest.partition("\n\n")
+        words.setdefault("usage", usage.replace("%", "%%") or None)
+        words.setdefault("formatter_class", argparse.RawDescriptionHelpFormatter)
+        super().__init__(description=measured.strip(), epilog=more, allow_abbrev=False, **words)
+
+    def add_program(self, name: str = "program") -> None:
+        """The path of a built program."""
+        self.add_argument(name, type=path_of, help="the built program")
+
+    def error(self, message: str) -> NoReturn:
+        self.exit(2, f"{self.prog}: {message}\n")
+
+    def parse_program(self, words: Sequence[str]) -> Tuple[List[str], argparse.Namespace]:
+        """The words of a program, which stand before `--`, and what those after it say."""
+        parts = list(words)
+        if "--" not in parts:
+            self.parse_known_args(parts)  # (which ends where help is asked for)
+            self.error("no `--` stands behind the words of the program")
+        at = parts.index("--")
+        options = self.parse_args(parts[at + 1 :])
+        if at == 0:
+            self.error("no program stands before the `--`")
+        if shutil.which(parts[0]) is None:
+            self.error(f"there is no program {parts[0]}")
+        return parts[:at], options

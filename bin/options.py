@@ -1,0 +1,14 @@
+"""The words of the commands of this folder."""
+
+import argparse
+from typing import Any, NoReturn
+
+
+class Parser(argparse.ArgumentParser):
+    """The words of a command, whose help is the text at its head. Wrong words end it by one line and status 2."""
+
+    def __init__(self, about: str, **words: Any) -> None:
+        super().__init__(description=about.strip(), formatter_class=argparse.RawDescriptionHelpFormatter, allow_abbrev=False, **words)
+
+    def error(self, message: str) -> NoReturn:
+        self.exit(2, f"{self.prog}: {message}\n")
