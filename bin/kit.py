@@ -1,16 +1,39 @@
-"""The kit's command `rt` as a module, for what the commands of this folder do with the kit's own functions."""
+"""The kit's command `rt` as a module, and what makes its gate cheaper and the first build faster, until it has words for that itself:
+the order of tasks (Lanes), edits that are tried by the functions which they name, and libraries that are built side by side.
 
+`rt ci` is the judge. Each proof, edit and test is checked by the kit's own functions, of which CALLED lists those that are called here.
+Where one of them is not there, or takes other arguments, a plain `rt ci` is run (bin/gate), or each library built in turn (bin/build).
+"""
+
+import inspect
 import os
+import re
 import shutil
+import subprocess
 import sys
+import threading
 from importlib.machinery import SourceFileLoader
 from importlib.util import module_from_spec, spec_from_loader
+from operator import attrgetter
 from pathlib import Path
-from typing import Any
+from queue import SimpleQueue
+from typing import Any, Callable, Dict, Iterable, List, Optional, Sequence, Set, Tuple
 
 TOP = Path(__file__).resolve().parent.parent
+# The name of a crate, what is done for it, and of an edit its number.
+Key = Tuple[Any, ...]
+# What a task waits for, its work in lines, its memory in bytes, and a call that gets what was given and how many jobs it may use.
+Task = Tuple[List[Key], int, float, Callable[[Dict[Key, Any], int], Any]]
 
-MISSING = 69
+# What each command calls of the kit's, with the arguments that it gives.
+LANES = ["processors()", "free()", "in_lanes(tasks)"]
+EDITS = ["edits_of(crate)", "checked(crate,texts,flags,kept)", "must_fail(crate,edit,flags,kept)", "seeded(crate,flags,start)"]
+CRATES = ["rtlib.Crate.below(self)", "rtlib.Crate.count(self,pattern)", "rtlib.Crate.build_rlib(self,flags,anew)"]
+CALLED = {
+    "gate": ["main(words)", *LANES, *EDITS],
+    "build": [*LANES, "need(crate)", "rtlib.guarded()", "rtlib.crates_below(top)", "rtlib.lock(crates)", *CRATES],
+    "planted": ["edits_alone(names)", *EDITS],
+}
 
 
 def load(asker: str) -> Any:
@@ -18,10 +41,210 @@ def load(asker: str) -> Any:
     found = shutil.which("rt")
     if found is None:
         print(f"{asker}: the Rattle toolchain (the command rt) is not on the PATH", file=sys.stderr)
-        sys.exit(MISSING)
+        sys.exit(69)
     loader = SourceFileLoader("rt", os.path.realpath(found))
     spec = spec_from_loader("rt", loader)
     assert spec is not None
     kit = module_from_spec(spec)
     loader.exec_module(kit)
     return kit
+
+
+def has(rt: Any, call: str) -> bool:
+    """Whether the kit has a function of this name with these arguments."""
+    name, _, arguments = call.rstrip(")").partition("(")
+    try:
+        return ",".join(inspect.signature(attrgetter(name)(rt)).parameters) == arguments
+    except (AttributeError, TypeError, ValueError):
+        return False
+
+
+def lacking(rt: Any, asker: str) -> List[str]:
+    """What a command calls and the kit does not have so."""
+    return [call for call in CALLED[asker] if not has(rt, call)]
+
+
+def usable(asker: str, instead: str) -> Optional[Any]:
+    """The kit's command, or None where it has not all that is called of it: then a line says so, and what is done instead."""
+    try:
+        rt = load(asker)
+        missing = ", ".join(lacking(rt, asker))
+    except Exception as error:
+        rt, missing = None, f"command that Python can load ({type(error).__name__})"
+    if missing:
+        print(f"{asker}: warning: this kit has no {missing}: {instead}", file=sys.stderr)
+    return None if missing else rt
+
+
+FILLS = ("seed", "edits", "sound", "again")  # the tasks that fill the processors which proofs and tests leave free
+NICENESS = 10  # how far a task stands back behind the first one, as `nice` counts it
+JOB_SHARE = 0.6  # what part of a check's memory each further job takes, as the kit has it
+# What is begun may have so much of the free memory by the kit's estimates, of which the checks of this repository take 35 to 65 of 100.
+MEMORY_SHARE = 1.3
+
+
+class Lanes:
+    """Tasks that run, and those that are left, in place of the kit's `in_lanes`: first those on the longest chain. The one on which most
+    others wait has half of the processors, or more where nothing else is ready. There are no more jobs than processors, since each beyond
+    that slows the others by what it takes of the memory's bandwidth."""
+
+    def __init__(self, rt: Any, tasks: Dict[Key, Task]) -> None:
+        # For each task the lines of the longest chain of those that wait for it, with its own. It comes after those that it waits for.
+        self.tasks, self.behind = tasks, {key: 0 for key in tasks}
+        for key in reversed(list(tasks)):
+            self.behind[key] += tasks[key][1]
+            for below in tasks[key][0]:
+                self.behind[below] = max(self.behind[below], self.behind[key])
+        self.left = sorted(tasks, key=lambda key: (key[1] in FILLS, -self.behind[key]))
+        # The jobs and the memory of each task that runs.
+        self.running: Dict[Key, Tuple[int, float]] = {}
+        self.given: Dict[Key, Any] = {}
+        self.ended: "SimpleQueue[Tuple[Key, Any]]" = SimpleQueue()
+        self.processors: int = rt.processors()
+        self.memory: float = MEMORY_SHARE * rt.free()
+
+    def run(self) -> Dict[Key, Any]:
+        """What each task gave. Where one raises, that is raised once those that run have ended."""
+        self.begin_all()
+        while self.running:
+            key, gives = self.ended.get()
+            del self.running[key]
+            self.given[key] = gives
+            if not isinstance(gives, BaseException):
+                self.begin_all()
+        for gives in self.given.values():
+            if isinstance(gives, BaseException):
+                raise gives
+        return self.given
+
+    def begin_all(self) -> None:
+        """Begins what is ready and fits. Where there is no memory yet for the first one, the others wait as well."""
+        for key in list(self.left):
+            if self.is_ready(key):
+                is_first = all(self.behind[other] < self.behind[key] for other in self.running)
+                if not self.begin(key, is_first) and is_first:
+                    return
+
+    def begin(self, key: Key, is_first: bool) -> bool:
+        """Begins a task, if it fits."""
+        jobs = self.jobs(key, is_first)
+        need = self.tasks[key][2] * (1 + JOB_SHARE * (jobs - 1))
+        used, taken = (sum(each) for each in zip(*self.running.values())) if self.running else (0, 0)
+        if self.running and taken + need > self.memory or not is_first and used + jobs > self.processors:
+            return False
+        self.left.remove(key)
+        self.running[key] = jobs, need
+        threading.Thread(target=self.call, args=(key, jobs, is_first)).start()
+        return True
+
+    def jobs(self, key: Key, is_first: bool) -> int:
+        """The first proof has half of the processors, or all that nothing else could use now, and all else one."""
+        if not is_first or key[1] != "proof":
+            return 1
+        ready = sum(other != key and self.is_ready(other) for other in self.left)
+        return max(1, self.processors // 2, self.processors - len(self.running) - ready)
+
+    def is_ready(self, key: Key) -> bool:
+        return all(below in self.given for below in self.tasks[key][0])
+
+    def call(self, key: Key, jobs: int, is_first: bool) -> None:
+        """Calls a task in a thread of its own, whose niceness is that of the processes which it begins."""
+        try:
+            if not is_first:
+                os.setpriority(os.PRIO_PROCESS, threading.get_native_id(), NICENESS)
+            gives = self.tasks[key][3](self.given, jobs)
+        except BaseException as error:
+            gives = error
+        self.ended.put((key, gives))
+
+
+# The kit checks a whole crate for each edit. Where each edit of a crate names functions by whose clauses it is refused, in lines
+# `only: PATH`, it is tried by a check of these alone and of what they call: where one of them is not proved, the crate is not. What is
+# proved before the edits, which they share, and after them, is of all these functions. What is not refused so is tried from nothing.
+FEW = 4  # edits of a crate are each tried from nothing, since to share something would cost them two checks more
+
+
+def only(edits: Iterable[str]) -> List[str]:
+    """The words of a check that takes the functions alone that some edits name; none where one names none."""
+    named = [re.findall(r"^only: (\S+)$", Path(edit).read_text(encoding="utf-8"), re.M) for edit in edits]
+    paths: Set[str] = set().union(*named) if all(named) else set()
+    return [word for path in sorted(paths) for word in ("--only", path)]
+
+
+def judged(ran: Any) -> Any:
+    """A check that has ended. One of some functions, of which one is not proved, ends with the kit's line for that."""
+    counts = re.search(r"^only=(\d+) proved=(\d+)\n*\Z", ran.stdout, re.M)
+    if ran.returncode == 1 and counts and int(counts[2]) < int(counts[1]):
+        ran.stdout += "logic=not-proved\n"
+    return ran
+
+
+def use_edits(rt: Any) -> None:
+    """Has the kit's module try edits so."""
+    checked, must_fail, seeded = rt.checked, rt.must_fail, rt.seeded
+
+    def checked_by_names(crate: Any, texts: Any, flags: List[str], kept: Any) -> Any:
+        return judged(checked(crate, texts, flags if texts else [*flags, *only(rt.edits_of(crate)[0])], kept))
+
+    def must_fail_by_names(crate: Any, edit: str, flags: List[str], kept: Any = None) -> Any:
+        return must_fail(crate, edit, [*flags, *(only([edit]) if only(rt.edits_of(crate)[0]) else [])], kept)
+
+    def seeded_for_many(crate: Any, flags: List[str], start: Any = None) -> Any:
+        return "" if len(rt.edits_of(crate)[0]) <= FEW and not start else seeded(crate, flags, start)
+
+    rt.checked, rt.must_fail, rt.seeded = checked_by_names, must_fail_by_names, seeded_for_many
+
+
+def gate(words: Sequence[str]) -> int:
+    """The kit's gate over these words, and its status."""
+    os.chdir(TOP)
+    rt = usable("gate", "a plain `rt ci` is run")
+    if rt is None:
+        return subprocess.run(["rt", "ci", *words]).returncode
+    use_edits(rt)
+    rt.in_lanes = lambda tasks: Lanes(rt, tasks).run()
+    status: int = rt.main(["ci", *words])
+    return status
+
+
+def show(text: str) -> None:
+    """On a terminal this line takes the place of the last one that was shown."""
+    if sys.stderr.isatty():
+        print(f"\r\033[K{text}", end="", file=sys.stderr, flush=True)
+
+
+def building(crate: Any, total: int) -> Callable[[Dict[Key, Any], int], bool]:
+    """A task of the lanes: builds a library, once those below it are built."""
+
+    def call(given: Dict[Key, Any], jobs: int) -> bool:
+        if not all(given[dep.name, "proof"] for dep in crate.below()):
+            return False
+        show(f"ljserve: {len(given)} of {total} libraries are proved; {crate.name} is next")
+        return not crate.build_rlib(["--jobs", str(jobs)], anew=False)
+
+    return call
+
+
+def build(log: str) -> int:
+    """Builds the libraries of the program side by side, as `rt lib` does in turn. What is said of each goes to the end of a file."""
+    os.chdir(TOP)
+    rt = usable("build", "the libraries are built in turn by `rt lib`")
+    os.dup2(os.open(log, os.O_WRONLY | os.O_APPEND | os.O_CREAT), sys.stdout.fileno())
+    if rt is None:
+        return subprocess.run(["rt", "lib"], cwd=TOP / "crates" / "lj_serve").returncode
+    rt.rtlib.guarded()
+    crates = rt.rtlib.crates_below(os.getcwd())
+    names = {dep.name for crate in crates if crate.is_program for dep in crate.below()}
+    libraries = [crate for crate in crates if crate.name in names]
+    held = rt.rtlib.lock(libraries)
+    tasks: Dict[Key, Task] = {}
+    for crate in libraries:
+        task = building(crate, len(libraries))
+        tasks[crate.name, "proof"] = ([(dep.name, "proof") for dep in crate.below()], crate.count(rb"\n"), rt.need(crate), task)
+    given = Lanes(rt, tasks).run()
+    list(map(os.close, held))
+    show("")
+    lost = sorted(name for (name, _), is_built in given.items() if not is_built)
+    if lost:
+        print(f"build: not proved: {' '.join(lost)}", file=sys.stderr)
+    return 1 if lost else 0

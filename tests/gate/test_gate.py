@@ -1,0 +1,157 @@
+"""What bin/gate, bin/build and bin/planted call of the kit's command is there, and what they do where it is not."""
+from __future__ import annotations
+
+import os
+import pathlib
+import shutil
+import subprocess
+import sys
+from typing import Any, Dict, List, Tuple
+
+import pytest
+
+TOP = pathlib.Path(__file__).resolve().parents[2]
+sys.path.insert(0, str(TOP / "bin"))
+import kit  # noqa: E402
+
+# A kit's command that tells how it is begun, and ends with a status of its own. As a module it has some functions.
+STAND_IN = """#!{python}
+import os, sys
+{functions}
+if __name__ == "__main__":
+    print(os.path.relpath(os.getcwd(), {top!r}), *sys.argv[1:])
+    sys.exit(7)
+"""
+GATE = "def main(words): return 0\ndef processors(): return 1\ndef free(): return 1\ndef in_lanes(tasks): return {}\n"
+EDITS = "def edits_of(crate): pass\ndef checked(crate, texts, flags, kept): pass\ndef seeded(crate, flags, start=None): pass\n"
+MUST_FAIL = "def must_fail(crate, edit, flags, kept=None): pass\n"
+
+
+@pytest.fixture(scope="module")
+def rt() -> Any:
+    """The kit's command as a module."""
+    if shutil.which("rt") is None:
+        pytest.skip("the Rattle toolchain (the command rt) is not on the PATH")
+    return kit.load("test_gate")
+
+
+def put(folder: pathlib.Path, functions: str) -> None:
+    """Writes a stand-in for the kit's command with these functions."""
+    file = folder / "rt"
+    file.write_text(STAND_IN.format(python=sys.executable, functions=functions, top=str(TOP)))
+    file.chmod(0o755)
+
+
+def begun(folder: pathlib.Path, *words: str) -> Tuple[int, str, str]:
+    """How a command of bin/ ends over the stand-in."""
+    environment = {**os.environ, "PATH": str(folder), "PYTHONDONTWRITEBYTECODE": "1"}
+    name, *rest = words
+    done = subprocess.run([sys.executable, str(TOP / "bin" / name), *rest], env=environment, capture_output=True, text=True, timeout=60)
+    return done.returncode, done.stdout, done.stderr
+
+
+@pytest.mark.parametrize("asker", kit.CALLED)
+def test_the_kit_has_all_that_is_called(rt: Any, asker: str) -> None:
+    assert kit.lacking(rt, asker) == []
+
+
+def test_a_function_that_is_missing_is_named(rt: Any, monkeypatch: pytest.MonkeyPatch) -> None:
+    monkeypatch.delattr(rt, "must_fail")
+    assert kit.lacking(rt, "gate") == kit.lacking(rt, "planted") == ["must_fail(crate,edit,flags,kept)"]
+
+
+def test_a_function_of_other_arguments_is_named(rt: Any, monkeypatch: pytest.MonkeyPatch) -> None:
+    monkeypatch.setattr(rt, "free", lambda limit: limit)
+    assert kit.lacking(rt, "gate") == kit.lacking(rt, "build") == ["free()"]
+
+
+@pytest.mark.parametrize(
+    "functions, lacking",
+    [
+        (GATE + EDITS, "must_fail(crate,edit,flags,kept)"),
+        (GATE + MUST_FAIL, "edits_of(crate), checked(crate,texts,flags,kept), seeded(crate,flags,start)"),
+        (GATE + EDITS + MUST_FAIL.replace("edit, ", ""), "must_fail(crate,edit,flags,kept)"),
+        ("a b", "command that Python can load (SyntaxError)"),
+        ("raise OSError", "command that Python can load (OSError)"),
+    ],
+)
+def test_the_gate_is_plain_where_a_function_is_missing(tmp_path: pathlib.Path, functions: str, lacking: str) -> None:
+    put(tmp_path, "if __name__ != '__main__':\n    exec('''" + functions + "''', globals())\n")
+    line = f"gate: warning: this kit has no {lacking}: a plain `rt ci` is run\n"
+    assert begun(tmp_path, "gate", "lj_fixed", "--anew") == (7, ". ci lj_fixed --anew\n", line)
+
+
+def test_the_gate_is_judged_by_the_kit(tmp_path: pathlib.Path) -> None:
+    """Its status is the one that the kit's own gate returns, which runs over other functions of edits and tasks."""
+    told = "def main(words):\n    print(*words, in_lanes.__module__, must_fail.__module__, processors.__module__)\n    return 5\n"
+    put(tmp_path, GATE + EDITS + MUST_FAIL + told)
+    assert begun(tmp_path, "gate", "lj_fixed") == (5, "ci lj_fixed kit kit rt\n", "")
+
+
+def test_libraries_are_built_in_turn_where_a_function_is_missing(tmp_path: pathlib.Path) -> None:
+    put(tmp_path, GATE)
+    status, out, error = begun(tmp_path, "build", str(tmp_path / "log"))
+    assert (status, out, (tmp_path / "log").read_text()) == (7, "", "crates/lj_serve lib\n")
+    assert error.startswith("build: warning: this kit has no need(crate), rtlib.guarded()") and error.count("\n") == 1
+
+
+def test_planted_edits_are_not_tried_where_a_function_is_missing(tmp_path: pathlib.Path) -> None:
+    put(tmp_path, GATE + EDITS + MUST_FAIL)
+    line = "planted: warning: this kit has no edits_alone(names): no edit is tried\n"
+    assert begun(tmp_path, "planted", "lj_pool") == (69, "", line)
+
+
+@pytest.mark.parametrize("words", [["gate"], ["build", "/dev/null"], ["planted", "lj_pool"], ["compile", "x86-64-v3", "out"]])
+def test_without_a_kit(tmp_path: pathlib.Path, words: List[str]) -> None:
+    line = f"{words[0]}: the Rattle toolchain (the command rt) is not on the PATH\n"
+    assert begun(tmp_path, *words) == (69, "", line)
+
+
+def test_the_highest_library_is_the_one_that_all_others_are_below() -> None:
+    """The one whose `rt lib` builds all others of the program."""
+    (line,) = [line for line in (TOP / "crates.txt").read_text().splitlines() if line.startswith("ljserve:")]
+    assert line.split()[1] == "lj_serve"
+
+
+class Kit:
+    """What the lanes ask the kit for."""
+
+    @staticmethod
+    def processors() -> int:
+        return 2
+
+    @staticmethod
+    def free() -> float:
+        return 100.0
+
+
+def test_tasks_run_after_those_that_they_wait_for() -> None:
+    ended: List[str] = []
+
+    def task(name: str, waits: List[str], need: float = 1.0) -> kit.Task:
+        def call(given: Dict[kit.Key, Any], jobs: int) -> str:
+            assert all((below, "proof") in given for below in waits) and jobs >= 1
+            ended.append(name)
+            return name.upper()
+
+        return [(below, "proof") for below in waits], 10, need, call
+
+    waiting: Dict[str, List[str]] = {"a": [], "b": [], "c": ["a"], "d": ["b", "c"]}
+    tasks: Dict[kit.Key, kit.Task] = {(name, "proof"): task(name, waits) for name, waits in waiting.items()}
+    tasks["e", "proof"] = task("e", ["d"], need=1000.0)  # (which runs alone, since all others leave it too little memory)
+    given = kit.Lanes(Kit, tasks).run()
+    assert given == {(name, "proof"): name.upper() for name in "abcde"}
+    assert ended.index("a") < ended.index("c") < ended.index("d") < ended.index("e") and ended.index("b") < ended.index("d")
+
+
+def test_what_a_task_raises_is_raised() -> None:
+    def call(given: Dict[kit.Key, Any], jobs: int) -> None:
+        raise KeyError("lost")
+
+    with pytest.raises(KeyError, match="lost"):
+        kit.Lanes(Kit, {("a", "proof"): ([], 1, 1.0, call), ("b", "proof"): ([("a", "proof")], 1, 1.0, call)}).run()
+
+
+def test_one_file_has_it_all() -> None:
+    lines = (TOP / "bin" / "kit.py").read_text().splitlines()
+    assert len(lines) <= 250
