@@ -1,8 +1,7 @@
-"""The kit's command `rt` as a module, and what makes its gate cheaper and the first build faster, until it has words for that itself:
-the order of tasks (Lanes), edits that are tried by the functions which they name, and libraries that are built side by side.
+"""What makes the kit's gate cheaper and the first build faster: another order of tasks, edits by named functions, libraries side by side.
 
-`rt ci` is the judge. Each proof, edit and test is checked by the kit's own functions, of which CALLED lists those that are called here.
-Where one of them is not there, or takes other arguments, a plain `rt ci` is run (bin/gate), or each library built in turn (bin/build).
+`rt ci` is the judge, until it has words for these. Each proof, edit and test is checked by the kit's own functions. CALLED lists those
+that are called here. Where one of them is not there, or takes other arguments, bin/gate runs a plain `rt ci`, and bin/build `rt lib`.
 """
 
 import inspect
@@ -28,11 +27,13 @@ Task = Tuple[List[Key], int, float, Callable[[Dict[Key, Any], int], Any]]
 # What each command calls of the kit's, with the arguments that it gives.
 LANES = ["processors()", "free()", "in_lanes(tasks)"]
 EDITS = ["edits_of(crate)", "checked(crate,texts,flags,kept)", "must_fail(crate,edit,flags,kept)", "seeded(crate,flags,start)"]
-CRATES = ["rtlib.Crate.below(self)", "rtlib.Crate.count(self,pattern)", "rtlib.Crate.build_rlib(self,flags,anew)"]
+CRATES = ["rtlib.guarded()", "rtlib.crates_below(top)", "rtlib.lock(crates)", "rtlib.Crate.below(self)", "rtlib.Crate.count(self,pattern)"]
+ONE = ["share_work(is_alone)", "handles_of(root)", "Crate.compile(self,flags,to,tests)", "Crate.link(self,made,program)"]
 CALLED = {
     "gate": ["main(words)", *LANES, *EDITS],
-    "build": [*LANES, "need(crate)", "rtlib.guarded()", "rtlib.crates_below(top)", "rtlib.lock(crates)", *CRATES],
+    "build": [*LANES, "need(crate)", *CRATES, "rtlib.Crate.build_rlib(self,flags,anew)"],
     "planted": ["edits_alone(names)", *EDITS],
+    "compile": ["processors()", *CRATES, *ONE],
 }
 
 
@@ -235,9 +236,8 @@ def build(log: str) -> int:
     rt.rtlib.guarded()
     crates = rt.rtlib.crates_below(os.getcwd())
     names = {dep.name for crate in crates if crate.is_program for dep in crate.below()}
-    libraries = [crate for crate in crates if crate.name in names]
+    libraries, tasks = [crate for crate in crates if crate.name in names], dict[Key, Task]()
     held = rt.rtlib.lock(libraries)
-    tasks: Dict[Key, Task] = {}
     for crate in libraries:
         task = building(crate, len(libraries))
         tasks[crate.name, "proof"] = ([(dep.name, "proof") for dep in crate.below()], crate.count(rb"\n"), rt.need(crate), task)

@@ -95,10 +95,11 @@ def test_libraries_are_built_in_turn_where_a_function_is_missing(tmp_path: pathl
     assert error.startswith("build: warning: this kit has no need(crate), rtlib.guarded()") and error.count("\n") == 1
 
 
-def test_planted_edits_are_not_tried_where_a_function_is_missing(tmp_path: pathlib.Path) -> None:
+@pytest.mark.parametrize("words", [["planted", "lj_pool"], ["compile", "x86-64-v3", "out"]])
+def test_nothing_is_done_where_a_function_is_missing(tmp_path: pathlib.Path, words: List[str]) -> None:
     put(tmp_path, GATE + EDITS + MUST_FAIL)
-    line = "planted: warning: this kit has no edits_alone(names): no edit is tried\n"
-    assert begun(tmp_path, "planted", "lj_pool") == (69, "", line)
+    status, out, error = begun(tmp_path, *words)
+    assert (status, out, error.count("\n")) == (69, "", 1) and error.startswith(f"{words[0]}: warning: this kit has no ")
 
 
 @pytest.mark.parametrize("words", [["gate"], ["build", "/dev/null"], ["planted", "lj_pool"], ["compile", "x86-64-v3", "out"]])
