@@ -36,4 +36,4 @@ def words(classes: Classes, sigmas: Sequence[str], h: int) -> str:
 def mean_sigma(classes: Classes) -> float:
     """The sigma whose cube is the mean over pairs, with which the mixture is as dense as a liquid of one species."""
     first, mixed, second = (one.sigma**3 for one in classes)
-    return ((first + 2 * mixed + second) / 4) ** (1 / 3)
+    return math.pow((first + 2 * mixed + second) / 4, 1 / 3)

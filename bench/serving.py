@@ -16,7 +16,7 @@ from shared.sockets import connected
 TOKEN = "0" * 32
 SECONDS = 120
 WORKERS = 4
-Child = subprocess.Popen
+Child = subprocess.Popen[bytes]
 
 
 class Talk(NamedTuple):
@@ -24,6 +24,9 @@ class Talk(NamedTuple):
 
     send: Callable[[bytes], object]
     lines: BinaryIO
+
+    def say(self, data: bytes) -> None:
+        self.send(data)
 
     def ask(self, data: bytes, reply: bytes) -> None:
         self.send(data)
@@ -41,6 +44,7 @@ def talk_to(stream: socket.socket) -> Talk:
 
 def run_alone(program: str) -> Tuple[Child, Talk]:
     child = subprocess.Popen([program, "run"], stdin=subprocess.PIPE, stdout=subprocess.PIPE, bufsize=0)
+    assert child.stdin is not None and child.stdout is not None
     return child, Talk(child.stdin.write, os.fdopen(os.dup(child.stdout.fileno()), "rb"))
 
 

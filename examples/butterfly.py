@@ -8,16 +8,19 @@ where one does not.
 Pushes are looked up by bins of squared distance, so the distance jumps where a pair first falls into another bin in one of
 the runs: not all of the growth is that of smooth motion.
 """
-import sys
+from __future__ import annotations
 
-from shared import distance, hot_crystal, options_of, print_table, save_picture, there_and_back, user_of
+import sys
+from typing import Any, List, Sequence, Tuple
+
+from shared import Frame, distance, hot_crystal, ljclient, options_of, print_table, save_picture, there_and_back, user_of
 
 MELTING = 1000
 STEPS = 1200
 PIECE = 20
 
 
-def fly(user, steps=STEPS, piece=PIECE, tug=(1, 0, 0)):
+def fly(user: ljclient.User, steps: int = STEPS, piece: int = PIECE, tug: Sequence[int] = (1, 0, 0)) -> Tuple[List[Frame], List[Frame]]:
     """The frames of the run as it is and of the one with the tug, after each piece of the way there and back."""
     with hot_crystal(user, "butterfly") as session:
         session.advance(MELTING)
@@ -28,12 +31,12 @@ def fly(user, steps=STEPS, piece=PIECE, tug=(1, 0, 0)):
         return alone, there_and_back(session, steps, piece)
 
 
-def distances(alone, tugged, piece=PIECE):
+def distances(alone: Sequence[Frame], tugged: Sequence[Frame], piece: int = PIECE) -> Tuple[List[int], List[float]]:
     """How many steps were made, and how far the two runs then were from each other in sigma, frame by frame."""
     return [number * piece for number in range(len(alone))], [distance(*pair) for pair in zip(alone, tugged)]
 
 
-def draw(axes, alone, tugged, piece=PIECE):
+def draw(axes: Any, alone: Sequence[Frame], tugged: Sequence[Frame], piece: int = PIECE) -> None:
     made, apart = distances(alone, tugged, piece)
     turn = len(made) // 2
     axes.semilogy(made[1 : turn + 1], apart[1 : turn + 1], color="tab:red", label="there")
@@ -44,7 +47,7 @@ def draw(axes, alone, tugged, piece=PIECE):
     axes.legend(loc="lower center")
 
 
-def main(words):
+def main(words: Sequence[str]) -> int:
     options = options_of(words, __doc__, STEPS, PIECE)
     with user_of(options) as user:
         alone, tugged = fly(user, options.steps)

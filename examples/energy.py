@@ -5,34 +5,39 @@ Prints the total energy per atom over the steps, or with --plot draws over the t
 a share of it. It rises, the faster the longer the step is. The positions of the Störmer-Verlet form give velocities at half
 steps, so the kinetic energy at a step is the mean of those of the half steps before and after it.
 """
+from __future__ import annotations
+
 import math
 import sys
+from typing import Any, Dict, List, Sequence, Tuple
 
-from shared import ATOMS, RING, TIME, hot_crystal, options_of, print_table, save_picture, user_of
+from shared import ATOMS, RING, TIME, hot_crystal, ljclient, options_of, print_table, save_picture, user_of
 
 FACTORS = [32768, 131072, 524288, 1179648]
 STEPS = 20_000
 PIECE = 100
+# The steps at which the energy was measured, and the energies, for each step factor.
+Found = Dict[int, Tuple[List[int], List[float]]]
 
 
-def energies(user, h, steps=STEPS, piece=PIECE):
+def energies(user: ljclient.User, h: int, steps: int = STEPS, piece: int = PIECE) -> Tuple[List[int], List[float]]:
     """The steps at which it was measured, and the total energy per atom there in epsilon."""
     with hot_crystal(user, "energy", h, watch=False) as session:  # what the client would warn of is shown here
         rows = list(session.thermo(every=piece, rows=steps // piece))
     return [row.step for row in rows], [row.total / ATOMS for row in rows]
 
 
-def time_step(h):
+def time_step(h: int) -> float:
     """The time step of a step factor, in units of sigma sqrt(m / epsilon)."""
     return math.sqrt(h / RING)
 
 
-def changes(energy):
+def changes(energy: Sequence[float]) -> List[float]:
     """By how much each energy differs from the first, as a share of that."""
     return [abs(one - energy[0]) / abs(energy[0]) for one in energy]
 
 
-def draw(axes, found):
+def draw(axes: Any, found: Found) -> None:
     for h, (at, energy) in found.items():
         times = [step * time_step(h) for step in at]
         axes.loglog(times[1:], changes(energy)[1:], linewidth=1, label=f"h = {h:,}, Δt = {time_step(h):.4f}")
@@ -41,7 +46,7 @@ def draw(axes, found):
     axes.legend(loc="upper left", fontsize="small")
 
 
-def print_energies(found):
+def print_energies(found: Found) -> None:
     """Prints every tenth energy, with a column for each step factor."""
     steps, _ = found[FACTORS[0]]
     rows = list(zip(steps, *(energy for _, energy in found.values())))
@@ -49,9 +54,9 @@ def print_energies(found):
     print_table(heads, [(step, *(f"{one:.5f}" for one in energies)) for step, *energies in rows[::10]])
 
 
-def main(words):
+def main(words: Sequence[str]) -> int:
     options = options_of(words, __doc__, STEPS, PIECE)
-    found = {}
+    found: Found = {}
     with user_of(options) as user:
         for h in FACTORS:
             found[h] = energies(user, h, options.steps)

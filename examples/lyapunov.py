@@ -15,6 +15,8 @@ of the distance over the time, from 1/256 to 1/10 of sigma, as mean and standard
 bin have the same pushes but for the pairs that fall into different bins, so their distance grows in jumps. That is no smooth
 motion, and has no exponent. From 1/10 of sigma on the runs begin to forget each other.
 """
+from __future__ import annotations
+
 import argparse
 import contextlib
 import functools
@@ -24,6 +26,7 @@ import statistics
 import sys
 import tempfile
 from concurrent.futures import ProcessPoolExecutor
+from typing import Any, Iterator, List, Sequence, Tuple
 
 from shared import EDGE, H, HEAT, RING, TIME, add_plot, crystal, distance
 from shared import ljclient, needed, prepare_picture, print_table, save_picture
@@ -33,7 +36,7 @@ NEAR, FAR = 1 / 256, 1 / 10
 TIME_STEP = math.sqrt(H / RING)
 
 
-def begin(seed, melting, user):
+def begin(seed: int, melting: int, user: ljclient.User) -> List[ljclient.Session]:
     """A liquid as it is, and with one atom tugged by a part in 2^32 of the box."""
     alone = user.load("alone", crystal(), edge=EDGE, sigma=1, h=H)
     alone.heat(HEAT, seed=seed)
@@ -46,18 +49,18 @@ def begin(seed, melting, user):
     return [alone, tugged]
 
 
-def apart(alone, tugged):
+def apart(alone: ljclient.Session, tugged: ljclient.Session) -> float:
     """How far the two are from each other, in sigma."""
     return float(distance(alone.places(), tugged.places()))
 
 
-def jobs_of(runs, steps, melting):
+def jobs_of(runs: int, steps: int, melting: int) -> List[ljclient.Job]:
     """A job for each liquid."""
     return [ljclient.Job(functools.partial(begin, seed, melting), apart, steps, PIECE) for seed in range(runs)]
 
 
 @contextlib.contextmanager
-def executor_of(options):
+def executor_of(options: argparse.Namespace) -> Iterator[Any]:
     """Where the runs go."""
     if options.mpi:
         with needed("mpi4py.futures").MPIPoolExecutor() as pool:
@@ -71,7 +74,7 @@ def executor_of(options):
         yield functools.partial(ProcessPoolExecutor, options.processes)
 
 
-def exponent_of(runs):
+def exponent_of(runs: Sequence[Sequence[float]]) -> Tuple[List[float], List[float], List[int]]:
     """The slope of each run's logarithm where the mean of them is in the range, with the first and the last piece of it."""
     logarithms = [[math.log(max(far, 1e-300)) for far in run] for run in runs]
     means = [statistics.fmean(column) for column in zip(*logarithms)]
@@ -82,13 +85,13 @@ def exponent_of(runs):
     return [slope(times, [run[number] for number in inside]) for run in logarithms], means, inside
 
 
-def slope(xs, ys):
+def slope(xs: Sequence[float], ys: Sequence[float]) -> float:
     """That of the line with the least squares."""
     x, y = statistics.fmean(xs), statistics.fmean(ys)
     return sum((a - x) * (b - y) for a, b in zip(xs, ys)) / sum((a - x) ** 2 for a in xs)
 
 
-def told_of(slopes):
+def told_of(slopes: Sequence[float]) -> str:
     """The exponent and its error, in words."""
     if len(slopes) < 2:
         return f"too few steps between {NEAR:.4f} and {FAR} sigma, or too few runs, for an exponent"
@@ -96,7 +99,7 @@ def told_of(slopes):
     return f"Lyapunov exponent {statistics.fmean(slopes):.2f} +- {error:.2f} per unit of time, over {len(slopes)} runs"
 
 
-def draw(axes, runs):
+def draw(axes: Any, runs: Sequence[Sequence[float]]) -> None:
     slopes, means, inside = exponent_of(runs)
     times = [number * PIECE * TIME_STEP for number in range(len(means))]
     for run in runs:
@@ -114,7 +117,7 @@ def draw(axes, runs):
     axes.legend(loc="lower right")
 
 
-def options_of(words):
+def options_of(words: Sequence[str]) -> argparse.Namespace:
     parser = argparse.ArgumentParser(description=__doc__, formatter_class=argparse.RawDescriptionHelpFormatter)
     add_plot(parser)
     parser.add_argument("--runs", metavar="N", type=int, default=RUNS, help=f"how many liquids: {RUNS}")
@@ -131,7 +134,7 @@ def options_of(words):
     return options
 
 
-def main(words):
+def main(words: Sequence[str]) -> int:
     options = options_of(words)
     try:
         with executor_of(options) as executor:

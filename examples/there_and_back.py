@@ -4,26 +4,29 @@
 Prints the distance of the atoms from where they began, or draws it over the steps with --plot. The status is 1 where an
 atom is not back at its place.
 """
-import sys
+from __future__ import annotations
 
-from shared import ATOMS, distance, hot_crystal, options_of, print_table, save_picture, there_and_back, user_of
+import sys
+from typing import Any, List, Sequence, Tuple
+
+from shared import ATOMS, Frame, distance, hot_crystal, ljclient, options_of, print_table, save_picture, there_and_back, user_of
 
 STEPS = 2000
 PIECE = 40
 
 
-def travel(user, steps=STEPS, piece=PIECE):
+def travel(user: ljclient.User, steps: int = STEPS, piece: int = PIECE) -> List[Frame]:
     """The frames after each piece of the way there and of the way back."""
     with hot_crystal(user, "there-and-back") as session:
         return there_and_back(session, steps, piece)
 
 
-def distances(frames, piece=PIECE):
+def distances(frames: Sequence[Frame], piece: int = PIECE) -> Tuple[List[int], List[float]]:
     """How many steps were made, and how far the atoms then were from the start in sigma, frame by frame."""
     return [number * piece for number in range(len(frames))], [distance(frame, frames[0]) for frame in frames]
 
 
-def draw(axes, frames, piece=PIECE):
+def draw(axes: Any, frames: Sequence[Frame], piece: int = PIECE) -> None:
     made, away = distances(frames, piece)
     turn = len(made) // 2
     axes.plot(made[: turn + 1], away[: turn + 1], color="tab:red", label="there: the crystal melts")
@@ -35,7 +38,7 @@ def draw(axes, frames, piece=PIECE):
     axes.legend(loc="lower center")
 
 
-def main(words):
+def main(words: Sequence[str]) -> int:
     options = options_of(words, __doc__, STEPS, PIECE)
     with user_of(options) as user:
         frames = travel(user, options.steps)

@@ -14,7 +14,7 @@ from collections import defaultdict
 from itertools import product
 from typing import Any, Dict, List, Sequence, Tuple
 
-from shared import DENSITY, H, RING, ljclient, options_of, print_table, pyplot, save_figure, there_and_back, user_of
+from shared import DENSITY, H, RING, Frame, Place, ljclient, options_of, print_table, pyplot, save_figure, there_and_back, user_of
 
 SIDE = 9  # atoms along each axis of the lattice, which is cubic
 ATOMS = SIDE**3
@@ -27,8 +27,6 @@ STEPS = 12_000
 PIECE = 300
 SLICE = 1.4  # how thick the slices of the picture are, in sigma: at the start one layer of the lattice
 COLOURS = ("tab:orange", "tab:blue")
-Place = Tuple[int, int, int]
-Frame = Sequence[Place]
 
 
 def species() -> List[int]:

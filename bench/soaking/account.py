@@ -132,7 +132,8 @@ class Account:
             return self.load(name)
         if name not in self.sessions:
             return [10]
-        return getattr(self, command.decode().lower())(name, self.sessions[name], *words)
+        forms: List[Form] = getattr(self, command.decode().lower())(name, self.sessions[name], *words)
+        return forms
 
     def load(self, name: bytes) -> List[Form]:
         if name in self.sessions or len(self.sessions) == MOST_SESSIONS:

@@ -18,15 +18,17 @@ class Alone:
 
     def __init__(self, program: str, quota: Quota) -> None:
         self.child = subprocess.Popen([program, *run_words(quota)], stdin=subprocess.PIPE, stdout=subprocess.PIPE, bufsize=0)
+        assert self.child.stdin is not None and self.child.stdout is not None
+        self.input, self.output = self.child.stdin, self.child.stdout
         self.held = b""
 
     def ask(self, item: bytes) -> bytes:
         """The reply to an item."""
-        self.child.stdin.write(item)
+        self.input.write(item)
         end = reply_end(self.held, 0)
         while end < 0:
-            ready = select.select([self.child.stdout], [], [], PATIENCE)[0]
-            piece = os.read(self.child.stdout.fileno(), 1 << 16) if ready else b""
+            ready = select.select([self.output], [], [], PATIENCE)[0]
+            piece = os.read(self.output.fileno(), 1 << 16) if ready else b""
             if not piece:
                 raise Fault(f"`run` does not reply to {shown(item)}")
             self.held += piece
@@ -35,8 +37,8 @@ class Alone:
         return reply
 
     def close(self) -> None:
-        self.child.stdin.close()
-        self.child.stdout.close()
+        self.input.close()
+        self.output.close()
         self.child.wait()
 
 

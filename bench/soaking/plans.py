@@ -26,6 +26,8 @@ BREAK_WEIGHTS = [50, 25, 1, 12]
 class Plan:
     """What a connection sends after HELLO, and how."""
 
+    leaves_late: bool
+
     def __init__(self, rnd: random.Random, speaker: Speaker, mean: int, before: "Optional[Plan]", last: bool) -> None:
         self.late = before is not None and before.leaves_late
         self.is_asking = last or before is not None and bool(before.breaks or before.leaves_late or before.late)

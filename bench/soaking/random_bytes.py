@@ -7,6 +7,7 @@ import subprocess
 import tempfile
 import time
 from multiprocessing.connection import Connection as Pipe
+from typing import List
 
 from shared.program import NO_MEMORY, USUAL, Ended, end_of, status_of
 from shared.tally import shown
@@ -60,7 +61,7 @@ def try_streams(options: argparse.Namespace, first: int, folder: str, deadline: 
     """The process that tries every so many-th stream."""
     streams, idle = Streams(options.seed), idle_memory(options.program)
     figures = dict.fromkeys(FIGURES, 0)
-    faults = []
+    faults: List[str] = []
     for number in range(options.first + first, options.first + options.streams, options.processes):
         if time.monotonic() > deadline or len(faults) > MOST_FAULTS:
             break
@@ -95,6 +96,7 @@ def soak_bytes(options: argparse.Namespace) -> bool:
     shares = [(options, first, folder, start + options.seconds) for first in range(options.processes)]
     found = [pipe.recv() for pipe in started(try_streams, shares)]
     for word in FIGURES:
-        print(f"{word}: {(max if word.startswith('most') else sum)(figures[word] for figures, _ in found)}")
+        told = [figures[word] for figures, _ in found]
+        print(f"{word}: {max(told) if word.startswith('most') else sum(told)}")
     print(f"seconds: {time.monotonic() - start:.0f}")
     return tell_faults([fault for _, faults in found for fault in faults], f"streams in {folder}")

@@ -32,7 +32,8 @@ class Server:
     """A server of random users, which ends after so many connections, and how many were made beside those of the users."""
 
     def __init__(self, options: argparse.Namespace, bound: int) -> None:
-        self.workers, self.bound, self.made = options.workers, bound, 0
+        self.workers: int = options.workers
+        self.bound, self.made = bound, 0
         users = [user_of(number) for number in range(options.users)]
         lines = b"".join(user_line(name.decode(), token.decode(), quota) for name, token, quota in users)
         try:
@@ -96,7 +97,7 @@ class Watch(threading.Thread):
     def run(self) -> None:
         while self.goes_on:
             try:
-                self.most = Held(*map(max, zip(self.most, self.server.held())))
+                self.most = Held(*(max(pair) for pair in zip(self.most, self.server.held())))
             except (OSError, ValueError):
                 return
             time.sleep(0.1)

@@ -1,6 +1,6 @@
 """Random items of a user, and items that ask where a user stands."""
 import random
-from typing import List, Tuple, Union
+from typing import Callable, List, Tuple, Union
 
 from soaking.words import SESSIONS, words_of
 
@@ -50,7 +50,8 @@ class Speaker:
         atom = self.rnd.choice([0, 0, 1, 1, 1, 64, 4096, 10**18])
         far: List[Union[int, str]] = [self.rnd.randrange(-99999, 99999) for _ in range(3)]
         if self.rnd.random() < 0.2:
-            far[self.rnd.randrange(3)] = self.rnd.choice([-(2**31), 2**31 - 1, 2**31, -(2**31) - 1, "-0", "--1", "+1"])
+            strange: List[Union[int, str]] = [-(2**31), 2**31 - 1, 2**31, -(2**31) - 1, "-0", "--1", "+1"]
+            far[self.rnd.randrange(3)] = self.rnd.choice(strange)
         return self.line(b"TUG", self.session(), atom, *far)
 
     def measure(self) -> bytes:
@@ -92,18 +93,18 @@ class Speaker:
         count = rnd.choices([1, 2, 3, 9, 64, 65, 130], [10, 40, 20, 10, 5, 3, 2])[0]
         mode = rnd.choice(["rest", "rest", "pair"])
         text = self.frame(count) + (self.frame(count) if mode == "pair" else "")
-        edge, sigma, strength = 16, rnd.choice([1, 1, "1.5", "+.9e0"]), rnd.choice([1, 131072, 2**24])
+        scale: Tuple[object, object, object] = 16, rnd.choice([1, 1, "1.5", "+.9e0"]), rnd.choice([1, 131072, 2**24])
         if rnd.random() < 0.25:
             text = self.worse_body(text)
         if rnd.random() < 0.1:
             bad = [(0, 1, 1), ("1e7", 1, 1), (16, 9, 1), (16, "x", 1), (16, 1, 0), (16, 1, 2**24 + 1)]
-            edge, sigma, strength = rnd.choice(bad)
+            scale = rnd.choice(bad)
         body = text.encode("latin-1")
-        return self.line(b"LOAD", rnd.choices(SESSIONS, [4, 4, 1])[0], edge, sigma, strength, mode, len(body)) + body
+        return self.line(b"LOAD", rnd.choices(SESSIONS, [4, 4, 1])[0], *scale, mode, len(body)) + body
 
     def worse_body(self, text: str) -> str:
         rnd = self.rnd
-        ways = [
+        ways: List[Callable[[], str]] = [
             lambda: "",
             lambda: text[: rnd.randrange(len(text))],
             lambda: text.replace("X", "X x", 1),

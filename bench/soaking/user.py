@@ -4,6 +4,7 @@ import os
 import random
 import time
 from concurrent.futures import ThreadPoolExecutor
+from itertools import repeat
 from multiprocessing.connection import Connection as Pipe
 from typing import Dict, List, Optional, Sequence, Tuple
 
@@ -289,8 +290,8 @@ def visit_all(job: Job, numbers: Sequence[int], pipe: Pipe) -> None:
     """The process of some users: for each number of connections that comes, a round of them, and what came of it."""
     users = [User(job, number) for number in numbers]
     with ThreadPoolExecutor(len(users)) as threads:
-        for connections in iter(pipe.recv, None):
-            list(threads.map(lambda user: user.round(connections), users))
+        while (connections := pipe.recv()) is not None:
+            list(threads.map(User.round, users, repeat(connections)))
             pipe.send([(user.figures(), user.fault) for user in users])
     for user in users:
         user.leave()

@@ -5,6 +5,7 @@ import pathlib
 import pkgutil
 import re
 import sys
+from typing import Any, Iterator, List, Optional, Sequence, Tuple
 
 CLIENT = pathlib.Path(__file__).resolve().parents[2] / "clients" / "python"
 sys.path.insert(0, str(CLIENT))
@@ -58,18 +59,18 @@ TYPES = {
 TABLE = re.compile(r"(\S(?:.*?\S)?) {2,}(?=\S)")
 
 
-def members_of(kind):
+def members_of(kind: str) -> List[str]:
     """The directive of a class with its members."""
     lines = [f".. autoclass:: ljclient.{kind}", "   :members:", f"   :inherited-members: {PLAIN}"]
     hidden = ", ".join(["of", *INTERNAL.get(kind, "").split()])
     return [*lines, f"   :exclude-members: {hidden}", ""]
 
 
-def is_raised(value):
+def is_raised(value: object) -> bool:
     return inspect.isclass(value) and issubclass(value, BaseException)
 
 
-def package():
+def package() -> Iterator[str]:
     """The directives of all public names of the package, those of modules left out."""
     values = {name: getattr(ljclient, name) for name in ljclient.__all__}
     raised = [name for name, value in values.items() if is_raised(value)]
@@ -82,16 +83,18 @@ def package():
         yield from [title, "-" * 80, "", *(line for name in names for line in members_of(name))]
 
 
-def public_modules():
+def public_modules() -> Iterator[str]:
     """The modules that are public names of the package, and those that say themselves what is public."""
     for found in pkgutil.walk_packages([str(CLIENT / "ljclient")], "ljclient."):
-        source = pathlib.Path(found.module_finder.find_spec(found.name).origin).read_text(encoding="utf-8")
+        spec = importlib.util.find_spec(found.name)
+        assert spec is not None and spec.origin is not None
+        source = pathlib.Path(spec.origin).read_text(encoding="utf-8")
         name = found.name.partition(".")[2]
         if "\n__all__ = " in source or (name in ljclient.__all__ and inspect.ismodule(getattr(ljclient, name))):
             yield found.name
 
 
-def modules():
+def modules() -> Iterator[str]:
     """The directives of the public modules, without what stands among the names of the package."""
     for module in public_modules():
         name = module.partition(".")[2]
@@ -101,10 +104,10 @@ def modules():
         yield from [*([f"   :exclude-members: {hidden}"] if hidden else []), ""]
 
 
-def table_of(lines):
+def table_of(lines: Sequence[str]) -> Optional[List[Tuple[str, List[str]]]]:
     """The rows of a table, each a name and the lines of its text, if lines are one: all texts begin at one column."""
     column = found.end() if (found := TABLE.match(lines[0])) else 0
-    rows = []
+    rows: List[Tuple[str, List[str]]] = []
     for line in lines:
         name, text = line[:column].strip(), line[column:]
         if not column or not text or text[0] == " " or (name and line[column - 2 : column] != "  "):
@@ -115,7 +118,7 @@ def table_of(lines):
     return rows
 
 
-def restructured(paragraph, name):
+def restructured(paragraph: Sequence[str], name: str) -> List[str]:
     """A paragraph of a docstring in reStructuredText: tables are definition lists there, and what is indented is code."""
     if paragraph[0].startswith(" "):
         return ["::", "", *paragraph, ""]
@@ -127,12 +130,12 @@ def restructured(paragraph, name):
     return [*paragraph, ""]
 
 
-def paragraphs_of(lines):
+def paragraphs_of(lines: Sequence[str]) -> List[List[str]]:
     """The paragraphs of a docstring."""
     return [part.split("\n") for part in re.split(r"\n(?:\s*\n)+", "\n".join(lines).strip("\n")) if part]
 
 
-def converted(app, what, name, obj, options, lines):
+def converted(app: Any, what: str, name: str, obj: Any, options: Any, lines: List[str]) -> None:
     """Has Sphinx read a docstring as it is written here. A refusal without one says what the protocol does."""
     if inspect.isclass(obj) and obj.__doc__ is None:
         lines[:] = [f"``ERR {obj.number:02} {obj.name}``: {obj.meaning}."] if issubclass(obj, ljclient.Refused) else []
@@ -140,7 +143,9 @@ def converted(app, what, name, obj, options, lines):
         lines[:] = [line for paragraph in paragraphs_of(lines) for line in restructured(paragraph, name)]
 
 
-def signed(app, what, name, obj, options, signature, returns):
+def signed(
+    app: Any, what: str, name: str, obj: Any, options: Any, signature: Optional[str], returns: Optional[str]
+) -> Tuple[Optional[str], Optional[str]]:
     """Names types as the package does. What users do not make themselves is shown without how it is made."""
     if obj in (ljclient.User, ljclient.Session) or is_raised(obj):
         return "", None
@@ -149,20 +154,20 @@ def signed(app, what, name, obj, options, signature, returns):
     return signature, returns and returns.replace("typing.", "")
 
 
-def skipped(app, what, name, obj, skip, options):
+def skipped(app: Any, what: str, name: str, obj: Any, skip: bool, options: Any) -> Optional[bool]:
     """Leaves out what Python itself says of the fields of a tuple, and what refusals have for the client."""
     is_of_python = str(getattr(obj, "__doc__", "")).startswith("Alias for field number")
     return is_of_python or (what == "exception" and name in ("number", "name", "meaning", "by_number")) or None
 
 
-def filled(app, name, source):
+def filled(app: Any, name: str, source: List[str]) -> None:
     """Puts the directives into the page that names them."""
     for word, lines in (("PUBLIC NAMES", package), ("PUBLIC MODULES", modules)):
         if f"\n{word}\n" in source[0]:
             source[0] = source[0].replace(word, "\n".join(lines()))
 
 
-def setup(app):
+def setup(app: Any) -> None:
     app.connect("source-read", filled)
     app.connect("autodoc-process-docstring", converted)
     app.connect("autodoc-process-signature", signed)

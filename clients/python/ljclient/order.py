@@ -91,7 +91,7 @@ def is_in_space(order: Optional[str]) -> bool:
     return order is not None
 
 
-def by_halves(places: Sequence[Place]) -> Tuple[int, ...]:
+def by_halves(places: Sequence[Tuple[float, float, float]]) -> Tuple[int, ...]:
     """The numbers that put atoms into the order of space: the new number of each.
 
     They are split at the middle atom along x, y and z in turn, down to blocks. So a block is never spread out where the
@@ -108,7 +108,7 @@ def by_halves(places: Sequence[Place]) -> Tuple[int, ...]:
     return tuple(numbers)
 
 
-def _halves(part: List[int], column: Sequence[int]) -> List[List[int]]:
+def _halves(part: List[int], column: Sequence[float]) -> List[List[int]]:
     """Two halves of whole blocks, the first of the atoms with the smaller coordinates; or the part, if it is a block."""
     if len(part) <= BLOCK:
         return [part]
