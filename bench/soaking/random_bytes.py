@@ -7,7 +7,6 @@ import subprocess
 import tempfile
 import time
 from multiprocessing.connection import Connection as Pipe
-from typing import List
 
 from shared.program import NO_MEMORY, USUAL, Ended, end_of, status_of
 from shared.tally import shown
@@ -61,7 +60,7 @@ def try_streams(options: argparse.Namespace, first: int, folder: str, deadline: 
     """The process that tries every so many-th stream."""
     streams, idle = Streams(options.seed), idle_memory(options.program)
     figures = dict.fromkeys(FIGURES, 0)
-    faults: List[str] = []
+    faults: list[str] = []
     for number in range(options.first + first, options.first + options.streams, options.processes):
         if time.monotonic() > deadline or len(faults) > MOST_FAULTS:
             break
