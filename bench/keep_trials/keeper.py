@@ -16,10 +16,10 @@ TOKEN = "k" * 32
 SECONDS = 120
 USUAL = (8, 16384, 16)
 Quota = Tuple[int, int, int]
-Found = TypeVar("Found")
+Kept = TypeVar("Kept", bound="Keeper")
 
 
-def until(holds: Callable[[], Found]) -> Found:
+def until(holds: Callable[[], Any]) -> Any:
     """Waits until something holds, and returns what it is."""
     end = time.monotonic() + SECONDS
     while not (found := holds()):
@@ -129,7 +129,7 @@ class Keeper:
         status: int = self.child.wait(SECONDS)
         return status
 
-    def __enter__(self) -> "Keeper":
+    def __enter__(self: Kept) -> Kept:
         return self
 
     def __exit__(self, *_: object) -> None:

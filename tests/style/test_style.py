@@ -34,7 +34,7 @@ SEARCHED = {
 # Files by whose names others of their folder would find another module than they do when they run.
 ALONE = ("bench/shared/__init__.py", "conformance/random")
 # Folders whose tests have no types yet.
-WITHOUT_TYPES = ("clients/python/tests", "tests", "tests/documents")
+WITHOUT_TYPES = ("tests", "tests/documents")
 
 
 def is_python(path: pathlib.Path) -> bool:
@@ -91,7 +91,7 @@ def test_scripts_without_an_ending_are_found() -> None:
 
 
 def test_black_changes_nothing() -> None:
-    assert told("black", "--check", "--quiet", "--diff", *FILES) == ""
+    assert told("black", "--config", "pyproject.toml", "--check", "--quiet", "--diff", *FILES) == ""
 
 
 def test_flake8_finds_nothing() -> None:

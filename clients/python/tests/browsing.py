@@ -8,8 +8,9 @@ import subprocess
 import tempfile
 import time
 import urllib.request
+from typing import Any, Dict, List
 
-from support import SECONDS
+from support import SECONDS, present
 from web_sockets import WebSocket
 
 CHROMIUM = shutil.which("chromium") or shutil.which("chromium-browser") or shutil.which("google-chrome")
@@ -18,20 +19,20 @@ CHROMIUM = shutil.which("chromium") or shutil.which("chromium-browser") or shuti
 class Browser:
     """A browser with one page, which is as large as said."""
 
-    def __init__(self, width=1320, height=860):
+    def __init__(self, width: int = 1320, height: int = 860) -> None:
         self._folder = pathlib.Path(tempfile.mkdtemp())
         words = ["--headless", "--remote-debugging-port=0", f"--user-data-dir={self._folder}", "--disable-gpu"]
         words += ["--no-first-run", "--hide-scrollbars", f"--window-size={width},{height}", "--force-device-scale-factor=1"]
         words += ["--no-sandbox"] if os.geteuid() == 0 else []
         self._child = subprocess.Popen(
-            [CHROMIUM, *words, "about:blank"],
+            [present(CHROMIUM), *words, "about:blank"],
             env={**os.environ, "TMPDIR": str(self._folder)},
             stdout=subprocess.DEVNULL,
             stderr=subprocess.DEVNULL,
         )
-        self._channel = None
+        self._channel: Any = None
         self._number = 0
-        self.faults = []
+        self.faults: List[Any] = []
         try:
             self._channel = self._page()
             for domain in ("Page", "Runtime", "Log"):
@@ -41,11 +42,11 @@ class Browser:
             raise
 
     @property
-    def process(self):
+    def process(self) -> Any:
         """The number of its first process."""
         return self._child.pid
 
-    def _page(self):
+    def _page(self) -> Any:
         told = self._folder / "DevToolsActivePort"
         end = time.monotonic() + SECONDS
         while not (told.exists() and told.read_text().count("\n") >= 1):
@@ -57,11 +58,11 @@ class Browser:
             page = next(each for each in json.load(pages) if each["type"] == "page")
         return WebSocket(page["webSocketDebuggerUrl"])
 
-    def ask(self, method, **words):
+    def ask(self, method: Any, **words: Any) -> Any:
         """The result of a method of the protocol. What the page complains of meanwhile is kept in `faults`."""
         return self.ask_all(method, [words])[0]
 
-    def ask_all(self, method, each):
+    def ask_all(self, method: Any, each: Any) -> Any:
         """The results of a method for several words, which are sent at once, so that hardly any time is between them."""
         numbers = range(self._number + 1, self._number + 1 + len(each))
         self._number += len(each)
@@ -69,9 +70,9 @@ class Browser:
             self._channel.send(json.dumps({"id": number, "method": method, "params": words}))
         return self._results(method, numbers)
 
-    def _results(self, method, numbers):
+    def _results(self, method: Any, numbers: Any) -> List[Any]:
         """The results of a method that was sent with these numbers."""
-        results = {}
+        results: Dict[Any, Any] = {}
         while len(results) < len(numbers):
             told = json.loads(self._channel.receive())
             if "error" in told:
@@ -82,42 +83,42 @@ class Browser:
                 self._note(told)
         return [results[number] for number in numbers]
 
-    def _note(self, told):
+    def _note(self, told: Any) -> None:
         """Keeps what the page complains of."""
         if told["method"] == "Runtime.exceptionThrown" or told.get("params", {}).get("entry", {}).get("level") == "error":
             self.faults.append(told["params"])
 
-    def value(self, text):
+    def value(self, text: Any) -> Any:
         """The value of an expression in the page."""
         told = self.ask("Runtime.evaluate", expression=text, returnByValue=True, awaitPromise=True)
         if "exceptionDetails" in told:
             raise AssertionError(f"{text}: {told['exceptionDetails']}")
         return told["result"].get("value")
 
-    def text(self, name):
+    def text(self, name: Any) -> Any:
         """The text of the element of this name."""
         return self.value(f"document.getElementById({json.dumps(name)}).textContent")
 
-    def click(self, name):
+    def click(self, name: Any) -> None:
         """Presses a button with the mouse."""
         box = self.value(f"document.getElementById({json.dumps(name)}).getBoundingClientRect().toJSON()")
-        where = {"x": box["x"] + box["width"] / 2, "y": box["y"] + box["height"] / 2}
+        where: Dict[str, Any] = {"x": box["x"] + box["width"] / 2, "y": box["y"] + box["height"] / 2}
         self.mouse("mousePressed", **where)
         self.mouse("mouseReleased", **where)
 
-    def mouse(self, what, x, y):
+    def mouse(self, what: Any, x: Any, y: Any) -> None:
         held = int(what != "mouseReleased")
         self.ask("Input.dispatchMouseEvent", type=what, x=x, y=y, button="left", buttons=held, clickCount=1)
 
-    def type(self, text):
+    def type(self, text: Any) -> None:
         """Types letters into what has the focus. A tab goes to the next field, and a carriage return is Enter."""
         for letter in text:
             key = {"\t": "Tab", "\r": "Enter"}.get(letter, letter)
-            words = {"key": key, "code": key, "windowsVirtualKeyCode": ord(letter.upper())}
+            words: Dict[str, Any] = {"key": key, "code": key, "windowsVirtualKeyCode": ord(letter.upper())}
             self.ask("Input.dispatchKeyEvent", type="keyDown", text=letter, **words)
             self.ask("Input.dispatchKeyEvent", type="keyUp", **words)
 
-    def wait_for(self, text, seconds=4 * SECONDS):
+    def wait_for(self, text: Any, seconds: Any = 4 * SECONDS) -> None:
         """Waits until an expression holds in the page."""
         end = time.monotonic() + seconds
         while not self.value(text):
@@ -126,24 +127,24 @@ class Browser:
                 raise AssertionError(f"this does not come to hold: {text}\n{shown}\n{self.faults}")
             time.sleep(0.02)
 
-    def open(self, url):
+    def open(self, url: Any) -> None:
         self.ask("Page.navigate", url=url)
 
-    def leave(self):
+    def leave(self) -> None:
         """Leaves the page for an empty one, and forgets what it complained of, since its server may have ended."""
         self.open("about:blank")
         self.wait_for("location.href === 'about:blank'")
         self.faults.clear()
 
-    def in_scheme(self, scheme):
+    def in_scheme(self, scheme: Any) -> None:
         """Shows the page as a system in a light or a dark scheme does."""
         self.ask("Emulation.setEmulatedMedia", features=[{"name": "prefers-color-scheme", "value": scheme}])
 
-    def picture(self):
+    def picture(self) -> Any:
         """What the page looks like, as PNG."""
         return base64.b64decode(self.ask("Page.captureScreenshot", format="png")["data"])
 
-    def end(self):
+    def end(self) -> None:
         if self._channel is not None:
             self._channel.close()
         if self._child.poll() is None:
@@ -155,8 +156,8 @@ class Browser:
             self._child.wait(SECONDS)
         shutil.rmtree(self._folder, ignore_errors=True)
 
-    def __enter__(self):
+    def __enter__(self) -> Any:
         return self
 
-    def __exit__(self, *_):
+    def __exit__(self, *_: Any) -> None:
         self.end()

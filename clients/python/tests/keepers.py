@@ -1,6 +1,7 @@
 """A server that is kept by `tools/keep`, for its tests: that of bench/keep, with the program of the tests."""
 import contextlib
 import sys
+from typing import Any
 
 from ljclient import connect
 from support import DIMER, PROGRAM, SECONDS, TOP
@@ -18,30 +19,31 @@ __all__ = ["HELLO", "LOAD", "LOADED", "TOKEN", "TOP", "USUAL", "Keeper", "first_
 class Keeper(keeper.Keeper):
     """`tools/keep` before the program of the tests, for users of the usual quota if no other is said."""
 
-    def __init__(self, top, *options, users=("ann",), program=PROGRAM, **more):
+    def __init__(self, top: Any, *options: Any, users: Any = ("ann",), program: Any = PROGRAM, **more: Any) -> None:
         quotas = users if isinstance(users, dict) else dict.fromkeys(users, USUAL)
         super().__init__(top, program, quotas, options, **more)
 
-    def connected(self, name="ann"):
+    def connected(self, name: str = "ann") -> Any:
         """A user of the client who is let in."""
         return connect("127.0.0.1", self.port, name, TOKEN, timeout=SECONDS)
 
-    def stopped(self, name):
+    def stopped(self, name: Any) -> Any:
         """Why a user is not let in, when the status says so."""
-        return until(lambda: self.known()["users"].get(name, {}).get("why"))
+        why: Any = until(lambda: self.known()["users"].get(name, {}).get("why"))
+        return why
 
-    def everything(self):
+    def everything(self) -> bytes:
         """The bytes of all files that it has written, and of what it has said."""
         files = [*self.folder.iterdir(), self.log, self.errors]
         return b"".join(each.read_bytes() for each in files)
 
-    def killed_server(self):
+    def killed_server(self) -> None:
         """Kills the server, and returns when another one is there and was told all."""
         self.kill_server()
         until(self.is_ready)
 
 
-def first_line(stream):
+def first_line(stream: Any) -> Any:
     """The first line that comes on a connection, or what comes of it."""
     line = b""
     with contextlib.suppress(OSError):

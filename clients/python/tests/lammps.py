@@ -2,11 +2,11 @@
 import re
 import shutil
 import subprocess
-from typing import NamedTuple
+from typing import Any, NamedTuple, Tuple
 
 import numpy
 
-from support import TOP
+from support import TOP, present
 
 LMP = shutil.which("lmp")
 IN_FILE = TOP / "bench" / "lammps" / "forces.in"
@@ -16,26 +16,26 @@ class Told(NamedTuple):
     """What LAMMPS tells of frames: the pressure of each in epsilon / sigma^3, and forces in epsilon / sigma, of shape
     (frames, atoms, 3)."""
 
-    pressures: numpy.ndarray
-    forces: numpy.ndarray
+    pressures: Any
+    forces: Any
 
 
-def told_of(snapshots, folder):
+def told_of(snapshots: Any, folder: Any) -> Any:
     """What LAMMPS tells of these frames of atoms that are all alike, whose files are kept in a folder."""
     paths = {name: folder / f"{name}.txt" for name in ("data", "frames", "forces")}
     paths["data"].write_text(data_of(snapshots[0]))
     paths["frames"].write_text("".join(map(frame_of, snapshots)))
     words = [word for name, path in paths.items() for word in ("-var", name, str(path))]
-    command = [LMP, "-in", str(IN_FILE), "-log", str(folder / "log.txt"), "-screen", "none", *words]
+    command = [str(LMP), "-in", str(IN_FILE), "-log", str(folder / "log.txt"), "-screen", "none", *words]
     subprocess.run(command, check=True, timeout=120, cwd=folder)
-    rows = re.search(r"Step .*\n((?:[ 0-9.e+-]+\n)+)", (folder / "log.txt").read_text()).group(1).splitlines()
+    rows = present(re.search(r"Step .*\n((?:[ 0-9.e+-]+\n)+)", (folder / "log.txt").read_text())).group(1).splitlines()
     pressures = numpy.array([float(row.split()[1]) for row in rows])
     lines = [line for line in paths["forces"].read_text().splitlines() if line.count(" ") == 3 and line[0].isdigit()]
     forces = numpy.array([[float(word) for word in line.split()[1:]] for line in lines])
     return Told(pressures, forces.reshape(len(snapshots), -1, 3))
 
 
-def data_of(snapshot):
+def data_of(snapshot: Any) -> str:
     """The atoms of a frame as LAMMPS reads them, in units of sigma."""
     positions, edge = reduced(snapshot)
     atoms = "\n".join(f"{number} 1 {x!r} {y!r} {z!r}" for number, (x, y, z) in enumerate(positions.tolist(), 1))
@@ -43,7 +43,7 @@ def data_of(snapshot):
     return f"frames\n\n{len(positions)} atoms\n1 atom types\n{sides}\n\nAtoms\n\n{atoms}\n"
 
 
-def frame_of(snapshot):
+def frame_of(snapshot: Any) -> str:
     """A frame of a dump with positions and velocities, in reduced units."""
     positions, edge = reduced(snapshot)
     scale = snapshot.scale
@@ -55,7 +55,7 @@ def frame_of(snapshot):
     return f"{heads}ITEM: ATOMS id x y z vx vy vz\n{atoms}\n"
 
 
-def reduced(snapshot):
+def reduced(snapshot: Any) -> Tuple[Any, Any]:
     """The positions of a frame and the edge of its box, in units of sigma as the program has it: of whole ring units."""
     sigma = snapshot.scale.sigma_on_ring
     return snapshot.places / sigma, 2**32 / sigma

@@ -2,6 +2,7 @@
 import hashlib
 import subprocess
 import sys
+from typing import Any, Dict, List, Tuple
 
 from support import DIMER, PROGRAM
 from terminals import environment
@@ -57,47 +58,47 @@ for line in child.stdout:
 """
 
 
-def twisted(folder, wanted, other, number=1):
+def twisted(folder: Any, wanted: Any, other: Any, number: int = 1) -> str:
     """A program that replies as the one does, but for the line that is so for the n-th time."""
     path = folder / "twisted"
-    words = {"program": PROGRAM, "number": number, "python": sys.executable}
+    words: Dict[str, Any] = {"program": PROGRAM, "number": number, "python": sys.executable}
     path.write_text(TWISTED.format(wanted=f"{wanted}\n".encode(), other=f"{other}\n".encode(), **words))
     path.chmod(0o755)
     return str(path)
 
 
-def sums(text):
+def sums(text: Any) -> List[Any]:
     """The SHA-256 of the text up to the end of each line."""
     lines = text.splitlines(keepends=True)
     return [hashlib.sha256("".join(lines[: number + 1]).encode()).hexdigest() for number in range(len(lines))]
 
 
-def with_checks(text):
+def with_checks(text: Any) -> str:
     """The file of these lines: each below the first begins with the first 8 digits of the SHA-256 up to its end."""
-    head, *lines = text.splitlines(keepends=True)
+    head, *lines = str(text).splitlines(keepends=True)
     return head + "".join(f"{told[:8]} {line}" for told, line in zip(sums(text)[1:], lines))
 
 
-def without_checks(path):
+def without_checks(path: Any) -> List[Any]:
     """The lines of a record, without what the version of a program is."""
     head, *lines = path.read_bytes().decode().split("\n")[:-1]
     told = [head, *(line[9:] for line in lines)]
     return [line for line in told if not line.startswith("program ")]
 
 
-def commands(path):
+def commands(path: Any) -> List[Any]:
     """The commands of a record that were replied to, in order."""
     return [line[2:] for line in without_checks(path) if line.startswith("> ")]
 
 
-def verified(*words, **variables):
+def verified(*words: Any, **variables: Any) -> Tuple[Any, Any, Any]:
     """The status of verify, the lines that it writes, and those on standard error."""
     command = [sys.executable, "-m", "ljclient", "verify", *map(str, words)]
     done = subprocess.run(command, env=environment(**variables), stdin=subprocess.DEVNULL, capture_output=True, text=True, timeout=120)
     return done.returncode, done.stdout.splitlines(), done.stderr.splitlines()
 
 
-def is_the_same(path, *words, **variables):
+def is_the_same(path: Any, *words: Any, **variables: Any) -> Any:
     """Holds that each command of a record is played, and its reply the same. Returns what is told on standard error."""
     status, told, faults = verified(path, *words, **variables)
     assert status == 0, (told, faults)
@@ -106,12 +107,12 @@ def is_the_same(path, *words, **variables):
     return faults
 
 
-def escaped(line):
+def escaped(line: Any) -> str:
     """A line as verify shows it."""
     return "".join(chr(byte) if 32 <= byte < 127 else f"\\x{byte:02x}" for byte in line.encode())
 
 
-def replied(path):
+def replied(path: Any) -> Any:
     """The commands of a record, each with the mark of its reply."""
     found, line = [], ""
     for text in without_checks(path):

@@ -8,6 +8,7 @@ import socket
 import sys
 import threading
 import types
+from typing import Any
 
 REFERENCE = pathlib.Path(__file__).resolve().parents[3] / "conformance" / "reference.py"
 before, after, *words = sys.argv[1:]
@@ -21,11 +22,11 @@ sys.modules["reference"] = reference
 exec(compile(text.replace(before, after) if before else text, str(REFERENCE), "exec"), reference.__dict__)
 
 
-def option(name):
+def option(name: Any) -> Any:
     return words[words.index(name) + 1]
 
 
-def serve(stream, users):
+def serve(stream: Any, users: Any) -> None:
     with stream, stream.makefile("rwb") as lines:
         _, name, token = lines.readline().decode().split()
         wanted, user, lock = users[name]
@@ -38,7 +39,7 @@ def serve(stream, users):
                 lines.flush()
 
 
-def main():
+def main() -> None:
     rows = [line.split() for line in pathlib.Path(option("--users")).read_text().splitlines()]
     users = {name: (token, reference.User(tuple(map(int, quota))), threading.Lock()) for name, token, *quota in rows}
     host, _, port = option("--listen").rpartition(":")

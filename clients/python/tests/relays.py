@@ -4,13 +4,14 @@ import socket
 import ssl
 import subprocess
 import threading
+from typing import Any, List, Tuple
 
 from support import SECONDS
 
 HERE = "DNS:localhost,IP:127.0.0.1"
 
 
-def certificate(folder, name, names=HERE):
+def certificate(folder: Any, name: Any, names: Any = HERE) -> Any:
     """A certificate for these names that is its own issuer, and its key, in files of this name."""
     files = folder / f"{name}.pem", folder / f"{name}.key"
     words = ["req", "-x509", "-newkey", "ec", "-pkeyopt", "ec_paramgen_curve:prime256v1", "-nodes", "-days", "2"]
@@ -36,7 +37,7 @@ subjectAltName = {HERE}
 """
 
 
-def expired(folder):
+def expired(folder: Any) -> Tuple[Any, Any]:
     """A certificate that was valid for a day of 2020, and its key."""
     for name, text in (("settings", SETTINGS), ("index", ""), ("serial", "01\n")):
         (folder / name).write_text(text)
@@ -52,12 +53,12 @@ def expired(folder):
 class Relay:
     """Speaks TLS on a loopback port, and hands what it decrypts to a server on another. `heard` is what clients said."""
 
-    def __init__(self, port, certificate, listener=None):
+    def __init__(self, port: Any, certificate: Any, listener: Any = None) -> None:
         listener = listener or socket.create_server(("127.0.0.1", 0))
         self.heard = b""
         self.port = listener.getsockname()[1]
         self._to = port
-        self._writers = []
+        self._writers: List[Any] = []
         context = ssl.SSLContext(ssl.PROTOCOL_TLS_SERVER)
         context.load_cert_chain(*certificate)
         self._loop = asyncio.new_event_loop()
@@ -67,12 +68,12 @@ class Relay:
         self._thread = threading.Thread(target=self._loop.run_forever, daemon=True)
         self._thread.start()
 
-    async def _relay(self, reader, writer):
+    async def _relay(self, reader: Any, writer: Any) -> None:
         from_server, to_server = await asyncio.open_connection("127.0.0.1", self._to)
         self._writers += [writer, to_server]
         await asyncio.gather(self._pump(reader, to_server, True), self._pump(from_server, writer), return_exceptions=True)
 
-    async def _pump(self, reader, writer, is_heard=False):
+    async def _pump(self, reader: Any, writer: Any, is_heard: bool = False) -> None:
         try:
             while data := await reader.read(1 << 16):
                 self.heard += data if is_heard else b""
@@ -81,20 +82,20 @@ class Relay:
         finally:
             writer.close()
 
-    def cut(self):
+    def cut(self) -> None:
         """Ends all connections, and returns when they have ended."""
         asyncio.run_coroutine_threadsafe(self._cut(), self._loop).result(SECONDS)
 
-    async def _cut(self):
+    async def _cut(self) -> None:
         open_writers = [writer for writer in self._writers if not writer.is_closing()]
         for writer in open_writers:
             writer.transport.abort()
         await asyncio.gather(*(writer.wait_closed() for writer in open_writers), return_exceptions=True)
 
-    def __enter__(self):
+    def __enter__(self) -> Any:
         return self
 
-    def __exit__(self, *_):
+    def __exit__(self, *_: Any) -> None:
         self._loop.call_soon_threadsafe(self._loop.stop)
         self._thread.join(SECONDS)
         self._server.close()

@@ -4,8 +4,9 @@ import pathlib
 import re
 import subprocess
 import time
+from typing import Any, Dict, Iterator, List
 
-from support import SECONDS
+from support import SECONDS, present
 
 PATH = "/usr/sbin:/usr/bin:/sbin:/bin"
 # The tables of mounts, processes and network end with the first process of the namespaces.
@@ -36,24 +37,24 @@ class NoRoot(Exception):
 class Root:
     """A root that was begun. `path` is where its files are from outside."""
 
-    def __init__(self, process):
+    def __init__(self, process: Any) -> None:
         (number,) = pathlib.Path(f"/proc/{process.pid}/task/{process.pid}/children").read_text().split()
         self.number = number
         self.path = pathlib.Path(f"/proc/{number}/root")
 
-    def command(self, *words):
+    def command(self, *words: Any) -> List[Any]:
         """A command in it, for a process of this machine to begin, with nothing of the environment of this one."""
         within = ["nsenter", "--target", self.number, "--mount", "--net", "--pid", "--root", "--wd"]
         return [*within, "env", "-i", f"PATH={PATH}", "LC_ALL=C.UTF-8", "HOME=/root", "DEBIAN_FRONTEND=noninteractive", *words]
 
-    def run(self, *words, given="", status=0):
+    def run(self, *words: Any, given: str = "", status: int = 0) -> Any:
         """What a command prints in it."""
-        how = {"stdout": subprocess.PIPE, "stderr": subprocess.STDOUT, "text": True, "timeout": 10 * SECONDS}
+        how: Dict[str, Any] = {"stdout": subprocess.PIPE, "stderr": subprocess.STDOUT, "text": True, "timeout": 10 * SECONDS}
         done = subprocess.run(self.command(*words), input=given, **how)
         assert done.returncode == status, done
         return done.stdout
 
-    def put(self, path, text, mode=0o644):
+    def put(self, path: Any, text: Any, mode: int = 0o644) -> None:
         """Writes a file in it. One that is there is not changed, but replaced."""
         target = self.path / path
         target.unlink(missing_ok=True)
@@ -61,7 +62,7 @@ class Root:
         target.write_text(text)
         target.chmod(mode)
 
-    def await_listener(self, port):
+    def await_listener(self, port: Any) -> None:
         """Waits until something listens at a port of 127.0.0.1."""
         row = re.compile(rf"0100007F:{port:04X} 00000000:0000 0A ")
         end = time.monotonic() + 4 * SECONDS
@@ -71,7 +72,7 @@ class Root:
 
 
 @contextlib.contextmanager
-def root_of_its_own(folder):
+def root_of_its_own(folder: Any) -> Iterator[Any]:
     """A root that is gone at the end, with all that runs in it. Raises NoRoot if none can be had here."""
     words = ["unshare", "--mount", "--net", "--pid", "--fork", "--kill-child", "sh", "-ec", BEGIN, "sh", str(folder), LOOPBACK]
     try:
@@ -80,7 +81,7 @@ def root_of_its_own(folder):
         raise NoRoot(str(error)) from error
     with process:
         try:
-            if process.stdout.readline() != "begun\n":
+            if present(process.stdout).readline() != "begun\n":
                 raise NoRoot(process.communicate()[1].strip())
             yield Root(process)
         finally:

@@ -10,6 +10,7 @@ import subprocess
 import tempfile
 import threading
 import time
+from typing import Any, Dict, Iterator, List, Optional, TypeVar
 
 from ljclient import units
 
@@ -19,27 +20,40 @@ PROGRAM = os.environ.get("LJSERVE") or str(TOP / "bin" / "ljserve")
 SECONDS = 60
 TOKEN = "a" * 32
 DIMER = "2\ndimer\nAr 0 0 0\nAr 1.5 0 0\n"
-DIMER_SCALE = {"edge": 256, "sigma": 1, "h": 131072}
-ARGON = {"edge": 21.04, "dt": 10, **units.ARGON}
+DIMER_SCALE: Dict[str, Any] = {"edge": 256, "sigma": 1, "h": 131072}
+ARGON: Dict[str, Any] = {"edge": 21.04, "dt": 10, **units.ARGON}
 RING = 2**32
+Thing = TypeVar("Thing")
 
 
-def python_blocks(path):
+def present(thing: Optional[Thing]) -> Thing:
+    """What is there."""
+    assert thing is not None
+    return thing
+
+
+def process_of(user: Any) -> int:
+    """The number of the program that a user has for itself."""
+    pid: int = user._wire._ends.pid
+    return pid
+
+
+def python_blocks(path: Any) -> Any:
     """The examples in Python of a document."""
     return re.findall(r"```python\n(.*?)```", path.read_text(), re.S)
 
 
-def dimer(user, name="a", **words):
+def dimer(user: Any, name: str = "a", **words: Any) -> Any:
     """A session of two atoms 1.5 sigma apart, whose motion is known by hand."""
     return user.load(name, DIMER, **{**DIMER_SCALE, **words})
 
 
-def listed(places):
+def listed(places: Any) -> List[Any]:
     """Places as a list of tuples of whole numbers, whether they came as an array or not."""
     return [tuple(int(part) for part in place) for place in places]
 
 
-def go_on_alike(case, one, other):
+def go_on_alike(case: Any, one: Any, other: Any) -> None:
     """Holds that two sessions are alike in all that can be seen of them, and go on alike, forth and back."""
     for _ in range(2):
         case.assertEqual(listed(one.places()), listed(other.places()))
@@ -49,18 +63,18 @@ def go_on_alike(case, one, other):
     case.assertEqual(listed(one.places()), listed(other.places()))
 
 
-def interruptible(case):
+def interruptible(case: Any) -> None:
     """Has an interrupt raise KeyboardInterrupt in a test. Where tests run in the background it is ignored from the start."""
     case.addCleanup(signal.signal, signal.SIGINT, signal.signal(signal.SIGINT, signal.default_int_handler))
 
 
-def heed_signals():
+def heed_signals() -> None:
     """Heeds the signals that are ignored in a program which runs in the background, or under nohup."""
     for number in (signal.SIGINT, signal.SIGHUP):
         signal.signal(number, signal.SIG_DFL)
 
 
-def free_port():
+def free_port() -> Any:
     """A port that is free, and below those that Linux gives to connections, which would take it before it is listened on."""
     while True:
         with contextlib.suppress(OSError), socket.socket() as taken:
@@ -68,7 +82,7 @@ def free_port():
             return taken.getsockname()[1]
 
 
-def wait_until(holds):
+def wait_until(holds: Any) -> None:
     """Waits until this holds."""
     end = time.monotonic() + SECONDS
     while not holds():
@@ -76,10 +90,10 @@ def wait_until(holds):
         time.sleep(0.01)
 
 
-def interrupt_when(holds):
+def interrupt_when(holds: Any) -> Any:
     """The thread that interrupts the main one as soon as this holds."""
 
-    def interrupt():
+    def interrupt() -> None:
         wait_until(holds)
         os.kill(os.getpid(), signal.SIGINT)
 
@@ -91,7 +105,7 @@ def interrupt_when(holds):
 class Server:
     """`ljserve serve` on a free port of 127.0.0.1, for users whose token is `TOKEN`, or for those of a file's lines."""
 
-    def __init__(self, users=("ann",), connections=100, quota=(8, 16384, 16), lines=None):
+    def __init__(self, users: Any = ("ann",), connections: int = 100, quota: Any = (8, 16384, 16), lines: Any = None) -> None:
         self.port = free_port()
         with tempfile.NamedTemporaryFile("w") as file:
             file.write(lines or "".join("{} {} {} {} {}\n".format(name, TOKEN, *quota) for name in users))
@@ -103,7 +117,7 @@ class Server:
             )
             self.wait_until_it_listens()
 
-    def wait_until_it_listens(self):
+    def wait_until_it_listens(self) -> None:
         """One connection is made and closed, which is among those that the server counts."""
         end = time.monotonic() + SECONDS
         while time.monotonic() < end:
@@ -117,13 +131,13 @@ class Server:
         self.end()
         raise AssertionError("the server does not listen")
 
-    def end(self):
+    def end(self) -> None:
         if self.child.poll() is None:
             self.child.kill()
         self.child.wait(SECONDS)
 
     @contextlib.contextmanager
-    def stopped(self):
+    def stopped(self) -> Iterator[Any]:
         """The server does nothing within the block."""
         self.child.send_signal(signal.SIGSTOP)
         os.waitid(os.P_PID, self.child.pid, os.WSTOPPED)
@@ -132,22 +146,22 @@ class Server:
         finally:
             self.child.send_signal(signal.SIGCONT)
 
-    def __enter__(self):
+    def __enter__(self) -> Any:
         return self
 
-    def __exit__(self, *_):
+    def __exit__(self, *_: Any) -> None:
         self.end()
 
 
 @contextlib.contextmanager
-def peer(talk, port=0):
+def peer(talk: Any, port: int = 0) -> Iterator[Any]:
     """The port of a peer, a free one if none is said, that talks in its own way to the one connection that it accepts."""
     listener = socket.create_server(("127.0.0.1", port))
     listener.settimeout(SECONDS)
     stop = threading.Event()
     faults = []
 
-    def serve():
+    def serve() -> None:
         try:
             connection, _ = listener.accept()
             connection.settimeout(SECONDS)
@@ -168,7 +182,7 @@ def peer(talk, port=0):
             raise AssertionError("the peer still talks")
 
 
-def read_line(connection):
+def read_line(connection: Any) -> Any:
     """The next line of a connection, byte by byte."""
     line = b""
     while not line.endswith(b"\n"):
@@ -179,10 +193,10 @@ def read_line(connection):
     return line
 
 
-def says(*replies, then=None):
+def says(*replies: Any, then: Any = None) -> Any:
     """A peer that answers HELLO, and then each line with the next of these replies; at last it does something else."""
 
-    def talk(connection, stop):
+    def talk(connection: Any, stop: Any) -> None:
         read_line(connection)
         connection.sendall(b"OK HELLO ann\n")
         for reply in replies:
@@ -194,17 +208,17 @@ def says(*replies, then=None):
     return talk
 
 
-def stays(connection, stop):
+def stays(connection: Any, stop: Any) -> None:
     """The peer says nothing more, and does not go."""
     stop.wait(SECONDS)
 
 
-def children_of(process):
+def children_of(process: Any) -> List[Any]:
     """The numbers of the processes that this one has started."""
     return [int(path.parent.name) for path in pathlib.Path("/proc").glob("[0-9]*/stat") if parent_of(path) == process]
 
 
-def parent_of(stat):
+def parent_of(stat: Any) -> Any:
     """The number of the process that has started the one of this file of /proc. None if that has ended meanwhile."""
     try:
         return int(stat.read_text().rpartition(")")[2].split()[1])
@@ -212,6 +226,6 @@ def parent_of(stat):
         return None
 
 
-def is_running(pid):
+def is_running(pid: Any) -> Any:
     """Whether there is a process of this number, one that has ended and was not waited for included."""
     return os.path.exists(f"/proc/{pid}")

@@ -11,8 +11,9 @@ import subprocess
 import sys
 import termios
 import time
+from typing import Any, Dict, Tuple
 
-from support import EXAMPLES, PROGRAM, SECONDS, TOP, heed_signals
+from support import EXAMPLES, PROGRAM, SECONDS, TOP, heed_signals, present
 
 PROMPT = [sys.executable, "-m", "ljclient"]
 ARGON = EXAMPLES / "argon_256.xyz"
@@ -38,7 +39,7 @@ for line in sys.stdin:
 """
 
 
-def slow_program(folder, last=0):
+def slow_program(folder: Any, last: int = 0) -> str:
     """Such a program in a folder. It ends at the last of so many commands that ask for steps, if that is above 0."""
     path = folder / "ljserve"
     path.write_text(f"#!{sys.executable}\n" + SLOW.format(last=last))
@@ -46,7 +47,7 @@ def slow_program(folder, last=0):
     return str(path)
 
 
-def environment(**words):
+def environment(**words: Any) -> Dict[Any, Any]:
     """The environment of a prompt, which finds the client and the program, and no token and no history. Its terminal has plain
     lines, unless the words say otherwise."""
     kept = {name: value for name, value in os.environ.items() if name != "LJSERVE_TOKEN"}
@@ -54,7 +55,7 @@ def environment(**words):
     return {**kept, "PYTHONPATH": path, "LJSERVE": PROGRAM, "LJCLIENT_HISTORY": os.devnull, "TERM": "dumb", **words}
 
 
-def begin_at_terminal():
+def begin_at_terminal() -> None:
     """Takes the terminal, and heeds its interrupts."""
     fcntl.ioctl(0, termios.TIOCSCTTY, 0)
     heed_signals()
@@ -63,7 +64,7 @@ def begin_at_terminal():
 class Terminal:
     """A program whose standard streams are a terminal of its own, of so many columns."""
 
-    def __init__(self, words, env=None, columns=120, cwd=None):
+    def __init__(self, words: Any, env: Any = None, columns: int = 120, cwd: Any = None) -> None:
         self.ours, theirs = pty.openpty()
         fcntl.ioctl(theirs, termios.TIOCSWINSZ, struct.pack("HHHH", 40, columns, 0, 0))
         env = {**os.environ, "TERM": "xterm", "COLUMNS": str(columns), "LINES": "40", "INPUTRC": "/dev/null", **(env or {})}
@@ -83,10 +84,10 @@ class Terminal:
         # The begin of a sequence whose rest is still to come.
         self._rest = ""
 
-    def type(self, text):
+    def type(self, text: Any) -> None:
         os.write(self.ours, text.encode())
 
-    def until(self, wanted):
+    def until(self, wanted: Any) -> Any:
         """What is shown from the last time on until this stands there, without colours and the like."""
         end = time.monotonic() + SECONDS
         while not (found := re.search(wanted, self.shown, re.S)):
@@ -96,7 +97,7 @@ class Terminal:
         shown, self.shown = self.shown[: found.end()], self.shown[found.end() :]
         return shown
 
-    def read(self, seconds):
+    def read(self, seconds: Any) -> bool:
         """Takes in what is shown within so many seconds. Returns whether more may come."""
         if select.select([self.ours], [], [], seconds)[0]:
             try:
@@ -104,22 +105,22 @@ class Terminal:
             except OSError:
                 return False
             self.written += data
-            whole, self._rest = re.fullmatch(r"(.*?)((?:\033(?:\[[?0-9;]*)?|\r)?)", self._rest + data, re.S).groups()
+            whole, self._rest = present(re.fullmatch(r"(.*?)((?:\033(?:\[[?0-9;]*)?|\r)?)", self._rest + data, re.S)).groups()
             self.shown += re.sub(r"\033\[[?0-9;]*[a-zA-Z]|\r(?!\n)|\a", "", whole).replace("\r\n", "\n")
         return True
 
-    def ended(self):
+    def ended(self) -> Tuple[Any, Any]:
         """The exit status, and what is shown up to the end."""
         end = time.monotonic() + SECONDS
         while self.read(0.1) and time.monotonic() < end:
             pass
         return self.child.wait(SECONDS), self.shown
 
-    def interrupt(self):
+    def interrupt(self) -> None:
         """Presses Ctrl-C."""
         self.type("\x03")
 
-    def close(self):
+    def close(self) -> None:
         """Ends the program, if it has not ended, as a terminal does that is closed."""
         if self.child.poll() is None:
             self.child.send_signal(signal.SIGKILL)

@@ -1,46 +1,48 @@
 """What may be said as a number or as a symbol: numbers of numpy too, and clear errors for what is none."""
 import importlib.util
 import re
+from typing import Any, Dict, Iterator
 
 import pytest
 
 from ljclient import Mixture, Scale, run
-from support import DIMER_SCALE, PROGRAM, dimer, listed
+from support import DIMER_SCALE, PROGRAM, dimer, listed, present
 
 numpy = importlib.import_module("numpy") if importlib.util.find_spec("numpy") else None
 with_numpy = pytest.mark.skipif(numpy is None, reason="numpy is not installed")
-ARGON = {"edge": 21.04, "sigma": 3.4, "epsilon": 0.01, "mass": 40.0, "dt": 2}
-PAIRS = {"edge": 21, "species": ("Ar", "Kr"), "first": (3.4, 0.01), "second": (3.6, 0.012), "mass": 40, "dt": 2}
+ARGON: Dict[str, Any] = {"edge": 21.04, "sigma": 3.4, "epsilon": 0.01, "mass": 40.0, "dt": 2}
+PAIRS: Dict[str, Any] = {"edge": 21, "species": ("Ar", "Kr"), "first": (3.4, 0.01), "second": (3.6, 0.012), "mass": 40, "dt": 2}
 TWO = [[0, 0, 0], [1.5, 0, 0]]
 
 
 @pytest.fixture
-def user():
+def user() -> Iterator[Any]:
     with run(PROGRAM) as user:
         yield user
 
 
-def names(message):
+def names(message: Any) -> Any:
     """That a TypeError or a ValueError has this message."""
     return pytest.raises((TypeError, ValueError), match=re.escape(message))
 
 
 @pytest.mark.parametrize("name", ["edge", "sigma", "epsilon", "mass", "dt"])
 @pytest.mark.parametrize("value", [(1, 2), [2]])
-def test_what_is_no_number_is_named(name, value):
+def test_what_is_no_number_is_named(name: Any, value: Any) -> None:
     with names(f"{name} is one number, not {value!r}"):
         Scale.of(**{**ARGON, name: value})
 
 
-def test_a_mass_is_one_number_beside_h_too(user):
+def test_a_mass_is_one_number_beside_h_too(user: Any) -> None:
     with names("mass is one number, not (1, 2)"):
         dimer(user, epsilon=0.01, mass=(1, 2))
     assert user.sessions() == []
 
 
-def test_a_mixture_has_one_mass():
+def test_a_mixture_has_one_mass() -> None:
     with names("mass is one number, not (40, 84): both species have one mass here"):
-        Mixture.of(**{**PAIRS, "mass": (40, 84)})
+        words: Dict[str, Any] = {**PAIRS, "mass": (40, 84)}
+        Mixture.of(**words)
 
 
 @pytest.mark.parametrize(
@@ -52,13 +54,13 @@ def test_a_mixture_has_one_mass():
         ({"first": (3.4, "deep")}, "epsilon is one number, not 'deep'"),
     ],
 )
-def test_a_pair_is_sigma_and_epsilon(said, told):
+def test_a_pair_is_sigma_and_epsilon(said: Any, told: Any) -> None:
     with names(told):
         Mixture.of(**{**PAIRS, **said})
 
 
 @pytest.mark.parametrize("classes", [[(1, 4096)] * 3, [1, 2, 3], [(1, 4096, 256)] * 2])
-def test_a_class_is_sigma_and_h_and_weight(classes):
+def test_a_class_is_sigma_and_h_and_weight(classes: Any) -> None:
     with names(f"three classes of (sigma, h, weight), not {classes!r}"):
         Mixture.of(21, ("Ar", "Kr"), classes=classes)
 
@@ -77,16 +79,16 @@ def test_a_class_is_sigma_and_h_and_weight(classes):
         (lambda a: a.thermo(1, 2.0), "rows is a whole number (int), not 2.0"),
     ],
 )
-def test_what_is_no_number_of_a_session_is_named(user, act, told):
+def test_what_is_no_number_of_a_session_is_named(user: Any, act: Any, told: Any) -> None:
     a = dimer(user)
     with names(told):
         act(a)
     assert (a.step, listed(a.places())) == (0, [(0, 0, 0), (25165824, 0, 0)])
 
 
-def test_h_is_a_whole_number():
+def test_h_is_a_whole_number() -> None:
     with names("the step factor h is a whole number (int), not '131072'"):
-        Scale.of(256, 1, "131072")
+        Scale.of(256, 1, "131072")  # type: ignore[arg-type]
 
 
 @pytest.mark.parametrize(
@@ -102,31 +104,38 @@ def test_h_is_a_whole_number():
         (5, None, "the atoms are a path, a file, a text, `Atoms` of ASE or a list, not 5"),
     ],
 )
-def test_what_is_no_atom_is_named(user, source, symbols, told):
+def test_what_is_no_atom_is_named(user: Any, source: Any, symbols: Any, told: Any) -> None:
     with names(told):
         user.load("a", source, symbols=symbols, **DIMER_SCALE)
     assert user.sessions() == []
 
 
 @with_numpy
-def test_numbers_of_numpy_are_numbers(user):
-    whole, real = numpy.int64, numpy.float64
+def test_numbers_of_numpy_are_numbers(user: Any) -> None:
+    whole, real = present(numpy).int64, present(numpy).float64
     scale = Scale.of(real(21.04), real(3.4), epsilon=real(0.01), mass=whole(40), dt=whole(2))
     assert scale == Scale.of(**ARGON) and type(scale.mass) is float
-    assert Scale.of(whole(256), numpy.int32(1), whole(131072)) == Scale.of(256, 1, 131072)
-    assert Scale.of(numpy.array([256.0]), 1, 131072).edge == 256
-    a = user.load("a", numpy.array(TWO), symbols=numpy.array(["Ar", "Kr"]), edge=whole(256), sigma=real(1), h=whole(131072))
+    assert Scale.of(whole(256), present(numpy).int32(1), whole(131072)) == Scale.of(256, 1, 131072)
+    assert Scale.of(present(numpy).array([256.0]), 1, 131072).edge == 256
+    a = user.load(
+        "a", present(numpy).array(TWO), symbols=present(numpy).array(["Ar", "Kr"]), edge=whole(256), sigma=real(1), h=whole(131072)
+    )
     assert (a.symbols(), a.place(whole(1))) == (["Ar", "Kr"], (25165824, 0, 0))
-    assert a.tug(whole(1), numpy.array([1, 2, 3])) == 0
+    assert a.tug(whole(1), present(numpy).array([1, 2, 3])) == 0
     assert (a.advance(whole(2), piece=whole(1)), user.advance([a], whole(1)), a.start(whole(1))) == (2, [3], 4)
     assert a.heat(real(1.0), seed=whole(3)) == a.heat(1, seed=3)
     assert a.sample(whole(1), whole(2)).steps == [4, 5]
 
 
 @with_numpy
-def test_numbers_of_numpy_make_a_mixture():
-    real = numpy.float64
-    pairs = {"first": (real(3.4), real(0.01)), "second": numpy.array([3.6, 0.012]), "mass": numpy.int64(40), "dt": real(2)}
+def test_numbers_of_numpy_make_a_mixture() -> None:
+    real = present(numpy).float64
+    pairs: Dict[str, Any] = {
+        "first": (real(3.4), real(0.01)),
+        "second": present(numpy).array([3.6, 0.012]),
+        "mass": present(numpy).int64(40),
+        "dt": real(2),
+    }
     assert str(Mixture.of(**{**PAIRS, **pairs})) == str(Mixture.of(**PAIRS))
-    classes = numpy.array([(1, 4096, 256)] * 3)
+    classes = present(numpy).array([(1, 4096, 256)] * 3)
     assert Mixture.of(256, ("A", "B"), classes=classes).words == "A B 1 4096 256 1 4096 256 1 4096 256"

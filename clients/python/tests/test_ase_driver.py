@@ -3,14 +3,16 @@
 The dimer's motion is worked out by hand in test_commands. With epsilon 1 eV and mass 1 the unit of time is that of ASE.
 """
 import os
+import pathlib
 import subprocess
 import sys
 from unittest import mock
+from typing import Any, Dict, Iterator, List, Tuple
 
 import pytest
 
 from ljclient import run, units
-from support import PROGRAM
+from support import PROGRAM, present
 
 pytest.importorskip("ase", reason="ASE is not installed")
 
@@ -30,18 +32,18 @@ from ljclient.ase import ReversibleVerlet
 UNIT = 2.0**-24
 DT = 2**-7.5
 WAY = [0, 589, 1774, 3555]  # of atom 0, in 2^-24; 596 more for each step, as in test_sampling
-ONE = {"sigma": 1, "epsilon": 1}
-ARGON = {"sigma": 3.4, "epsilon": 119.8 * units.kelvin}
+ONE: Dict[str, Any] = {"sigma": 1, "epsilon": 1}
+ARGON: Dict[str, Any] = {"sigma": 3.4, "epsilon": 119.8 * units.kelvin}
 
 
 @pytest.fixture
-def user():
+def user() -> Iterator[Any]:
     with run(PROGRAM) as user:
         yield user
 
 
 @pytest.fixture
-def pair():
+def pair() -> Any:
     """Two atoms whose velocities are those of the first step from rest, so that they were at rest a step before."""
     atoms = Atoms("Ar2", positions=[[0, 0, 0], [1.5, 0, 0]], cell=[256] * 3, pbc=True, masses=[1, 1])
     velocity = WAY[1] * UNIT / (2 * DT)
@@ -50,27 +52,27 @@ def pair():
 
 
 @pytest.fixture
-def dimer(user, pair):
+def dimer(user: Any, pair: Any) -> Any:
     return ReversibleVerlet(pair, DT, user=user, **ONE)
 
 
 @pytest.fixture
-def liquid():
+def liquid() -> Any:
     atoms = bulk("Ar", "fcc", a=5.9, cubic=True) * (3, 3, 3)
     MaxwellBoltzmannDistribution(atoms, temperature_K=200, rng=numpy.random.default_rng(1))
     return atoms
 
 
-def of(atoms):
+def of(atoms: Any) -> Tuple[Any, Any]:
     return atoms.get_positions().tolist(), atoms.get_momenta().tolist()
 
 
-def test_it_is_a_driver_of_ase(dimer):
+def test_it_is_a_driver_of_ase(dimer: Any) -> None:
     assert isinstance(dimer, MolecularDynamics)
     assert dimer.dt == pytest.approx(DT, rel=1e-12)
 
 
-def test_the_atoms_move_as_the_definition_says(pair, dimer):
+def test_the_atoms_move_as_the_definition_says(pair: Any, dimer: Any) -> None:
     for step in (1, 2):
         dimer.run(1)
         assert pair.positions.tolist() == [[WAY[step] * UNIT, 0, 0], [1.5 - WAY[step] * UNIT, 0, 0]]
@@ -82,7 +84,7 @@ def test_the_atoms_move_as_the_definition_says(pair, dimer):
     assert (dimer.nsteps, dimer.session.step, dimer.get_time()) == (2, 2, pytest.approx(2 * DT))
 
 
-def test_positions_and_momenta_come_back_to_the_bit(user, liquid):
+def test_positions_and_momenta_come_back_to_the_bit(user: Any, liquid: Any) -> None:
     dynamics = ReversibleVerlet(liquid, 4 * ase.units.fs, user=user, **ARGON)
     start, energy = of(liquid), liquid.get_potential_energy()
     dynamics.run(30)
@@ -95,7 +97,7 @@ def test_positions_and_momenta_come_back_to_the_bit(user, liquid):
     assert (of(liquid), liquid.get_potential_energy(), dynamics.nsteps) == (start, energy, 60)
 
 
-def test_momenta_are_those_of_the_step(user, liquid):
+def test_momenta_are_those_of_the_step(user: Any, liquid: Any) -> None:
     wanted, positions = liquid.get_velocities(), liquid.get_positions()
     dynamics = ReversibleVerlet(liquid, 4 * ase.units.fs, user=user, **ARGON)
     ring = liquid.cell[0][0] / 2**32
@@ -103,7 +105,7 @@ def test_momenta_are_those_of_the_step(user, liquid):
     assert abs(liquid.get_positions() - positions).max() <= 2 * ring
 
 
-def test_it_goes_as_the_verlet_driver_of_ase(user, liquid):
+def test_it_goes_as_the_verlet_driver_of_ase(user: Any, liquid: Any) -> None:
     other = liquid.copy()
     other.calc = LennardJones(sigma=3.4, epsilon=ARGON["epsilon"], rc=8.5)
     ReversibleVerlet(liquid, 4 * ase.units.fs, user=user, **ARGON).run(25)
@@ -114,8 +116,8 @@ def test_it_goes_as_the_verlet_driver_of_ase(user, liquid):
     assert abs(liquid.get_forces() - other.get_forces()).max() < 0.03 * abs(other.get_forces()).max()
 
 
-def test_what_is_attached_is_called_at_its_intervals(dimer):
-    called = {2: [], 3: [], -4: []}
+def test_what_is_attached_is_called_at_its_intervals(dimer: Any) -> None:
+    called: Dict[Any, Any] = {2: [], 3: [], -4: []}
     for interval, steps in called.items():
         dimer.attach(lambda steps=steps: steps.append(dimer.nsteps), interval)
     dimer.run(7)
@@ -123,22 +125,22 @@ def test_what_is_attached_is_called_at_its_intervals(dimer):
     assert called == {2: [0, 2, 4, 6, 8], 3: [0, 3, 6, 9], -4: [4]}
 
 
-def test_the_steps_between_go_in_one_command(dimer):
+def test_the_steps_between_go_in_one_command(dimer: Any) -> None:
     dimer.attach(lambda: None, 40)
     with mock.patch.object(dimer.session, "advance", wraps=dimer.session.advance) as advance:
         dimer.run(100)
     assert [call.args for call in advance.call_args_list] == [(40,), (40,), (20,)]
 
 
-def test_irun_stops_after_each_step(dimer):
+def test_irun_stops_after_each_step(dimer: Any) -> None:
     seen = [(dimer.nsteps, ended) for ended in dimer.irun(3)]
     assert seen == [(0, False), (1, False), (2, False), (3, False), (3, True)]
 
 
-def test_an_interrupt_leaves_atoms_and_steps_as_they_are(dimer, pair):
+def test_an_interrupt_leaves_atoms_and_steps_as_they_are(dimer: Any, pair: Any) -> None:
     advance = dimer.session.advance
 
-    def broken_off(count):
+    def broken_off(count: Any) -> None:
         advance(1)
         raise KeyboardInterrupt
 
@@ -149,14 +151,14 @@ def test_an_interrupt_leaves_atoms_and_steps_as_they_are(dimer, pair):
     assert (dimer.nsteps, pair.positions[0][0]) == (2, 1774 * UNIT)
 
 
-def test_one_step(dimer, pair):
+def test_one_step(dimer: Any, pair: Any) -> None:
     forces = dimer.step()
     assert pair.positions[0].tolist() == [589 * UNIT, 0, 0]
     assert forces.tolist() == pair.get_forces().tolist()
 
 
-def test_trajectory_and_logfile(user, pair, tmp_path):
-    words = {"trajectory": str(tmp_path / "way.traj"), "logfile": str(tmp_path / "way.log"), "loginterval": 2}
+def test_trajectory_and_logfile(user: Any, pair: Any, tmp_path: pathlib.Path) -> None:
+    words: Dict[str, Any] = {"trajectory": str(tmp_path / "way.traj"), "logfile": str(tmp_path / "way.log"), "loginterval": 2}
     with ReversibleVerlet(pair, DT, user=user, **words, **ONE) as dynamics:
         dynamics.run(4)
     frames = Trajectory(words["trajectory"])
@@ -167,7 +169,7 @@ def test_trajectory_and_logfile(user, pair, tmp_path):
     assert [row[2] for row in rows[:2]] == pytest.approx([-5349132 / 2**24, -5399727 / 2**24], abs=1e-4)
 
 
-def test_a_trajectory_is_appended_to(user, pair, tmp_path):
+def test_a_trajectory_is_appended_to(user: Any, pair: Any, tmp_path: pathlib.Path) -> None:
     path = str(tmp_path / "way.traj")
     for append in (False, True):
         with ReversibleVerlet(pair, DT, path, user=user, append_trajectory=append, **ONE) as dynamics:
@@ -175,7 +177,7 @@ def test_a_trajectory_is_appended_to(user, pair, tmp_path):
     assert len(Trajectory(path)) == 4
 
 
-def test_a_trajectory_and_a_logger_that_are_attached(dimer, pair, tmp_path):
+def test_a_trajectory_and_a_logger_that_are_attached(dimer: Any, pair: Any, tmp_path: pathlib.Path) -> None:
     path, log = tmp_path / "way.traj", tmp_path / "way.log"
     with Trajectory(str(path), "w", pair) as trajectory:
         dimer.attach(trajectory, interval=1)
@@ -185,7 +187,7 @@ def test_a_trajectory_and_a_logger_that_are_attached(dimer, pair, tmp_path):
     assert len(log.read_text().splitlines()) == 4
 
 
-def test_atoms_go_on_where_they_leave_the_cell(user):
+def test_atoms_go_on_where_they_leave_the_cell(user: Any) -> None:
     atoms = Atoms("Ar", positions=[[255.99, 0, 0]], cell=[256] * 3, pbc=True, masses=[1])
     atoms.set_velocities([[1, 0, 0]])
     dynamics = ReversibleVerlet(atoms, DT, user=user, **ONE)
@@ -197,7 +199,7 @@ def test_atoms_go_on_where_they_leave_the_cell(user):
     assert atoms.positions[0][0] == pytest.approx(600 * DT - 0.01, abs=1e-5)
 
 
-def test_a_fast_atom_is_followed_round_the_cell(user, recwarn):
+def test_a_fast_atom_is_followed_round_the_cell(user: Any, recwarn: pytest.WarningsRecorder) -> None:
     atoms = Atoms("Ar", positions=[[0, 0, 0]], cell=[8] * 3, pbc=True, masses=[1])
     atoms.set_velocities([[50, 0, 0]])
     ReversibleVerlet(atoms, DT, user=user, **ONE).run(50)
@@ -205,7 +207,7 @@ def test_a_fast_atom_is_followed_round_the_cell(user, recwarn):
     assert [each for each in recwarn.list if each.category is UserWarning] == []
 
 
-def test_momenta_that_are_changed_count_from_then_on(dimer, pair):
+def test_momenta_that_are_changed_count_from_then_on(dimer: Any, pair: Any) -> None:
     dimer.run(2)
     pair.set_velocities([[0, 1, 0], [0, 1, 0]])
     here = pair.get_positions()
@@ -214,19 +216,19 @@ def test_momenta_that_are_changed_count_from_then_on(dimer, pair):
     assert (dimer.nsteps, dimer.session.step) == (3, 1)
 
 
-def test_two_species(user):
+def test_two_species(user: Any) -> None:
     positions = [[0, 0, 0], [1.5, 0, 0], [128, 0, 0], [129.5, 0, 0]]
     atoms = Atoms("NiPNi2", positions=positions, cell=[256] * 3, pbc=True)
-    words = {"species": ("Ni", "P"), "first": (1, 1), "second": (0.88, 0.5), "mixed": (0.8, 1.5), "mass": 1}
+    words: Dict[str, Any] = {"species": ("Ni", "P"), "first": (1, 1), "second": (0.88, 0.5), "mixed": (0.8, 1.5), "mass": 1}
     dynamics = ReversibleVerlet(atoms, DT / 4, user=user, **words)
-    assert dynamics.session.mixture.species == ("Ni", "P")
+    assert present(dynamics.session.mixture).species == ("Ni", "P")
     unlike, like = (4 * epsilon * ((sigma / 1.5) ** 12 - (sigma / 1.5) ** 6) for sigma, epsilon in ((0.8, 1.5), (1, 1)))
     assert atoms.get_potential_energy() == pytest.approx(unlike + like, rel=0.01)
     assert set(atoms.get_masses()) == {1}
 
 
-def test_atoms_of_another_kind(user, pair):
-    def told(match, change=None, **words):
+def test_atoms_of_another_kind(user: Any, pair: Any) -> None:
+    def told(match: Any, change: Any = None, **words: Any) -> None:
         atoms = pair.copy()
         if change:
             change(atoms)
@@ -237,12 +239,13 @@ def test_atoms_of_another_kind(user, pair):
     told("not periodic along each axis", lambda atoms: atoms.set_pbc([True, True, False]))
     told("cell of the atoms is not cubic", lambda atoms: atoms.set_cell([256, 256, 250]))
     told("2 masses, and here all have one: say mass=", lambda atoms: atoms.set_masses([1, 2]))
-    for words in ({"sigma": 1}, {"species": ("A", "B"), "first": (1, 1)}, {**ONE, "species": ("A", "B")}):
+    wrong: List[Dict[str, Any]] = [{"sigma": 1}, {"species": ("A", "B"), "first": (1, 1)}, {**ONE, "species": ("A", "B")}]
+    for words in wrong:
         told("say sigma= and epsilon=, or of two species", **words)
     assert user.sessions() == []
 
 
-def test_a_trajectory_stays_if_the_atoms_cannot_be_loaded(user, pair, tmp_path):
+def test_a_trajectory_stays_if_the_atoms_cannot_be_loaded(user: Any, pair: Any, tmp_path: pathlib.Path) -> None:
     path = tmp_path / "way.traj"
     path.write_text("of before")
     pair.set_pbc(False)
@@ -251,22 +254,22 @@ def test_a_trajectory_stays_if_the_atoms_cannot_be_loaded(user, pair, tmp_path):
     assert path.read_text() == "of before"
 
 
-def test_a_program_of_its_own_ends_with_it(pair):
+def test_a_program_of_its_own_ends_with_it(pair: Any) -> None:
     with mock.patch.dict(os.environ, LJSERVE=PROGRAM), ReversibleVerlet(pair, DT, **ONE) as dynamics:
         owner = dynamics.session._user
         dynamics.run(1)
     assert owner.closed
 
 
-def test_a_user_that_is_said_stays(user, pair):
+def test_a_user_that_is_said_stays(user: Any, pair: Any) -> None:
     with ReversibleVerlet(pair, DT, user=user, name="mine", **ONE) as dynamics:
         dynamics.run(2)
     assert (user.closed, user.session("mine").step) == (False, 2)
 
 
-def test_without_ase_it_says_what_to_install(tmp_path):
+def test_without_ase_it_says_what_to_install(tmp_path: pathlib.Path) -> None:
     (tmp_path / "ase.py").write_text("raise ModuleNotFoundError(\"No module named 'ase'\", name='ase')\n")
     code = "import ljclient\ntry:\n    import ljclient.ase\nexcept ljclient.Missing as error:\n    print(error)\n"
-    words = {**os.environ, "PYTHONPATH": os.pathsep.join([str(tmp_path), *sys.path]), "PYTHONDONTWRITEBYTECODE": "1"}
+    words: Dict[str, Any] = {**os.environ, "PYTHONPATH": os.pathsep.join([str(tmp_path), *sys.path]), "PYTHONDONTWRITEBYTECODE": "1"}
     done = subprocess.run([sys.executable, "-c", code], env=words, capture_output=True, text=True, timeout=60)
     assert "`pip install ase`, or Debian's python3-ase" in done.stdout, done

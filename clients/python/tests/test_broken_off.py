@@ -3,8 +3,10 @@
 The places of the two atoms at each step are worked out by hand in test_sampling.
 """
 import gc
+import pathlib
 import signal
 from unittest import mock
+from typing import Any, Iterator
 
 import pytest
 
@@ -15,17 +17,17 @@ WAY = [[(0, 0, 0), (25165824, 0, 0)], [(589, 0, 0), (25165235, 0, 0)], [(1774, 0
 
 
 @pytest.fixture
-def user():
+def user() -> Iterator[Any]:
     with run(PROGRAM) as user:
         yield user
 
 
 @pytest.fixture
-def a(user):
+def a(user: Any) -> Any:
     return dimer(user)
 
 
-def stands_at(a, step):
+def stands_at(a: Any, step: Any) -> Any:
     """Whether a session stands at a step, and goes on from there as one that was never broken off."""
     if (a.step, listed(a.places())) != (step, WAY[step]):
         return False
@@ -34,28 +36,28 @@ def stands_at(a, step):
     return a.advance(9) == other.advance(9) and a.measure() == other.measure() and listed(a.places()) == listed(other.places())
 
 
-def test_rows_that_are_closed_leave_the_session_at_the_last_one(a):
+def test_rows_that_are_closed_leave_the_session_at_the_last_one(a: Any) -> None:
     rows = a.thermo(every=2, rows=5)
     assert [next(rows).step, next(rows).step] == [0, 2]
     rows.close()
     assert stands_at(a, 2)
 
 
-def test_a_loop_that_is_broken_off(a):
+def test_a_loop_that_is_broken_off(a: Any) -> None:
     for _ in a.thermo(every=1, rows=5):
         break
     gc.collect()
     assert stands_at(a, 0)
 
 
-def test_an_error_in_a_loop(a):
+def test_an_error_in_a_loop(a: Any) -> None:
     with pytest.raises(ZeroDivisionError):
         for row in a.thermo(every=2, rows=5):
             1 / (2 - row.step)
     assert stands_at(a, 2)
 
 
-def test_an_error_on_the_way_to_the_next_row(a):
+def test_an_error_on_the_way_to_the_next_row(a: Any) -> None:
     rows = a.thermo(every=2, rows=5)
     next(rows)
     with mock.patch.object(a, "advance", side_effect=ZeroDivisionError), pytest.raises(ZeroDivisionError):
@@ -63,10 +65,10 @@ def test_an_error_on_the_way_to_the_next_row(a):
     assert stands_at(a, 0)
 
 
-def test_an_interrupt_while_a_row_is_measured(user, a):
+def test_an_interrupt_while_a_row_is_measured(user: Any, a: Any) -> None:
     ask_all, before = user.ask_all, signal.signal(signal.SIGINT, signal.default_int_handler)
 
-    def interrupted(lines):
+    def interrupted(lines: Any) -> Any:
         replies = ask_all(lines)
         signal.raise_signal(signal.SIGINT)
         return replies
@@ -81,7 +83,7 @@ def test_an_interrupt_while_a_row_is_measured(user, a):
     assert stands_at(a, 0)
 
 
-def test_backward_too(a):
+def test_backward_too(a: Any) -> None:
     a.advance(3)
     a.reverse()
     rows = a.thermo(every=1, rows=3)
@@ -91,7 +93,7 @@ def test_backward_too(a):
     assert (a.advance(1), listed(a.places())) == (1, WAY[1])
 
 
-def test_a_session_that_has_gone_elsewhere_stays_there(a):
+def test_a_session_that_has_gone_elsewhere_stays_there(a: Any) -> None:
     rows = a.thermo(every=2, rows=5)
     next(rows)
     a.advance(1)
@@ -99,7 +101,7 @@ def test_a_session_that_has_gone_elsewhere_stays_there(a):
     assert (a.step, listed(a.places())) == (2, WAY[2])
 
 
-def test_nothing_is_sent_to_a_connection_that_is_gone(user, a):
+def test_nothing_is_sent_to_a_connection_that_is_gone(user: Any, a: Any) -> None:
     rows = a.thermo(every=2, rows=5)
     next(rows)
     user.close()
@@ -108,7 +110,7 @@ def test_nothing_is_sent_to_a_connection_that_is_gone(user, a):
     asked.assert_not_called()
 
 
-def test_a_session_that_is_dropped_is_no_error(a):
+def test_a_session_that_is_dropped_is_no_error(a: Any) -> None:
     rows = a.thermo(every=2, rows=5)
     next(rows)
     a.drop()
@@ -117,13 +119,13 @@ def test_a_session_that_is_dropped_is_no_error(a):
         a.measure()
 
 
-def test_all_rows_take_no_command_more(user, a):
+def test_all_rows_take_no_command_more(user: Any, a: Any) -> None:
     with mock.patch.object(user._wire, "ask_all", wraps=user._wire.ask_all) as asked:
         assert [row.step for row in a.thermo(every=1, rows=1)] == [0]
     assert asked.call_count == 1
 
 
-def test_frames_are_appended_to_a_file(a, tmp_path):
+def test_frames_are_appended_to_a_file(a: Any, tmp_path: pathlib.Path) -> None:
     parts, whole = tmp_path / "parts.xyz", tmp_path / "whole.xyz"
     a.write_trajectory(parts, every=1, frames=2, append=True)
     a.advance(1)
@@ -136,10 +138,10 @@ def test_frames_are_appended_to_a_file(a, tmp_path):
 
 
 @pytest.mark.parametrize("exact", [False, True])
-def test_frames_of_a_sample_that_is_interrupted_are_kept(user, a, exact):
+def test_frames_of_a_sample_that_is_interrupted_are_kept(user: Any, a: Any, exact: Any) -> None:
     advance, left = a.advance, [1, 1]
 
-    def interrupted(n, progress=False):
+    def interrupted(n: Any, progress: bool = False) -> Any:
         if not left:
             raise KeyboardInterrupt
         left.pop()
@@ -156,7 +158,7 @@ def test_frames_of_a_sample_that_is_interrupted_are_kept(user, a, exact):
     assert a.sampled is None
 
 
-def test_a_sample_whose_connection_is_lost_before_its_first_frame(user, a):
+def test_a_sample_whose_connection_is_lost_before_its_first_frame(user: Any, a: Any) -> None:
     user.close()
     with pytest.raises(ClientError):
         a.sample(every=1, frames=9)

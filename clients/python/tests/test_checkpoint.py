@@ -9,11 +9,12 @@ import tempfile
 import unittest
 import zlib
 from unittest import mock
+from typing import Any, Dict
 
 from ljclient import Damaged, connect, refusals, run, units
 from support import ARGON, DIMER, EXAMPLES, PROGRAM, RING, TOKEN, TOP, Server, dimer, go_on_alike, listed
 
-MIX = {"species": ("Ar", "Kr"), "edge": 21.04, "first": (3.4, 119.8 * units.kelvin), "second": (3.65, 164 * units.kelvin)}
+MIX: Dict[str, Any] = {"species": ("Ar", "Kr"), "edge": 21.04, "first": (3.4, 119.8 * units.kelvin), "second": (3.65, 164 * units.kelvin)}
 # The dimer after one step, by hand: each atom has moved by the push of the other, 589 units.
 DIMER_FILE = """\
 ljserve checkpoint 1
@@ -28,7 +29,7 @@ end
 """
 
 
-def with_checks(text):
+def with_checks(text: Any) -> str:
     """A file of these lines, each below the first with the CRC-32 of all text up to its end."""
     head, *lines = text.splitlines()
     done, told = head + "\n", [head]
@@ -39,29 +40,29 @@ def with_checks(text):
 
 
 class Saves(unittest.TestCase):
-    def setUp(self):
+    def setUp(self) -> None:
         folder = tempfile.TemporaryDirectory()
         self.addCleanup(folder.cleanup)
         self.path = pathlib.Path(folder.name) / "a.saved"
         self.user = run(PROGRAM, atoms=40_000)
         self.addCleanup(self.user.close)
 
-    def argon(self, name="argon", **words):
+    def argon(self, name: str = "argon", **words: Any) -> Any:
         return self.user.load(name, EXAMPLES / "argon_256.xyz", **{**ARGON, **words})
 
-    def same(self, one, other):
+    def same(self, one: Any, other: Any) -> None:
         go_on_alike(self, one, other)
 
 
 class Files(Saves):
-    def test_the_file_of_a_dimer(self):
+    def test_the_file_of_a_dimer(self) -> None:
         a = dimer(self.user)
         a.advance(1)
         a.save(self.path)
         self.assertEqual(self.path.read_text(), with_checks(DIMER_FILE))
         self.assertEqual(os.listdir(self.path.parent), ["a.saved"])
 
-    def test_a_file_from_elsewhere(self):
+    def test_a_file_from_elsewhere(self) -> None:
         self.path.write_text(with_checks(DIMER_FILE))
         a = self.user.load_saved(self.path)
         self.assertEqual((a.step, a.atoms, a.symbols()), (1, 2, ["Ar", "Ar"]))
@@ -71,7 +72,7 @@ class Files(Saves):
         # A place of 1774 units is 1774 * 256 / 2^32 = 0.000105.. in the unit of the file.
         self.assertEqual(a.dump(), "2\nstep 2\nAr 0.000105 0.000000 0.000000\nAr 1.499894 0.000000 0.000000\n")
 
-    def test_names(self):
+    def test_names(self) -> None:
         self.path.write_text(with_checks(DIMER_FILE))
         self.user.load_saved(self.path)
         with self.assertRaises(refusals.Exists):
@@ -82,7 +83,7 @@ class Files(Saves):
         with self.assertRaisesRegex(ValueError, "a name is"):
             self.user.load_saved(self.path, "a b")
 
-    def test_each_damaged_byte_is_found_in_its_line(self):
+    def test_each_damaged_byte_is_found_in_its_line(self) -> None:
         dimer(self.user).save(self.path)
         whole = self.path.read_bytes()
         for at, byte in enumerate(whole):
@@ -95,7 +96,7 @@ class Files(Saves):
                     self.assertIn(caught.exception.line, {line, line + 1} if byte == 10 else {line})
         self.assertEqual([row.name for row in self.user.sessions()], ["a"])
 
-    def test_files_that_are_cut_short_or_too_long(self):
+    def test_files_that_are_cut_short_or_too_long(self) -> None:
         dimer(self.user).save(self.path)
         whole = self.path.read_bytes()
         for size in range(len(whole)):
@@ -108,7 +109,7 @@ class Files(Saves):
             with self.assertRaisesRegex(Damaged, "line 10: "):
                 self.user.load_saved(self.path, "b")
 
-    def test_lines_that_are_lost_or_change_places(self):
+    def test_lines_that_are_lost_or_change_places(self) -> None:
         self.argon().save(self.path)
         lines = self.path.read_bytes().splitlines(keepends=True)
         for at in (1, 7, 100, 200):
@@ -118,7 +119,7 @@ class Files(Saves):
                     self.user.load_saved(self.path, "b")
                 self.assertEqual(caught.exception.line, at + 1)
 
-    def test_what_another_program_may_have_written(self):
+    def test_what_another_program_may_have_written(self) -> None:
         for before, after, line in [
             ("checkpoint 1", "checkpoint 2", 1),
             ("session a", "session a b", 2),
@@ -147,7 +148,7 @@ class Files(Saves):
                 self.assertIn(f"line {line}: ", str(caught.exception))
         self.assertEqual(self.user.sessions(), [])
 
-    def test_files_that_cannot_be_read_or_written(self):
+    def test_files_that_cannot_be_read_or_written(self) -> None:
         a = dimer(self.user)
         with self.assertRaises(FileNotFoundError):
             self.user.load_saved(self.path)
@@ -161,7 +162,7 @@ class Files(Saves):
 
 
 class Runs(Saves):
-    def test_it_goes_on_as_if_it_was_never_saved(self):
+    def test_it_goes_on_as_if_it_was_never_saved(self) -> None:
         direct = self.argon()
         direct.advance(300)
         direct.save(self.path)
@@ -175,7 +176,7 @@ class Runs(Saves):
             again = self.user.load_saved(self.path, "again")
         self.same(direct, again)
 
-    def test_what_is_saved_is_left_as_it_was(self):
+    def test_what_is_saved_is_left_as_it_was(self) -> None:
         saved, direct = self.argon("saved"), self.argon("direct")
         for _ in range(2):
             saved.save(self.path)
@@ -183,7 +184,7 @@ class Runs(Saves):
             self.same(saved, direct)
         self.same(self.user.load_saved(self.path, "back"), self.user.load_saved(self.path, "forth"))
 
-    def test_a_run_back_to_its_start(self):
+    def test_a_run_back_to_its_start(self) -> None:
         a = self.argon()
         start = listed(a.places())
         a.advance(100)
@@ -196,14 +197,14 @@ class Runs(Saves):
         self.assertEqual((a.reverse(), a.advance(0)), (100, 100))
         self.assertEqual(listed(back.places()), listed(a.places()))
 
-    def test_steps_that_are_owed_are_made_first(self):
+    def test_steps_that_are_owed_are_made_first(self) -> None:
         a, direct = self.argon(), self.argon("direct")
         a.start(500)
         a.save(self.path)
         direct.advance(500)
         self.same(self.user.load_saved(self.path, "back"), direct)
 
-    def test_two_species(self):
+    def test_two_species(self) -> None:
         symbols = ["Ar", "Ar", "Ar", "Kr"] * 64
         positions = self.argon().positions()
         mix = self.user.load_mix("mix", positions, symbols=symbols, mass=48, dt=10, **MIX)
@@ -219,7 +220,7 @@ class Runs(Saves):
         raw.save(self.path)
         self.same(raw, self.user.load_saved(self.path, "rawback"))
 
-    def test_symbols_and_many_atoms(self):
+    def test_symbols_and_many_atoms(self) -> None:
         many = self.user.load("many", EXAMPLES / "argon_4000.xyz", edge=52.6, sigma=3.4, h=131072)
         many.tug(1234, (5, -6, 7))
         many.advance(3)
@@ -231,7 +232,7 @@ class Runs(Saves):
         odd.save(self.path)
         self.assertEqual(self.user.load_saved(self.path, "evenodd").symbols(), ["Ar.1", "!~"])
 
-    def test_what_is_done_with_a_loaded_one(self):
+    def test_what_is_done_with_a_loaded_one(self) -> None:
         a, direct = self.argon(), self.argon("direct")
         for each in (a, direct):
             each.advance(50)
@@ -244,7 +245,7 @@ class Runs(Saves):
         self.assertEqual([row[1:] for row in self.user.sessions()[1:]], [(50, 256, 1)] * 2)
         self.same(a, direct)
 
-    def test_too_little_is_known(self):
+    def test_too_little_is_known(self) -> None:
         self.user.ask(f"LOAD a 256 1 131072 rest {len(DIMER)}", DIMER.encode())
         with self.assertRaisesRegex(ValueError, "scale of a is not known"):
             self.user.session("a").save(self.path)
@@ -254,7 +255,7 @@ class Runs(Saves):
         self.user.session("a", edge=256, sigma=1, h=131072).save(self.path)
         self.same(self.user.session("a"), self.user.load_saved(self.path, "b"))
 
-    def test_a_session_that_is_gone(self):
+    def test_a_session_that_is_gone(self) -> None:
         a = dimer(self.user)
         self.user.ask("DROP a")
         with self.assertRaises(refusals.NoSession):
@@ -262,7 +263,7 @@ class Runs(Saves):
 
 
 class Restarts(Saves):
-    def test_a_server_that_was_started_again(self):
+    def test_a_server_that_was_started_again(self) -> None:
         direct = self.argon()
         with Server() as server, connect("127.0.0.1", server.port, "ann", TOKEN) as user:
             a = user.load("argon", EXAMPLES / "argon_256.xyz", **ARGON)
@@ -276,7 +277,7 @@ class Restarts(Saves):
 class Document(unittest.TestCase):
     """What docs/api/files.md shows; tests/documents runs its code and its commands."""
 
-    def test_the_file(self):
+    def test_the_file(self) -> None:
         (file,) = re.findall(r"```\n(ljserve checkpoint.*?)```", (TOP / "docs" / "api" / "files.md").read_text(), re.S)
         self.assertEqual(file, with_checks(DIMER_FILE))
 

@@ -1,20 +1,23 @@
 """Copies of a session, and sessions that are saved on their way."""
 import os
+import pathlib
 from unittest import mock
+from typing import Any, Dict, Iterator, List
 
 import pytest
+import time
 
 from ljclient import EnergyWarning, refusals, run, saving, units
 from support import EXAMPLES, PROGRAM, dimer, go_on_alike, listed
 
 
 @pytest.fixture(name="user")
-def user_of_a_program():
+def user_of_a_program() -> Iterator[Any]:
     with run(PROGRAM, sessions=3) as user:
         yield user
 
 
-def argon(user, name="argon", **words):
+def argon(user: Any, name: str = "argon", **words: Any) -> Any:
     session = user.load(name, EXAMPLES / "argon_256.xyz", edge=21.04, dt=2, **units.ARGON, **words)
     session.heat(90)
     session.advance(30)
@@ -25,12 +28,12 @@ class Holds:
     """What `go_on_alike` needs of a test of unittest."""
 
     @staticmethod
-    def assertEqual(one, other):
+    def assertEqual(one: Any, other: Any) -> None:
         assert one == other
 
 
 @pytest.mark.parametrize("order", [None, "space"])
-def test_a_copy_is_the_same_to_the_bit(user, order):
+def test_a_copy_is_the_same_to_the_bit(user: Any, order: Any) -> None:
     a = argon(user, order=order)
     a.reverse()
     a.branch("here")
@@ -43,8 +46,8 @@ def test_a_copy_is_the_same_to_the_bit(user, order):
     assert listed(copied.places())[0] != listed(a.places())[0] and listed(copied.places())[1:] == listed(a.places())[1:]
 
 
-def test_of_two_species(user):
-    pairs = {"first": (3.4, 0.0103), "second": (3.6, 0.0141), "mass": 48.0, "dt": 2}
+def test_of_two_species(user: Any) -> None:
+    pairs: Dict[str, Any] = {"first": (3.4, 0.0103), "second": (3.6, 0.0141), "mass": 48.0, "dt": 2}
     text = (EXAMPLES / "argon_256.xyz").read_text().replace("Ar", "Kr", 100)
     mix = user.load_mix("mix", text, edge=21.04, species=("Ar", "Kr"), **pairs)
     mix.advance(20)
@@ -53,7 +56,7 @@ def test_of_two_species(user):
     go_on_alike(Holds, mix, twin)
 
 
-def test_names_that_are_taken(user):
+def test_names_that_are_taken(user: Any) -> None:
     a, b = dimer(user), dimer(user, "b")
     b.advance(3)
     with pytest.raises(ValueError, match="another name"):
@@ -70,7 +73,7 @@ def test_names_that_are_taken(user):
     assert [row.name for row in user.sessions()] == ["a", "b", "c"]
 
 
-def test_a_copy_is_watched_as_the_session_was(user):
+def test_a_copy_is_watched_as_the_session_was(user: Any) -> None:
     a = dimer(user, watch=False)
     user.known("a").watch.start = (0, 99.0)
     assert user.known(a.copy("b").name).watch == user.known("a").watch
@@ -80,14 +83,16 @@ def test_a_copy_is_watched_as_the_session_was(user):
         user.load("hot", EXAMPLES / "argon_256.xyz", edge=21.04, sigma=3.4, h=300000)
 
 
-def test_saved_on_the_way(user, tmp_path):
-    a, twin, told = argon(user), argon(user, "twin"), []
+def test_saved_on_the_way(user: Any, tmp_path: pathlib.Path) -> None:
+    a, twin = argon(user), argon(user, "twin")
+    told: List[Any] = []
     path = tmp_path / "a.saved"
     at = iter([0.0, 5.0, 10.0, 10.0, 12.0, 25.0, 25.0, 26.0])
     saves = []
-    clock = mock.patch.object(saving.time, "monotonic", lambda: next(at))
+    clock = mock.patch.object(time, "monotonic", lambda: next(at))
     with clock, mock.patch.object(a, "save", lambda to: saves.append(len(told))):
         with saving.saver(a, path, 10, lambda *numbers: told.append(numbers)) as tell:
+            assert tell is not None
             for done in range(0, 60, 10):
                 tell(done, 50)
     # At the start; 10 and 15 seconds later, after reports of steps; and at the end.
@@ -96,10 +101,10 @@ def test_saved_on_the_way(user, tmp_path):
     go_on_alike(Holds, user.load_saved(path, name="again"), twin)
 
 
-def test_a_run_that_is_lost_goes_on_from_the_file(user, tmp_path):
+def test_a_run_that_is_lost_goes_on_from_the_file(user: Any, tmp_path: pathlib.Path) -> None:
     a, path = argon(user), tmp_path / "a.saved"
 
-    def stops(done, total):
+    def stops(done: Any, total: Any) -> None:
         if done == 20:
             raise KeyboardInterrupt
 
@@ -115,7 +120,7 @@ def test_a_run_that_is_lost_goes_on_from_the_file(user, tmp_path):
         go_on_alike(Holds, again, a)
 
 
-def test_the_path_is_looked_at_before_a_step_is_made(user, tmp_path):
+def test_the_path_is_looked_at_before_a_step_is_made(user: Any, tmp_path: pathlib.Path) -> None:
     a = argon(user)
     os.mkfifo(tmp_path / "fifo")
     for path in (tmp_path, tmp_path / "fifo"):

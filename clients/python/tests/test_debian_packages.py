@@ -1,16 +1,18 @@
 """The Debian packages of a release, as packaging/deb makes them: what is in them, and their life in a root of its own."""
 import os
+import pathlib
 import re
 import shutil
 import subprocess
 import sys
 import sysconfig
+from typing import Any, Dict, Iterator, List
 
 import pytest
 
 import ljclient
 from roots import NoRoot, root_of_its_own
-from support import DIMER, EXAMPLES, PROGRAM, SECONDS, TOP
+from support import DIMER, EXAMPLES, PROGRAM, SECONDS, TOP, present
 
 if sysconfig.get_platform() != "linux-x86_64":
     pytest.skip("the program is for Linux on x86-64", allow_module_level=True)
@@ -56,20 +58,20 @@ print(a.advance(1), a.place(0))
 INSTALLED = "/usr/lib/python3/dist-packages/ljclient/__init__.py\n"
 
 
-def making(folder, programs, **words):
+def making(folder: Any, programs: Any, **words: Any) -> Any:
     """packaging/deb, begun."""
-    environment = {**os.environ, "PYTHONDONTWRITEBYTECODE": "1", **words}
+    environment: Dict[str, Any] = {**os.environ, "PYTHONDONTWRITEBYTECODE": "1", **words}
     command = [sys.executable, TOP / "packaging" / "deb", programs, folder]
     return subprocess.Popen(command, env=environment, stdout=subprocess.PIPE, stderr=subprocess.PIPE, text=True)
 
 
-def put(path, text):
+def put(path: Any, text: Any) -> None:
     path.write_text(text)
     path.chmod(0o755)
 
 
 @pytest.fixture(scope="module")
-def programs(tmp_path_factory):
+def programs(tmp_path_factory: pytest.TempPathFactory) -> Any:
     folder = tmp_path_factory.mktemp("programs")
     shutil.copy(PROGRAM, folder / "ljserve-v2")
     put(folder / "ljserve-v3", STAND_IN)
@@ -77,7 +79,7 @@ def programs(tmp_path_factory):
 
 
 @pytest.fixture(scope="module")
-def both(tmp_path_factory, programs):
+def both(tmp_path_factory: pytest.TempPathFactory, programs: Any) -> Any:
     """Two folders with the packages, made at the same time of the same day in 2023, under other settings."""
     folders = [tmp_path_factory.mktemp("packages") for _ in range(2)]
     settings = [{"TZ": "Asia/Tokyo", "LC_ALL": "C"}, {"TZ": "UTC", "PYTHONHASHSEED": "1"}]
@@ -90,34 +92,34 @@ def both(tmp_path_factory, programs):
 
 
 @pytest.fixture(scope="module")
-def packages(both):
+def packages(both: Any) -> Any:
     return both[0]
 
 
-def told(*words):
+def told(*words: Any) -> Any:
     return subprocess.run(words, check=True, capture_output=True, text=True, timeout=4 * SECONDS).stdout
 
 
-def files_of(package):
+def files_of(package: Any) -> Dict[Any, Any]:
     """The files of a package with their modes and owners."""
     rows = [line.split(maxsplit=5) for line in told("dpkg-deb", "--contents", str(package)).splitlines()]
     return {row[5].partition(" -> ")[0][1:]: (row[0], row[1]) for row in rows}
 
 
-def test_the_same_sources_give_the_same_bytes(both):
+def test_the_same_sources_give_the_same_bytes(both: Any) -> None:
     for name in (SERVER, CLIENT):
         one, other = ((folder / name).read_bytes() for folder in both)
         assert one == other
 
 
-def test_lintian_has_no_error_and_no_warning(packages):
+def test_lintian_has_no_error_and_no_warning(packages: Any) -> None:
     # A program that is tested may be linked statically; bin/release links those of its packages with the system's C library.
     words = ["lintian", "--fail-on", "error,warning", "--suppress-tags", "statically-linked-binary"]
     done = subprocess.run([*words, packages / SERVER, packages / CLIENT], capture_output=True, text=True, timeout=20 * SECONDS)
     assert (done.returncode, done.stdout) == (0, ""), done
 
 
-def test_the_files(packages):
+def test_the_files(packages: Any) -> None:
     server, client = files_of(packages / SERVER), files_of(packages / CLIENT)
     assert {owner for files in (server, client) for _, owner in files.values()} == {"root/root"}
     assert server["/usr/bin/ljserve"][0] == "-rwxr-xr-x"
@@ -132,7 +134,7 @@ def test_the_files(packages):
     assert units == {f"/lib/systemd/system/{name}.service" for name in ["ljserve", *(["ljserve-keep"] if "keep" in TOOLS else [])]}
 
 
-def test_what_they_need(packages):
+def test_what_they_need(packages: Any) -> None:
     fields = "${Version} ${Depends}"
     version, _, needs = told("dpkg-deb", "--show", f"--showformat={fields}", str(packages / SERVER)).partition(" ")
     assert version == VERSION
@@ -140,14 +142,14 @@ def test_what_they_need(packages):
     assert told("dpkg-deb", "--show", f"--showformat={fields}", str(packages / CLIENT)) == f"{VERSION} python3:any"
 
 
-def settings_of(path):
+def settings_of(path: Any) -> List[Any]:
     """What a unit says, by section and name, in order."""
     sections = re.split(r"^\[(\w+)\]\n", re.sub("^#.*\n", "", path.read_text(), flags=re.M), flags=re.M)
     lines = [(section, *line.partition("=")[::2]) for section, text in zip(sections[1::2], sections[2::2]) for line in text.split("\n")]
     return [line for line in lines if line[1]]
 
 
-def test_the_service_is_that_of_a_release_but_for_what_debian_has():
+def test_the_service_is_that_of_a_release_but_for_what_debian_has() -> None:
     ours, theirs = (settings_of(TOP / "packaging" / path) for path in ("ljserve.service", "debian/ljserve.service"))
     other = {("Service", "ExecStart"), ("Service", "EnvironmentFile"), ("Service", "DynamicUser"), ("Service", "User")}
     other |= {("Unit", "Documentation"), ("Unit", "ConditionFileNotEmpty")}
@@ -160,7 +162,7 @@ def test_the_service_is_that_of_a_release_but_for_what_debian_has():
 
 
 @pytest.fixture
-def root(tmp_path):
+def root(tmp_path: pathlib.Path) -> Iterator[Any]:
     """A root of its own without these packages, in which systemd seems to run."""
     if os.geteuid() != 0:
         pytest.skip("only root can have a root of its own")
@@ -177,7 +179,7 @@ def root(tmp_path):
         pytest.skip(f"there is no root of its own here: {reason}")
 
 
-def asked(root):
+def asked(root: Any) -> List[Any]:
     """What systemd was asked to do with services since this was last looked at."""
     log = root.path / "var/log/systemctl"
     lines = log.read_text().splitlines() if log.exists() else []
@@ -186,13 +188,13 @@ def asked(root):
     return [found.groups() for line in lines if (found := re.search(verbs, line))]
 
 
-def install(root, *packages):
+def install(root: Any, *packages: Any) -> None:
     for package in packages:
         shutil.copy(package, root.path / "var/tmp")
     root.run("dpkg", "--install", *(f"/var/tmp/{package.name}" for package in packages))
 
 
-def token_in(root):
+def token_in(root: Any) -> Any:
     """The token of the one user of the file of users, which root alone can read."""
     path = root.path / "etc/ljserve/users"
     status = path.stat()
@@ -206,7 +208,7 @@ def token_in(root):
 class Service:
     """What a unit begins, begun by hand: as its user, with its file of settings and its folders, and with a copy of the users."""
 
-    def __init__(self, root, unit):
+    def __init__(self, root: Any, unit: Any) -> None:
         self.root, text = root, (root.path / "lib/systemd/system" / unit).read_text()
         folders = {"CREDENTIALS": "/run/credentials", "RUNTIME": "/run/ljserve-keep", "STATE": "/var/lib/ljserve"}
         for folder in folders.values():
@@ -218,18 +220,18 @@ class Service:
         (self.command,) = re.findall("^ExecStart=(.*)$", text, re.M)
         self.begin()
 
-    def begin(self):
+    def begin(self) -> None:
         script = f"{self.settings} echo $$ >$CREDENTIALS_DIRECTORY/number; exec {self.command}"
         words = ["setpriv", "--reuid", "ljserve", "--regid", "ljserve", "--clear-groups", "sh", "-ec", script]
         self.process = subprocess.Popen(self.root.command(*words), stdin=subprocess.DEVNULL, stdout=subprocess.DEVNULL)
         self.root.await_listener(4000)
 
-    def end(self):
+    def end(self) -> None:
         self.root.run("kill", (self.root.path / "run/credentials/number").read_text().strip())
         self.process.wait(4 * SECONDS)
 
 
-def later(packages, folder):
+def later(packages: Any, folder: Any) -> Any:
     """The same packages as those of a later version, whose program is another file."""
     made = []
     for name in (SERVER, CLIENT):
@@ -242,13 +244,13 @@ def later(packages, folder):
     return made
 
 
-def test_install_run_upgrade_remove_and_purge(packages, root, tmp_path_factory):
+def test_install_run_upgrade_remove_and_purge(packages: Any, root: Any, tmp_path_factory: pytest.TempPathFactory) -> None:
     upgraded = later(packages, tmp_path_factory.mktemp("later"))
     token = check_installation(root, packages)
     service = Service(root, "ljserve.service")
     words = root.command("python3", "-c", CONNECT + LOAD + "sys.stdin.readline()" + GO_ON)
     visit = subprocess.Popen(words, stdin=subprocess.PIPE, stdout=subprocess.PIPE, text=True)
-    assert (visit.stdout.readline(), visit.stdout.readline()) == (INSTALLED, "1 (589, 0, 0)\n")
+    assert (present(visit.stdout).readline(), present(visit.stdout).readline()) == (INSTALLED, "1 (589, 0, 0)\n")
     check_upgrade(root, upgraded, token)
     assert visit.communicate("\n", timeout=4 * SECONDS)[0] == "2 (1774, 0, 0)\n"
     words = ["ljclient", "127.0.0.1:4000", "user", "--token-file", "/etc/ljserve/users"]
@@ -263,7 +265,7 @@ def test_install_run_upgrade_remove_and_purge(packages, root, tmp_path_factory):
     assert token_in(root) != token
 
 
-def check_keeping(root):
+def check_keeping(root: Any) -> None:
     """Holds that a session is there again after an end of the service that keeps it."""
     service = Service(root, "ljserve-keep.service")
     assert root.run("python3", "-c", CONNECT + LOAD) == INSTALLED + "1 (589, 0, 0)\n"
@@ -273,7 +275,7 @@ def check_keeping(root):
     service.end()
 
 
-def check_installation(root, packages):
+def check_installation(root: Any, packages: Any) -> Any:
     """Holds what is there after the first installation. Returns the token of the user."""
     install(root, packages / CLIENT, packages / SERVER)
     assert asked(root) == [("start", "ljserve.service")]
@@ -292,7 +294,7 @@ def check_installation(root, packages):
     return token
 
 
-def check_upgrade(root, packages, token):
+def check_upgrade(root: Any, packages: Any, token: Any) -> None:
     """Holds that an upgrade ends no service, and keeps the users and settings that were changed."""
     settings = root.path / "etc/default/ljserve"
     settings.write_text(settings.read_text().replace("WORKERS=4", "WORKERS=2"))
@@ -302,7 +304,7 @@ def check_upgrade(root, packages, token):
     assert token_in(root) == token and "WORKERS=2\n" in settings.read_text()
 
 
-def check_removal(root, token):
+def check_removal(root: Any, token: Any) -> None:
     """Holds that a removal ends the service, and keeps what is the user's."""
     root.put("var/lib/ljserve/kept", "what a service keeps")
     root.run("dpkg", "--remove", "ljserve")
@@ -313,13 +315,13 @@ def check_removal(root, token):
     assert (root.path / "etc/default/ljserve").exists() and (root.path / "var/lib/ljserve/kept").exists()
 
 
-def check_purge(root):
+def check_purge(root: Any) -> None:
     root.run("dpkg", "--purge", "ljserve")
     for path in ("etc/ljserve", "etc/default/ljserve", "var/lib/ljserve"):
         assert not (root.path / path).exists()
 
 
-def test_programs_that_do_not_fit(tmp_path):
+def test_programs_that_do_not_fit(tmp_path: pathlib.Path) -> None:
     put(tmp_path / "ljserve-v2", "#!/bin/sh\necho hello\n")
     process = making(tmp_path / "packages", tmp_path)
     out, err = process.communicate(timeout=4 * SECONDS)
@@ -327,7 +329,7 @@ def test_programs_that_do_not_fit(tmp_path):
     assert not (tmp_path / "packages").exists()
 
 
-def test_a_release_has_them():
+def test_a_release_has_them() -> None:
     """bin/release makes them of what it has unpacked, with programs that are linked for Debian."""
     script = (TOP / "bin" / "release").read_text()
     assert '/packaging/deb" "$work/programs" "$work/debs"' in script

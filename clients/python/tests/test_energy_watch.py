@@ -5,14 +5,16 @@ of 256: there a kinetic number of 2^34 is a kinetic energy of one epsilon with h
 """
 import contextlib
 import dataclasses
+import pathlib
 import warnings
 from unittest import mock
+from typing import Any, Callable, Dict, Iterator, List, Tuple
 
 import pytest
 
 from ljclient import EnergyWarning, User, run, snapshots, trajectories, units, user as users
 from ljclient.wire import Reply
-from support import ARGON, DIMER, DIMER_SCALE, EXAMPLES, PROGRAM, dimer
+from support import ARGON, DIMER, DIMER_SCALE, EXAMPLES, PROGRAM, dimer, present
 
 ATOM = [("Ar", 0, 0, 0)]
 CHECKS = [1000, 2000, 4000, 8000, 16_000, 20_000, 40_000]
@@ -23,15 +25,17 @@ UP_TO_20000 = MEASURED[:-2]
 class StandIn:
     """A wire to a server whose sessions have energies that two functions tell of each step."""
 
-    def __init__(self, potential, kinetic):
+    def __init__(self, potential: Any, kinetic: Any) -> None:
         self.potential, self.kinetic = potential, kinetic
         self.asked, self.closed, self.atoms = 0, False, 1
-        self.lines, self.steps, self.measured = [], {}, []
+        self.lines: List[Any] = []
+        self.steps: Dict[Any, int] = {}
+        self.measured: List[Any] = []
 
-    def ask_all(self, commands):
+    def ask_all(self, commands: Any) -> List[Any]:
         return [self.reply(line) for line, _ in commands]
 
-    def reply(self, line):
+    def reply(self, line: Any) -> Any:
         """The step stands last in a reply; of MEASURE, atoms, momentum and both energies follow it."""
         self.lines.append(line)
         verb, name, *words = line.split()
@@ -45,24 +49,29 @@ class StandIn:
             told += [str(number) for number in (self.atoms, 0, 0, 0, *energies)]
         return Reply(told, [])
 
-    def close(self):
+    def close(self) -> None:
         self.closed = True
 
 
-def nothing(step):
+def user_over(wire: Any) -> User:
+    """A user over a stand-in."""
+    return User(wire)
+
+
+def nothing(step: Any) -> int:
     return 0
 
 
-def opened(potential=nothing, kinetic=nothing, h=131072):
+def opened(potential: Any = nothing, kinetic: Any = nothing, h: int = 131072) -> Tuple[Any, Any]:
     """A session of a stand-in, and the stand-in."""
     wire = StandIn(potential, kinetic)
-    return User(wire).load("a", ATOM, edge=256, sigma=1, h=h), wire
+    return user_over(wire).load("a", ATOM, edge=256, sigma=1, h=h), wire
 
 
 @contextlib.contextmanager
-def told():
+def told() -> Iterator[Any]:
     """What is warned of the energy within."""
-    texts = []
+    texts: List[Any] = []
     with warnings.catch_warnings(record=True) as caught:
         warnings.simplefilter("always")
         yield texts
@@ -70,7 +79,7 @@ def told():
     assert {each.filename for each in caught} <= {__file__}
 
 
-def rising(step):
+def rising(step: Any) -> Any:
     """In epsilon: 0.48 at step 15,999 and 0.6 at step 19,999, so it is told of at step 20,000."""
     return 0.6 * step / 19_999
 
@@ -78,13 +87,13 @@ def rising(step):
 # When it is measured.
 
 
-def test_the_start_is_measured_and_then_at_doubled_distances_up_to_20000():
+def test_the_start_is_measured_and_then_at_doubled_distances_up_to_20000() -> None:
     a, wire = opened()
     assert a.advance(61_000) == 61_000
     assert wire.measured == [*MEASURED, 59_999, 60_000]
 
 
-def test_steps_are_counted_over_calls():
+def test_steps_are_counted_over_calls() -> None:
     a, wire = opened()
     a.advance(600)
     for _ in range(400):
@@ -93,7 +102,7 @@ def test_steps_are_counted_over_calls():
 
 
 @pytest.mark.parametrize("pieces", [[100], [500], [100, 400], [1] * 30])
-def test_a_short_run_takes_no_command_more(pieces):
+def test_a_short_run_takes_no_command_more(pieces: Any) -> None:
     a, wire = opened()
     loaded = len(wire.lines)
     for steps in pieces:
@@ -101,14 +110,14 @@ def test_a_short_run_takes_no_command_more(pieces):
     assert wire.lines[loaded:] == [f"ADVANCE a {steps}" for steps in pieces]
 
 
-def test_many_short_runs_are_measured_from_the_501st_step_on():
+def test_many_short_runs_are_measured_from_the_501st_step_on() -> None:
     a, wire = opened()
     for _ in range(20):
         a.advance(100)
     assert wire.measured == [500, 501, 1499, 1500]
 
 
-def test_start_is_sent_alone_and_its_steps_count():
+def test_start_is_sent_alone_and_its_steps_count() -> None:
     a, wire = opened()
     a.advance(501)
     before = len(wire.lines)
@@ -118,7 +127,7 @@ def test_start_is_sent_alone_and_its_steps_count():
     assert wire.measured == [0, 1, 30_501, 30_502, 39_999, 40_000]
 
 
-def test_pieces_that_are_given_stay_whole():
+def test_pieces_that_are_given_stay_whole() -> None:
     a, wire = opened(lambda step: step / 1000)
     seen, loaded = [], len(wire.lines)
     assert a.advance(1200, progress=lambda *words: seen.append(words), piece=400) == 1200
@@ -130,10 +139,10 @@ def test_pieces_that_are_given_stay_whole():
     assert len(texts) == 1 and "risen by 1.2 epsilon an atom from step 0 to step 1200" in texts[0]
 
 
-def test_an_interrupted_run_goes_on_and_is_measured():
+def test_an_interrupted_run_goes_on_and_is_measured() -> None:
     a, wire = opened(rising)
 
-    def interrupt(done, _):
+    def interrupt(done: Any, _: Any) -> None:
         if done >= 3000:
             raise KeyboardInterrupt
 
@@ -149,7 +158,7 @@ def test_an_interrupted_run_goes_on_and_is_measured():
 # What is told.
 
 
-def test_it_is_told_once_what_has_changed_and_what_helps():
+def test_it_is_told_once_what_has_changed_and_what_helps() -> None:
     a, wire = opened(rising)
     with told() as texts:
         a.advance(100_000)
@@ -162,7 +171,7 @@ def test_it_is_told_once_what_has_changed_and_what_helps():
 
 
 @pytest.mark.parametrize("change, count", [(0.499, 0), (-0.499, 0), (0.5, 1), (-0.5, 1), (1e9, 1)])
-def test_half_an_epsilon_counts(change, count):
+def test_half_an_epsilon_counts(change: Any, count: Any) -> None:
     a, _ = opened(lambda step: -5 + (change if step > 20 else 0))
     with told() as texts:
         a.advance(2000)
@@ -170,7 +179,7 @@ def test_half_an_epsilon_counts(change, count):
     assert all(("fallen" if change < 0 else "risen") in text for text in texts)
 
 
-def test_the_energy_of_an_atom_is_that_of_all_by_their_number():
+def test_the_energy_of_an_atom_is_that_of_all_by_their_number() -> None:
     for atoms, count in [(1, 1), (2, 0)]:
         a, wire = opened(lambda step: 0.9 if step > 20 else 0)
         wire.atoms = atoms
@@ -179,7 +188,7 @@ def test_the_energy_of_an_atom_is_that_of_all_by_their_number():
         assert len(texts) == count
 
 
-def test_a_start_at_rest_with_close_atoms_has_the_energy_that_it_keeps():
+def test_a_start_at_rest_with_close_atoms_has_the_energy_that_it_keeps() -> None:
     # The push of the first step is 8 epsilon of kinetic energy, of which the mean of both half steps is the half.
     kinetic, potential = {1: 8, 2: 8}, {0: -4, 1: -8, 2: -4}
     a, _ = opened(lambda step: potential.get(step, 0), lambda step: kinetic.get(step, 0))
@@ -188,9 +197,9 @@ def test_a_start_at_rest_with_close_atoms_has_the_energy_that_it_keeps():
     assert texts == []
 
 
-def test_each_of_several_sessions_is_told_of():
+def test_each_of_several_sessions_is_told_of() -> None:
     wire = StandIn(rising, nothing)
-    user = User(wire)
+    user = user_over(wire)
     sessions = [user.load(name, ATOM, edge=256, sigma=1, h=131072) for name in ("a", "b", "c")]
     with told() as texts:
         assert user.advance(sessions, [25_000, 1000, 20_000]) == [25_000, 1000, 20_000]
@@ -198,8 +207,9 @@ def test_each_of_several_sessions_is_told_of():
     assert sorted(wire.measured) == sorted(2 * UP_TO_20000 + MEASURED[:4])
 
 
-def test_samples_and_trajectories_are_watched(tmp_path):
-    for go_on in (lambda a: a.sample(5000, 6), lambda a: a.write_trajectory(tmp_path / "way.xyz", 5000, 6)):
+def test_samples_and_trajectories_are_watched(tmp_path: pathlib.Path) -> None:
+    ways: List[Callable[[Any], object]] = [lambda a: a.sample(5000, 6), lambda a: a.write_trajectory(tmp_path / "way.xyz", 5000, 6)]
+    for go_on in ways:
         a, _ = opened(rising)
         with told() as texts, mock.patch.object(a, "_positions_of_frame", lambda: (0, [])):
             with mock.patch.object(snapshots, "_taken"), mock.patch.multiple(trajectories, opened=mock.DEFAULT, _in_box=mock.DEFAULT):
@@ -207,7 +217,7 @@ def test_samples_and_trajectories_are_watched(tmp_path):
         assert len(texts) == 1
 
 
-def test_rows_of_thermo_are_looked_at_and_nothing_else_is_measured():
+def test_rows_of_thermo_are_looked_at_and_nothing_else_is_measured() -> None:
     a, wire = opened(lambda step: step / 2000)
     with told() as texts:
         rows = list(a.thermo(every=500, rows=4))
@@ -216,7 +226,7 @@ def test_rows_of_thermo_are_looked_at_and_nothing_else_is_measured():
     assert wire.measured == [0, 1, 500, 501, 1000, 1001, 1500, 1501]
 
 
-def test_frequent_rows_of_thermo_lead_to_no_earlier_check():
+def test_frequent_rows_of_thermo_lead_to_no_earlier_check() -> None:
     a, wire = opened()
     rows = list(a.thermo(every=10, rows=50))
     assert len(wire.measured) == 2 * len(rows)
@@ -225,7 +235,7 @@ def test_frequent_rows_of_thermo_lead_to_no_earlier_check():
     assert len(wire.measured) == before
 
 
-def test_a_warning_that_is_an_error_leaves_the_session_as_it_is():
+def test_a_warning_that_is_an_error_leaves_the_session_as_it_is() -> None:
     a, wire = opened(rising)
     with warnings.catch_warnings():
         warnings.simplefilter("error")
@@ -250,7 +260,7 @@ def test_a_warning_that_is_an_error_leaves_the_session_as_it_is():
         lambda a: a._user.load("a", ATOM, edge=256, sigma=1, h=131072),
     ],
 )
-def test_what_sets_the_start_anew(change):
+def test_what_sets_the_start_anew(change: Any) -> None:
     energies = [0.0]
     a, wire = opened(lambda step: energies[0])
     a.advance(1000)
@@ -262,7 +272,7 @@ def test_what_sets_the_start_anew(change):
     assert wire.measured == [0, 1, 999, 1000, 1000, 1001, 1999, 2000]
 
 
-def test_heat_sets_the_start_anew():
+def test_heat_sets_the_start_anew() -> None:
     with run(PROGRAM) as user, told() as texts:
         a = user.load("argon", EXAMPLES / "argon_256.xyz", **ARGON)
         a.advance(600)
@@ -272,7 +282,7 @@ def test_heat_sets_the_start_anew():
 
 
 @pytest.mark.parametrize("keep", [lambda a: a.reverse(), lambda a: a.branch("k"), lambda a: a.measure(), lambda a: a.step])
-def test_what_keeps_the_start(keep):
+def test_what_keeps_the_start(keep: Any) -> None:
     energies = [0.0]
     a, wire = opened(lambda step: energies[0])
     a.advance(1000)
@@ -283,23 +293,23 @@ def test_what_keeps_the_start(keep):
     assert len(texts) == 1 and "risen by 7 epsilon" in texts[0]
 
 
-def test_atoms_that_are_sorted_on_the_way_keep_their_start():
-    asked = []
+def test_atoms_that_are_sorted_on_the_way_keep_their_start() -> None:
+    asked: List[Any] = []
     with run(PROGRAM) as user:
         a = dimer(user, order="space")
         with spied(user, asked):
             a.advance(1100)
         assert [line for line in asked if "LOAD" in line]
         assert sum(line.startswith("MEASURE") for line in asked) == 4
-        assert user.known("a").watch.start[0] == 0
+        assert present(user.known("a").watch.start)[0] == 0
 
 
 @contextlib.contextmanager
-def spied(user, asked):
+def spied(user: Any, asked: Any) -> Iterator[Any]:
     """Notes each command line that goes to the program."""
     ask_all = user._wire.ask_all
 
-    def note(commands):
+    def note(commands: Any) -> Any:
         asked.extend(line for line, _ in commands)
         return ask_all(commands)
 
@@ -307,7 +317,7 @@ def spied(user, asked):
         yield
 
 
-def test_a_move_to_another_program_keeps_the_start():
+def test_a_move_to_another_program_keeps_the_start() -> None:
     with mock.patch.object(users, "MAX_ITEMS", 1000), run(PROGRAM) as user:
         a = dimer(user)
         a.advance(10)
@@ -316,16 +326,16 @@ def test_a_move_to_another_program_keeps_the_start():
         watch, wire = dataclasses.replace(user.known("a").watch), user._wire
         user.ask_all(["LIST"] * 500)
         assert user._wire is not wire
-        assert user.known("a").watch == watch and watch.start[0] == 10
+        assert user.known("a").watch == watch and present(watch.start)[0] == 10
 
 
 # Sessions that are not watched.
 
 
-def test_nothing_is_measured_without_a_watch(tmp_path):
+def test_nothing_is_measured_without_a_watch(tmp_path: pathlib.Path) -> None:
     saved = tmp_path / "a.saved"
     with run(PROGRAM) as user, told() as texts:
-        words = {"edge": 256, "watch": False}
+        words: Dict[str, Any] = {"edge": 256, "watch": False}
         dimer(user).save(saved)
         loads = [
             user.load("b", DIMER, sigma=1, h=300_000, **words),
@@ -333,18 +343,19 @@ def test_nothing_is_measured_without_a_watch(tmp_path):
             user.load_saved(saved, "d", watch=False),
             user.session("a", watch=False),
         ]
-        asked = []
+        asked: List[Any] = []
         with spied(user, asked):
             for session in loads:
                 session.advance(1200)
     assert texts == [] and not [line for line in asked if line.startswith("MEASURE")]
 
 
-def test_a_session_whose_scale_is_not_known_is_not_watched():
+def test_a_session_whose_scale_is_not_known_is_not_watched() -> None:
     with run(PROGRAM) as user:
         user.ask(f"LOAD a 256 1 131072 rest {len(DIMER)}", DIMER.encode())
-        for words in ({}, {"edge": "256", "sigma": "x", "h": 1}, {"edge": 256, "sigma": 1, "h": 0}):
-            asked = []
+        scales: List[Dict[str, Any]] = [{}, {"edge": "256", "sigma": "x", "h": 1}, {"edge": 256, "sigma": 1, "h": 0}]
+        for words in scales:
+            asked: List[Any] = []
             with spied(user, asked):
                 user.session("a", **words).advance(600)
             assert not [line for line in asked if line.startswith("MEASURE")]
@@ -354,16 +365,16 @@ def test_a_session_whose_scale_is_not_known_is_not_watched():
 
 
 @pytest.mark.parametrize("h, count", [(131_072, 0), (200_000, 0), (200_001, 1), (1 << 24, 1)])
-def test_a_large_step_factor_is_told_at_once(h, count):
+def test_a_large_step_factor_is_told_at_once(h: Any, count: Any) -> None:
     with told() as texts:
         opened(h=h)
     assert len(texts) == count
     assert all(f"h is {h}, above 200000" in text and "smaller h" in text and "unit of the epsilon" in text for text in texts)
 
 
-def test_an_epsilon_in_kilojoule_per_mole_is_told():
+def test_an_epsilon_in_kilojoule_per_mole_is_told() -> None:
     # 0.996 kJ/mol are 0.01032 eV. Taken for electronvolt it makes h 96.5 times as large.
-    wrong = {**ARGON, "epsilon": units.ARGON["epsilon"] / units.kilojoule_per_mole}
+    wrong: Dict[str, Any] = {**ARGON, "epsilon": units.ARGON["epsilon"] / units.kilojoule_per_mole}
     with run(PROGRAM) as user, told() as texts:
         a = user.load("argon", EXAMPLES / "argon_256.xyz", **wrong)
         a.heat(94)
@@ -376,32 +387,33 @@ def test_an_epsilon_in_kilojoule_per_mole_is_told():
 
 
 @pytest.mark.parametrize("place", range(3))
-def test_the_step_factor_of_each_class_counts(place):
+def test_the_step_factor_of_each_class_counts(place: Any) -> None:
     classes = [(1, 131_072, 256), (1, 131_072, 256), (1, 131_072, 256)]
     classes[place] = (1, 300_000, 256)
     with told() as texts:
-        User(StandIn(nothing, nothing)).load_mix("a", ATOM, edge=256, species=("Ar", "Kr"), classes=classes)
+        user_over(StandIn(nothing, nothing)).load_mix("a", ATOM, edge=256, species=("Ar", "Kr"), classes=classes)
     assert len(texts) == 1 and "h is 300000" in texts[0]
 
 
-def test_a_saved_session_with_a_large_step_factor(tmp_path):
+def test_a_saved_session_with_a_large_step_factor(tmp_path: pathlib.Path) -> None:
     saved = tmp_path / "a.saved"
+    words: Dict[str, Any] = {**DIMER_SCALE, "h": 300_000}
     with run(PROGRAM) as user, told() as texts:
-        user.load("a", DIMER, watch=False, **{**DIMER_SCALE, "h": 300_000}).save(saved)
+        user.load("a", DIMER, watch=False, **words).save(saved)
         user.load_saved(saved, "b")
     assert len(texts) == 1 and "h is 300000" in texts[0]
 
 
-def test_nothing_is_loaded_where_such_a_warning_is_an_error():
+def test_nothing_is_loaded_where_such_a_warning_is_an_error() -> None:
     wire = StandIn(nothing, nothing)
     with warnings.catch_warnings():
         warnings.simplefilter("error")
         with pytest.raises(EnergyWarning):
-            User(wire).load("a", ATOM, edge=256, sigma=1, h=300_000)
+            user_over(wire).load("a", ATOM, edge=256, sigma=1, h=300_000)
     assert wire.lines == []
 
 
-def test_there_and_back_from_a_hot_crystal_is_not_told_of():
+def test_there_and_back_from_a_hot_crystal_is_not_told_of() -> None:
     with run(PROGRAM) as user, told() as texts:
         a = user.load("argon", EXAMPLES / "argon_256.xyz", **ARGON)
         a.heat(180)

@@ -10,6 +10,7 @@ import subprocess
 import sys
 import time
 import urllib.request
+from typing import Any, Dict, Iterator, List, Tuple
 
 import pytest
 
@@ -40,11 +41,11 @@ pytestmark = [
 ]
 
 
-def token(name):
+def token(name: Any) -> str:
     return f"{name:Z<32}"
 
 
-def consecutive_ports():
+def consecutive_ports() -> Any:
     """The first of some ports that follow one another and are free."""
     while True:
         first = free_port()
@@ -57,36 +58,36 @@ def consecutive_ports():
 class Farm:
     """Three servers of 20 users each, and HAProxy before them with times that are shorter."""
 
-    def __init__(self, folder):
+    def __init__(self, folder: Any) -> None:
         self.folder = folder / "shards"
         self.first = consecutive_ports()
         self.plain, self.tls, self.metrics = range(self.first + SERVERS, self.first + SERVERS + FRONTS)
         names = [f"user{number}" for number in range(20 * SERVERS)]
         (folder / "users").write_text("".join(f"{name} {token(name)} 8 16384 16\n" for name in names))
-        tool = [sys.executable, TOP / "tools" / "shards"]
+        tool = [sys.executable, str(TOP / "tools" / "shards")]
         subprocess.run([*tool, "users", str(SERVERS), "--port", str(self.first)], cwd=folder, check=True, stdout=subprocess.DEVNULL)
         subprocess.run([*tool, "--certificate", "localhost"], cwd=folder, check=True, stdout=subprocess.DEVNULL)
         self.at = {number: self.users_of(number) for number in range(1, SERVERS + 1)}
-        self.children = {}
+        self.children: Dict[Any, Any] = {}
         for number in self.at:
             self.begin(number)
         self.log = folder / "log"
         self.front = self.balancer(folder)
 
-    def users_of(self, number):
+    def users_of(self, number: Any) -> List[Any]:
         return [line.split()[0] for line in (self.folder / f"users{number}").read_text().splitlines()]
 
-    def port(self, number):
+    def port(self, number: Any) -> Any:
         return self.first + number - 1
 
-    def begin(self, number):
+    def begin(self, number: Any) -> None:
         """Begins a server by its words, as the unit does."""
         words = dict(line.split("=") for line in (self.folder / f"server{number}.env").read_text().splitlines())
         options = [word for name in words for word in (f"--{name.lower()}", words[name])]
         self.children[number] = subprocess.Popen([PROGRAM, "serve", *options], stdin=subprocess.DEVNULL, stdout=subprocess.DEVNULL)
         until(lambda: is_there(self.port(number)))
 
-    def balancer(self, folder):
+    def balancer(self, folder: Any) -> Any:
         text = (CONFIG / "haproxy.cfg").read_text()
         for usual, shorter in SHORTER.items():
             assert usual in text
@@ -94,9 +95,14 @@ class Farm:
         if os.geteuid() != 0:
             text = re.sub(r"\n    (user|group) haproxy", "", text)
         (folder / "haproxy.cfg").write_text(text)
-        told = {"FOLDER": self.folder, "HAPROXY": CONFIG, "PLAIN": f"127.0.0.1:{self.plain}", "TLS": f"127.0.0.1:{self.tls}"}
+        told: Dict[str, Any] = {
+            "FOLDER": self.folder,
+            "HAPROXY": CONFIG,
+            "PLAIN": f"127.0.0.1:{self.plain}",
+            "TLS": f"127.0.0.1:{self.tls}",
+        }
         told["METRICS"] = f"127.0.0.1:{self.metrics}"
-        environment = {**os.environ, **{f"LJSERVE_{name}": str(value) for name, value in told.items()}}
+        environment: Dict[str, Any] = {**os.environ, **{f"LJSERVE_{name}": str(value) for name, value in told.items()}}
         words = [HAPROXY, "-f", folder / "haproxy.cfg", "-f", self.folder / "servers.cfg"]
         with open(self.log, "w") as log:
             child = subprocess.Popen(words, env=environment, stdin=subprocess.DEVNULL, stdout=log, stderr=log)
@@ -104,15 +110,15 @@ class Farm:
         assert child.poll() is None, self.log.read_text()
         return child
 
-    def context(self):
+    def context(self) -> Any:
         return ssl.create_default_context(cafile=self.folder / "class.crt")
 
-    def connected(self, source="127.0.0.1", tls=False):
+    def connected(self, source: str = "127.0.0.1", tls: bool = False) -> Any:
         """A connection through HAProxy, from an address of this machine."""
         stream = socket.create_connection(("127.0.0.1", self.tls if tls else self.plain), SECONDS, (source, 0))
         return self.context().wrap_socket(stream, server_hostname="localhost") if tls else stream
 
-    def joined(self, name, **words):
+    def joined(self, name: Any, **words: Any) -> Tuple[Any, Any]:
         """A connection of a user who was let in, with what reads its replies."""
         stream = self.connected(**words)
         stream.sendall(hello(name))
@@ -120,38 +126,38 @@ class Farm:
         assert replies.readline() == f"OK HELLO {name}\n".encode()
         return stream, replies
 
-    def values(self, metric="sessions_total"):
+    def values(self, metric: str = "sessions_total") -> Dict[Any, Any]:
         """What HAProxy tells Prometheus of its servers: the connections that each has had, or another metric."""
         with urllib.request.urlopen(f"http://127.0.0.1:{self.metrics}/metrics", timeout=SECONDS) as answer:
             text = answer.read().decode()
         rows = re.findall(rf'^haproxy_server_{metric}{{proxy="server(\d)",server="server\d"}} (\d+)', text, re.M)
         return {int(number): int(count) for number, count in rows}
 
-    def end(self):
+    def end(self) -> None:
         for child in (self.front, *self.children.values()):
             child.kill()
             child.wait(SECONDS)
 
 
-def until(holds):
+def until(holds: Any) -> None:
     end = time.monotonic() + SECONDS
     while not holds():
         assert time.monotonic() < end
         time.sleep(0.02)
 
 
-def is_there(port):
+def is_there(port: Any) -> bool:
     with contextlib.suppress(OSError):
         socket.create_connection(("127.0.0.1", port), SECONDS).close()
         return True
     return False
 
 
-def hello(name):
+def hello(name: Any) -> bytes:
     return f"HELLO {name} {token(name)}\n".encode()
 
 
-def read_all(stream):
+def read_all(stream: Any) -> bytes:
     """All bytes up to the end, which may be a reset."""
     pieces = []
     with contextlib.suppress(ConnectionResetError):
@@ -161,14 +167,14 @@ def read_all(stream):
 
 
 @pytest.fixture(scope="module")
-def farm(tmp_path_factory):
+def farm(tmp_path_factory: pytest.TempPathFactory) -> Iterator[Any]:
     begun = Farm(tmp_path_factory.mktemp("farm"))
     yield begun
     begun.end()
 
 
 @pytest.mark.parametrize("tls", [False, True], ids=["plain", "TLS"])
-def test_each_user_lands_at_its_own_server(farm, tls):
+def test_each_user_lands_at_its_own_server(farm: Any, tls: Any) -> None:
     """What was loaded through HAProxy is at the user's server, asked without HAProxy, and at no other."""
     for number, names in farm.at.items():
         name = names[1 + tls]
@@ -194,7 +200,7 @@ def test_each_user_lands_at_its_own_server(farm, tls):
     ids=["with commands behind", "blanks", "CR LF"],
 )
 @pytest.mark.parametrize("size", [1, 7, 4096])
-def test_a_first_line_of_any_shape(farm, sent, size):
+def test_a_first_line_of_any_shape(farm: Any, sent: Any, size: Any) -> None:
     name = farm.at[1][3]
     text = sent.replace(b"{0}", name.encode()).replace(b"{1}", token(name).encode())
     with farm.connected(source=f"127.0.2.{size % 200 + 1}") as stream:
@@ -204,7 +210,7 @@ def test_a_first_line_of_any_shape(farm, sent, size):
         assert read_all(stream) == f"OK HELLO {name}\nOK LIST 0\nOK BYE\n".encode()
 
 
-def test_who_is_no_user_is_denied_and_comes_to_no_server(farm):
+def test_who_is_no_user_is_denied_and_comes_to_no_server(farm: Any) -> None:
     name = farm.at[1][4]
     before = farm.values()
     lines = [f"HELLO {name} {'b' * 32}", f"HELLO eve {token(name)}", f"HELLO {token(name)} {name}", "LIST", "", "HELLO"]
@@ -219,7 +225,7 @@ def test_who_is_no_user_is_denied_and_comes_to_no_server(farm):
     assert farm.values() == before
 
 
-def test_no_token_is_logged(farm):
+def test_no_token_is_logged(farm: Any) -> None:
     """A name that is none may be a token, so it is not logged either."""
     name = farm.at[1][5]
     with farm.connected(source="127.0.3.2") as stream:
@@ -231,7 +237,7 @@ def test_no_token_is_logged(farm):
     assert re.search(r"^127\.0\.3\.2:\d+ - ljserve ", farm.log.read_text(), re.M)
 
 
-def test_a_first_line_that_does_not_come(farm):
+def test_a_first_line_that_does_not_come(farm: Any) -> None:
     """Neither one that says nothing, nor one that goes on byte by byte, nor a handshake of TLS that is not begun holds a place."""
     before = farm.values()
     with farm.connected(source="127.0.4.1") as silent, farm.connected(source="127.0.4.1") as slow:
@@ -244,7 +250,7 @@ def test_a_first_line_that_does_not_come(farm):
     assert farm.values() == before
 
 
-def test_plain_text_at_the_port_of_tls_and_an_unknown_certificate(farm):
+def test_plain_text_at_the_port_of_tls_and_an_unknown_certificate(farm: Any) -> None:
     name = farm.at[2][5]
     with socket.create_connection(("127.0.0.1", farm.tls), SECONDS, ("127.0.5.1", 0)) as stream:
         stream.sendall(hello(name))
@@ -257,7 +263,7 @@ def test_plain_text_at_the_port_of_tls_and_an_unknown_certificate(farm):
 
 
 @pytest.mark.parametrize("tls", [False, True], ids=["plain", "TLS"])
-def test_who_says_nothing_more_is_let_be(farm, tls):
+def test_who_says_nothing_more_is_let_be(farm: Any, tls: Any) -> None:
     """A user who was let in may think for longer than a first line may take."""
     stream, replies = farm.joined(farm.at[1][6 + tls], tls=tls, source="127.0.6.1")
     with stream, replies:
@@ -266,7 +272,7 @@ def test_who_says_nothing_more_is_let_be(farm, tls):
         assert replies.readline() == b"OK LIST 0\n"
 
 
-def test_who_has_sent_all_gets_all_replies(farm):
+def test_who_has_sent_all_gets_all_replies(farm: Any) -> None:
     """As by `printf .. | nc`, though they take longer than a first line may."""
     name = farm.at[3][6]
     with farm.connected(source="127.0.6.2") as stream:
@@ -276,7 +282,7 @@ def test_who_has_sent_all_gets_all_replies(farm):
         assert read_all(stream).endswith(b"OK ADVANCE a 1000000\nERR 14 NO_ATOM\n")
 
 
-def test_who_does_not_read_holds_nobody_up(farm):
+def test_who_does_not_read_holds_nobody_up(farm: Any) -> None:
     name, other = farm.at[2][7:9]
     text = b"2000\nmany\n" + b"".join(b"X %d %d %d\n" % (i % 13, i // 13 % 13, i // 169) for i in range(2000))
     stream, replies = farm.joined(name, source="127.0.7.1")
@@ -290,7 +296,7 @@ def test_who_does_not_read_holds_nobody_up(farm):
         assert sum(line.startswith(b"OK DUMP a 0 2002") for line in replies) == 300
 
 
-def test_a_user_has_four_connections_at_once(farm):
+def test_a_user_has_four_connections_at_once(farm: Any) -> None:
     name = farm.at[1][9]
     until(lambda: farm.values("current_sessions")[1] == 0)
     with contextlib.ExitStack() as streams:
@@ -307,7 +313,7 @@ def test_a_user_has_four_connections_at_once(farm):
         assert replies.readline() == b"OK LIST 0\n"
 
 
-def test_the_63rd_waits_and_is_let_in_when_another_ends(farm):
+def test_the_63rd_waits_and_is_let_in_when_another_ends(farm: Any) -> None:
     """A server has 64 places, of which two stay free. Who waits does so for longer than a first line may take."""
     names = farm.at[3][10:20] + farm.at[3][:6]
     until(lambda: farm.values("current_sessions")[3] == 0)
@@ -331,7 +337,7 @@ def test_the_63rd_waits_and_is_let_in_when_another_ends(farm):
         assert last.recv(100) == f"OK HELLO {free}\n".encode()
 
 
-def test_a_server_that_is_killed(farm):
+def test_a_server_that_is_killed(farm: Any) -> None:
     """Its users are let in by the next one, and others notice nothing."""
     here, there = farm.at[1][12], farm.at[2][12]
     stream, replies = farm.joined(there, source="127.0.10.1")
@@ -347,7 +353,7 @@ def test_a_server_that_is_killed(farm):
         assert replies.readline() == b"OK LIST 0\n"
         farm.begin(1)
 
-        def is_let_in():
+        def is_let_in() -> bool:
             with farm.connected(source="127.0.10.1") as again:
                 again.sendall(hello(here) + b"BYE\n")
                 return read_all(again) == f"OK HELLO {here}\nOK BYE\n".encode()
@@ -355,7 +361,7 @@ def test_a_server_that_is_killed(farm):
         until(is_let_in)
 
 
-def test_an_address_that_guesses_is_shut_out(farm):
+def test_an_address_that_guesses_is_shut_out(farm: Any) -> None:
     """After 30 first lines in a minute that were none of a user. Other addresses are not."""
     told = [b""] * 40
     for number in range(40):
@@ -366,7 +372,7 @@ def test_an_address_that_guesses_is_shut_out(farm):
     farm.joined(farm.at[2][13], source="127.0.11.2")[0].close()
 
 
-def exchanged(stream, sent, count):
+def exchanged(stream: Any, sent: Any, count: Any) -> bytes:
     """What is told over TLS to all that is sent, up to so many bytes or to the end. Neither direction waits for the other."""
     stream.setblocking(False)
     left, told = memoryview(sent), bytearray()
@@ -387,7 +393,7 @@ def exchanged(stream, sent, count):
     return bytes(told)
 
 
-def test_the_streams_of_conformance_over_tls(farm):
+def test_the_streams_of_conformance_over_tls(farm: Any) -> None:
     """Those of the usual quota. Each is told what `ljserve run` tells, which another test holds against the stored replies."""
     streams = [stream for stream in stored() if stream.quota == USUAL and stream.name != "ends/sessions_side_by_side_01"]
     assert len(streams) > 100
@@ -403,7 +409,7 @@ def test_the_streams_of_conformance_over_tls(farm):
                 user.ask(f"DROP {row.name}")
 
 
-def test_metrics_and_no_other_page(farm):
+def test_metrics_and_no_other_page(farm: Any) -> None:
     assert set(farm.values()) == {1, 2, 3}
     with pytest.raises(urllib.error.HTTPError):
         urllib.request.urlopen(f"http://127.0.0.1:{farm.metrics}/", timeout=SECONDS)

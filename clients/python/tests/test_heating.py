@@ -1,23 +1,24 @@
 """Velocities of a temperature, which `heat` gives."""
 import math
 import unittest
+from typing import Any, Dict
 
 from ljclient import heating, run, units
 from support import DIMER_SCALE, EXAMPLES, PROGRAM, RING, dimer, listed
 
-ARGON = {"edge": 21.04, "dt": 10, **units.ARGON}
+ARGON: Dict[str, Any] = {"edge": 21.04, "dt": 10, **units.ARGON}
 CRYSTAL = EXAMPLES / "argon_256.xyz"
 
 
 class Heating(unittest.TestCase):
-    def setUp(self):
+    def setUp(self) -> None:
         self.user = run(PROGRAM)
         self.addCleanup(self.user.close)
 
-    def argon(self, name="argon", **words):
+    def argon(self, name: str = "argon", **words: Any) -> Any:
         return self.user.load(name, CRYSTAL, **{**ARGON, **words})
 
-    def test_the_temperature_without_net_momentum(self):
+    def test_the_temperature_without_net_momentum(self) -> None:
         argon = self.argon()
         places = listed(argon.places())
         self.assertAlmostEqual(argon.heat(95, seed=3), 95, places=4)
@@ -28,11 +29,11 @@ class Heating(unittest.TestCase):
         energy = seen.kinetic * speed_of_unit**2 * 39.948 * 1.66053906660e-27 / 2
         self.assertAlmostEqual(energy / (1.5 * 256 * 1.380649e-23 * 95), 1, places=5)
 
-    def test_reduced_units(self):
+    def test_reduced_units(self) -> None:
         a = self.argon(h=131072, dt=None, epsilon=None, mass=None)
         self.assertAlmostEqual(a.heat(0.72), 0.72, places=6)
 
-    def test_it_takes_the_place_of_the_motion_before(self):
+    def test_it_takes_the_place_of_the_motion_before(self) -> None:
         a, b = self.argon("a"), self.argon("b")
         a.tug(0, (10**6, -(10**6), 5))
         a.heat(50, seed=4)
@@ -44,7 +45,7 @@ class Heating(unittest.TestCase):
         self.assertEqual(a.measure().momentum, (0, 0, 0))
         self.assertEqual((a.heat(0), a.measure().kinetic), (0, 0))
 
-    def test_seeds(self):
+    def test_seeds(self) -> None:
         places = []
         for name, seed in zip("abc", (1, 1, 2)):
             session = self.argon(name)
@@ -54,7 +55,7 @@ class Heating(unittest.TestCase):
         self.assertEqual(places[0], places[1])
         self.assertNotEqual(places[0], places[2])
 
-    def test_the_way_back(self):
+    def test_the_way_back(self) -> None:
         argon = self.argon()
         argon.heat(90)
         start = listed(argon.places())
@@ -63,12 +64,12 @@ class Heating(unittest.TestCase):
             argon.reverse()
         self.assertEqual(listed(argon.places()), start)
 
-    def test_two_species(self):
-        pairs = {"first": (3.4, 0.0103), "second": (3.6, 0.0141), "mass": 48.0, "dt": 10}
+    def test_two_species(self) -> None:
+        pairs: Dict[str, Any] = {"first": (3.4, 0.0103), "second": (3.6, 0.0141), "mass": 48.0, "dt": 10}
         mix = self.user.load_mix("m", CRYSTAL.read_text().replace("Ar", "Kr", 100), edge=21.04, species=("Ar", "Kr"), **pairs)
         self.assertAlmostEqual(mix.heat(80), 80, places=4)
 
-    def test_what_is_no_temperature(self):
+    def test_what_is_no_temperature(self) -> None:
         a = dimer(self.user)
         for wrong, told in [
             (-1, "a number from 0 on"),
@@ -85,7 +86,7 @@ class Heating(unittest.TestCase):
 
 
 class Drawn(unittest.TestCase):
-    def test_each_axis_is_drawn_from_the_same_normal_distribution(self):
+    def test_each_axis_is_drawn_from_the_same_normal_distribution(self) -> None:
         # Of 4,096 atoms with displacements of variance s^2 along each axis: the second moment is known to sqrt(2 / 4096), 2.2 in
         # 100, and the fourth, 3 s^4, to sqrt(96 / 4096) s^4, 5.1 in 100 of itself. Four of these are allowed.
         scale = units.Scale.of(256, 1, 131072)
@@ -97,7 +98,7 @@ class Drawn(unittest.TestCase):
             self.assertAlmostEqual(sum(part**2 for part in axis) / 4096 / square, 1, delta=0.09)
             self.assertAlmostEqual(sum(part**4 for part in axis) / 4096 / (3 * square**2), 1, delta=0.21)
 
-    def test_what_is_left_of_rounding(self):
+    def test_what_is_left_of_rounding(self) -> None:
         scale = units.Scale.of(256, 1, 1)
         for seed in range(20):
             moved = heating.displacements(3, 1e-9, scale, seed)

@@ -1,6 +1,8 @@
 """What the help of the prompt says: each of its examples is played, and each of its statements that a program can hold is held."""
 import io
+import pathlib
 import re
+from typing import Any, Iterator, List
 
 import pytest
 
@@ -18,7 +20,7 @@ HERE = {own.usage: own.example for own in commands.OWN}
 LOADS = {form.usage for form in commands.COMMANDS if form.with_file}
 
 
-def shown_examples():
+def shown_examples() -> Iterator[Any]:
     """Of each form of each command its usage, how its example begins, and the lines of it, as the help shows them."""
     for name in commands.names():
         for shown in "\n".join(helping.help_on(name)).split("\n\n"):
@@ -32,11 +34,11 @@ def shown_examples():
 EXAMPLES = {usage: (begin, lines) for usage, begin, lines in shown_examples()}
 
 
-def typed(lines):
+def typed(lines: Any) -> List[Any]:
     return [line[2:] for line in lines if line.startswith("> ")]
 
 
-def played(lines):
+def played(lines: Any) -> Any:
     """What the prompt shows: each line, and what it is replied. A body is typed after its line."""
     link = Link(lambda: run(PROGRAM), "")
     try:
@@ -50,28 +52,28 @@ def played(lines):
 class EchoedInput(PipeInput):
     """Lines that are shown when they are read."""
 
-    def __init__(self, lines, out):
+    def __init__(self, lines: Any, out: Any) -> None:
         super().__init__(io.BytesIO("".join(line + "\n" for line in lines).encode()))
         self.out = out
 
-    def line(self):
+    def line(self) -> Any:
         line = super().line()
         if line is not None:
             self.out.write(f"> {line}\n")
         return line
 
-    def body(self, size):
+    def body(self, size: Any) -> Any:
         body = super().body(size)
         self.out.write("".join(f"> {line}\n" for line in body.decode().splitlines()))
         return body
 
 
-def test_each_form_has_an_example():
+def test_each_form_has_an_example() -> None:
     assert list(EXAMPLES) == [form.usage for form in commands.COMMANDS]
 
 
 @pytest.mark.parametrize("usage", EXAMPLES)
-def test_an_example_is_replied_as_it_is_shown(usage):
+def test_an_example_is_replied_as_it_is_shown(usage: Any) -> None:
     begin, lines = EXAMPLES[usage]
     _, load = EXAMPLES[commands.COMMANDS[0].usage]
     before = [] if usage in LOADS else load
@@ -81,7 +83,7 @@ def test_an_example_is_replied_as_it_is_shown(usage):
 
 
 @pytest.mark.parametrize("usage", [usage for usage, example in HERE.items() if example])
-def test_an_example_of_what_is_said_at_a_terminal(tmp_path, usage):
+def test_an_example_of_what_is_said_at_a_terminal(tmp_path: pathlib.Path, usage: Any) -> None:
     (tmp_path / "dimer.xyz").write_text(DIMER)
     (tmp_path / "argon_256.xyz").write_bytes(ARGON.read_bytes())
     terminal = Terminal(PROMPT, environment(), cwd=tmp_path)
@@ -95,7 +97,7 @@ def test_an_example_of_what_is_said_at_a_terminal(tmp_path, usage):
     assert shown[2:] == list(HERE[usage])
 
 
-def moving(user):
+def moving(user: Any) -> Any:
     """A session of two atoms that is in motion at its start."""
     session = dimer(user)
     session.tug(1, (70_000, -3, 11))
@@ -104,7 +106,7 @@ def moving(user):
 
 
 @pytest.mark.parametrize("n", [1, 2, 5])
-def test_what_the_help_says_of_reverse(n):
+def test_what_the_help_says_of_reverse(n: Any) -> None:
     told = " ".join(" ".join(helping.help_on("REVERSE")).split())
     assert "n steps, REVERSE and n - 1 steps lead to the places of the start" in told
     assert "n steps, REVERSE, n steps and REVERSE give back the start exactly." in told
@@ -121,7 +123,7 @@ def test_what_the_help_says_of_reverse(n):
         assert user.state_of("a") == start
 
 
-def test_of_two_faults_in_a_text_the_first_is_answered():
+def test_of_two_faults_in_a_text_the_first_is_answered() -> None:
     for name in ("LOAD", "LOADMIX"):
         assert "the first in the text is answered" in " ".join(" ".join(helping.help_on(name)).split())
     with run(PROGRAM) as user, pytest.raises(refusals.XyzNumber) as refused:
@@ -129,13 +131,13 @@ def test_of_two_faults_in_a_text_the_first_is_answered():
     assert refused.value.line == 3
 
 
-def test_classes_are_tested_in_turn():
+def test_classes_are_tested_in_turn() -> None:
     assert "37, 38 and 40 are tested of each class in turn" in " ".join(helping.help_on("LOADMIX"))
     classes = [(1, 131072, 0), (200, 131072, 256), (1, 131072, 256)]
     with run(PROGRAM) as user, pytest.raises(refusals.Weight):
         user.load_mix("m", DIMER, edge=256, species=("Ar", "Kr"), classes=classes)
 
 
-def test_one_symbol_for_both_species_is_told():
+def test_one_symbol_for_both_species_is_told() -> None:
     with run(PROGRAM) as user, pytest.raises(refusals.Syntax, match="one symbol for both species"):
         user.ask("LOADMIX m 256 Ar Ar 1 1 1 1 1 1 1 1 1 rest 28", DIMER.encode())

@@ -5,6 +5,7 @@ import signal
 import sys
 import threading
 import time
+from typing import Any, Iterator
 
 import pytest
 
@@ -16,21 +17,21 @@ from support import PROGRAM, SECONDS, TOKEN, peer, read_line, says, stays
 
 
 @pytest.fixture(autouse=True)
-def interrupts():
+def interrupts() -> Iterator[Any]:
     """Has an interrupt raise KeyboardInterrupt. Where tests run in the background it is ignored from the start."""
     before = signal.signal(signal.SIGINT, signal.default_int_handler)
     yield
     signal.signal(signal.SIGINT, before)
 
 
-def interrupt_beside():
+def interrupt_beside() -> None:
     """Interrupts this process by the thread that calls. A wait of the main thread does not end by that, just as if the interrupt
     had come before it."""
     signal.pthread_kill(threading.get_ident(), signal.SIGINT)
 
 
-def test_one_before_a_wait_for_a_reply():
-    def interrupt(connection, stop):
+def test_one_before_a_wait_for_a_reply() -> None:
+    def interrupt(connection: Any, stop: Any) -> None:
         read_line(connection)
         interrupt_beside()
         stays(connection, stop)
@@ -46,17 +47,22 @@ def test_one_before_a_wait_for_a_reply():
 class Shown(io.StringIO):
     """What is shown. Something is done when all that is written is to be seen."""
 
-    def __init__(self, then):
+    def __init__(self, then: Any) -> None:
         super().__init__()
         self.then = then
 
-    def flush(self):
+    def flush(self) -> None:
         self.then(self.getvalue())
 
 
-def test_one_before_a_line_is_read(monkeypatch):
+def test_one_before_a_line_is_read(monkeypatch: pytest.MonkeyPatch) -> None:
     prompted = threading.Event()
-    threading.Thread(target=lambda: prompted.wait(SECONDS) and interrupt_beside(), daemon=True).start()
+
+    def interrupt() -> None:
+        if prompted.wait(SECONDS):
+            interrupt_beside()
+
+    threading.Thread(target=interrupt, daemon=True).start()
     source, sink = os.pipe()
     end = threading.Timer(SECONDS, os.write, [sink, b"\n"])
     with open(source) as stdin, open(sink, "w"):
@@ -72,10 +78,10 @@ def test_one_before_a_line_is_read(monkeypatch):
 class Typed(PlainReader):
     """Lines as if they were typed. None is an interrupt."""
 
-    def __init__(self, *lines):
+    def __init__(self, *lines: Any) -> None:
         self._lines = list(lines)
 
-    def command(self, prompt):
+    def command(self, prompt: Any) -> Any:
         if not self._lines:
             raise EOFError
         line = self._lines.pop(0)
@@ -84,10 +90,10 @@ class Typed(PlainReader):
         return line
 
 
-def test_one_while_another_is_told_ends_nothing():
+def test_one_while_another_is_told_ends_nothing() -> None:
     left = [signal.SIGINT]
 
-    def interrupt_once(text):
+    def interrupt_once(text: Any) -> None:
         if text == "\n" and left:
             signal.raise_signal(left.pop())
 

@@ -10,6 +10,7 @@ import stat
 import subprocess
 import sys
 import threading
+from typing import Any, Iterator, List, Tuple
 
 import pytest
 
@@ -23,7 +24,7 @@ DENIED = b"ERR 01 DENIED\n"
 SYNCS = ("group", "second", "always")
 
 
-def test_a_user_goes_on_when_the_server_was_killed(tmp_path):
+def test_a_user_goes_on_when_the_server_was_killed(tmp_path: pathlib.Path) -> None:
     with Keeper(tmp_path) as keeper, keeper.connected() as user:
         a = dimer(user)
         a.advance(1)
@@ -36,7 +37,7 @@ def test_a_user_goes_on_when_the_server_was_killed(tmp_path):
 
 
 @pytest.mark.parametrize("sync", SYNCS)
-def test_what_was_told_is_there_when_front_and_server_were_killed(tmp_path, sync):
+def test_what_was_told_is_there_when_front_and_server_were_killed(tmp_path: pathlib.Path, sync: Any) -> None:
     with Keeper(tmp_path, "--sync", sync) as keeper:
         with keeper.raw("ann") as stream:
             stream.sendall(LOAD + b"ADVANCE a 1\nBRANCH a k\nSTART a 5\n")
@@ -49,7 +50,7 @@ def test_what_was_told_is_there_when_front_and_server_were_killed(tmp_path, sync
         assert keeper.told(b"LIST\nRESTORE a k\nADVANCE a 1\n" + SHOW, "ann") == HELLO + told
 
 
-def test_what_is_in_flight_is_done_once(tmp_path):
+def test_what_is_in_flight_is_done_once(tmp_path: pathlib.Path) -> None:
     """A wait is cut off by a kill, with more behind it."""
     with Keeper(tmp_path) as keeper, keeper.raw("ann") as stream:
         stream.sendall(LOAD + b"ADVANCE a 1\nSTART a 500\n")
@@ -82,7 +83,7 @@ runpy.run_path(str(keep), None, "__main__")
 
 
 @pytest.mark.parametrize("sync, calls", [("group", 1), ("always", 3)])
-def test_what_is_told_is_on_the_disk(tmp_path, sync, calls):
+def test_what_is_told_is_on_the_disk(tmp_path: pathlib.Path, sync: Any, calls: Any) -> None:
     go, noted = tmp_path / "go", tmp_path / "calls"
     tool = [sys.executable, "-c", WAITING, str(go), str(noted), str(TOP / "tools" / "keep")]
     with Keeper(tmp_path, "--sync", sync, tool=tool) as keeper, keeper.raw("ann") as stream:
@@ -99,7 +100,7 @@ def test_what_is_told_is_on_the_disk(tmp_path, sync, calls):
         assert noted.read_text() == "called\n" * calls
 
 
-def test_what_is_told_is_written_where_it_is_on_the_disk_within_a_second(tmp_path):
+def test_what_is_told_is_written_where_it_is_on_the_disk_within_a_second(tmp_path: pathlib.Path) -> None:
     go, noted = tmp_path / "go", tmp_path / "calls"
     tool = [sys.executable, "-c", WAITING, str(go), str(noted), str(TOP / "tools" / "keep")]
     with Keeper(tmp_path, "--sync", "second", tool=tool) as keeper, keeper.raw("ann") as stream:
@@ -112,7 +113,7 @@ def test_what_is_told_is_written_where_it_is_on_the_disk_within_a_second(tmp_pat
         go.touch()
 
 
-def test_nothing_is_seen_of_the_tokens_and_its_owner_alone_may_look(tmp_path):
+def test_nothing_is_seen_of_the_tokens_and_its_owner_alone_may_look(tmp_path: pathlib.Path) -> None:
     wrong = "w" * 32
     with Keeper(tmp_path) as keeper:
         keeper.told(LOAD, "ann")
@@ -126,7 +127,7 @@ def test_nothing_is_seen_of_the_tokens_and_its_owner_alone_may_look(tmp_path):
         assert {stat.S_IMODE(each.stat().st_mode) for each in keeper.folder.iterdir()} == {0o600}
 
 
-def test_a_server_lets_nobody_in_but_through_the_front(tmp_path):
+def test_a_server_lets_nobody_in_but_through_the_front(tmp_path: pathlib.Path) -> None:
     with Keeper(tmp_path) as keeper:
         words = pathlib.Path(f"/proc/{keeper.server()}/cmdline").read_text().split("\0")
         port = int(words[words.index("--listen") + 1].rpartition(":")[2])
@@ -136,7 +137,7 @@ def test_a_server_lets_nobody_in_but_through_the_front(tmp_path):
             assert first_line(stream) == DENIED
 
 
-def test_a_damaged_journal_stops_its_user_alone(tmp_path):
+def test_a_damaged_journal_stops_its_user_alone(tmp_path: pathlib.Path) -> None:
     with Keeper(tmp_path, users=("ann", "ben")) as keeper:
         for name in ("ann", "ben"):
             keeper.told(LOAD + b"ADVANCE a 1\n", name)
@@ -157,7 +158,7 @@ def test_a_damaged_journal_stops_its_user_alone(tmp_path):
         assert keeper.told(b"ADVANCE a 1\n" + SHOW, "ann") == HELLO + b"OK ADVANCE a 2\n" + SHOWN
 
 
-def test_a_journal_that_cannot_be_read_stops_its_user_alone(tmp_path):
+def test_a_journal_that_cannot_be_read_stops_its_user_alone(tmp_path: pathlib.Path) -> None:
     with Keeper(tmp_path, users=("ann", "ben")) as keeper:
         keeper.kill()
         (keeper.folder / "ann.journal").unlink()
@@ -168,7 +169,7 @@ def test_a_journal_that_cannot_be_read_stops_its_user_alone(tmp_path):
         assert keeper.stopped("ann") == "its journal cannot be used: Is a directory"
 
 
-def test_a_quota_that_was_lowered_stops_its_user_alone_until_it_is_raised(tmp_path):
+def test_a_quota_that_was_lowered_stops_its_user_alone_until_it_is_raised(tmp_path: pathlib.Path) -> None:
     with Keeper(tmp_path, users=("ann", "ben")) as keeper, keeper.connected("ben") as ben:
         keeper.told(LOAD, "ann")
         b = dimer(ben)
@@ -184,7 +185,7 @@ def test_a_quota_that_was_lowered_stops_its_user_alone_until_it_is_raised(tmp_pa
         assert keeper.told(b"ADVANCE a 2\n" + SHOW, "ann") == HELLO + b"OK ADVANCE a 2\n" + SHOWN
 
 
-def test_new_users_with_clients_connected(tmp_path):
+def test_new_users_with_clients_connected(tmp_path: pathlib.Path) -> None:
     with Keeper(tmp_path, users=("ann", "ben")) as keeper, keeper.connected("ann") as ann, keeper.raw("ben") as ben:
         a = dimer(ann)
         a.advance(1)
@@ -198,11 +199,11 @@ def test_new_users_with_clients_connected(tmp_path):
         assert keeper.told(b"", "ben") == DENIED
 
 
-def keeper_lets_in(keeper, name):
+def keeper_lets_in(keeper: Any, name: Any) -> Any:
     return until(lambda: keeper.told(b"", name) == f"OK HELLO {name}\n".encode())
 
 
-def test_users_with_a_fault_change_nothing(tmp_path):
+def test_users_with_a_fault_change_nothing(tmp_path: pathlib.Path) -> None:
     with Keeper(tmp_path) as keeper:
         server = keeper.server()
         keeper.users.write_text("ann short 8 16384 16\n")
@@ -213,7 +214,7 @@ def test_users_with_a_fault_change_nothing(tmp_path):
         assert keeper.server() == server
 
 
-def wrapped(path, before, after):
+def wrapped(path: Any, before: Any, after: Any) -> str:
     """A program that is the reference of conformance/ as a server, with something in it replaced."""
     server = TOP / "clients" / "python" / "tests" / "reference_server.py"
     path.write_text(f'#!/bin/sh\nexec {sys.executable} {server} {before!r} {after!r} "$@"\n')
@@ -229,7 +230,7 @@ OTHERWISE = {
 
 
 @pytest.mark.parametrize("before, after, verb", OTHERWISE.values(), ids=OTHERWISE)
-def test_a_program_that_answers_otherwise_stops_who_has_a_session(tmp_path, before, after, verb):
+def test_a_program_that_answers_otherwise_stops_who_has_a_session(tmp_path: pathlib.Path, before: Any, after: Any, verb: Any) -> None:
     program = tmp_path / "program"
     before, after = ("PUSHES = [int_div(24", "PUSHES = [int_div(48") if verb == "MEASURE" else (before, after)
     wrapped(program, "", "")
@@ -248,7 +249,7 @@ def test_a_program_that_answers_otherwise_stops_who_has_a_session(tmp_path, befo
         assert keeper.told(SHOW, "ann") == HELLO + SHOWN
 
 
-def test_a_program_that_answers_otherwise_at_once_is_not_told(tmp_path):
+def test_a_program_that_answers_otherwise_at_once_is_not_told(tmp_path: pathlib.Path) -> None:
     """What it replies to a client is held against what follows from the commands."""
     program = wrapped(tmp_path / "program", 'return f"{target}"', 'return f"{target + (target == 2)}"')
     with Keeper(tmp_path, program=program) as keeper:
@@ -257,7 +258,7 @@ def test_a_program_that_answers_otherwise_at_once_is_not_told(tmp_path):
         assert keeper.stopped("ann") == "the program replied OK ADVANCE a 3 in place of OK ADVANCE a 2"
 
 
-def test_a_file_names_the_version_of_the_program(tmp_path):
+def test_a_file_names_the_version_of_the_program(tmp_path: pathlib.Path) -> None:
     program = tmp_path / "program"
     wrapped(program, "", "")
     with Keeper(tmp_path, program=str(program)) as keeper:
@@ -270,11 +271,11 @@ def test_a_file_names_the_version_of_the_program(tmp_path):
         assert (told["before"], told["version"]) == ("reference", "new")
 
 
-def test_a_disk_that_is_full_ends_front_and_server_before_anyone_is_told(tmp_path):
+def test_a_disk_that_is_full_ends_front_and_server_before_anyone_is_told(tmp_path: pathlib.Path) -> None:
     """No file may have more than 20,000 bytes, as on a disk that is full."""
     limit = 20_000
 
-    def prepare():
+    def prepare() -> None:
         resource.setrlimit(resource.RLIMIT_FSIZE, (limit, limit))
 
     with Keeper(tmp_path, prepare=prepare) as keeper:
@@ -298,7 +299,7 @@ def test_a_disk_that_is_full_ends_front_and_server_before_anyone_is_told(tmp_pat
         assert now in (step - 1, step)
 
 
-def test_a_journal_is_rewritten_when_less_than_half_is_left(tmp_path):
+def test_a_journal_is_rewritten_when_less_than_half_is_left(tmp_path: pathlib.Path) -> None:
     with Keeper(tmp_path) as keeper:
         told = keeper.told(LOAD + b"ADVANCE a 1\nREVERSE a\n" * 700 + b"ADVANCE a 2\n", "ann")
         assert told.endswith(b"OK ADVANCE a 2\n")
@@ -312,7 +313,7 @@ def test_a_journal_is_rewritten_when_less_than_half_is_left(tmp_path):
         assert keeper.told(SHOW, "ann") == HELLO + SHOWN
 
 
-def test_other_connections_of_a_user_wait_at_the_front(tmp_path):
+def test_other_connections_of_a_user_wait_at_the_front(tmp_path: pathlib.Path) -> None:
     with Keeper(tmp_path) as keeper, keeper.raw("ann") as first, keeper.raw("ann") as second, keeper.raw("ann") as gone:
         assert first_line(first) == HELLO
         second.sendall(LOAD)
@@ -330,7 +331,7 @@ def test_other_connections_of_a_user_wait_at_the_front(tmp_path):
         assert (first_line(second), first_line(second)) == (HELLO, LOADED)
 
 
-def test_who_is_gone_in_the_middle_has_done_what_the_server_had(tmp_path):
+def test_who_is_gone_in_the_middle_has_done_what_the_server_had(tmp_path: pathlib.Path) -> None:
     with Keeper(tmp_path) as keeper:
         with keeper.raw("ann") as stream:
             stream.sendall(LOAD + b"ADVANCE a 1\n")
@@ -353,13 +354,13 @@ ENDS = {
 
 
 @pytest.fixture(scope="module")
-def kept(tmp_path_factory):
+def kept(tmp_path_factory: pytest.TempPathFactory) -> Iterator[Any]:
     with Keeper(tmp_path_factory.mktemp("kept")) as keeper:
         yield keeper
 
 
 @pytest.mark.parametrize("sent, told", ENDS.values(), ids=ENDS)
-def test_how_a_connection_ends(kept, sent, told):
+def test_how_a_connection_ends(kept: Any, sent: Any, told: Any) -> None:
     assert kept.told(sent, "ann") == HELLO + told
 
 
@@ -374,13 +375,13 @@ FIRST_LINES = {
 
 
 @pytest.mark.parametrize("line", FIRST_LINES.values(), ids=FIRST_LINES)
-def test_who_is_denied(kept, line):
+def test_who_is_denied(kept: Any, line: Any) -> None:
     with socket.create_connection(("127.0.0.1", kept.port), SECONDS) as stream:
         stream.sendall(line)
         assert (first_line(stream), stream.recv(1)) == (DENIED, b"")
 
 
-def test_a_first_line_with_tabs_and_in_pieces(kept):
+def test_a_first_line_with_tabs_and_in_pieces(kept: Any) -> None:
     with socket.create_connection(("127.0.0.1", kept.port), SECONDS) as stream:
         for byte in f"\tHELLO \tann {TOKEN}\r\nLI".encode():
             stream.sendall(bytes([byte]))
@@ -388,8 +389,8 @@ def test_a_first_line_with_tabs_and_in_pieces(kept):
         assert (first_line(stream), first_line(stream)) == (HELLO, b"OK LIST 0\n")
 
 
-def test_a_client_that_does_not_read_holds_nobody_else_up(tmp_path):
-    def send(stream):
+def test_a_client_that_does_not_read_holds_nobody_else_up(tmp_path: pathlib.Path) -> None:
+    def send(stream: Any) -> None:
         with contextlib.suppress(OSError):
             stream.sendall(LOAD + b"DUMP a\n" * 200_000)
 
@@ -406,7 +407,7 @@ def test_a_client_that_does_not_read_holds_nobody_else_up(tmp_path):
         assert keeper.told(b"LIST\n", "ann").startswith(HELLO + b"OK LIST 1\na 0 2 0\n")
 
 
-def test_a_connection_to_the_server_has_as_many_items_as_it_may(tmp_path):
+def test_a_connection_to_the_server_has_as_many_items_as_it_may(tmp_path: pathlib.Path) -> None:
     """In place of a million it is 50 here: 1,000 commands, and then the replay of as many."""
     tool = patched("import keeping.ends; keeping.ends.Link.most_items = 50")
     with Keeper(tmp_path, tool=tool) as keeper:
@@ -417,7 +418,7 @@ def test_a_connection_to_the_server_has_as_many_items_as_it_may(tmp_path):
         assert keeper.told(SHOW + b"ADVANCE a 0\n" * 100, "ann") == shown + b"OK ADVANCE a 500\n" * 100
 
 
-def test_behind_a_balancer(tmp_path):
+def test_behind_a_balancer(tmp_path: pathlib.Path) -> None:
     with Keeper(tmp_path, "--proxy") as keeper:
         with socket.create_connection(("127.0.0.1", keeper.port), SECONDS) as stream:
             stream.sendall(f"PROXY TCP4 192.0.2.7 127.0.0.1 4242 4000\r\nHELLO ann {TOKEN}\nLIST\n".encode())
@@ -440,19 +441,19 @@ WORDS = {
 
 
 @pytest.mark.parametrize("words", WORDS.values(), ids=WORDS)
-def test_words_that_are_none(tmp_path, words):
+def test_words_that_are_none(tmp_path: pathlib.Path, words: Any) -> None:
     status, err = ended(tmp_path, words)
     assert status == 2 and err.startswith("keep: ") and not list(tmp_path.iterdir())
 
 
-def ended(folder, words):
+def ended(folder: Any, words: Any) -> Tuple[Any, Any]:
     """The status of the tool, and what it says of a fault."""
-    tool = [sys.executable, TOP / "tools" / "keep"]
+    tool = [sys.executable, str(TOP / "tools" / "keep")]
     done = subprocess.run([*tool, *words], cwd=folder, capture_output=True, text=True, timeout=SECONDS)
     return done.returncode, done.stderr
 
 
-def test_what_cannot_be_begun(tmp_path, kept):
+def test_what_cannot_be_begun(tmp_path: pathlib.Path, kept: Any) -> None:
     server = ["--", PROGRAM, "serve", "--users", str(kept.users)]
     status, err = ended(tmp_path, ["127.0.0.1:0", str(kept.folder), *server])
     assert (status, err) == (1, f"keep: {kept.folder} is in use\n")
@@ -467,20 +468,20 @@ def test_what_cannot_be_begun(tmp_path, kept):
     assert (status, err) == (1, "keep: cannot read none: No such file or directory\n")
 
 
-def test_words_of_the_server_that_are_none(tmp_path, kept):
+def test_words_of_the_server_that_are_none(tmp_path: pathlib.Path, kept: Any) -> None:
     words = ["127.0.0.1:0", "kept", "--", PROGRAM, "serve", "--users", str(kept.users), "--workers", "99"]
     status, err = ended(tmp_path, words)
     assert status == 2 and "--workers" in err
     assert "the server cannot be begun: it ended with status 2" in (tmp_path / "kept" / "status.json").read_text()
 
 
-def patched(words):
+def patched(words: Any) -> List[Any]:
     """The tool after some words of Python."""
     run = f"import runpy, sys; sys.path.insert(0, {str(TOP / 'tools')!r}); {words}; "
     return [sys.executable, "-c", f"{run}runpy.run_path({str(TOP / 'tools' / 'keep')!r}, None, '__main__')"]
 
 
-def test_who_says_nothing_and_who_is_one_too_many(tmp_path):
+def test_who_says_nothing_and_who_is_one_too_many(tmp_path: pathlib.Path) -> None:
     tool = patched("import keeping.ends, keeping.front; keeping.ends.SECONDS_FOR_HELLO = 0.5; keeping.front.MAX_OPEN = 2")
     with Keeper(tmp_path, tool=tool) as keeper, keeper.raw("ann") as stream:
         assert first_line(stream) == HELLO
@@ -493,7 +494,7 @@ def test_who_says_nothing_and_who_is_one_too_many(tmp_path):
         assert first_line(stream) == b"OK LIST 0\n"
 
 
-def test_it_ends_when_it_is_told_to(tmp_path):
+def test_it_ends_when_it_is_told_to(tmp_path: pathlib.Path) -> None:
     with Keeper(tmp_path) as keeper, keeper.raw("ann") as stream:
         assert first_line(stream) == HELLO
         server = keeper.server()

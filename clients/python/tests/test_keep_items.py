@@ -1,6 +1,7 @@
 """How `tools/keep` cuts streams into items and replies, as the reference of conformance/ does."""
 import io
 import sys
+from typing import Any, List
 
 import pytest
 
@@ -29,9 +30,9 @@ STREAMS = {
 }
 
 
-def fed(reader, data, size):
+def fed(reader: Any, data: Any, size: Any) -> Any:
     """The items of a stream that comes in pieces of a size."""
-    items = []
+    items: List[Any] = []
     for at in range(0, len(data), size):
         reader.feed(data[at : at + size])
         items += iter(reader.next, None)
@@ -40,13 +41,13 @@ def fed(reader, data, size):
 
 @pytest.mark.parametrize("size", PIECES)
 @pytest.mark.parametrize("data, wanted", STREAMS.values(), ids=STREAMS)
-def test_items(data, wanted, size):
+def test_items(data: Any, wanted: Any, size: Any) -> None:
     items = fed(ItemReader(), data, size)
     assert [(len(each.raw), each.last_reply) for each in items] == wanted
     assert b"".join(each.raw for each in items) == data[: sum(length for length, _ in wanted)]
 
 
-def test_so_many_items_and_no_more():
+def test_so_many_items_and_no_more() -> None:
     items = fed(ItemReader(most=3), b"LIST\n" * 5, 7)
     assert [(each.raw, each.last_reply) for each in items] == [(b"LIST\n", b"")] * 3 + [(b"", b"ERR 08 ENOUGH\n")]
     items = fed(ItemReader(most=2), b"LIST\nBYE\nLIST\n", 7)
@@ -54,7 +55,7 @@ def test_so_many_items_and_no_more():
 
 
 @pytest.mark.parametrize("number", range(60))
-def test_random_streams_are_cut_as_by_the_reference(number):
+def test_random_streams_are_cut_as_by_the_reference(number: Any) -> None:
     stream = Chance(f"keep {number}").stream("")
     items = fed(ItemReader(), stream.sent, PIECES[number % 3])
     wanted = list(items_of(io.BytesIO(stream.sent)))
@@ -66,7 +67,7 @@ def test_random_streams_are_cut_as_by_the_reference(number):
 
 
 @pytest.mark.parametrize("number", range(30))
-def test_replies_of_random_streams_are_cut_whole(number):
+def test_replies_of_random_streams_are_cut_whole(number: Any) -> None:
     stream: Stream = Chance(f"keep {number}").stream("")
     replies = referred(stream.sent, stream.quota)
     reader, size = ReplyReader(), PIECES[number % 3]

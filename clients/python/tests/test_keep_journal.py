@@ -2,8 +2,10 @@
 import hashlib
 import itertools
 import os
+import pathlib
 import stat
 import sys
+from typing import Any, List
 
 import pytest
 
@@ -17,14 +19,14 @@ from keeping.script import Told  # noqa: E402
 RECORDS = [Told(b"LOAD a 256 1 1 rest 12\n1\nc\nX 0 0 0\n", b"OK LOAD a 0 1\n"), Told(b"REVERSE a\n", b"OK REVERSE a -1\n")]
 
 
-def written(folder, records=RECORDS, name="ann"):
+def written(folder: Any, records: Any = RECORDS, name: str = "ann") -> Any:
     made = Journal(folder, name)
     made.append(records)
     made.close()
     return made.path
 
 
-def test_a_file_worked_out_by_hand(tmp_path):
+def test_a_file_worked_out_by_hand(tmp_path: pathlib.Path) -> None:
     text = b"ljserve journal 1 ann\n"
     told = text
     for record in RECORDS:
@@ -37,7 +39,7 @@ def test_a_file_worked_out_by_hand(tmp_path):
     assert read(text, "ann").records == RECORDS
 
 
-def test_what_a_kill_may_leave_is_cut_off_at_the_last_whole_record(tmp_path):
+def test_what_a_kill_may_leave_is_cut_off_at_the_last_whole_record(tmp_path: pathlib.Path) -> None:
     data = written(tmp_path).read_bytes()
     first = len(written(tmp_path, RECORDS[:1], "bob").read_bytes())
     for end in range(len(data)):
@@ -46,13 +48,13 @@ def test_what_a_kill_may_leave_is_cut_off_at_the_last_whole_record(tmp_path):
         assert found.end in (0, 22, first)
 
 
-def test_what_a_power_cut_may_leave_is_cut_off(tmp_path):
+def test_what_a_power_cut_may_leave_is_cut_off(tmp_path: pathlib.Path) -> None:
     data = written(tmp_path).read_bytes()
     for end in range(len(data) - 40, len(data)):
         assert read(data[:end] + bytes(len(data) - end), "ann").records == RECORDS[:1]
 
 
-def test_each_changed_byte_of_a_whole_record_is_damage(tmp_path):
+def test_each_changed_byte_of_a_whole_record_is_damage(tmp_path: pathlib.Path) -> None:
     data = written(tmp_path).read_bytes()
     for at, bit in itertools.product(range(len(data)), (1, 0x80)):
         changed = data[:at] + bytes([data[at] ^ bit]) + data[at + 1 :]
@@ -60,7 +62,7 @@ def test_each_changed_byte_of_a_whole_record_is_damage(tmp_path):
             read(changed, "ann")
 
 
-def test_a_record_that_is_missing_is_damage(tmp_path):
+def test_a_record_that_is_missing_is_damage(tmp_path: pathlib.Path) -> None:
     data = written(tmp_path).read_bytes()
     first = len(written(tmp_path, RECORDS[:1], "bob").read_bytes())
     with pytest.raises(Damaged):
@@ -69,7 +71,7 @@ def test_a_record_that_is_missing_is_damage(tmp_path):
         read(data, "bob")
 
 
-def test_it_goes_on_behind_what_was_cut_off(tmp_path):
+def test_it_goes_on_behind_what_was_cut_off(tmp_path: pathlib.Path) -> None:
     path = written(tmp_path)
     whole = path.read_bytes()
     path.write_bytes(whole[:-1])
@@ -80,7 +82,7 @@ def test_it_goes_on_behind_what_was_cut_off(tmp_path):
     assert path.read_bytes() == whole
 
 
-def test_its_owner_alone_may_read_it(tmp_path):
+def test_its_owner_alone_may_read_it(tmp_path: pathlib.Path) -> None:
     path = written(tmp_path)
     made = Journal(tmp_path, "ann")
     made.rewrite(RECORDS)
@@ -88,7 +90,7 @@ def test_its_owner_alone_may_read_it(tmp_path):
     assert stat.S_IMODE(path.stat().st_mode) == 0o600
 
 
-def test_a_rewrite(tmp_path):
+def test_a_rewrite(tmp_path: pathlib.Path) -> None:
     made = Journal(tmp_path, "ann")
     made.append(RECORDS * 3)
     made.rewrite(RECORDS)
@@ -100,26 +102,38 @@ def test_a_rewrite(tmp_path):
 
 
 @pytest.mark.parametrize("step", ["fsync", "replace"])
-def test_a_rewrite_that_fails_leaves_the_old_file(tmp_path, monkeypatch, step):
+def test_a_rewrite_that_fails_leaves_the_old_file(tmp_path: pathlib.Path, monkeypatch: pytest.MonkeyPatch, step: Any) -> None:
     path = written(tmp_path)
     before = path.read_bytes()
     made = Journal(tmp_path, "ann")
 
-    def fail(*_):
+    def fail(*_: Any) -> None:
         assert path.read_bytes() == before
         raise OSError(28, "No space left on device")
 
-    monkeypatch.setattr(journal.os, step, fail)
+    monkeypatch.setattr(os, step, fail)
     with pytest.raises(OSError):
         made.rewrite(RECORDS[:1])
     assert path.read_bytes() == before
 
 
-def test_what_is_new_is_on_the_disk_before_it_has_its_name_and_the_folder_after(tmp_path, monkeypatch):
-    made, done = Journal(tmp_path, "ann"), []
+def test_what_is_new_is_on_the_disk_before_it_has_its_name_and_the_folder_after(
+    tmp_path: pathlib.Path, monkeypatch: pytest.MonkeyPatch
+) -> None:
+    made = Journal(tmp_path, "ann")
+    done: List[str] = []
     fsync, replace = os.fsync, os.replace
-    monkeypatch.setattr(journal.os, "fsync", lambda each: (done.append(os.readlink(f"/proc/self/fd/{each}")), fsync(each)))
-    monkeypatch.setattr(journal.os, "replace", lambda *paths: (done.append("replace"), replace(*paths)))
+
+    def synced(each: int) -> None:
+        done.append(os.readlink(f"/proc/self/fd/{each}"))
+        fsync(each)
+
+    def replaced(*paths: Any) -> None:
+        done.append("replace")
+        replace(*paths)
+
+    monkeypatch.setattr(os, "fsync", synced)
+    monkeypatch.setattr(os, "replace", replaced)
     made.rewrite(RECORDS)
     assert done == [str(tmp_path / "ann.new"), "replace", str(tmp_path)]
 
@@ -133,14 +147,14 @@ SIZES = {
 
 
 @pytest.mark.parametrize("size, left, is_worth", SIZES.values(), ids=SIZES)
-def test_when_it_is_rewritten(size, left, is_worth):
+def test_when_it_is_rewritten(size: Any, left: Any, is_worth: Any) -> None:
     assert journal.is_worth_a_rewrite(size, left) is is_worth
 
 
-def test_how_often_what_is_left_is_counted(tmp_path):
+def test_how_often_what_is_left_is_counted(tmp_path: pathlib.Path) -> None:
     made, counted = Journal(tmp_path, "ann"), []
 
-    def left():
+    def left() -> Any:
         counted.append(made.size)
         return RECORDS * 1000
 

@@ -1,6 +1,7 @@
 """What `tools/keep` keeps of a user's commands leads to the same sessions, by the reference of conformance/."""
 import io
 import sys
+from typing import Any, List, Tuple
 
 import pytest
 
@@ -31,12 +32,12 @@ COMMANDS = st.one_of(
 STREAMS = st.lists(COMMANDS, max_size=60).map(lambda each: [f"LOAD a 256 1 131072 rest {len(BODY)}\n{BODY}", *each])
 
 
-def reply_of(user, item):
+def reply_of(user: Any, item: Any) -> Any:
     (reply,) = replies_to(io.BytesIO(item), user)
     return reply
 
 
-def taken(items):
+def taken(items: Any) -> Tuple[Any, Any, Any]:
     """A user of the reference who was told these items, the script of them, and how many were taken."""
     user, script, count = User(QUOTA), Script(), 0
     for item in map(str.encode, items):
@@ -48,7 +49,7 @@ def taken(items):
     return user, script, count
 
 
-def state_of(user):
+def state_of(user: Any) -> List[Any]:
     """All that is known of a user: sessions and saved simulations in their order, with both frames."""
     return [
         (name, each.edge, each.symbols, each.atoms, frames(each.sim), [(k, frames(sim)) for k, sim in each.saved.items()])
@@ -56,17 +57,17 @@ def state_of(user):
     ]
 
 
-def frames(sim):
+def frames(sim: Any) -> List[Any]:
     return [tuple(map(tuple, sim.prev)), tuple(map(tuple, sim.cur)), sim.step, sim.dir]
 
 
 @settings(max_examples=400, deadline=None, derandomize=True, database=None)
 @given(STREAMS)
-def test_what_is_told_again_leads_to_the_same_state(items):
+def test_what_is_told_again_leads_to_the_same_state(items: Any) -> None:
     hold_alike(items)
 
 
-def hold_alike(items):
+def hold_alike(items: Any) -> None:
     """Holds that what is kept of some items, told to another user, leads to the same state, and is kept as it is."""
     user, script, count = taken(items)
     told = list(script.told())
@@ -102,17 +103,17 @@ MERGED = {
 
 
 @pytest.mark.parametrize("done, left", MERGED.values(), ids=MERGED)
-def test_what_is_left(done, left):
+def test_what_is_left(done: Any, left: Any) -> None:
     _, script, _ = taken([LOAD, *(f"{line}\n" for line in done)])
     assert [each.item.decode() for each in script.told()] == [LOAD, *(f"{line}\n" for line in left)]
 
 
-def test_nothing_is_left_of_what_was_dropped():
+def test_nothing_is_left_of_what_was_dropped() -> None:
     _, script, _ = taken([LOAD, "ADVANCE a 1\n", "BRANCH a k\n", "DROP a\n"])
     assert list(script.told()) == []
 
 
-def test_more_steps_than_one_command_may_have():
+def test_more_steps_than_one_command_may_have() -> None:
     script = Script()
     script.take(LOAD.encode(), (b"LOAD", b"a"), b"OK LOAD a 0 2\n")
     for step in (1_000_000, 1_500_000):
@@ -121,7 +122,7 @@ def test_more_steps_than_one_command_may_have():
     assert [each.reply for each in script.told()][1:] == [b"OK START a 1000000\n", b"OK START a 1500000\n"]
 
 
-def test_a_check_of_what_did_not_change_since_is_told_last():
+def test_a_check_of_what_did_not_change_since_is_told_last() -> None:
     other = LOAD.replace("LOAD a", "LOAD b")
     _, script, _ = taken([LOAD, "MEASURE a\n", other, "ADVANCE b 1\n"])
     assert [each.item.split()[0] for each in script.told()] == [b"LOAD", b"LOAD", b"START", b"MEASURE"]
@@ -136,7 +137,7 @@ REPLIES = {
 
 
 @pytest.mark.parametrize("line, reply", REPLIES.values(), ids=REPLIES)
-def test_a_reply_that_cannot_be(line, reply):
+def test_a_reply_that_cannot_be(line: Any, reply: Any) -> None:
     _, script, _ = taken([LOAD])
     with pytest.raises(Otherwise):
         script.take(line.encode(), tuple(line.encode().split()), f"{reply}\n".encode())

@@ -1,5 +1,6 @@
 """Kills of what `tools/keep` owns while users work, and the streams of conformance/ through it: those of `bench/keep`, a few."""
 import sys
+from typing import Any
 
 import pytest
 
@@ -16,12 +17,12 @@ LONGEST = 20_000
 
 
 @pytest.mark.parametrize("kind", KINDS)
-def test_a_few_kills(kind):
+def test_a_few_kills(kind: Any) -> None:
     done = kill(PROGRAM, kind, 3, f"a few {kind}")
     assert min(done.values()) > 8
 
 
-def test_streams_of_conformance_with_three_kills_in_each():
+def test_streams_of_conformance_with_three_kills_in_each() -> None:
     """Each fourth of those that have few steps and a command that is kept."""
     all_streams = [each for each in stored() if not each.name.startswith("runs/") and len(each.sent) < LONGEST]
     streams = [each for each in all_streams if b"OK LOAD" in each.replies][::4]
@@ -33,7 +34,7 @@ QUOTA = (2, 10, 2)
 LOAD = b"LOAD a 256 1 1 rest 12\n1\nc\nX 0 0 0\n"
 
 
-def test_what_was_lost_may_be_done_or_not_until_it_is_told():
+def test_what_was_lost_may_be_done_or_not_until_it_is_told() -> None:
     account = Account(QUOTA)
     account.hear(LOAD, b"OK LOAD a 0 1\n")
     account.lose([b"ADVANCE a 1\n", b"BRANCH a k\n"])
@@ -44,7 +45,7 @@ def test_what_was_lost_may_be_done_or_not_until_it_is_told():
 
 
 @pytest.mark.parametrize("reply", [b"OK LIST a 1\nk 2\n", b"OK LIST a 1\nm 1\n", b"ERR 10 NO_SESSION\n"])
-def test_what_cannot_be_is_wrong(reply):
+def test_what_cannot_be_is_wrong(reply: Any) -> None:
     account = Account(QUOTA)
     account.hear(LOAD, b"OK LOAD a 0 1\n")
     account.lose([b"ADVANCE a 1\n", b"BRANCH a k\n"])

@@ -1,5 +1,7 @@
 """What one user of `tools/keep` does at each event, with ends and a disk that only note what is asked of them."""
+import pathlib
 import sys
+from typing import Any, List
 
 import pytest
 
@@ -21,76 +23,77 @@ class Client:
 
     is_full = False
 
-    def __init__(self, sent=b"", has_sent_all=False):
+    def __init__(self, sent: bytes = b"", has_sent_all: bool = False) -> None:
         self.told, self.is_over, self.has_sent_all = b"", "", has_sent_all
         self.reader = ItemReader()
         self.reader.feed(sent)
-        self.next = None
+        self.next: Any = None
 
-    def next_item(self):
+    def next_item(self) -> Any:
         item, self.next = self.next or self.reader.next(), None
         return item
 
-    def has_ended(self):
+    def has_ended(self) -> Any:
         self.next = self.next or self.reader.next()
         return self.next is None and (self.has_sent_all or self.reader.has_ended)
 
-    def let_in(self):
+    def let_in(self) -> None:
         self.told += HELLO
 
-    def tell(self, replies):
+    def tell(self, replies: Any) -> None:
         self.told += replies
 
-    def deny(self):
+    def deny(self) -> None:
         self.is_over = "denied"
 
-    def finish(self):
+    def finish(self) -> None:
         self.is_over = "finished"
 
-    def abort(self):
+    def abort(self) -> None:
         self.is_over = "aborted"
 
 
 class Link:
     """A connection to a server that replies nothing by itself."""
 
-    def __init__(self, left=10**6):
+    def __init__(self, left: Any = 10**6) -> None:
         self.sent, self.left, self.is_held, self.is_closed = b"", left, False, False
 
-    def send(self, items):
+    def send(self, items: Any) -> None:
         self.sent += items
 
-    def hold(self, is_held):
+    def hold(self, is_held: Any) -> None:
         self.is_held = is_held
 
-    def close(self):
+    def close(self) -> None:
         self.is_closed = True
 
 
 class Disk:
     """A disk that has written what it was given when `done` is called."""
 
-    def __init__(self):
-        self.given = []
+    def __init__(self) -> None:
+        self.given: List[Any] = []
 
-    def keep(self, journal, records, then):
+    def keep(self, journal: Any, records: Any, then: Any) -> bool:
         self.given.append((records, then))
         return False
 
-    def done(self):
+    def done(self) -> None:
         (_, then) = self.given.pop(0)
         then()
 
 
 @pytest.fixture
-def user(tmp_path):
-    renewed = []
-    user = User("ann", Journal(tmp_path, "ann"), Script(), Disk(), lambda *_, **known: renewed.append(known), renewed.append)
+def user(tmp_path: pathlib.Path) -> Any:
+    renewed: List[Any] = []
+    disk: Any = Disk()
+    user: Any = User("ann", Journal(tmp_path, "ann"), Script(), disk, lambda *_, **known: renewed.append(known), renewed.append)
     user.disk, user.noted = user._disk, renewed
     return user
 
 
-def let_in(user, client, link=None):
+def let_in(user: Any, client: Any, link: Any = None) -> Any:
     """A client that is in, over a connection to a new server."""
     link = link or Link()
     user.begin(link, True)
@@ -98,7 +101,7 @@ def let_in(user, client, link=None):
     return link
 
 
-def test_nothing_is_told_before_it_is_written(user):
+def test_nothing_is_told_before_it_is_written(user: Any) -> None:
     client = Client(LOAD + b"LIST\nREVERSE a\n")
     link = let_in(user, client)
     assert link.sent == LOAD + b"LIST\nREVERSE a\n"
@@ -113,14 +116,14 @@ def test_nothing_is_told_before_it_is_written(user):
     assert client.told.endswith(b"OK REVERSE a -1\n")
 
 
-def test_what_changes_nothing_is_told_at_once(user):
+def test_what_changes_nothing_is_told_at_once(user: Any) -> None:
     client = Client(b"LIST\nREVERSE a\n")
     let_in(user, client)
     user.hear([b"OK LIST 0\n", b"ERR 10 NO_SESSION\n"])
     assert client.told == HELLO + b"OK LIST 0\nERR 10 NO_SESSION\n" and not user.disk.given
 
 
-def test_a_new_server_is_told_what_was_kept_and_then_what_was_not_replied(user):
+def test_a_new_server_is_told_what_was_kept_and_then_what_was_not_replied(user: Any) -> None:
     client = Client(LOAD + b"ADVANCE a 2\nREVERSE a\nLIST\n")
     let_in(user, client)
     user.hear([LOADED, b"OK ADVANCE a 2\n"])
@@ -136,7 +139,7 @@ def test_a_new_server_is_told_what_was_kept_and_then_what_was_not_replied(user):
     assert client.told == HELLO + LOADED + b"OK ADVANCE a 2\n"
 
 
-def test_a_reply_of_the_replay_that_is_another_stops_the_user(user):
+def test_a_reply_of_the_replay_that_is_another_stops_the_user(user: Any) -> None:
     client, other = Client(LOAD), Client()
     let_in(user, client)
     user.enter(other)
@@ -151,7 +154,7 @@ def test_a_reply_of_the_replay_that_is_another_stops_the_user(user):
     assert late.is_over == "denied"
 
 
-def test_one_client_after_the_other_with_a_measure_between(user):
+def test_one_client_after_the_other_with_a_measure_between(user: Any) -> None:
     first, second = Client(LOAD, has_sent_all=True), Client(b"LIST\n")
     link = let_in(user, first)
     user.enter(second)
@@ -166,7 +169,7 @@ def test_one_client_after_the_other_with_a_measure_between(user):
     assert second.told == HELLO and link.sent.endswith(b"MEASURE a\nLIST\n")
 
 
-def test_what_owes_steps_is_not_measured(user):
+def test_what_owes_steps_is_not_measured(user: Any) -> None:
     first = Client(LOAD + b"START a 9\n", has_sent_all=True)
     link = let_in(user, first)
     user.hear([LOADED, b"OK START a 9\n"])
@@ -174,7 +177,7 @@ def test_what_owes_steps_is_not_measured(user):
     assert first.is_over == "finished" and link.sent == LOAD + b"START a 9\n"
 
 
-def test_what_ends_a_connection_is_replied_behind_all_else(user):
+def test_what_ends_a_connection_is_replied_behind_all_else(user: Any) -> None:
     client = Client(b"LIST\nBYE\nLIST\n")
     link = let_in(user, client)
     assert link.sent == b"LIST\n" and client.told == HELLO
@@ -182,14 +185,14 @@ def test_what_ends_a_connection_is_replied_behind_all_else(user):
     assert client.told == HELLO + b"OK LIST 0\nOK BYE\n" and client.is_over == "finished"
 
 
-def test_so_many_items_are_on_their_way_and_no_more(user):
+def test_so_many_items_are_on_their_way_and_no_more(user: Any) -> None:
     link = let_in(user, Client(b"LIST\n" * (MAX_SENT + 2)))
     assert link.sent == b"LIST\n" * MAX_SENT
     user.hear([b"OK LIST 0\n"])
     assert link.sent == b"LIST\n" * (MAX_SENT + 1)
 
 
-def test_a_client_that_does_not_read_holds_the_server(user):
+def test_a_client_that_does_not_read_holds_the_server(user: Any) -> None:
     client = Client(b"LIST\n")
     link = let_in(user, client)
     client.is_full = True
@@ -200,7 +203,7 @@ def test_a_client_that_does_not_read_holds_the_server(user):
     assert not link.is_held
 
 
-def test_another_connection_to_the_server_is_asked_for_when_one_is_used_up(user):
+def test_another_connection_to_the_server_is_asked_for_when_one_is_used_up(user: Any) -> None:
     link = let_in(user, Client(b"LIST\n" * 3), Link(left=2))
     assert link.sent == b"LIST\n" * 2
     user.hear([b"OK LIST 0\n"])
@@ -212,7 +215,7 @@ def test_another_connection_to_the_server_is_asked_for_when_one_is_used_up(user)
     assert another.sent == b"LIST\n"
 
 
-def test_who_is_a_user(tmp_path):
+def test_who_is_a_user(tmp_path: pathlib.Path) -> None:
     path = tmp_path / "users"
     path.write_text(f"# users\n\n ann\t{TOKEN}  1 2 3 \nben {'b' * 32} 0 0 0\n")
     accounts = accounts_at(path)
@@ -225,7 +228,7 @@ def test_who_is_a_user(tmp_path):
         accounts_at(path)
 
 
-def test_what_begins_the_server():
+def test_what_begins_the_server() -> None:
     words = Words([sys.executable, "serve", "--workers", "4", "--users", "FILE", "--pool", "queue"])
     own = ["--listen", "127.0.0.1:4001", "--connections", "1000000", "--users", "/proc/self/fd/9"]
     assert (words.users, words.command(4001, 9)) == (

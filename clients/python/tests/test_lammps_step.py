@@ -1,8 +1,10 @@
 """What bench/lammps/step measures: the same liquid by LAMMPS and by the program."""
+import pathlib
 import re
 import shutil
 import subprocess
 import sys
+from typing import Any, List
 
 import pytest
 
@@ -32,9 +34,9 @@ step.compare_energies(sys.argv[2], liquid._replace(energy=liquid.energy + 0.01))
 """
 
 
-def test_both_have_the_same_liquid(tmp_path):
+def test_both_have_the_same_liquid(tmp_path: pathlib.Path) -> None:
     """The energies differ by what the program's table is off, and by no more; a liquid of another energy is noticed."""
-    words = [sys.executable, "-B", "-c", TRIED, STEP, PROGRAM]
+    words: List[Any] = [sys.executable, "-B", "-c", TRIED, STEP, PROGRAM]
     done = subprocess.run(words, cwd=tmp_path, capture_output=True, text=True, timeout=20 * SECONDS)
     assert (done.returncode, done.stderr) == (1, "the energies differ\n")
     energies, *lines, _ = done.stdout.splitlines()
@@ -51,7 +53,7 @@ def test_both_have_the_same_liquid(tmp_path):
     ]
 
 
-def test_without_lammps(tmp_path):
-    words = [sys.executable, "-B", STEP, PROGRAM]
+def test_without_lammps(tmp_path: pathlib.Path) -> None:
+    words: List[Any] = [sys.executable, "-B", STEP, PROGRAM]
     done = subprocess.run(words, env={"PATH": str(tmp_path)}, capture_output=True, text=True, timeout=SECONDS)
     assert (done.returncode, done.stdout, done.stderr) == (69, "", "step: there is no lmp, which Debian's lammps has\n")

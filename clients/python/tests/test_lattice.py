@@ -1,5 +1,7 @@
 """The edge of the box that extended XYZ says itself, by a cubic Lattice in its comment line."""
 import io
+import pathlib
+from typing import Any, Iterator
 
 import pytest
 
@@ -13,16 +15,16 @@ NO_CUBES = ["5 0 0 0 5 0 0 0 6", "5 0 0 1 5 0 0 0 5", "-5 0 0 0 -5 0 0 0 -5", "5
 
 
 @pytest.fixture
-def user():
+def user() -> Iterator[Any]:
     with run(PROGRAM) as user:
         yield user
 
 
-def load(user, source, **words):
+def load(user: Any, source: Any, **words: Any) -> Any:
     return user.load("a", source, sigma=1, h=131072, **words)
 
 
-def of_kind(kind, text, folder):
+def of_kind(kind: Any, text: Any, folder: Any) -> Any:
     """The same text as a source of this kind."""
     path = folder / "a.xyz"
     path.write_text(text)
@@ -30,30 +32,30 @@ def of_kind(kind, text, folder):
 
 
 @pytest.mark.parametrize("kind", ["path", "text", "bytes", "open"])
-def test_the_edge_is_that_of_the_lattice(user, tmp_path, kind):
+def test_the_edge_is_that_of_the_lattice(user: Any, tmp_path: pathlib.Path, kind: Any) -> None:
     a = load(user, of_kind(kind, ATOM.format(CUBE), tmp_path))
     assert (a.edge, listed(a.places())) == (256, [(2**30, 0, 2**31)])
 
 
-def test_a_mixture_has_it_too(user):
+def test_a_mixture_has_it_too(user: Any) -> None:
     mix = user.load_mix("mix", ATOM.format(CUBE), species=("Ar", "Kr"), classes=[(1, 4096, 256)] * 3)
     assert (mix.edge, listed(mix.places())) == (256, [(2**30, 0, 2**31)])
 
 
 @pytest.mark.parametrize("first, second", [(CUBE, CUBE), (CUBE, "now"), ("before", CUBE)])
-def test_one_of_two_frames_says_it(user, first, second):
+def test_one_of_two_frames_says_it(user: Any, first: Any, second: Any) -> None:
     assert load(user, ATOM.format(first) + ATOM.format(second), pair=True).edge == 256
     assert load(user, ATOM.format(second), before=ATOM.format(first), replace=True).edge == 256
 
 
-def test_what_is_said_goes_before_it(user):
+def test_what_is_said_goes_before_it(user: Any) -> None:
     a = load(user, ATOM.format(CUBE), edge=512)
     assert (a.edge, listed(a.places())) == (512, [(2**29, 0, 2**30)])
     assert load(user, ATOM.format('Lattice="5 5 5"'), edge=512, replace=True).edge == 512
 
 
 @pytest.mark.parametrize("cell", NO_CUBES)
-def test_another_box_is_an_error_that_says_what_is_there(user, cell):
+def test_another_box_is_an_error_that_says_what_is_there(user: Any, cell: Any) -> None:
     with pytest.raises(ValueError, match="say the edge of the box, edge=") as caught:
         load(user, ATOM.format(f'Lattice="{cell}"'))
     assert f'Lattice="{cell}", which is no cube' in str(caught.value)
@@ -61,17 +63,17 @@ def test_another_box_is_an_error_that_says_what_is_there(user, cell):
 
 
 @pytest.mark.parametrize("source", [ATOM.format("of lattice 256"), [("Ar", 1, 2, 3)], "none\nhere\n", "\n"])
-def test_without_a_lattice_the_edge_is_asked_for(user, source):
+def test_without_a_lattice_the_edge_is_asked_for(user: Any, source: Any) -> None:
     with pytest.raises(ValueError, match="say the edge of the box, edge=.*no Lattice"):
         load(user, source)
 
 
-def test_the_lattice_is_that_of_a_comment_line_and_of_a_frame_that_is_loaded():
+def test_the_lattice_is_that_of_a_comment_line_and_of_a_frame_that_is_loaded() -> None:
     assert xyz.lattice_edge(("rest", f"1\nplain\nAr 0 0 0 {CUBE}\n{ATOM.format(CUBE)}".encode())) is None
     assert xyz.lattice_edge(("rest", f"\n \n1\r\n{CUBE}\r\nAr 0 0 0\r\n".encode())) == 256
 
 
-def test_a_trajectory_is_loaded_again_with_its_box(user, tmp_path):
+def test_a_trajectory_is_loaded_again_with_its_box(user: Any, tmp_path: pathlib.Path) -> None:
     a = load(user, ATOM.format(CUBE))
     a.write_trajectory(tmp_path / "way.xyz", every=1, frames=1)
     again = user.load("b", tmp_path / "way.xyz", sigma=1, h=131072)
@@ -79,10 +81,10 @@ def test_a_trajectory_is_loaded_again_with_its_box(user, tmp_path):
 
 
 @pytest.mark.parametrize("cell, edge, wanted", [("52.6 0 0 0 52.6 0 0 0 52.6", 7.0, 52.6), ("5 0 0 0 5 0 0 0 6", 7.0, 7.0)])
-def test_the_view_takes_it_too(tmp_path, cell, edge, wanted):
+def test_the_view_takes_it_too(tmp_path: pathlib.Path, cell: Any, edge: Any, wanted: Any) -> None:
     (tmp_path / "a.xyz").write_text(ATOM.format(f'Lattice="{cell}"'))
 
-    def scale_of(edge):
+    def scale_of(edge: Any) -> Any:
         return Scale.of(edge, 1, 1000)
 
     assert scenes.of_file(str(tmp_path / "a.xyz"), edge, scale_of, 0.0, 1).scale.edge == wanted

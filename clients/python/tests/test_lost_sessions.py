@@ -1,7 +1,9 @@
 """Sessions that are gone when a connection is begun anew: the server was started again, or another connection has dropped them."""
+import functools
 import pickle
 import re
 from unittest import mock
+from typing import Any, Iterator
 
 import pytest
 
@@ -16,34 +18,34 @@ NEVER = "there is no session of that name"
 
 
 @pytest.fixture
-def server():
+def server() -> Iterator[Any]:
     with Server() as server:
         yield server
 
 
-def joined(server):
+def joined(server: Any) -> Any:
     return connect("127.0.0.1", server.port, "ann", TOKEN, timeout=SECONDS)
 
 
-def started_again(server):
+def started_again(server: Any) -> Any:
     """Another server on the port of one that is ended."""
     server.end()
     with mock.patch.object(support, "free_port", lambda: server.port):
         return Server()
 
 
-def before_the_last(user):
+def before_the_last(user: Any) -> None:
     """Asks until the next command is the last of the connection, which begins a new one."""
     user.ask_all(["LIST"] * (users.MAX_ITEMS - 1 - user._wire.asked))
 
 
 @pytest.fixture
-def few_commands():
+def few_commands() -> Iterator[Any]:
     with mock.patch.object(users, "MAX_ITEMS", 100):
         yield
 
 
-def after_a_list(session):
+def after_a_list(session: Any) -> None:
     session._user.sessions()
     session.measure()
 
@@ -61,7 +63,7 @@ def after_a_list(session):
         after_a_list,
     ],
 )
-def test_a_server_that_was_started_again(server, few_commands, ask):
+def test_a_server_that_was_started_again(server: Any, few_commands: Any, ask: Any) -> None:
     with joined(server) as user:
         session = dimer(user)
         before_the_last(user)
@@ -74,13 +76,13 @@ def test_a_server_that_was_started_again(server, few_commands, ask):
             assert session.advance(2) == 2
 
 
-def test_a_session_that_another_connection_has_dropped(server, few_commands):
+def test_a_session_that_another_connection_has_dropped(server: Any, few_commands: Any) -> None:
     with joined(server) as user:
         session = dimer(user)
         before_the_last(user)
         reopen = user._reopen
 
-        def after_another():
+        def after_another() -> Any:
             with joined(server) as other:
                 other.session("a").drop()
             return reopen()
@@ -89,7 +91,7 @@ def test_a_session_that_another_connection_has_dropped(server, few_commands):
             session.measure()
 
 
-def test_sessions_that_are_there_after_a_new_connection(server, few_commands):
+def test_sessions_that_are_there_after_a_new_connection(server: Any, few_commands: Any) -> None:
     with joined(server) as user:
         session = dimer(user)
         for _ in range(3):
@@ -97,7 +99,7 @@ def test_sessions_that_are_there_after_a_new_connection(server, few_commands):
             assert session.place(1) == (25165824, 0, 0)
 
 
-def test_what_never_was_there_or_was_dropped_here(server):
+def test_what_never_was_there_or_was_dropped_here(server: Any) -> None:
     with joined(server) as user:
         dimer(user, "a").drop()
         dimer(user, "b")
@@ -115,15 +117,15 @@ def test_what_never_was_there_or_was_dropped_here(server):
                 user.ask(f"ADVANCE {name} 1")
 
 
-def test_a_refusal_in_words_of_its_own_is_the_same_when_it_was_sent():
+def test_a_refusal_in_words_of_its_own_is_the_same_when_it_was_sent() -> None:
     refusal = pickle.loads(pickle.dumps(refusals.NoSession("LIST a", meaning=LOST)))
     assert (type(refusal), refusal.meaning, refusal.command) == (refusals.NoSession, LOST, "LIST a")
     assert str(refusal) == f"ERR 10 NO_SESSION: {LOST} (asked: LIST a)"
     assert refusals.NoSession("LIST a").meaning == NEVER
 
 
-def test_a_link_tells_once_what_is_lost(server):
-    link = Link(lambda: joined(server), "")
+def test_a_link_tells_once_what_is_lost(server: Any) -> None:
+    link = Link(functools.partial(joined, server), "")
     for name in "abc":
         dimer(link.ready(), name)
     link.user.session("c").drop()
@@ -143,8 +145,8 @@ def test_a_link_tells_once_what_is_lost(server):
         link.close()
 
 
-def test_a_link_whose_server_is_away_for_some_time(server):
-    link = Link(lambda: joined(server), "")
+def test_a_link_whose_server_is_away_for_some_time(server: Any) -> None:
+    link = Link(functools.partial(joined, server), "")
     dimer(link.ready())
     server.end()
     with pytest.raises(ConnectionLost):
@@ -159,20 +161,20 @@ def test_a_link_whose_server_is_away_for_some_time(server):
 
 
 @pytest.fixture
-def terminal(server):
+def terminal(server: Any) -> Iterator[Any]:
     terminal = Terminal([*PROMPT, f"127.0.0.1:{server.port}", "ann"], environment(LJSERVE_TOKEN=TOKEN))
     yield terminal
     terminal.close()
 
 
-def says(terminal, line):
+def says(terminal: Any, line: Any) -> Any:
     """What is shown for a line, up to the next prompt."""
     terminal.type(line + "\r")
     terminal.until(re.escape(line) + "\n")
     return terminal.until("ann> ")
 
 
-def test_a_prompt_promises_no_more_than_it_knows(server, terminal):
+def test_a_prompt_promises_no_more_than_it_knows(server: Any, terminal: Any) -> None:
     terminal.until("ann> ")
     says(terminal, f"LOAD a {ARGON} 21.04 3.4 131072")
     says(terminal, f"LOAD b {ARGON} 21.04 3.4 131072")
@@ -187,7 +189,7 @@ def test_a_prompt_promises_no_more_than_it_knows(server, terminal):
         assert says(terminal, "LIST") == "OK LIST 0\nann> "
 
 
-def test_a_prompt_says_so_before_what_is_refused(server, terminal):
+def test_a_prompt_says_so_before_what_is_refused(server: Any, terminal: Any) -> None:
     terminal.until("ann> ")
     says(terminal, f"LOAD a {ARGON} 21.04 3.4 131072")
     server.end()

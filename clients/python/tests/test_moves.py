@@ -4,13 +4,14 @@ They have 10,000 commands here in place of a million. What is expected is what a
 """
 import unittest
 from unittest import mock
+from typing import Any
 
 from ljclient import run, user as users
 from support import ARGON, DIMER, EXAMPLES, PROGRAM, go_on_alike, listed
 
 
 class Moves(unittest.TestCase):
-    def setUp(self):
+    def setUp(self) -> None:
         stays = run(PROGRAM)
         self.addCleanup(stays.close)
         self.direct = stays.load("argon", EXAMPLES / "argon_256.xyz", **ARGON)
@@ -22,13 +23,13 @@ class Moves(unittest.TestCase):
         self.moving = self.other.load("argon", EXAMPLES / "argon_256.xyz", **ARGON)
         self.first = self.other._wire
 
-    def spend(self, number=5000):
+    def spend(self, number: int = 5000) -> None:
         self.other.ask_all(["LIST"] * number)
 
-    def same(self, one, other):
+    def same(self, one: Any, other: Any) -> None:
         go_on_alike(self, one, other)
 
-    def test_one_program_after_the_other(self):
+    def test_one_program_after_the_other(self) -> None:
         still = self.other.load("still", EXAMPLES / "argon_256.xyz", **ARGON)
         places, programs = listed(still.places()), set()
         for _ in range(40):
@@ -42,7 +43,7 @@ class Moves(unittest.TestCase):
         self.same(self.moving, self.direct)
         self.same(still, self.direct)
 
-    def test_what_is_saved_comes_along(self):
+    def test_what_is_saved_comes_along(self) -> None:
         for each in (self.direct, self.moving):
             each.advance(10)
             each.branch("early")
@@ -67,7 +68,7 @@ class Moves(unittest.TestCase):
         self.assertEqual((self.moving.restore("next"), self.direct.restore("next")), (30, 30))
         self.same(self.direct, self.moving)
 
-    def test_the_new_program_does_not_take_them(self):
+    def test_the_new_program_does_not_take_them(self) -> None:
         for each in (self.direct, self.moving):
             each.advance(10)
             each.reverse()
@@ -83,7 +84,7 @@ class Moves(unittest.TestCase):
         self.assertEqual((self.moving.restore("k"), self.direct.restore("k")), (9, 9))
         self.same(self.direct, self.moving)
 
-    def test_sessions_that_the_client_has_not_loaded_stay(self):
+    def test_sessions_that_the_client_has_not_loaded_stay(self) -> None:
         self.other.ask(f"LOAD a 256 1 131072 rest {len(DIMER)}", DIMER.encode())
         self.spend(9000)
         self.assertEqual((self.other.session("a").advance(2), self.other.session("a").place(0)), (2, (1774, 0, 0)))
@@ -92,7 +93,7 @@ class Moves(unittest.TestCase):
         self.other.sessions()
         self.same(self.direct, self.moving)
 
-    def test_what_was_started_is_not_waited_for(self):
+    def test_what_was_started_is_not_waited_for(self) -> None:
         self.moving.start(2000)
         self.spend()
         self.assertEqual((self.moving.target, self.other._wire), (2000, self.first))

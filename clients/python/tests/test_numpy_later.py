@@ -1,6 +1,7 @@
 """numpy is imported when arrays are asked for, and not before: a prompt would begin with twice the wait."""
 import subprocess
 import sys
+from typing import Any
 
 import pytest
 
@@ -21,16 +22,16 @@ with run() as user:
 """
 
 
-def last_words(text, stream=""):
+def last_words(text: Any, stream: str = "") -> Any:
     """What a script writes, which at last tells whether numpy was imported."""
     script = f"import sys\n{text}\nprint('numpy' in sys.modules)"
     words = [sys.executable, "-c", script]
     return subprocess.run(words, input=stream, capture_output=True, text=True, timeout=SECONDS, env=environment()).stdout
 
 
-def test_a_prompt_does_without():
+def test_a_prompt_does_without() -> None:
     assert last_words(PROMPT, "LIST\n") == "OK LIST 0\nFalse\n"
 
 
-def test_a_run_does_without_until_places_are_asked_for():
+def test_a_run_does_without_until_places_are_asked_for() -> None:
     assert last_words(PLACES) == "False\n(256, 3) int64\nTrue\n"

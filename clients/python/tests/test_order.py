@@ -11,17 +11,18 @@ import sys
 import tempfile
 import unittest
 from unittest import mock
+from typing import Any, Dict, List, Tuple
 
 from ljclient import ConnectionLost, Order, connect, run, xyz
 from ljclient.order import by_halves
-from support import PROGRAM, TOKEN, TOP, Server, dimer, interruptible, listed
+from support import PROGRAM, TOKEN, TOP, Server, dimer, interruptible, listed, present, process_of
 
-SCALE = {"edge": 8.4, "sigma": 1, "h": 131072}
+SCALE: Dict[str, Any] = {"edge": 8.4, "sigma": 1, "h": 131072}
 CLASSES = [(1, 131072, 256), (0.9, 150000, 300), (0.95, 140000, 200)]
-MIX = {"edge": 8.4, "species": ("Ar", "Kr"), "classes": CLASSES}
+MIX: Dict[str, Any] = {"edge": 8.4, "species": ("Ar", "Kr"), "classes": CLASSES}
 
 
-def liquid(count=500, seed=1):
+def liquid(count: int = 500, seed: int = 1) -> Any:
     """A jittered lattice, 8 wide in a box of 8.4, in a shuffled order: rows of a symbol and a position."""
     drawn = random.Random(seed)
     sites = drawn.sample(range(8**3), count)
@@ -33,23 +34,23 @@ def liquid(count=500, seed=1):
 
 
 class Halves(unittest.TestCase):
-    def test_a_line_of_atoms(self):
+    def test_a_line_of_atoms(self) -> None:
         # 256 atoms along x, numbered from the other end: four blocks, split along x and then along y, where all are alike.
         numbers = by_halves([(255 - atom, 0, 0) for atom in range(256)])
         self.assertEqual(sorted(numbers), list(range(256)))
         self.assertTrue(all(number // 128 == (255 - atom) // 128 for atom, number in enumerate(numbers)))
 
-    def test_blocks_lie_in_space(self):
+    def test_blocks_lie_in_space(self) -> None:
         # 4,096 atoms on a lattice of 16 x 16 x 16, shuffled: each block is a cube of 4 x 4 x 4.
         sites = [(x, y, z) for x in range(16) for y in range(16) for z in range(16)]
         random.Random(1).shuffle(sites)
         placed = Order(by_halves(sites)).for_server(sites)
         for first in range(0, 4096, 64):
             block = set(placed[first : first + 64])
-            corner = tuple(map(min, zip(*block)))
+            corner = tuple(min(axis) for axis in zip(*block))
             self.assertEqual(block, {tuple(c + d for c, d in zip(corner, each)) for each in sites if max(each) < 4})
 
-    def test_halves_are_whole_blocks(self):
+    def test_halves_are_whole_blocks(self) -> None:
         for count in (1, 2, 63, 64, 65, 127, 128, 129, 191, 500, 4095):
             places = [(number * 7919 % 104729, number * 31 % 97, number % 11) for number in range(count)]
             numbers = by_halves(places)
@@ -60,12 +61,12 @@ class Halves(unittest.TestCase):
                 left = sorted(range(count), key=lambda atom: places[atom][0])[:first]
                 self.assertEqual({atom for atom in range(count) if numbers[atom] < first}, set(left))
 
-    def test_orders(self):
-        order = Order([2, 0, 1], step=10, direction=-1)
+    def test_orders(self) -> None:
+        order = Order((2, 0, 1), step=10, direction=-1)
         self.assertEqual((order.for_server("abc"), order.for_user("bca")), (["b", "c", "a"], ["a", "b", "c"]))
         self.assertEqual([order.number_of(atom) for atom in range(4)], [2, 0, 1, 3])
         self.assertEqual((order.step_of(3), Order().step_of(3), Order().for_user("abc")), (7, 3, "abc"))
-        for wrong in ([0, 0], [1, 2], [0, 2]):
+        for wrong in ((0, 0), (1, 2), (0, 2)):
             with self.assertRaisesRegex(ValueError, "each number from 0"):
                 Order(wrong)
         with self.assertRaisesRegex(ValueError, "direction"):
@@ -75,7 +76,7 @@ class Halves(unittest.TestCase):
 
 
 class Sessions(unittest.TestCase):
-    def setUp(self):
+    def setUp(self) -> None:
         self.user = run(PROGRAM)
         self.addCleanup(self.user.close)
         self.rows = liquid()
@@ -83,19 +84,19 @@ class Sessions(unittest.TestCase):
         self.addCleanup(folder.cleanup)
         self.folder = pathlib.Path(folder.name)
 
-    def both(self):
+    def both(self) -> Tuple[Any, Any]:
         """The same atoms in the order of their list, and in that of space."""
         plain = self.user.load("plain", self.rows, **SCALE)
         return plain, self.user.load("sorted", self.rows, order="space", **SCALE)
 
-    def same(self, one, other):
+    def same(self, one: Any, other: Any) -> None:
         self.assertEqual(listed(one.places()), listed(other.places()))
         self.assertEqual(one.measure(), other.measure())
         self.assertEqual((one.step, one.target, one.atoms), (other.step, other.target, other.atoms))
 
 
 class Motion(Sessions):
-    def moves_alike(self, plain, ordered):
+    def moves_alike(self, plain: Any, ordered: Any) -> None:
         orders = [ordered.order.numbers]
         self.same(plain, ordered)
         for session in (plain, ordered):
@@ -113,16 +114,16 @@ class Motion(Sessions):
         self.assertEqual([sorted(order) for order in orders], [list(range(500))] * 3)
         self.assertEqual(len({*orders, tuple(range(500))}), 4)
 
-    def test_atoms_of_one_species(self):
+    def test_atoms_of_one_species(self) -> None:
         self.moves_alike(*self.both())
 
-    def test_atoms_of_two_species(self):
+    def test_atoms_of_two_species(self) -> None:
         plain = self.user.load_mix("plain", self.rows, **MIX)
         ordered = self.user.load_mix("sorted", self.rows, order="space", **MIX)
         self.moves_alike(plain, ordered)
         self.assertEqual((ordered.mixture, ordered.symbols()), (plain.mixture, plain.symbols()))
 
-    def test_they_go_back_to_their_start(self):
+    def test_they_go_back_to_their_start(self) -> None:
         _, ordered = self.both()
         start = listed(ordered.places())
         for _ in range(2):
@@ -130,7 +131,7 @@ class Motion(Sessions):
             ordered.reverse()
         self.assertEqual((ordered.step, listed(ordered.places())), (0, start))
 
-    def test_several_at_once(self):
+    def test_several_at_once(self) -> None:
         plain, ordered = self.both()
         told = []
         self.assertEqual(self.user.advance([ordered, plain], [700, 300], progress=lambda *each: told.append(each)), [700, 300])
@@ -142,7 +143,7 @@ class Motion(Sessions):
         self.assertEqual(self.user.advance([plain, ordered], 10), [1010, 1010])
         self.same(plain, ordered)
 
-    def test_atoms_in_motion_from_the_start(self):
+    def test_atoms_in_motion_from_the_start(self) -> None:
         before = [(symbol, x - 0.001, y + 0.002, z) for symbol, x, y, z in self.rows]
         plain = self.user.load("plain", self.rows, before=before, **SCALE)
         ordered = self.user.load("sorted", self.rows, before=before, order="space", **SCALE)
@@ -152,7 +153,7 @@ class Motion(Sessions):
 
 
 class Numbers(Sessions):
-    def test_everything_has_the_numbers_of_the_user(self):
+    def test_everything_has_the_numbers_of_the_user(self) -> None:
         plain, ordered = self.both()
         for session in (plain, ordered):
             session.advance(300)
@@ -165,7 +166,7 @@ class Numbers(Sessions):
             with self.assertRaisesRegex(Exception, "NO_ATOM"):
                 ordered.place(atom)
 
-    def test_the_server_has_its_own(self):
+    def test_the_server_has_its_own(self) -> None:
         plain, ordered = self.both()
         for session in (plain, ordered):
             session.advance(260)
@@ -174,7 +175,7 @@ class Numbers(Sessions):
         self.assertEqual(tuple(map(int, words[4:])), plain.place(123))
         self.assertEqual((order.step_of(int(words[2])), order.step, int(words[2])), (260, 250, 10))
 
-    def test_another_connection_takes_an_order(self):
+    def test_another_connection_takes_an_order(self) -> None:
         with Server() as server:
             with connect("127.0.0.1", server.port, "ann", TOKEN) as user:
                 ordered = user.load("s", self.rows, order="space", **SCALE)
@@ -187,13 +188,13 @@ class Numbers(Sessions):
                 other = user.session("s", order=order, **SCALE)
                 self.assertEqual((listed(other.places()), other.dump(), other.step), (places, dumped, 300))
                 self.assertEqual(other.symbols(), symbols)
-                numbers = user.session("s", order=list(order.numbers))
+                numbers = user.session("s", order=list(present(order.numbers)))
                 self.assertEqual((listed(numbers.places()), numbers.place(7)), (places, places[7]))
-                for wrong in (order.numbers[:-1], [0] * 500):
+                for wrong in (present(order.numbers)[:-1], [0] * 500):
                     with self.assertRaises(ValueError):
                         user.session("s", order=wrong).places()
 
-    def test_saved_files(self):
+    def test_saved_files(self) -> None:
         plain, ordered = self.both()
         for session in (plain, ordered):
             session.advance(300)
@@ -214,14 +215,14 @@ class Numbers(Sessions):
 
 
 class Renewals(Sessions):
-    def test_each_250_steps(self):
+    def test_each_250_steps(self) -> None:
         _, ordered = self.both()
         with mock.patch.object(self.user, "resort", wraps=self.user.resort) as resort:
             for n, done in [(249, 0), (1, 0), (1, 1), (600, 3), (0, 3), (148, 3), (2, 4)]:
                 ordered.advance(n)
                 self.assertEqual(resort.call_count, done, n)
 
-    def test_not_while_something_is_saved(self):
+    def test_not_while_something_is_saved(self) -> None:
         plain, ordered = self.both()
         ordered.branch("k")
         ordered.branch("l")
@@ -237,7 +238,7 @@ class Renewals(Sessions):
         self.assertEqual(plain.advance(600), 600)
         self.same(plain, ordered)
 
-    def test_any_session_can_be_sorted(self):
+    def test_any_session_can_be_sorted(self) -> None:
         plain, _ = self.both()
         places = listed(plain.places())
         plain.resort()
@@ -248,18 +249,18 @@ class Renewals(Sessions):
         a.resort()
         self.assertEqual((a.advance(2), a.place(0)), (2, (1774, 0, 0)))
 
-    def test_what_is_no_order(self):
+    def test_what_is_no_order(self) -> None:
         for wrong in ("time", "", [0, 1]):
             with self.assertRaisesRegex(ValueError, "an order is 'space'"):
                 dimer(self.user, order=wrong)
         self.assertEqual(self.user.sessions(), [])
 
-    def test_a_session_that_is_replaced(self):
+    def test_a_session_that_is_replaced(self) -> None:
         self.both()
         again = self.user.load("sorted", self.rows, replace=True, **SCALE)
         self.assertEqual((again.order, listed(again.places())), (Order(), listed(self.user.session("plain").places())))
 
-    def test_a_load_that_is_refused(self):
+    def test_a_load_that_is_refused(self) -> None:
         _, ordered = self.both()
         places = listed(ordered.places())
         with self.assertRaisesRegex(Exception, "EXISTS"):
@@ -268,14 +269,14 @@ class Renewals(Sessions):
             self.user.load("new", "2\n\nAr 0 0 0\nAr 0 0 x\n", order="space", **SCALE)
         self.assertEqual((listed(ordered.places()), len(self.user.sessions())), (places, 2))
 
-    def test_interrupts_lose_nothing(self):
+    def test_interrupts_lose_nothing(self) -> None:
         """An interrupt comes while the motion is turned back to be read, and while the session is gone to be loaded again."""
         interruptible(self)
         plain, ordered = self.both()
         ask = self.user.ask_commands
         for word in ("REVERSE", "LOAD"):
 
-            def interrupted(commands):
+            def interrupted(commands: Any) -> Any:
                 half = len(commands) // 2
                 if not any(line.startswith(word) for line, _ in commands):
                     return ask(commands)
@@ -289,29 +290,29 @@ class Renewals(Sessions):
             plain.advance(ordered.step - plain.step)
             self.same(plain, ordered)
 
-    def test_a_connection_that_is_lost_on_the_way(self):
+    def test_a_connection_that_is_lost_on_the_way(self) -> None:
         plain, ordered = self.both()
         ordered.advance(300)
         plain.advance(300)
         ask = self.user.ask_commands
 
-        def lose(commands):
+        def lose(commands: Any) -> Any:
             if any(body for _, body in commands):
-                os.kill(self.user._wire._ends.pid, signal.SIGKILL)
+                os.kill(process_of(self.user), signal.SIGKILL)
             return ask(commands)
 
         plain.save(self.folder / "plain")
         with mock.patch.object(self.user, "ask_commands", side_effect=lose), self.assertRaises(ConnectionLost) as caught:
             ordered.resort()
         texts = [caught.exception.rescued, (self.folder / "plain").read_text()]
-        atoms = [[line.split(" ")[1:] for line in text.splitlines()[-501:]] for text in texts]
+        atoms = [[line.split(" ")[1:] for line in present(text).splitlines()[-501:]] for text in texts]
         self.assertEqual(atoms[0], atoms[1])
 
 
 class Script(Sessions):
     """`examples/load --sorted`, for those without the client."""
 
-    def printed(self, text, *words, status=0):
+    def printed(self, text: Any, *words: Any, status: int = 0) -> Any:
         """What the script prints for a file with this text."""
         (self.folder / "atoms.xyz").write_text(text)
         command = [sys.executable, TOP / "examples" / "load", *words, self.folder / "atoms.xyz", "sorted", "8.4", "1", "131072"]
@@ -319,7 +320,7 @@ class Script(Sessions):
         self.assertEqual(done.returncode, status, done.stderr)
         return done.stdout if status == 0 else done.stderr.decode()
 
-    def test_a_file_in_the_order_of_space(self):
+    def test_a_file_in_the_order_of_space(self) -> None:
         text = xyz.text_of((row[0], row[1:]) for row in self.rows).decode()
         plain = self.user.load("plain", text, **SCALE)
         line, _, body = self.printed("\n" + text, f"--sorted={self.folder / 'order'}").partition(b"\n")
@@ -333,18 +334,18 @@ class Script(Sessions):
         self.same(plain, ordered)
         self.assertEqual(ordered.dump(), plain.dump())
 
-    def test_two_frames(self):
+    def test_two_frames(self) -> None:
         frames = [xyz.text_of(((row[0], [part + moved for part in row[1:]]) for row in self.rows)) for moved in (0.1, 0)]
         plain = self.user.load("plain", frames[1], before=frames[0], **SCALE)
         (self.folder / "pair").write_bytes(b"".join(frames))
-        words = [sys.executable, TOP / "examples" / "load", "--sorted"]
+        words: List[Any] = [sys.executable, TOP / "examples" / "load", "--sorted"]
         words += [self.folder / "pair", "sorted", "8.4", "1", "131072", "pair"]
         line, _, body = subprocess.run(words, capture_output=True, check=True, timeout=60).stdout.partition(b"\n")
         self.user.ask(line.decode(), body)
         numbers = by_halves(listed(plain.places()))
         self.same(plain, self.user.session("sorted", order=numbers, **SCALE))
 
-    def test_files_without_a_frame(self):
+    def test_files_without_a_frame(self) -> None:
         for text, line in [("", 0), ("2\n\nAr 0 0 0\n", 4), ("1\n\nAr 0 0\n", 3), ("1\n\nAr 0 0 x\n", 3), ("x\n", 1)]:
             self.assertIn(f"atoms.xyz has no whole frame: line {line}", self.printed(text, "--sorted", status=1))
         self.assertEqual("load: unrecognized arguments: --shuffled\n", self.printed("", "--shuffled", status=2))

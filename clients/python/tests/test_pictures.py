@@ -1,8 +1,10 @@
 """The pictures of the examples: what their axes and legends say, where they are drawn into, and which files are told as bad."""
 import json
 import os
+import pathlib
 import subprocess
 import sys
+from typing import Any, Tuple
 
 import pytest
 from support import EXAMPLES, PROGRAM, SECONDS
@@ -11,19 +13,19 @@ SCRIPTS = ["there_and_back.py", "butterfly.py", "energy.py", "temperatures.py", 
 NO_PROGRAM = "/no/such/program"
 
 
-def ran(*words, program=PROGRAM):
+def ran(*words: Any, program: Any = PROGRAM) -> Any:
     """What an example does with these words, or Python with them among the examples."""
     command, environment = [sys.executable, *map(str, words)], {**os.environ, "LJSERVE": program, "PYTHONDONTWRITEBYTECODE": "1"}
     return subprocess.run(command, cwd=EXAMPLES, env=environment, capture_output=True, timeout=4 * SECONDS)
 
 
-def told(*words, program=PROGRAM):
+def told(*words: Any, program: Any = PROGRAM) -> Tuple[Any, str, str]:
     """The status, what is printed and what goes to standard error."""
     done = ran(*words, program=program)
     return done.returncode, done.stdout.decode(), done.stderr.decode()
 
 
-def drawn(code):
+def drawn(code: Any) -> Any:
     """What Python code tells of a drawing, as JSON: it prints that last."""
     pytest.importorskip("matplotlib")
     begin = "import json\nfrom shared import pyplot\nfigure, axes = pyplot().subplots()\n"
@@ -41,14 +43,14 @@ def drawn(code):
         ("energy.py", "x", "the name of a picture ends with .png, .svg or .pdf"),
     ],
 )
-def test_a_bad_file_is_told_before_the_run(script, name, why, tmp_path):
+def test_a_bad_file_is_told_before_the_run(script: Any, name: Any, why: Any, tmp_path: pathlib.Path) -> None:
     (tmp_path / "folder.png").mkdir()
     path = tmp_path / name
     assert told(script, "--plot", path, program=NO_PROGRAM) == (1, "", f"{script}: --plot {path}: {why}\n")
     assert os.listdir(tmp_path) == ["folder.png"]
 
 
-def test_a_run_that_fails_leaves_files_as_they_were(tmp_path):
+def test_a_run_that_fails_leaves_files_as_they_were(tmp_path: pathlib.Path) -> None:
     pytest.importorskip("matplotlib")
     (tmp_path / "old.png").write_bytes(b"old")
     for name in ["old.png", "new.png"]:
@@ -60,7 +62,7 @@ def test_a_run_that_fails_leaves_files_as_they_were(tmp_path):
 
 
 @pytest.mark.parametrize("name, begin", [("x.png", b"\x89PNG\r\n\x1a\n"), ("x.SVG", b"<?xml"), ("x.pdf", b"%PDF")])
-def test_the_ending_says_what_is_drawn(name, begin, tmp_path):
+def test_the_ending_says_what_is_drawn(name: Any, begin: Any, tmp_path: pathlib.Path) -> None:
     pytest.importorskip("matplotlib")
     done = ran("there_and_back.py", "--steps", "80", "--plot", tmp_path / name)
     assert done.returncode == 0, done
@@ -68,7 +70,7 @@ def test_the_ending_says_what_is_drawn(name, begin, tmp_path):
     assert (tmp_path / name).read_bytes().startswith(begin)
 
 
-def test_a_picture_that_cannot_be_written_at_the_end(tmp_path):
+def test_a_picture_that_cannot_be_written_at_the_end(tmp_path: pathlib.Path) -> None:
     """Its folder is gone."""
     pytest.importorskip("matplotlib")
     path = str(tmp_path / "gone" / "x.png")
@@ -76,7 +78,7 @@ def test_a_picture_that_cannot_be_written_at_the_end(tmp_path):
     assert seen == (1, "", f"-c: --plot {path}: No such file or directory\n")
 
 
-def test_the_change_of_the_energy_over_the_time():
+def test_the_change_of_the_energy_over_the_time() -> None:
     """Each run has its own time step, the square root of h / 2^32: 2^-8 for h = 65536 and 2^-7 for h = 262144."""
     told_of = (
         "import energy\n"
@@ -91,12 +93,12 @@ def test_the_change_of_the_energy_over_the_time():
     assert "E - E_0" in change
 
 
-def test_temperatures_in_reduced_units():
+def test_temperatures_in_reduced_units() -> None:
     label = drawn("import temperatures\ntemperatures.draw(axes, [(1, -4, 0.5)])\nprint(json.dumps(axes.get_xlabel()))")
     assert "k_B T / ε" in label
 
 
-def test_the_species_have_a_legend():
+def test_the_species_have_a_legend() -> None:
     told_of = (
         "import unmixing\n"
         "unmixing.save_figure = lambda figure, path: print(json.dumps(\n"
@@ -117,11 +119,11 @@ def test_the_species_have_a_legend():
         (["--sorted=missing/order", "argon_256.xyz", "a", "21.04", "3.4", "1"], "missing/order: No such file or directory"),
     ],
 )
-def test_a_file_or_a_number_that_cannot_be_loaded(words, why):
+def test_a_file_or_a_number_that_cannot_be_loaded(words: Any, why: Any) -> None:
     assert told("load", *words) == (1, "", f"load: {why}\n")
 
 
-def test_a_coordinate_that_is_no_number_is_not_sorted(tmp_path):
+def test_a_coordinate_that_is_no_number_is_not_sorted(tmp_path: pathlib.Path) -> None:
     (tmp_path / "x.xyz").write_text("1\nc\nAr nan 0 0\n")
     line = f"load: {tmp_path}/x.xyz has no whole frame: line 3 is no atom, or too few lines follow\n"
     assert told("load", "--sorted", tmp_path / "x.xyz", "a", "8", "1", "1") == (1, "", line)

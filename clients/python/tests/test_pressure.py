@@ -9,7 +9,7 @@ import pathlib
 import random
 import sys
 import tempfile
-from typing import NamedTuple
+from typing import Any, Iterator, List, NamedTuple
 from unittest import mock
 
 if __name__ == "__main__":
@@ -48,7 +48,7 @@ MOST_PRESSURE = 0.02
 MOST_ERROR = 0.026
 
 
-def liquid_frames(user):
+def liquid_frames(user: Any) -> Any:
     """20 frames of a liquid of 256 atoms: a crystal of its density that has melted, begun with whole numbers alone."""
     edge = units.edge_of_density(ATOMS, DENSITY)
     corners = [(0, 0, 0), (0, 0.5, 0.5), (0.5, 0, 0.5), (0.5, 0.5, 0)]
@@ -66,7 +66,7 @@ def liquid_frames(user):
     return list(liquid.frames(every=100, n=FRAMES))
 
 
-def figures(frames, folder):
+def figures(frames: Any, folder: Any) -> Any:
     """What is measured of the frames."""
     told = lammps.told_of(frames, folder)
     pressures = numpy.array([frame.pressure for frame in frames])
@@ -78,25 +78,25 @@ def figures(frames, folder):
 
 
 @pytest.fixture(name="user")
-def user_of_a_program():
+def user_of_a_program() -> Iterator[Any]:
     with run(PROGRAM) as user:
         yield user
 
 
 @needs_lammps
-def test_pressures_and_forces_are_those_of_lammps(user, tmp_path):
+def test_pressures_and_forces_are_those_of_lammps(user: Any, tmp_path: pathlib.Path) -> None:
     measured = figures(liquid_frames(user), tmp_path)
     assert abs(measured.pressure - measured.pressure_of_lammps) < MOST_PRESSURE
     assert measured.error < MOST_ERROR
     assert measured == pytest.approx(WANTED, rel=1e-4)
 
 
-def test_the_mean_pressure_is_the_figure_that_lammps_told(user):
+def test_the_mean_pressure_is_the_figure_that_lammps_told(user: Any) -> None:
     pressures = [frame.pressure for frame in liquid_frames(user)]
     assert sum(pressures) / FRAMES == pytest.approx(WANTED.pressure_of_lammps, abs=MOST_PRESSURE)
 
 
-def test_of_two_atoms_by_hand(user):
+def test_of_two_atoms_by_hand(user: Any) -> None:
     a = dimer(user)
     # At step 1 they have come from 0 and 25165824 to 589 and 25165235, and go on to 1774 and 25164050: 1774 / 2 in two steps.
     a.advance(1)
@@ -109,14 +109,14 @@ def test_of_two_atoms_by_hand(user):
     assert a.step == 1
 
 
-def droplet(count, seed, edge):
+def droplet(count: Any, seed: Any, edge: Any) -> List[Any]:
     """Atoms near each other in the middle of a box: places that no pair of them sees round the box."""
     drawn = random.Random(seed)
     sites = itertools.islice(itertools.product(range(8), repeat=3), count)
     return [tuple(edge / 2 + 1.1 * (part - 4) + drawn.uniform(-0.05, 0.05) for part in site) for site in sites]
 
 
-def test_the_virial_of_a_droplet_is_that_of_its_forces(user):
+def test_the_virial_of_a_droplet_is_that_of_its_forces(user: Any) -> None:
     """The sum of force times distance over all pairs is that of force times position over all atoms, where none is round the box.
     With a large h the rounding of a push counts for little."""
     a = user.load("a", droplet(300, 1, 30), symbols="Ar", edge=30, sigma=1, h=2**24, watch=False)
@@ -126,7 +126,7 @@ def test_the_virial_of_a_droplet_is_that_of_its_forces(user):
     assert frame.pressure * 3 * 30**3 - 2 * kinetic == pytest.approx(wanted, rel=1e-4)
 
 
-def test_of_two_species(user):
+def test_of_two_species(user: Any) -> None:
     symbols = [("A", "B")[number % 3 == 0] for number in range(300)]
     mix = user.load_mix("mix", droplet(300, 2, 30), symbols=symbols, edge=30, watch=False, **units.kob_andersen(2**22))
     frame = next(mix.frames(every=1, n=1))
@@ -135,7 +135,7 @@ def test_of_two_species(user):
     assert mix.pressure() == frame.pressure
 
 
-def test_in_bar(user):
+def test_in_bar(user: Any) -> None:
     argon = user.load("argon", EXAMPLES / "argon_256.xyz", edge=21.04, dt=2, **units.ARGON)
     argon.heat(90)
     epsilon, sigma = units.ARGON["epsilon"], units.ARGON["sigma"]
@@ -144,7 +144,7 @@ def test_in_bar(user):
     assert argon.pressure() * epsilon / sigma**3 / units.bar == pytest.approx(wanted, rel=1e-12)
 
 
-def test_without_numpy_it_is_told_what_to_install(user):
+def test_without_numpy_it_is_told_what_to_install(user: Any) -> None:
     a = dimer(user)
     frame = next(a.frames(every=1, n=1))
     with mock.patch.object(arrays, "numpy", None):
@@ -154,7 +154,7 @@ def test_without_numpy_it_is_told_what_to_install(user):
     assert a.step == 0
 
 
-def main():
+def main() -> None:
     with run(PROGRAM) as user, tempfile.TemporaryDirectory() as folder:
         frames = liquid_frames(user)
         print(figures(frames, pathlib.Path(folder)))

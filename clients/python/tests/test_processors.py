@@ -1,7 +1,9 @@
 """Which of two programs is begun: bin/ljserve of a release, of the wheel and of the repository, over programs that stand in."""
 import os
+import pathlib
 import re
 import subprocess
+from typing import Any, List, Tuple
 
 import pytest
 
@@ -17,18 +19,18 @@ chmod +x {place}/ljserve
 """
 
 
-def put(path, text):
+def put(path: Any, text: Any) -> None:
     path.parent.mkdir(parents=True, exist_ok=True)
     path.write_text(text)
     path.chmod(0o755)
 
 
-def stand_in(name, version="echo ljserve 1.2.3"):
+def stand_in(name: Any, version: str = "echo ljserve 1.2.3") -> str:
     """A program that tells its version so, and else its name, its process and its words."""
     return f'#!/bin/sh\nif [ "$*" = --version ]; then {version}; exit; fi\nprintf "%s\\n" {name} $$ "$@"\n'
 
 
-def begun(program, *words, path=os.environ["PATH"], **environment):
+def begun(program: Any, *words: Any, path: Any = os.environ["PATH"], **environment: Any) -> Tuple[Any, Any, Any, Any]:
     """How a run of a program ended, and the number of its process."""
     command = [str(program), *words]
     with subprocess.Popen(
@@ -39,7 +41,7 @@ def begun(program, *words, path=os.environ["PATH"], **environment):
 
 
 @pytest.fixture
-def release(tmp_path):
+def release(tmp_path: pathlib.Path) -> Any:
     """A folder with what a release and an environment with the wheel have."""
     put(tmp_path / "bin" / "ljserve", (TOP / "packaging" / "ljserve" / "ljserve").read_text())
     for cpu in ("v2", "v3"):
@@ -59,7 +61,7 @@ def release(tmp_path):
         (1, None, "v3"),
     ],
 )
-def test_the_program_that_fits(release, status, said, wanted):
+def test_the_program_that_fits(release: Any, status: Any, said: Any, wanted: Any) -> None:
     """It takes the place of the script, so that a signal to the process reaches it."""
     put(release / "libexec" / "ljserve-v3", stand_in("v3", f"exit {status}"))
     environment = {} if said is None else {"LJSERVE_CPU": said}
@@ -67,7 +69,7 @@ def test_the_program_that_fits(release, status, said, wanted):
     assert (code, out, err) == (0, f"{wanted}\n{process}\nrun\ntwo words\n\n", "")
 
 
-def test_a_processor_that_lacks_what_is_asked_for(release):
+def test_a_processor_that_lacks_what_is_asked_for(release: Any) -> None:
     put(release / "libexec" / "ljserve-v3", f"#!/bin/sh\n{NO_FEATURE}\n")
     code, out, err, _ = begun(release / "bin" / "ljserve", LJSERVE_CPU="v3")
     assert (code, out, err) == (127, "", "this machine lacks a feature of x86-64-v3\n")
@@ -86,13 +88,13 @@ def test_a_processor_that_lacks_what_is_asked_for(release):
         ("of something else\nthat stands there\n", ""),
     ],
 )
-def test_the_version(release, word, version, rest):
+def test_the_version(release: Any, word: Any, version: Any, rest: Any) -> None:
     if version is not None:
         (release / "VERSION").write_text(version)
     assert begun(release / "bin" / "ljserve", word)[:3] == (0, f"ljserve 1.2.3\n{rest}cpu x86-64-v3\n", "")
 
 
-def test_a_link_to_it(release, tmp_path):
+def test_a_link_to_it(release: Any, tmp_path: pathlib.Path) -> None:
     (tmp_path / "elsewhere").mkdir()
     (tmp_path / "elsewhere" / "ljserve").symlink_to(release / "bin" / "ljserve")
     code, out, _, process = begun(tmp_path / "elsewhere" / "ljserve", "serve")
@@ -100,7 +102,7 @@ def test_a_link_to_it(release, tmp_path):
 
 
 @pytest.fixture
-def repository(tmp_path):
+def repository(tmp_path: pathlib.Path) -> Any:
     """A folder with bin/ljserve of the repository, and commands that stand in for those of the kit and of bin/."""
     put(tmp_path / "bin" / "ljserve", (TOP / "bin" / "ljserve").read_text())
     put(tmp_path / "bin" / "build", f'#!/bin/sh\necho "build" >>"{tmp_path}/calls"\n')
@@ -112,10 +114,11 @@ def repository(tmp_path):
     return tmp_path
 
 
-def test_the_repository_builds_the_one_beside_the_other(repository):
+def test_the_repository_builds_the_one_beside_the_other(repository: Any) -> None:
     """Each is built where it is missing, and is there from then on."""
     path = f"{repository / 'tools'}:{os.environ['PATH']}"
-    for said, wanted in [({"LJSERVE_CPU": "v3"}, "v3"), ({}, "v2"), ({"LJSERVE_CPU": "v2"}, "v2"), ({"LJSERVE_CPU": "v3"}, "v3")]:
+    turns: List[Any] = [({"LJSERVE_CPU": "v3"}, "v3"), ({}, "v2"), ({"LJSERVE_CPU": "v2"}, "v2"), ({"LJSERVE_CPU": "v3"}, "v3")]
+    for said, wanted in turns:
         assert begun(repository / "bin" / "ljserve", "run", path=path, **said)[:2] == (0, f"{wanted} run\n")
     calls = (repository / "calls").read_text().splitlines()
     assert calls == ["build", "compile x86-64-v3 out/v3", "build", f"rt run --jobs {len(os.sched_getaffinity(0))}"]
@@ -124,7 +127,7 @@ def test_the_repository_builds_the_one_beside_the_other(repository):
 
 
 @pytest.mark.parametrize("source", ["bin/ljserve", "packaging/ljserve/ljserve"])
-def test_a_word_that_says_neither(tmp_path, source):
+def test_a_word_that_says_neither(tmp_path: pathlib.Path, source: Any) -> None:
     put(tmp_path / "bin" / "ljserve", (TOP / source).read_text())
     for said in ("v4", "x86-64-v3", " v3"):
         code, out, err, _ = begun(tmp_path / "bin" / "ljserve", "run", LJSERVE_CPU=said)
@@ -133,11 +136,11 @@ def test_a_word_that_says_neither(tmp_path, source):
 
 
 @pytest.mark.parametrize("unit", ["ljserve.service", "haproxy/ljserve@.service"])
-def test_the_units_begin_it(unit):
+def test_the_units_begin_it(unit: Any) -> None:
     assert re.findall(r"^ExecStart=(\S+)", (TOP / "packaging" / unit).read_text(), re.M) == ["/opt/ljserve/bin/ljserve"]
 
 
-def test_a_release_tries_both():
+def test_a_release_tries_both() -> None:
     script = (TOP / "bin" / "release").read_text()
     assert 'cp packaging/ljserve/ljserve "$work/$name/bin/"\n' in script
     assert 'for cpu in v2 v3; do LJSERVE_CPU=$cpu try_program "$folder" "$cpu"; done\n' in script

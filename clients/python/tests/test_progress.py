@@ -10,11 +10,12 @@ import subprocess
 import sys
 import termios
 import types
+from typing import Any, Dict, Iterator, List
 
 import pytest
 
 from ljclient import progress, run
-from support import PROGRAM, SECONDS, dimer
+from support import PROGRAM, SECONDS, dimer, present
 from terminals import ARGON, PROMPT, Terminal, environment
 
 try:
@@ -45,18 +46,18 @@ with run(sys.argv[1]) as user:
 class Seen(io.StringIO):
     """A stream that says that somebody sees it."""
 
-    def isatty(self):
+    def isatty(self) -> bool:
         return True
 
 
 @pytest.fixture
-def user():
+def user() -> Iterator[Any]:
     with run(PROGRAM) as user:
         yield user
 
 
 @pytest.fixture
-def seen(monkeypatch):
+def seen(monkeypatch: pytest.MonkeyPatch) -> Any:
     """A stream of 60 columns that somebody sees."""
     monkeypatch.setenv("COLUMNS", "61")
     monkeypatch.setenv("LINES", "41")
@@ -64,9 +65,9 @@ def seen(monkeypatch):
 
 
 @pytest.fixture
-def no_tqdm(monkeypatch):
+def no_tqdm(monkeypatch: pytest.MonkeyPatch) -> Iterator[Any]:
     """A Python without tqdm, which nobody has looked for yet."""
-    monkeypatch.setitem(sys.modules, "tqdm.auto", None)
+    monkeypatch.setitem(sys.modules, "tqdm.auto", None)  # type: ignore[misc]
     for cached in (progress._tqdm, progress._tell):
         cached.cache_clear()
     yield
@@ -74,7 +75,7 @@ def no_tqdm(monkeypatch):
         cached.cache_clear()
 
 
-def at_terminal(script, columns):
+def at_terminal(script: Any, columns: Any) -> Any:
     """What a script writes to its standard error, which is a terminal of so many columns."""
     ours, theirs = pty.openpty()
     fcntl.ioctl(theirs, termios.TIOCSWINSZ, struct.pack("HHHH", 40, columns, 0, 0))
@@ -88,9 +89,10 @@ def at_terminal(script, columns):
     return shown
 
 
-def screen(shown, columns):
+def screen(shown: Any, columns: Any) -> List[Any]:
     """The lines of a terminal to which this was written. What is longer than a line goes on in the next one."""
-    lines, row, column = {}, 0, 0
+    lines: Dict[Any, Any] = {}
+    row, column = 0, 0
     for part in re.findall(r"\x1b\[[AK]|[^\x1b]", shown):
         if part == "\x1b[A":
             row -= 1
@@ -111,22 +113,22 @@ def screen(shown, columns):
 
 @with_tqdm
 @pytest.mark.parametrize("columns", [50, 80])
-def test_a_bar_is_one_line_of_the_terminal(columns):
+def test_a_bar_is_one_line_of_the_terminal(columns: Any) -> None:
     (line,) = screen(at_terminal(ONE, columns), columns)
     assert re.match(r"argon: 100%\|.*\| 40/40 \[", line)
 
 
 @with_tqdm
 @pytest.mark.parametrize("columns", [50, 80])
-def test_several_bars_are_a_line_each(columns):
+def test_several_bars_are_a_line_each(columns: Any) -> None:
     lines = screen(at_terminal(SEVERAL, columns), columns)
     assert [line.split(":")[0] for line in lines] == ["a".ljust(16), LONG_NAME, "c".ljust(16)]
-    assert [re.search(r"\| (\d+/\d+) \[", line)[1] for line in lines] == ["40/40", "20/20", "30/30"]
+    assert [present(re.search(r"\| (\d+/\d+) \[", line))[1] for line in lines] == ["40/40", "20/20", "30/30"]
 
 
 @with_tqdm
 @pytest.mark.parametrize("columns", [50, 80])
-def test_the_bar_of_the_prompt_is_one_line(columns):
+def test_the_bar_of_the_prompt_is_one_line(columns: Any) -> None:
     terminal = Terminal(PROMPT, environment(), columns)
     try:
         terminal.until("ljserve> ")
@@ -147,7 +149,7 @@ def test_the_bar_of_the_prompt_is_one_line(columns):
 
 
 @with_tqdm
-def test_a_bar_is_drawn_as_the_run_goes_on(user, seen):
+def test_a_bar_is_drawn_as_the_run_goes_on(user: Any, seen: Any) -> None:
     with contextlib.redirect_stderr(seen):
         assert dimer(user).advance(40, piece=10, progress=True) == 40
     drawn = seen.getvalue().split("\r")
@@ -157,24 +159,29 @@ def test_a_bar_is_drawn_as_the_run_goes_on(user, seen):
 
 
 @with_tqdm
-def test_an_error_ends_the_line_of_the_bar(user, seen, monkeypatch):
+def test_an_error_ends_the_line_of_the_bar(user: Any, seen: Any, monkeypatch: pytest.MonkeyPatch) -> None:
     a = dimer(user)
     ask, asked = user.ask_all, []
-    monkeypatch.setattr(user, "ask_all", lambda lines: (asked.append(lines), ask(lines) if len(asked) < 3 else 1 / 0)[1])
+
+    def ask_twice(lines: Any) -> Any:
+        asked.append(lines)
+        return ask(lines) if len(asked) < 3 else 1 / 0
+
+    monkeypatch.setattr(user, "ask_all", ask_twice)
     with pytest.raises(ZeroDivisionError), contextlib.redirect_stderr(seen):
         a.advance(40, piece=10, progress=True)
     assert re.search(r"\| 20/40 \[[^\r]*\]\n\Z", seen.getvalue())
 
 
 @with_tqdm
-def test_samples_have_one_bar(user, seen):
+def test_samples_have_one_bar(user: Any, seen: Any) -> None:
     with contextlib.redirect_stderr(seen):
         assert dimer(user).sample(every=10, frames=5, progress=True).steps == [0, 10, 20, 30, 40]
     assert "| 40/40 [" in seen.getvalue()
     assert seen.getvalue().count("\n") == 1
 
 
-def test_nobody_looks(user, seen):
+def test_nobody_looks(user: Any, seen: Any) -> None:
     with contextlib.redirect_stderr(seen):
         assert dimer(user).advance(40, piece=10) == 40
     for stream in (io.StringIO(), None):
@@ -185,7 +192,7 @@ def test_nobody_looks(user, seen):
     assert seen.getvalue() == ""
 
 
-def test_a_function_is_told(user, seen):
+def test_a_function_is_told(user: Any, seen: Any) -> None:
     told = []
     with contextlib.redirect_stderr(seen):
         dimer(user).advance(40, piece=10, progress=lambda *words: told.append(words))
@@ -193,7 +200,7 @@ def test_a_function_is_told(user, seen):
     assert seen.getvalue() == ""
 
 
-def test_a_function_is_told_of_two(user, seen):
+def test_a_function_is_told_of_two(user: Any, seen: Any) -> None:
     told = []
     pair = [dimer(user), dimer(user, "bcd")]
     with contextlib.redirect_stderr(seen):
@@ -204,11 +211,11 @@ def test_a_function_is_told_of_two(user, seen):
 
 
 @with_tqdm
-def test_a_notebook_has_bars_though_its_streams_are_no_terminal(user, seen, monkeypatch):
+def test_a_notebook_has_bars_though_its_streams_are_no_terminal(user: Any, seen: Any, monkeypatch: pytest.MonkeyPatch) -> None:
     class ZMQInteractiveShell:
-        config = {}
+        config: Dict[Any, Any] = {}
 
-    notebook = types.ModuleType("IPython")
+    notebook: Any = types.ModuleType("IPython")
     notebook.get_ipython = ZMQInteractiveShell
     monkeypatch.setitem(sys.modules, "IPython", notebook)
     monkeypatch.setattr(seen, "isatty", lambda: False)
@@ -217,7 +224,7 @@ def test_a_notebook_has_bars_though_its_streams_are_no_terminal(user, seen, monk
     assert "| 40/40 [" in seen.getvalue()
 
 
-def test_without_tqdm_it_is_said_once_that_there_are_no_bars(user, seen, no_tqdm):
+def test_without_tqdm_it_is_said_once_that_there_are_no_bars(user: Any, seen: Any, no_tqdm: Any) -> None:
     a, b = dimer(user), dimer(user, "b")
     with contextlib.redirect_stderr(seen):
         assert a.advance(40, progress=True) == 40

@@ -1,13 +1,15 @@
 """What is said at the prompt alone: physical units, many atoms in one SHOW, files that are read and written, and comments."""
 import os
+import pathlib
 import re
 import sys
+from typing import Any, Iterator
 
 import pytest
 
 from ljclient import Refused, connect, run
 from ljclient.prompt import completion, explaining, hinting, history, loading, own, physical, shapes
-from support import PROGRAM, TOKEN, peer, stays
+from support import PROGRAM, TOKEN, peer, present, stays
 from support import says as speaks
 from terminals import ARGON, PROMPT, Terminal, environment
 
@@ -19,13 +21,13 @@ WITHOUT_TOOLKIT = "import sys; sys.modules['prompt_toolkit'] = None; from ljclie
 ANGSTROM, DALTON, BOLTZMANN = 1e-10, 1.66053906660e-27, 1.380649e-23
 
 
-def exact_step_factor(seconds):
+def exact_step_factor(seconds: Any) -> Any:
     """h of argon, in SI units: dt^2 epsilon / (m sigma^2) in units of 2^-32, before it is rounded."""
     return seconds**2 * 119.8 * BOLTZMANN / (39.948 * DALTON * (3.4 * ANGSTROM) ** 2) * 2**32
 
 
 @pytest.fixture
-def terminal(tmp_path):
+def terminal(tmp_path: pathlib.Path) -> Iterator[Any]:
     (tmp_path / "dimer.xyz").write_text(DIMER)
     terminal = Terminal(PROMPT, environment(), cwd=tmp_path)
     terminal.until("ljserve> ")
@@ -33,7 +35,7 @@ def terminal(tmp_path):
     terminal.close()
 
 
-def says(terminal, line):
+def says(terminal: Any, line: Any) -> Any:
     """What is shown for a line, up to the next prompt."""
     terminal.type(line + "\r")
     terminal.until(re.escape(line) + "\n")
@@ -41,25 +43,25 @@ def says(terminal, line):
 
 
 @pytest.fixture
-def dimer(terminal):
+def dimer(terminal: Any) -> Any:
     assert says(terminal, "LOAD a dimer.xyz 256 1 131072  # two atoms") == "OK LOAD a 0 2\n"
     return terminal
 
 
 @pytest.fixture
-def user():
+def user() -> Iterator[Any]:
     with run(PROGRAM) as user:
         yield user
 
 
-def test_several_places(dimer):
+def test_several_places(dimer: Any) -> None:
     assert says(dimer, "SHOW a 0..1") == PLACES
     assert says(dimer, "SHOW a 0..2").startswith("ERR 14 NO_ATOM\n")
     assert "a has the atoms 0 to 1" in says(dimer, "SHOW a 5..7")
     assert says(dimer, "SHOW a 1..0") == "  not sent: `1..0`: the first atom is not after the last one\n"
 
 
-def test_a_frame_in_a_file(dimer, tmp_path):
+def test_a_frame_in_a_file(dimer: Any, tmp_path: pathlib.Path) -> None:
     path = tmp_path / "a.xyz"
     path.write_text("what was there")
     for line in ("DUMP a > a.xyz", "dump a >a.xyz"):
@@ -72,7 +74,7 @@ def test_a_frame_in_a_file(dimer, tmp_path):
     assert says(dimer, "DUMP b > b.xyz").startswith("ERR 10 NO_SESSION\n")
 
 
-def test_a_simulation_is_saved_and_goes_on(dimer):
+def test_a_simulation_is_saved_and_goes_on(dimer: Any) -> None:
     says(dimer, "ADVANCE a 20")
     assert says(dimer, "save a a.saved") == "  a at step 20 is in a.saved\n"
     assert says(dimer, "load_saved a.saved b") == "  b goes on at step 20, with 2 atoms\n"
@@ -100,7 +102,7 @@ def test_a_simulation_is_saved_and_goes_on(dimer):
     assert "cannot read none: No such file" in says(dimer, "load_saved none")
 
 
-def test_a_measurement_in_words(dimer):
+def test_a_measurement_in_words(dimer: Any) -> None:
     says(dimer, "ADVANCE a 1")
     # The numbers of docs/PROTOCOL.md for these two atoms; sigma is 2^24 ring units, and h is 2^17.
     kinetic = 693842 * 2**32 / (2 * 2**48 * 2**17) / 2
@@ -111,7 +113,7 @@ def test_a_measurement_in_words(dimer):
     assert " ".join(told.split()) == f"{energies}; temperature {kinetic * 2 / 3:.5g} epsilon / k_B"
 
 
-def test_a_scale_that_is_not_known_is_said(tmp_path, user):
+def test_a_scale_that_is_not_known_is_said(tmp_path: pathlib.Path, user: Any) -> None:
     user.ask(f"LOAD a 256 1 131072 rest {len(DIMER)}", DIMER.encode())
     path = str(tmp_path / "a.saved")
     with pytest.raises(loading.Fault, match="the scale of a is not known here: say it too"):
@@ -121,7 +123,7 @@ def test_a_scale_that_is_not_known_is_said(tmp_path, user):
         own.save(user, ["save", "a", path, "edge=200", "sigma=1", "h=131072"])
 
 
-def test_a_file_is_read(terminal, tmp_path):
+def test_a_file_is_read(terminal: Any, tmp_path: pathlib.Path) -> None:
     (tmp_path / "inner").write_text("SHOW a 0..1\n")
     lines = ["# a lesson", "LOAD a 256 1 131072 rest 28", *DIMER.splitlines(), ".read inner  # and this"]
     lines += ["ADVANCE a 2", "NONE", "LIST"]
@@ -136,7 +138,7 @@ def test_a_file_is_read(terminal, tmp_path):
     assert "missing: FILE" in says(terminal, ".read")
 
 
-def test_files_that_read_one_another_end(terminal, tmp_path):
+def test_files_that_read_one_another_end(terminal: Any, tmp_path: pathlib.Path) -> None:
     (tmp_path / "round").write_text(".read round\n")
     terminal.type(".read round\r")
     terminal.until("not sent: round would be the 9th file that is read by another one\n  round is left at line 1\nljserve> ")
@@ -152,11 +154,11 @@ def test_files_that_read_one_another_end(terminal, tmp_path):
         "edge=21.04A sigma=3.4A epsilon=119.8K mass=39.948u dt=2fs",
     ],
 )
-def test_physical_units(user, words):
+def test_physical_units(user: Any, words: Any) -> None:
     h = round(exact_step_factor(2e-15))
     load = physical.load_of(f"LOAD a {ARGON} {words}")
     dt = 2 * (h / exact_step_factor(2e-15)) ** 0.5
-    assert load.perform(user) == ["OK LOAD a 0 256", f"  edge 21.04, sigma 3.4, h {h}, and the time step {dt:.7g} fs"]
+    assert present(load).perform(user) == ["OK LOAD a 0 256", f"  edge 21.04, sigma 3.4, h {h}, and the time step {dt:.7g} fs"]
     user.ask(f"LOAD b 21.04 3.4 {h} rest {ARGON.stat().st_size}", ARGON.read_bytes())
     for name in ("a", "b"):
         user.ask(f"ADVANCE {name} 10")
@@ -178,20 +180,20 @@ def test_physical_units(user, words):
         ("edge=21.04 dt=900fs argon", "dt is from"),
     ],
 )
-def test_physical_units_that_are_wrong(user, words, why):
+def test_physical_units_that_are_wrong(user: Any, words: Any, why: Any) -> None:
     with pytest.raises(loading.Fault, match=re.escape(why)):
-        physical.load_of(f"LOAD a {ARGON} {words}").perform(user)
+        present(physical.load_of(f"LOAD a {ARGON} {words}")).perform(user)
     assert user.sessions() == []
 
 
-def test_the_box_is_that_of_the_file(user, tmp_path):
+def test_the_box_is_that_of_the_file(user: Any, tmp_path: pathlib.Path) -> None:
     path = tmp_path / "boxed.xyz"
     path.write_text('2\nLattice="256 0 0 0 256 0 0 0 256"\nAr 0 0 0\nAr 1.5 0 0\n')
-    assert physical.load_of(f"LOAD a {path} h=131072 sigma=1").perform(user) == ["OK LOAD a 0 2", "  edge 256, sigma 1, h 131072"]
+    assert present(physical.load_of(f"LOAD a {path} h=131072 sigma=1")).perform(user) == ["OK LOAD a 0 2", "  edge 256, sigma 1, h 131072"]
     assert user.ask("SHOW a 1").words[-3:] == ["25165824", "0", "0"]
 
 
-def test_a_faulty_line_of_a_file_is_shown(terminal, tmp_path):
+def test_a_faulty_line_of_a_file_is_shown(terminal: Any, tmp_path: pathlib.Path) -> None:
     (tmp_path / "bad.xyz").write_text(DIMER.replace("1.5", "one"))
     told = says(terminal, "LOAD a bad.xyz edge=256 sigma=1 h=131072")
     assert told.startswith("ERR 33 XYZ_NUMBER line 4\n") and "  bad.xyz, line 4: Ar one 0 0\n" in told
@@ -208,14 +210,14 @@ def test_a_faulty_line_of_a_file_is_shown(terminal, tmp_path):
         ("TUG a 0 1 2 0.5", "`0.5` is not dz, whole numbers of ring units, 2^-32 of the edge, from -2147483648 to 2147483647"),
     ],
 )
-def test_the_word_that_is_wrong(user, line, told):
+def test_the_word_that_is_wrong(user: Any, line: Any, told: Any) -> None:
     with pytest.raises(Refused) as refused:
         user.ask(line)
     assert told in explaining.explained(refused.value, user)
     assert hinting.wrong_of(line + " ") is None or str(hinting.wrong_of(line + " ")) == told
 
 
-def test_a_load_that_is_not_sent_names_the_word(terminal):
+def test_a_load_that_is_not_sent_names_the_word(terminal: Any) -> None:
     told = " ".join(says(terminal, "LOAD a dimer.xyz 256 1 131072 rest 28 9").split())
     assert "not sent: a LOAD is said as" in told and told.endswith("is a word too many")
 
@@ -241,7 +243,7 @@ def test_a_load_that_is_not_sent_names_the_word(terminal):
         ("ADVANCE a 5 # five ", "", ""),
     ],
 )
-def test_hints(text, to_come, told):
+def test_hints(text: Any, to_come: Any, told: Any) -> None:
     assert hinting.words_to_come(text) == to_come
     assert hinting.told(text).startswith(told) and bool(told) == bool(hinting.told(text))
 
@@ -257,19 +259,19 @@ def test_hints(text, to_come, told):
         ("A" * 5000, "A" * 5000),
     ],
 )
-def test_comments(line, left):
+def test_comments(line: Any, left: Any) -> None:
     assert loading.without_comment(line) == left
 
 
 @pytest.mark.parametrize("line", [f"HELLO ann {TOKEN}", f"hello ann {TOKEN}", TOKEN, f"# it is {TOKEN}", " ".join(["ab12"] * 8)])
-def test_lines_with_a_token_are_not_kept(tmp_path, line):
+def test_lines_with_a_token_are_not_kept(tmp_path: pathlib.Path, line: Any) -> None:
     kept = history.Lines(str(tmp_path / "history"))
     kept.add(line)
     kept.add("LIST")
     assert kept.lines == ["LIST"] and (tmp_path / "history").read_text() == "LIST\n"
 
 
-def test_a_long_history_is_cut(tmp_path):
+def test_a_long_history_is_cut(tmp_path: pathlib.Path) -> None:
     path = tmp_path / "history"
     path.write_text("".join(f"ADVANCE a {number:0200}\n" for number in range(6000)))
     assert history.Lines(str(path)).lines[0] == f"ADVANCE a {5000:0200}"
@@ -292,26 +294,28 @@ def test_a_long_history_is_cut(tmp_path):
         (["LOAD", "b", "x"], "", []),
     ],
 )
-def test_completion_of_what_is_said_here(user, tmp_path, monkeypatch, before, word, found):
+def test_completion_of_what_is_said_here(
+    user: Any, tmp_path: pathlib.Path, monkeypatch: pytest.MonkeyPatch, before: Any, word: Any, found: Any
+) -> None:
     (tmp_path / "dimer.xyz").write_text(DIMER)
     monkeypatch.chdir(tmp_path)
     user.load("a", DIMER, edge=256, sigma=1, h=131072)
     assert completion.candidates(before, word, user) == found
 
 
-def test_completion_does_not_wait_for_a_server_that_is_silent():
+def test_completion_does_not_wait_for_a_server_that_is_silent() -> None:
     with peer(speaks(then=stays)) as port, connect("127.0.0.1", port, "ann", TOKEN, timeout=600) as user:
         assert completion.candidates(["ADVANCE"], "", user) == []
         assert user.unanswered == ["LIST"] and not user.closed
 
 
-def test_each_usage_has_shapes_that_its_examples_have():
+def test_each_usage_has_shapes_that_its_examples_have() -> None:
     for usage, line in [("LOAD s FILE edge sigma h [rest|pair]", "LOAD a x 256 1 131072"), ("SHOW s i..j", "SHOW a 0..9")]:
         assert shapes.wrong_words(line.split(), usage) == []
         assert shapes.usage_for(line.split()) == usage
 
 
-def test_a_prompt_without_prompt_toolkit():
+def test_a_prompt_without_prompt_toolkit() -> None:
     terminal = Terminal([sys.executable, "-c", WITHOUT_TOOLKIT], environment(TERM="xterm"))
     told = " ".join(terminal.until("ljserve> ").split())
     assert "For hints, completion and a history install prompt_toolkit: `pip install prompt_toolkit`, or Debian's" in told

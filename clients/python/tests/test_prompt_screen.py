@@ -1,7 +1,9 @@
 """The prompt in a real terminal of 50, 80 and 120 columns: hints, completion, history, what is pasted, and help that fits."""
 import os
+import pathlib
 import re
 import shlex
+from typing import Any, Iterator
 
 import pytest
 
@@ -18,12 +20,12 @@ EMPTY = r"^ljserve>$"
 
 
 @pytest.fixture
-def begin(tmp_path):
+def begin(tmp_path: pathlib.Path) -> Iterator[Any]:
     """Begins a prompt in a terminal, in a folder with the file of two atoms."""
     begun = []
     (tmp_path / "dimer.xyz").write_text(DIMER)
 
-    def prompt(columns=80, **env):
+    def prompt(columns: int = 80, **env: Any) -> Any:
         begun.append(Screen(PROMPT, environment(**env), columns, 100, tmp_path))
         begun[-1].until(EMPTY)
         return begun[-1]
@@ -34,7 +36,7 @@ def begin(tmp_path):
 
 
 @pytest.mark.parametrize("columns", [50, 80, 120])
-def test_a_dialogue_with_hints(begin, columns):
+def test_a_dialogue_with_hints(begin: Any, columns: Any) -> None:
     screen = begin(columns)
     screen.type("LOAD")
     screen.until(r"^ljserve> LOAD s FILE edge sigma h \[rest\|pair\]$")
@@ -51,24 +53,24 @@ def test_a_dialogue_with_hints(begin, columns):
 
 @pytest.mark.parametrize("columns", [50, 80, 120])
 @pytest.mark.parametrize("name", ["", "TUG", "LOADMIX", "save"])
-def test_help_fits_the_terminal(begin, columns, name):
+def test_help_fits_the_terminal(begin: Any, columns: Any, name: Any) -> None:
     screen = begin(columns)
     shown = joined(screen.says(f"help {name}", f"^ljserve> help {name}".rstrip() + f"$.*{EMPTY}"))
     for text in texts_of(name):
         assert joined([text]) in shown
 
 
-def texts_of(name):
+def texts_of(name: Any) -> Any:
     """What help tells of a command, if the screen has room for it."""
     if not name:
         return ["Ctrl-C ends a long ADVANCE after a piece."]
     forms = commands.forms_of(name)
     meanings = [meaning for form in forms for _, meaning in commands.words_of(form.usage)]
-    return [form.does for form in [*forms, *commands.own_of(name)]] + meanings[-2:]
+    return [form.does for form in forms] + [own.does for own in commands.own_of(name)] + meanings[-2:]
 
 
 @pytest.mark.parametrize("columns", [50, 80, 120])
-def test_a_wait_fits_the_terminal(begin, tmp_path, columns):
+def test_a_wait_fits_the_terminal(begin: Any, tmp_path: pathlib.Path, columns: Any) -> None:
     pytest.importorskip("tqdm", reason="tqdm is not installed")
     screen = begin(columns, LJSERVE=slow_program(tmp_path))
     screen.says("START a 900000", f"^OK START a 900000\n{EMPTY}")
@@ -86,7 +88,7 @@ def test_a_wait_fits_the_terminal(begin, tmp_path, columns):
 
 
 @pytest.mark.parametrize("columns", [50, 80, 120])
-def test_the_bar_of_an_advance_is_one_line(begin, columns):
+def test_the_bar_of_an_advance_is_one_line(begin: Any, columns: Any) -> None:
     pytest.importorskip("tqdm", reason="tqdm is not installed")
     screen = begin(columns)
     screen.says(f"LOAD a {ARGON} 21.04 3.4 3706", f"^OK LOAD a 0 256\n{EMPTY}")
@@ -96,7 +98,7 @@ def test_the_bar_of_an_advance_is_one_line(begin, columns):
     screen.until(rf"interrupted: this is where it has come to\nOK ADVANCE a \d+\n{EMPTY}")
 
 
-def test_the_wrong_word_is_told_and_marked(begin):
+def test_the_wrong_word_is_told_and_marked(begin: Any) -> None:
     screen = begin()
     screen.type("ADVANCE a ten ")
     screen.until("^`ten` is not n, how many steps, from 0 to 1000000$")
@@ -106,7 +108,7 @@ def test_the_wrong_word_is_told_and_marked(begin):
     screen.until("^there is no command `ADVNCE`: is ADVANCE meant?")
 
 
-def test_completion(begin):
+def test_completion(begin: Any) -> None:
     screen = begin()
     screen.type("LO")
     screen.press("Tab", "Tab")
@@ -121,7 +123,7 @@ def test_completion(begin):
     screen.until(f"^OK MEASURE argon 0 2 .*^OK BRANCH argon first 0$.*^OK RESTORE argon first 0\n{EMPTY}")
 
 
-def test_a_text_that_is_typed_and_one_that_is_pasted(begin):
+def test_a_text_that_is_typed_and_one_that_is_pasted(begin: Any) -> None:
     screen = begin()
     screen.press(*"LOAD", "Space", "a", "Space")
     screen.says("256 1 131072 rest 27", "27 bytes more>")
@@ -133,7 +135,7 @@ def test_a_text_that_is_typed_and_one_that_is_pasted(begin):
     screen.until(f"^{re.escape(last)}$")
 
 
-def test_history(begin, tmp_path):
+def test_history(begin: Any, tmp_path: pathlib.Path) -> None:
     path = tmp_path / "history"
     screen = begin(LJCLIENT_HISTORY=str(path))
     groups = " ".join(TOKEN[start : start + 4] for start in range(0, 32, 4))
@@ -151,7 +153,7 @@ def test_history(begin, tmp_path):
 
 
 @pytest.mark.parametrize("kind", ["fifo", "folder", "gone"])
-def test_a_history_that_is_no_file_keeps_nothing(begin, tmp_path, kind):
+def test_a_history_that_is_no_file_keeps_nothing(begin: Any, tmp_path: pathlib.Path, kind: Any) -> None:
     path = tmp_path / "history"
     if kind == "fifo":
         os.mkfifo(path)
@@ -164,7 +166,7 @@ def test_a_history_that_is_no_file_keeps_nothing(begin, tmp_path, kind):
     typed_again(screen)
 
 
-def typed_again(screen):
+def typed_again(screen: Any) -> None:
     """Has the LIST that was typed last be typed again from the history, on an empty screen."""
     screen.press("C-l")
     screen.until(r"\Aljserve>$")
@@ -172,7 +174,7 @@ def typed_again(screen):
     screen.until(rf"\Aljserve> LIST\nOK LIST 0\n{EMPTY}")
 
 
-def test_the_end_may_be_typed_ahead(begin, tmp_path):
+def test_the_end_may_be_typed_ahead(begin: Any, tmp_path: pathlib.Path) -> None:
     screen = begin(LJSERVE=slow_program(tmp_path))
     screen.says("SHOW a 0", r"Ctrl-C\s+ends\s+the\s+wait")
     screen.press("C-d")
@@ -181,7 +183,7 @@ def test_the_end_may_be_typed_ahead(begin, tmp_path):
     assert screen.ended() == 0
 
 
-def test_the_terminal_is_left_as_it_was(tmp_path):
+def test_the_terminal_is_left_as_it_was(tmp_path: pathlib.Path) -> None:
     screen = Screen(["sh", "-c", f"{shlex.join(PROMPT)}; stty -a"], environment(), cwd=tmp_path)
     try:
         screen.until(EMPTY)
@@ -191,7 +193,7 @@ def test_the_terminal_is_left_as_it_was(tmp_path):
         screen.close()
 
 
-def test_interrupts_at_the_prompt_and_in_a_text(begin):
+def test_interrupts_at_the_prompt_and_in_a_text(begin: Any) -> None:
     screen = begin()
     screen.type("LIS")
     screen.press("C-c")

@@ -4,24 +4,25 @@ import os
 import re
 import signal
 import unittest
+from typing import Any
 
-from support import EXAMPLES, TOKEN, Server, children_of
+from support import EXAMPLES, TOKEN, Server, children_of, present
 from terminals import ARGON, PROMPT, Terminal, environment
 
 
 class AtATerminal(unittest.TestCase):
-    def begin(self, *words, **env):
+    def begin(self, *words: Any, **env: Any) -> Any:
         terminal = Terminal([*PROMPT, *words], environment(**env))
         self.addCleanup(terminal.close)
         return terminal
 
-    def says(self, terminal, line, wanted):
+    def says(self, terminal: Any, line: Any, wanted: Any) -> Any:
         """Types a line, and returns what is shown up to what is wanted, without the line itself."""
         terminal.type(line + "\r")
         terminal.until(re.escape(line) + "\n")
         return terminal.until(wanted)
 
-    def test_a_dialogue(self):
+    def test_a_dialogue(self) -> None:
         terminal = self.begin()
         terminal.until("A program of its own: what is loaded is gone when it ends.\n.*ljserve> ")
         told = self.says(terminal, f"load a {ARGON} 21.04 3.4 131072", "ljserve> ")
@@ -32,7 +33,7 @@ class AtATerminal(unittest.TestCase):
         terminal.type("BYE\r")
         self.assertEqual(terminal.ended(), (0, "BYE\nOK BYE\n"))
 
-    def test_a_text_that_is_typed(self):
+    def test_a_text_that_is_typed(self) -> None:
         terminal = self.begin()
         terminal.until("ljserve> ")
         terminal.type("LOAD a 256 1 131072 rest 27\r")
@@ -43,7 +44,7 @@ class AtATerminal(unittest.TestCase):
         self.assertEqual(self.says(terminal, "ADVANCE a 2", "ljserve> "), "OK ADVANCE a 2\nljserve> ")
         self.assertEqual(self.says(terminal, "SHOW a 0", "ljserve> "), "OK SHOW a 2 0 1774 0 0\nljserve> ")
 
-    def test_a_load_that_is_not_as_it_should_be_is_not_sent(self):
+    def test_a_load_that_is_not_as_it_should_be_is_not_sent(self) -> None:
         terminal = self.begin()
         terminal.until("ljserve> ")
         for line in ("LOAD a", "LOAD a 256 1 131072", "LOADMIX m 256 A B 1 1 1 rest 28", "LOAD a 1 1 1 rest 1048577"):
@@ -52,7 +53,7 @@ class AtATerminal(unittest.TestCase):
         self.assertIn("not sent: cannot read no.xyz", self.says(terminal, "LOAD a no.xyz 256 1 131072", "ljserve> "))
         self.assertEqual(self.says(terminal, "LIST", "ljserve> "), "OK LIST 0\nljserve> ")
 
-    def test_refusals_in_words(self):
+    def test_refusals_in_words(self) -> None:
         terminal = self.begin()
         terminal.until("ljserve> ")
         self.says(terminal, f"LOAD argon {ARGON} 21.04 3.4 131072", "ljserve> ")
@@ -72,7 +73,7 @@ class AtATerminal(unittest.TestCase):
             self.assertIn(words, told)
 
     @unittest.skipUnless(importlib.util.find_spec("tqdm"), "tqdm is not installed")
-    def test_an_advance_that_is_long(self):
+    def test_an_advance_that_is_long(self) -> None:
         terminal = self.begin()
         terminal.until("ljserve> ")
         self.says(terminal, f"LOAD a {ARGON} 21.04 3.4 131072", "ljserve> ")
@@ -82,13 +83,13 @@ class AtATerminal(unittest.TestCase):
         shown = terminal.until("ljserve> ")
         found = re.search(r"OK ADVANCE a (\d+)\n", shown)
         self.assertTrue(found, shown)
-        step = int(found[1])
+        step = int(present(found)[1])
         self.assertTrue(0 < step < 900000)
         self.assertEqual(self.says(terminal, "LIST", "ljserve> "), f"OK LIST 1\na {step} 256 0\nljserve> ")
         terminal.type("\x04")
         self.assertEqual(terminal.ended()[0], 0)
 
-    def test_an_interrupt_at_the_prompt_and_in_a_text(self):
+    def test_an_interrupt_at_the_prompt_and_in_a_text(self) -> None:
         terminal = self.begin()
         terminal.until("ljserve> ")
         terminal.type("LIS")
@@ -100,7 +101,7 @@ class AtATerminal(unittest.TestCase):
         terminal.until("ljserve> ")
         self.assertEqual(self.says(terminal, "LIST", "ljserve> "), "OK LIST 0\nljserve> ")
 
-    def test_an_interrupt_of_a_wait(self):
+    def test_an_interrupt_of_a_wait(self) -> None:
         terminal = self.begin()
         terminal.until("ljserve> ")
         self.says(terminal, f"LOAD a {ARGON} 21.04 3.4 131072", "ljserve> ")
@@ -115,7 +116,7 @@ class AtATerminal(unittest.TestCase):
             os.kill(program, signal.SIGCONT)
         self.assertIn("OK LIST 1\na 20 256 0\n", self.says(terminal, "LIST", "ljserve> "))
 
-    def test_a_server_and_a_token_that_is_typed(self):
+    def test_a_server_and_a_token_that_is_typed(self) -> None:
         with Server(users=("ann",)) as server:
             terminal = self.begin(f"127.0.0.1:{server.port}", "ann")
             terminal.until("token of ann: ")
@@ -125,7 +126,7 @@ class AtATerminal(unittest.TestCase):
             self.assertNotIn(TOKEN, told)
             self.says(terminal, "LIST", "OK LIST 0\nann> ")
 
-    def test_a_connection_that_has_ended_begins_anew(self):
+    def test_a_connection_that_has_ended_begins_anew(self) -> None:
         with Server(users=("ann",)) as server:
             terminal = self.begin(f"127.0.0.1:{server.port}", "ann", LJSERVE_TOKEN=TOKEN)
             terminal.until("ann> ")
@@ -135,7 +136,7 @@ class AtATerminal(unittest.TestCase):
             self.assertIn("The next command begins a new connection. If the server still runs, it still has the sessions.", told)
             self.assertIn("cannot connect", self.says(terminal, "LIST", "ann> "))
 
-    def test_a_second_connection_is_told_what_it_waits_for(self):
+    def test_a_second_connection_is_told_what_it_waits_for(self) -> None:
         with Server(users=("ann",)) as server:
             words = [f"127.0.0.1:{server.port}", "ann"]
             first = self.begin(*words, LJSERVE_TOKEN=TOKEN)

@@ -1,6 +1,7 @@
 """The PROXY protocol's header, which `tools/watch --proxy` takes off: its forms are those of the protocol's document."""
 import contextlib
 import os
+import pathlib
 import shutil
 import socket
 import struct
@@ -8,6 +9,7 @@ import subprocess
 import sys
 import threading
 import time
+from typing import Any, Iterator
 
 import pytest
 
@@ -26,7 +28,7 @@ LONGEST = "PROXY UNKNOWN {0} {0} 65535 65535\r\n".format(":".join(["ffff"] * 8))
 FIELD = struct.pack("!BH", 0x04, 5) + bytes(5)
 
 
-def version_2(command, family, body):
+def version_2(command: Any, family: Any, body: Any) -> Any:
     return SIGNATURE + struct.pack("!BBH", command, family, len(body)) + body
 
 
@@ -58,7 +60,7 @@ NONE = {
 
 
 @pytest.fixture
-def pair():
+def pair() -> Iterator[Any]:
     ends = socket.socketpair()
     yield ends
     for end in ends:
@@ -66,7 +68,7 @@ def pair():
 
 
 @pytest.mark.parametrize("header, source", SOURCES.values(), ids=SOURCES)
-def test_the_source_is_told_and_no_byte_more_is_read(pair, header, source):
+def test_the_source_is_told_and_no_byte_more_is_read(pair: Any, header: Any, source: Any) -> None:
     assert len(LONGEST) == 107
     pair[0].sendall(header + b"HELLO")
     assert proxy_header.source_of(pair[1]) == source
@@ -74,7 +76,7 @@ def test_the_source_is_told_and_no_byte_more_is_read(pair, header, source):
 
 
 @pytest.mark.parametrize("header, source", SOURCES.values(), ids=SOURCES)
-def test_bytes_that_have_come(header, source):
+def test_bytes_that_have_come(header: Any, source: Any) -> None:
     assert proxy_header.source_of_bytes(header + b"HELLO") == (source, b"HELLO")
     for end in range(len(header)):
         with pytest.raises(proxy_header.NotWhole):
@@ -82,27 +84,27 @@ def test_bytes_that_have_come(header, source):
 
 
 @pytest.mark.parametrize("name", ["HELLO", "a bad address", "a bad port", "version 3", "another command", "too short"])
-def test_bytes_that_are_no_header(name):
+def test_bytes_that_are_no_header(name: Any) -> None:
     with pytest.raises(ValueError):
         proxy_header.source_of_bytes(NONE[name])
 
 
 @pytest.mark.parametrize("name", ["TCP6", "2 with a field"])
-def test_byte_by_byte(pair, name):
+def test_byte_by_byte(pair: Any, name: Any) -> None:
     header, source = SOURCES[name]
     threading.Thread(target=lambda: [pair[0].sendall(bytes([byte])) for byte in header], daemon=True).start()
     assert proxy_header.source_of(pair[1]) == source
 
 
 @pytest.mark.parametrize("first", NONE.values(), ids=NONE)
-def test_what_is_no_header(pair, first):
+def test_what_is_no_header(pair: Any, first: Any) -> None:
     pair[0].sendall(first)
     pair[0].shutdown(socket.SHUT_WR)
     with pytest.raises(ValueError):
         proxy_header.source_of(pair[1])
 
 
-def test_a_header_that_does_not_come(pair, monkeypatch):
+def test_a_header_that_does_not_come(pair: Any, monkeypatch: pytest.MonkeyPatch) -> None:
     monkeypatch.setattr(proxy_header, "SECONDS_FOR_HEADER", 0.05)
     pair[0].sendall(b"PROXY TCP4 ")
     with pytest.raises(OSError):
@@ -110,11 +112,11 @@ def test_a_header_that_does_not_come(pair, monkeypatch):
 
 
 @pytest.mark.parametrize("name", ["TCP4", "2 over IPv6"])
-def test_watch_shows_the_source_and_the_server_never_sees_the_header(name):
+def test_watch_shows_the_source_and_the_server_never_sees_the_header(name: Any) -> None:
     header, source = SOURCES[name]
     heard = []
 
-    def talk(connection, stop):
+    def talk(connection: Any, stop: Any) -> None:
         heard.append(read_line(connection))
         connection.sendall(b"OK HELLO ann\n" + read_all(connection)[::-1])
 
@@ -126,7 +128,7 @@ def test_watch_shows_the_source_and_the_server_never_sees_the_header(name):
     assert heard == [b"HELLO ann t\n"]
 
 
-def test_a_connection_without_a_header_is_closed():
+def test_a_connection_without_a_header_is_closed() -> None:
     heard = []
     with peer(lambda connection, stop: heard.append(read_all(connection))) as port, Watcher(port, "--proxy") as watcher:
         with watcher.connected() as stream:
@@ -143,7 +145,7 @@ def test_a_connection_without_a_header_is_closed():
     assert heard == [b"the first that comes"]
 
 
-def test_without_the_option_a_header_is_a_first_line_like_any_other():
+def test_without_the_option_a_header_is_a_first_line_like_any_other() -> None:
     with Server() as server, Watcher(server.port) as watcher, watcher.connected() as stream:
         stream.sendall(SOURCES["TCP4"][0])
         assert read_all(stream) == b"ERR 01 DENIED\n"
@@ -153,19 +155,19 @@ def test_without_the_option_a_header_is_a_first_line_like_any_other():
 
 @pytest.mark.skipif(HAPROXY is None, reason="haproxy is not installed")
 @pytest.mark.parametrize("word", ["send-proxy", "send-proxy-v2"])
-def test_haproxy_names_the_client(tmp_path, word):
+def test_haproxy_names_the_client(tmp_path: pathlib.Path, word: Any) -> None:
     """Its checks too begin with a header, which names no client."""
     with Server(connections=100_000) as server, Watcher(server.port, "--proxy") as watcher:
         port = free_port()
         times = "timeout client 1m\ntimeout server 1m\ntimeout connect 1m\n"
         listen = f"bind 127.0.0.1:{port}\nserver one 127.0.0.1:{watcher.port} {word} check check-send-proxy inter 50ms\n"
         (tmp_path / "config").write_text(f"defaults\nmode tcp\n{times}listen all\n{listen}")
-        child = subprocess.Popen([HAPROXY, "-f", tmp_path / "config"], stdin=subprocess.DEVNULL, stderr=subprocess.DEVNULL)
+        child = subprocess.Popen([str(HAPROXY), "-f", tmp_path / "config"], stdin=subprocess.DEVNULL, stderr=subprocess.DEVNULL)
         try:
             with await_user(port) as user:
                 source = "127.0.0.1:{}".format(user._wire._ends._socket.getsockname()[1])
                 assert dimer(user).advance(2) == 2
-                lines = iter(lambda: watcher.lines(1)[0], "")
+                lines: Iterator[str] = iter(lambda: str(watcher.lines(1)[0]), "")
                 line = next(line for line in lines if line.startswith("TIME in ann "))
                 assert line == f"TIME in ann {source} since TIME 0 commands"
         finally:
@@ -173,7 +175,7 @@ def test_haproxy_names_the_client(tmp_path, word):
             child.wait(SECONDS)
 
 
-def await_user(port):
+def await_user(port: Any) -> Any:
     """The user ann at a port, when something listens there."""
     end = time.monotonic() + SECONDS
     while True:

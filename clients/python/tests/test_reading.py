@@ -4,6 +4,7 @@ import re
 import threading
 import unittest
 from unittest import mock
+from typing import Any, List
 
 from ljclient import BadReply, Closed, ConnectionLost, arrays, connect, reading, refusals, run
 from ljclient.wire import Reply
@@ -15,11 +16,11 @@ PLACES = [(589, 0, 4294967295), (25165235, 1, 2)]
 KINDS = [arrays.numpy, None] if arrays.numpy else [None]
 
 
-def joined(port):
+def joined(port: Any) -> Any:
     return connect("127.0.0.1", port, "ann", TOKEN, timeout=SECONDS)
 
 
-def by(kind):
+def by(kind: Any) -> Any:
     """Has the client read by numpy, or by lists alone."""
     return mock.patch.object(arrays, "numpy", kind)
 
@@ -27,7 +28,7 @@ def by(kind):
 class ByEither(unittest.TestCase):
     """What is the same with numpy, if it is there, and without."""
 
-    def test_places(self):
+    def test_places(self) -> None:
         rng = random.Random(5)
         atoms = range(4096)
         wanted = [tuple(rng.randrange(RING) for _ in range(3)) for _ in atoms]
@@ -38,7 +39,7 @@ class ByEither(unittest.TestCase):
             self.assertEqual((step, listed(places)), (-12, wanted))
             self.assertEqual(isinstance(places, list), kind is None)
 
-    def test_positions(self):
+    def test_positions(self) -> None:
         rng = random.Random(6)
         words = [f"{rng.uniform(0, 10 ** rng.randint(-6, 6)):.6f}" for _ in range(3000)]
         symbols = ["Ar", "1.5", "-"] * 334
@@ -49,13 +50,13 @@ class ByEither(unittest.TestCase):
             self.assertEqual([float(part) for position in positions for part in position], [float(word) for word in words])
             self.assertEqual(isinstance(positions, list), kind is None)
 
-    def test_a_peer_that_shows_what_was_asked_for(self):
+    def test_a_peer_that_shows_what_was_asked_for(self) -> None:
         for kind in KINDS:
             with by(kind), peer(says(LISTED, *SHOWN)) as port, joined(port) as user:
                 self.assertEqual(listed(unasked(user).places()), PLACES)
                 user._wire.close()
 
-    def test_a_peer_that_shows_something_else(self):
+    def test_a_peer_that_shows_something_else(self) -> None:
         first, second = SHOWN
         for wrong, told in [
             (b"OK SHOW b 7 1 0 0 0\n", "`SHOW a 1` was answered"),
@@ -77,9 +78,10 @@ class ByEither(unittest.TestCase):
                         unasked(user).places()
                     user._wire.close()
 
-    def test_frames_that_are_none(self):
+    def test_frames_that_are_none(self) -> None:
         words = ["DUMP", "a", "7", "3"]
-        for lines in [["2", "step 7", "Ar 0"], ["1", "step 8", "Ar 0"], ["1", "Step 7", "Ar 0"], [], ["-1", "step 7"]]:
+        frames: List[List[str]] = [["2", "step 7", "Ar 0"], ["1", "step 8", "Ar 0"], ["1", "Step 7", "Ar 0"], [], ["-1", "step 7"]]
+        for lines in frames:
             with self.subTest(lines), self.assertRaises(BadReply):
                 reading.frame_of("a", Reply(words, lines))
             with self.subTest(lines), self.assertRaises(BadReply):
@@ -94,14 +96,14 @@ class ByEither(unittest.TestCase):
                     reading.positions_of("a", words, f"1\nstep 7\n{row}\n".encode())
 
 
-def unasked(user):
+def unasked(user: Any) -> Any:
     """The session a of a user, of which nothing was asked yet."""
     with mock.patch.object(user, "ask"):
         return user.session("a")
 
 
 class Refusals(unittest.TestCase):
-    def test_a_refusal_among_rows_is_raised_when_all_are_answered(self):
+    def test_a_refusal_among_rows_is_raised_when_all_are_answered(self) -> None:
         replies = [LISTED, SHOWN[0], b"ERR 14 NO_ATOM\n", b"OK LIST 0\n"]
         with peer(says(*replies)) as port, joined(port) as user:
             with self.assertRaises(refusals.NoAtom) as caught:
@@ -110,31 +112,31 @@ class Refusals(unittest.TestCase):
             self.assertEqual(user.sessions(), [])
             user._wire.close()
 
-    def test_a_refusal_that_ends_the_connection(self):
+    def test_a_refusal_that_ends_the_connection(self) -> None:
         with peer(says(LISTED, SHOWN[0], b"ERR 08 ENOUGH\n")) as port, joined(port) as user:
             with self.assertRaises(refusals.Enough):
                 unasked(user).places()
             with self.assertRaises(Closed):
                 user.sessions()
 
-    def test_gone_among_rows(self):
+    def test_gone_among_rows(self) -> None:
         for last in (b"", b"OK SHOW a 7 1 2"):
             with peer(says(LISTED, SHOWN[0] + last)) as port, joined(port) as user:
                 with self.assertRaisesRegex(ConnectionLost, "`SHOW a 1` was not answered"):
                     unasked(user).places()
 
-    def test_no_rows(self):
+    def test_no_rows(self) -> None:
         with run(PROGRAM) as user:
             self.assertEqual(user.ask_rows([]), b"")
             self.assertEqual(user.sessions(), [])
 
 
 class Interrupts(unittest.TestCase):
-    def test_rows_that_nobody_came_for_are_passed_over(self):
+    def test_rows_that_nobody_came_for_are_passed_over(self) -> None:
         interruptible(self)
         caught = threading.Event()
 
-        def slowly(connection, stop):
+        def slowly(connection: Any, stop: Any) -> None:
             read_line(connection)
             connection.sendall(SHOWN[0])
             caught.wait(SECONDS)
@@ -155,7 +157,7 @@ class Interrupts(unittest.TestCase):
 
 
 class Both(unittest.TestCase):
-    def test_the_frame_before_is_read_and_nothing_is_changed(self):
+    def test_the_frame_before_is_read_and_nothing_is_changed(self) -> None:
         with run(PROGRAM) as user:
             a = dimer(user)
             a.advance(2)

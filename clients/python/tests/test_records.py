@@ -1,34 +1,36 @@
 """What a record has: the commands of one session as they were sent, from its load on, and what each was replied."""
 import errno
 import os
+import pathlib
 import signal
 import subprocess
 import sys
 from unittest import mock
+from typing import Any, Dict, Iterator, List
 
 import pytest
 
 import support
-from ljclient import ClientError, ConnectionLost, NotRecorded, connect, recording, refusals, run, user as users
+from ljclient import ClientError, ConnectionLost, NotRecorded, Refused, connect, recording, refusals, run, user as users
 from record_texts import COMMANDS, DIMER_TEXT, commands, is_the_same, replied, twisted, verified, with_checks, without_checks
-from support import ARGON, DIMER, EXAMPLES, PROGRAM, SECONDS, TOKEN, TOP, Server, dimer, interrupt_when, listed
+from support import ARGON, DIMER, EXAMPLES, PROGRAM, SECONDS, TOKEN, TOP, Server, dimer, interrupt_when, listed, present, process_of
 from terminals import environment
 
-MIX = {"edge": 256, "species": ("Na", "Cl"), "classes": [(1, 131072, 256), (1, 262144, 512), (1, 131072, 256)]}
+MIX: Dict[str, Any] = {"edge": 256, "species": ("Na", "Cl"), "classes": [(1, 131072, 256), (1, 262144, 512), (1, 131072, 256)]}
 
 
 @pytest.fixture
-def path(tmp_path):
+def path(tmp_path: pathlib.Path) -> Any:
     return tmp_path / "run.lj"
 
 
 @pytest.fixture
-def user():
+def user() -> Iterator[Any]:
     with run(PROGRAM, timeout=SECONDS) as user:
         yield user
 
 
-def played(user, record=None):
+def played(user: Any, record: Any = None) -> Any:
     """The session whose record is written by hand."""
     a = dimer(user, record=record)
     for line in COMMANDS[1:-2]:
@@ -39,7 +41,7 @@ def played(user, record=None):
     return a
 
 
-def test_each_line_of_a_record(user, path):
+def test_each_line_of_a_record(user: Any, path: Any) -> None:
     played(user, path)
     user.close()
     assert "\n".join([*without_checks(path), ""]) == DIMER_TEXT
@@ -49,7 +51,7 @@ def test_each_line_of_a_record(user, path):
     assert versions or told.returncode
 
 
-def test_what_is_replied_is_in_the_file_before_it_is_told(user, path):
+def test_what_is_replied_is_in_the_file_before_it_is_told(user: Any, path: Any) -> None:
     a = dimer(user, record=path)
     assert without_checks(path)[-1] == "< OK LOAD a 0 2"
     assert a.advance(1) == 1
@@ -64,7 +66,7 @@ def test_what_is_replied_is_in_the_file_before_it_is_told(user, path):
 
 
 @pytest.mark.parametrize("body", ["2\r\nx\r\nAr 0 0 0\r\nAr 1.5 0 0", "\n\n2\n\u00e5ngstr\u00f6m : > + end\nAr 0 0 0\nAr 1.5 0 0\nmore\n"])
-def test_a_body_is_kept_to_the_byte(user, path, body):
+def test_a_body_is_kept_to_the_byte(user: Any, path: Any, body: Any) -> None:
     count = len(body.encode())
     user.load("a", body, edge=256, sigma=1, h=131072, record=path)
     user.close()
@@ -74,7 +76,7 @@ def test_a_body_is_kept_to_the_byte(user, path, body):
     assert is_the_same(path) == []
 
 
-def test_two_runs_in_pieces_of_one_size(tmp_path):
+def test_two_runs_in_pieces_of_one_size(tmp_path: pathlib.Path) -> None:
     """They send the same commands, so their records are the same to the byte."""
     told = []
     for name in ("one.lj", "two.lj"):
@@ -88,7 +90,7 @@ def test_two_runs_in_pieces_of_one_size(tmp_path):
     assert told[0].endswith(b" end\n")
 
 
-def test_nothing_of_other_sessions(user, path, tmp_path):
+def test_nothing_of_other_sessions(user: Any, path: Any, tmp_path: pathlib.Path) -> None:
     other = tmp_path / "b.lj"
     a, b, c = dimer(user, record=path), dimer(user, "b", record=other), dimer(user, "c")
     user.advance([c, a, b], [1, 2, 3], piece=10)
@@ -103,7 +105,7 @@ def test_nothing_of_other_sessions(user, path, tmp_path):
     assert is_the_same(path) == is_the_same(other) == []
 
 
-def test_a_mixture(user, path):
+def test_a_mixture(user: Any, path: Any) -> None:
     m = user.load_mix("m", "2\nmix\nNa 0 0 0\nCl 1.5 0 0\n", record=path, **MIX)
     assert m.measure().potential == -10698264
     m.advance(1)
@@ -118,7 +120,7 @@ def test_a_mixture(user, path):
     assert is_the_same(path) == []
 
 
-def test_the_quota_that_is_needed(user, path):
+def test_the_quota_that_is_needed(user: Any, path: Any) -> None:
     a = dimer(user, record=path)
     for name in "klm":
         a.branch(name)
@@ -131,7 +133,7 @@ def test_the_quota_that_is_needed(user, path):
     assert is_the_same(path) == []
 
 
-def test_a_refusal_that_others_bring_about(path):
+def test_a_refusal_that_others_bring_about(path: Any) -> None:
     with run(PROGRAM, branches=1) as user:
         a, b = dimer(user, record=path), dimer(user, "b")
         b.branch("k")
@@ -150,7 +152,7 @@ def test_a_refusal_that_others_bring_about(path):
     assert is_the_same(path) == []
 
 
-def test_a_want_of_memory(path, tmp_path):
+def test_a_want_of_memory(path: Any, tmp_path: pathlib.Path) -> None:
     """Of the allocations of the program one after the other is refused, until that of a BRANCH was."""
     if subprocess.run(["sh", "-c", "command -v cc"], stdout=subprocess.DEVNULL).returncode:
         pytest.skip("cc is not installed")
@@ -179,24 +181,25 @@ def test_a_want_of_memory(path, tmp_path):
         pytest.skip("the program takes no library")
 
 
-def test_a_file_stays_until_the_session_is_loaded(user, path):
+def test_a_file_stays_until_the_session_is_loaded(user: Any, path: Any) -> None:
     path.write_text("what was here")
-    for words in ({"h": 0}, {"sigma": 100}):
-        with pytest.raises(refusals.Refused):
+    wrong: List[Dict[str, Any]] = [{"h": 0}, {"sigma": 100}]
+    for words in wrong:
+        with pytest.raises(Refused):
             dimer(user, record=path, **words)
     assert path.read_text() == "what was here"
     dimer(user, record=path)
     assert path.read_text().startswith("ljserve record 1\n")
 
 
-def test_a_load_that_is_refused_leaves_no_file(user, path):
+def test_a_load_that_is_refused_leaves_no_file(user: Any, path: Any) -> None:
     with pytest.raises(refusals.StepFactor):
         dimer(user, h=0, record=path)
     assert not path.exists()
     assert user.sessions() == []
 
 
-def test_files_that_cannot_be_written(user, tmp_path):
+def test_files_that_cannot_be_written(user: Any, tmp_path: pathlib.Path) -> None:
     dimer(user).advance(3)
     os.mkfifo(tmp_path / "fifo")
     for record, fault in ((tmp_path, ValueError), (tmp_path / "fifo", ValueError), (tmp_path / "none" / "run.lj", OSError)):
@@ -205,7 +208,7 @@ def test_files_that_cannot_be_written(user, tmp_path):
     assert user.row("a").step == 3
 
 
-def test_two_records_are_two_files(user, path):
+def test_two_records_are_two_files(user: Any, path: Any) -> None:
     dimer(user, record=path)
     with pytest.raises(ValueError, match="is a record that is being written: say another file, or close the user that writes it"):
         dimer(user, "b", record=path)
@@ -216,7 +219,7 @@ def test_two_records_are_two_files(user, path):
     assert is_the_same(path) == []
 
 
-def test_a_session_that_is_there_already(user, path, tmp_path):
+def test_a_session_that_is_there_already(user: Any, path: Any, tmp_path: pathlib.Path) -> None:
     a = dimer(user, record=path)
     dimer(user, "b")
     for name in "ab":
@@ -231,7 +234,7 @@ def test_a_session_that_is_there_already(user, path, tmp_path):
     assert is_the_same(path) == []
 
 
-def test_a_session_that_is_loaded_again(user, path):
+def test_a_session_that_is_loaded_again(user: Any, path: Any) -> None:
     dimer(user, record=path).advance(1)
     a = dimer(user, replace=True)
     a.advance(7)
@@ -244,7 +247,7 @@ def test_a_session_that_is_loaded_again(user, path):
     assert is_the_same(path) == []
 
 
-def test_commands_behind_a_drop(user, path):
+def test_commands_behind_a_drop(user: Any, path: Any) -> None:
     dimer(user, record=path)
     with pytest.raises(refusals.NoSession):
         user.ask_all(["DROP a", "SHOW a 0"])
@@ -253,7 +256,7 @@ def test_commands_behind_a_drop(user, path):
     assert is_the_same(path) == []
 
 
-def test_atoms_in_the_order_of_space(path):
+def test_atoms_in_the_order_of_space(path: Any) -> None:
     """They are sorted anew, by which the session is dropped and loaded, and the record goes on."""
     with run(PROGRAM) as user:
         argon = user.load("argon", EXAMPLES / "argon_256.xyz", order="space", record=path, **ARGON)
@@ -267,13 +270,13 @@ def test_atoms_in_the_order_of_space(path):
     assert is_the_same(path) == []
 
 
-def test_a_sort_for_which_there_is_no_memory(path, tmp_path):
+def test_a_sort_for_which_there_is_no_memory(path: Any, tmp_path: pathlib.Path) -> None:
     """The session is gone then, and its record ends. What is loaded under its name is another one."""
     with run(twisted(tmp_path, "OK LOAD a 0 2", "ERR 90 MEMORY", 2)) as user:
         a = dimer(user, record=path)
         with pytest.raises(refusals.Memory) as caught:
             a.resort()
-        assert caught.value.rescued.startswith("ljserve checkpoint 1\n")
+        assert present(caught.value.rescued).startswith("ljserve checkpoint 1\n")
         assert replied(path)[-2][0] == "DROP a" and replied(path)[-1][1] == "!"
         assert without_checks(path)[-2:] == ["! ERR 90 MEMORY", "end"]
         user.ask("ADVANCE a 1")
@@ -281,7 +284,7 @@ def test_a_sort_for_which_there_is_no_memory(path, tmp_path):
     assert is_the_same(path) == []
 
 
-def test_a_saved_session(user, path, tmp_path):
+def test_a_saved_session(user: Any, path: Any, tmp_path: pathlib.Path) -> None:
     a = dimer(user, record=path)
     a.advance(1)
     a.save(tmp_path / "a.saved")
@@ -296,7 +299,7 @@ def test_a_saved_session(user, path, tmp_path):
     assert is_the_same(path) == is_the_same(tmp_path / "b.lj") == []
 
 
-def test_a_session_that_is_taken_up(user, path):
+def test_a_session_that_is_taken_up(user: Any, path: Any) -> None:
     a = dimer(user, record=path)
     a.advance(2)
     again = user.session("a", edge=256, sigma=1, h=131072)
@@ -307,12 +310,12 @@ def test_a_session_that_is_taken_up(user, path):
     assert is_the_same(path) == []
 
 
-def test_what_is_asked_as_it_stands(user, path):
+def test_what_is_asked_as_it_stands(user: Any, path: Any) -> None:
     dimer(user, record=path)
     user.ask(" ADVANCE\ta  1\r")
     refused = ["ADVANCE a", "ADVANCE a x", "SHOW a \u00e5", "TUG a 0 0 0 0 " + "0" * 300, "LOAD a " + "0" * 300, "LOAD a 0 0 0 x 0"]
     for line in [*refused, "NO a", "a", "LOAD a"]:
-        with pytest.raises(refusals.Refused):
+        with pytest.raises(Refused):
             user.ask(line)
     assert commands(path)[1:] == [" ADVANCE\ta  1\r", *refused, "LOAD a"]
     assert [mark for _, mark in replied(path)] == [*["<"] * 8, "!"]
@@ -321,15 +324,15 @@ def test_what_is_asked_as_it_stands(user, path):
 
 
 @pytest.fixture
-def interruptible():
+def interruptible() -> Iterator[Any]:
     before = signal.signal(signal.SIGINT, signal.default_int_handler)
     yield
     signal.signal(signal.SIGINT, before)
 
 
-def test_an_interrupt(user, path, interruptible):
+def test_an_interrupt(user: Any, path: Any, interruptible: Any) -> None:
     argon = user.load("argon", EXAMPLES / "argon_256.xyz", record=path, **ARGON)
-    told = []
+    told: List[Any] = []
     interrupt = interrupt_when(lambda: any(told))
     with pytest.raises(KeyboardInterrupt):
         argon.advance(10**6, progress=lambda done, total: told.append(done))
@@ -342,7 +345,7 @@ def test_an_interrupt(user, path, interruptible):
     assert is_the_same(path) == []
 
 
-def test_a_reply_that_did_not_come(user, path, interruptible):
+def test_a_reply_that_did_not_come(user: Any, path: Any, interruptible: Any) -> None:
     argon = user.load("argon", EXAMPLES / "argon_256.xyz", record=path, **ARGON)
     interrupt = interrupt_when(lambda: user.unanswered == ["ADVANCE argon 1000000"] and not user._wire._outgoing)
     with pytest.raises(KeyboardInterrupt):
@@ -353,16 +356,16 @@ def test_a_reply_that_did_not_come(user, path, interruptible):
     assert is_the_same(path) == []
 
 
-def test_a_program_that_is_lost(user, path):
+def test_a_program_that_is_lost(user: Any, path: Any) -> None:
     a = dimer(user, record=path)
-    os.kill(user._wire._ends.pid, signal.SIGKILL)
+    os.kill(process_of(user), signal.SIGKILL)
     with pytest.raises(ConnectionLost):
         a.measure()
     assert without_checks(path)[-2:] == ["? MEASURE a", "end"]
     assert is_the_same(path) == []
 
 
-def test_a_process_that_is_killed(path):
+def test_a_process_that_is_killed(path: Any) -> None:
     """Each step that was told is in the file."""
     script = f"""
 from ljclient import run
@@ -372,11 +375,11 @@ while True:
     print(a.advance(1), flush=True)
 """
     child = subprocess.Popen([sys.executable, "-c", script], env=environment(), stdout=subprocess.PIPE, text=True)
-    told = [int(child.stdout.readline()) for _ in range(20)]
+    told = [int(present(child.stdout).readline()) for _ in range(20)]
     child.kill()
-    told += [int(line) for line in child.stdout]
+    told += [int(line) for line in present(child.stdout)]
     child.wait(SECONDS)
-    child.stdout.close()
+    present(child.stdout).close()
     assert told == list(range(1, len(told) + 1))
     steps = [line for line in without_checks(path) if line.startswith("< OK ADVANCE")]
     assert steps[: len(told)] == [f"< OK ADVANCE a {step}" for step in told]
@@ -384,7 +387,7 @@ while True:
     assert " has no `end`: its writer was killed" in fault or "is cut short here" in fault
 
 
-def test_a_program_that_has_used_up_its_commands(path, tmp_path):
+def test_a_program_that_has_used_up_its_commands(path: Any, tmp_path: pathlib.Path) -> None:
     """The session goes on in a new one, with what is saved in it, and so does its record."""
     with mock.patch.object(users, "MAX_ITEMS", 300), run(PROGRAM) as user:
         a, b = dimer(user, record=path), dimer(user, "b")
@@ -404,7 +407,7 @@ def test_a_program_that_has_used_up_its_commands(path, tmp_path):
         assert is_the_same(path, *words, LJSERVE_TOKEN=TOKEN) == []
 
 
-def test_a_new_program_that_does_not_take_the_session(path):
+def test_a_new_program_that_does_not_take_the_session(path: Any) -> None:
     """The session stays where it is, and its record goes on without one that has moved."""
     with mock.patch.object(users, "MAX_ITEMS", 300), run(PROGRAM) as user:
         a = dimer(user, record=path)
@@ -417,7 +420,7 @@ def test_a_new_program_that_does_not_take_the_session(path):
     assert is_the_same(path) == []
 
 
-def test_a_file_that_can_no_longer_be_written(user, path):
+def test_a_file_that_can_no_longer_be_written(user: Any, path: Any) -> None:
     a = dimer(user, record=path)
     a.advance(1)
     with mock.patch.object(recording._File, "write", side_effect=OSError(errno.ENOSPC, "No space left on device")):
@@ -437,16 +440,16 @@ def test_a_file_that_can_no_longer_be_written(user, path):
 
 
 @pytest.fixture
-def server():
+def server() -> Iterator[Any]:
     with Server() as server:
         yield server
 
 
-def joined(server):
+def joined(server: Any) -> Any:
     return connect("127.0.0.1", server.port, "ann", TOKEN, timeout=SECONDS)
 
 
-def test_a_user_of_a_server(server, path):
+def test_a_user_of_a_server(server: Any, path: Any) -> None:
     with joined(server) as user:
         played(user, path)
     assert TOKEN not in path.read_text()
@@ -455,7 +458,7 @@ def test_a_user_of_a_server(server, path):
     assert is_the_same(path) == []
 
 
-def test_a_connection_that_has_used_up_its_commands(server, path):
+def test_a_connection_that_has_used_up_its_commands(server: Any, path: Any) -> None:
     with mock.patch.object(users, "MAX_ITEMS", 100), joined(server) as user:
         a = dimer(user, record=path)
         for step in range(1, 120):
@@ -466,14 +469,14 @@ def test_a_connection_that_has_used_up_its_commands(server, path):
     assert is_the_same(path, "--server", f"127.0.0.1:{server.port}", "ann", LJSERVE_TOKEN=TOKEN) == []
 
 
-def test_another_connection_that_changes_the_session(server, path):
+def test_another_connection_that_changes_the_session(server: Any, path: Any) -> None:
     """The record can't know of it, and verify says where it may have been."""
     with mock.patch.object(users, "MAX_ITEMS", 100), joined(server) as user:
         a = dimer(user, record=path)
         user.ask_all(["LIST"] * (users.MAX_ITEMS - 1 - user._wire.asked))
         reopen = user._reopen
 
-        def after_another():
+        def after_another() -> Any:
             with joined(server) as other:
                 other.session("a").tug(0, (5, 0, 0))
             return reopen()
@@ -489,7 +492,7 @@ def test_another_connection_that_changes_the_session(server, path):
     )
 
 
-def test_replies_that_are_on_their_way_when_a_new_connection_begins(server, path, interruptible):
+def test_replies_that_are_on_their_way_when_a_new_connection_begins(server: Any, path: Any, interruptible: Any) -> None:
     with mock.patch.object(users, "MAX_ITEMS", 100), joined(server) as user:
         argon = user.load("argon", EXAMPLES / "argon_256.xyz", record=path, watch=False, **ARGON)
         user.ask_all(["LIST"] * (users.MAX_ITEMS - 2 - user._wire.asked))
@@ -508,7 +511,7 @@ def test_replies_that_are_on_their_way_when_a_new_connection_begins(server, path
     assert is_the_same(path) == []
 
 
-def test_a_server_that_was_started_again(server, path):
+def test_a_server_that_was_started_again(server: Any, path: Any) -> None:
     with mock.patch.object(users, "MAX_ITEMS", 100), joined(server) as user:
         a = dimer(user, record=path)
         a.advance(1)

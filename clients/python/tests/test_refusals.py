@@ -4,15 +4,16 @@ import re
 import subprocess
 import tempfile
 import unittest
+from typing import Any, Set
 
 from ljclient import Closed, Refused, connect, refusals, run
-from support import DIMER, DIMER_SCALE, PROGRAM, TOKEN, TOP, Server, dimer
+from support import DIMER, DIMER_SCALE, PROGRAM, TOKEN, TOP, Server, dimer, process_of
 
 X = "1\nc\nX 0 0 0\n"
 
 
 class Classes(unittest.TestCase):
-    def test_the_tables_of_the_documents(self):
+    def test_the_tables_of_the_documents(self) -> None:
         with open(TOP / "docs" / "PROTOCOL.md") as file:
             table = file.read().split("## Refusals")[1].split("## Limits")[0]
         listed = {int(number): name for number, name in re.findall(r"\| (\d\d) \| ([A-Z_]+) ", table)}
@@ -21,7 +22,7 @@ class Classes(unittest.TestCase):
         self.assertGreater(len(listed), 24)
         self.assertEqual({number: kind.name for number, kind in Refused.by_number.items()}, listed)
 
-    def test_names_are_those_of_the_protocol(self):
+    def test_names_are_those_of_the_protocol(self) -> None:
         for kind in Refused.by_number.values():
             self.assertEqual(kind.__name__, "".join(part.capitalize() for part in kind.name.split("_")))
             self.assertIs(getattr(refusals, kind.__name__), kind)
@@ -29,12 +30,12 @@ class Classes(unittest.TestCase):
 
 
 class Refusals(unittest.TestCase):
-    def setUp(self):
+    def setUp(self) -> None:
         self.user = run(PROGRAM, sessions=3, atoms=10, branches=1)
         self.addCleanup(self.user.close)
         self.a = dimer(self.user)
 
-    def refused(self, kind, ask, line=None):
+    def refused(self, kind: Any, ask: Any, line: Any = None) -> None:
         """A refusal of this class, which leaves the sessions as they were."""
         before = self.user.sessions()
         with self.assertRaises(kind) as caught:
@@ -43,10 +44,10 @@ class Refusals(unittest.TestCase):
         self.assertEqual(caught.exception.line, line)
         self.assertEqual(self.user.sessions(), before)
 
-    def load(self, body, name="b", **words):
+    def load(self, body: Any, name: str = "b", **words: Any) -> Any:
         return lambda: self.user.load(name, body, **{**DIMER_SCALE, **words})
 
-    def test_lines(self):
+    def test_lines(self) -> None:
         self.refused(refusals.Line, lambda: self.user.ask("x" * 257))
         self.refused(refusals.Syntax, lambda: self.user.ask("ADVANCE a"))
         self.refused(refusals.Syntax, lambda: self.user.ask(""))
@@ -54,7 +55,7 @@ class Refusals(unittest.TestCase):
         self.refused(refusals.Command, lambda: self.user.ask("advance a 1"))
         self.refused(refusals.Command, lambda: self.user.ask("HELLO a b"))
 
-    def test_a_body_after_a_line_that_is_too_long(self):
+    def test_a_body_after_a_line_that_is_too_long(self) -> None:
         """The program reads such a body as commands, so it is not sent."""
         with self.assertRaisesRegex(ValueError, "256 bytes"):
             self.load(X, edge="0" * 240 + "256")()
@@ -67,27 +68,27 @@ class Refusals(unittest.TestCase):
         told = subprocess.run([PROGRAM, "run"], input=stream, capture_output=True, timeout=60).stdout
         self.assertEqual(told, b"ERR 02 LINE\nOK LIST 0\nOK BYE\n")
 
-    def test_sessions(self):
+    def test_sessions(self) -> None:
         self.refused(refusals.NoSession, lambda: self.user.session("z"))
         self.refused(refusals.Exists, self.load(X, "a"))
         dimer(self.user, "b")
         dimer(self.user, "c")
         self.refused(refusals.QuotaSessions, self.load(X, "d"))
 
-    def test_saved(self):
+    def test_saved(self) -> None:
         self.refused(refusals.NoBranch, lambda: self.a.restore("q"))
         self.refused(refusals.NoBranch, lambda: self.a.forget("q"))
         self.a.branch("k")
         self.refused(refusals.BranchExists, lambda: self.a.branch("k"))
         self.refused(refusals.QuotaBranches, lambda: self.a.branch("m"))
 
-    def test_atoms_and_steps(self):
+    def test_atoms_and_steps(self) -> None:
         self.refused(refusals.NoAtom, lambda: self.a.place(2))
         self.refused(refusals.NoAtom, lambda: self.a.tug(2, (0, 0, 0)))
         self.refused(refusals.StepRange, lambda: self.a.advance(2_000_000, piece=1_000_001))
         self.refused(refusals.QuotaAtoms, self.load([("X", number, 0, 0) for number in range(9)]))
 
-    def test_scales(self):
+    def test_scales(self) -> None:
         for edge in (0, 0.0009, 1_000_001, -5, "x", "nan"):
             self.refused(refusals.Edge, self.load(X, edge=edge))
         for sigma in (0, 52, "x", 1e-4, -1):
@@ -95,7 +96,7 @@ class Refusals(unittest.TestCase):
         for h in (0, 2**24 + 1, -1):
             self.refused(refusals.StepFactor, self.load(X, h=h))
 
-    def test_xyz(self):
+    def test_xyz(self) -> None:
         self.refused(refusals.XyzCount, self.load(b""), 1)
         self.refused(refusals.XyzCount, self.load("0\nc\n"), 1)
         self.refused(refusals.XyzCount, self.load("\n\n4097\nc\n"), 3)
@@ -108,7 +109,7 @@ class Refusals(unittest.TestCase):
         self.refused(refusals.XyzPair, self.load(X, before=DIMER), 5)
         self.refused(refusals.XyzPair, lambda: self.user.ask("LOAD b 256 1 1 pair 12", X.encode()), 4)
 
-    def test_memory(self):
+    def test_memory(self) -> None:
         """The library of the program's own tests refuses one allocation: sooner or later that is one of LOAD or BRANCH."""
         with tempfile.TemporaryDirectory() as folder:
             library = f"{folder}/refuse_memory.so"
@@ -117,7 +118,7 @@ class Refusals(unittest.TestCase):
                 subprocess.run(["cc", "-shared", "-fPIC", "-o", library, source, "-ldl"], check=True, capture_output=True)
             except (OSError, subprocess.CalledProcessError):
                 self.skipTest("cc is not installed")
-            seen = set()
+            seen: Set[Any] = set()
             for number in range(1, 200):
                 if {"answered", "LOAD", "BRANCH"} <= seen:
                     break
@@ -133,10 +134,10 @@ class Refusals(unittest.TestCase):
 
 
 class Endings(unittest.TestCase):
-    def ends(self, kind, ask):
+    def ends(self, kind: Any, ask: Any) -> None:
         """A refusal that ends the connection, which is told to whoever asks again."""
         with run(PROGRAM) as user:
-            pid = user._wire._ends.pid
+            pid = process_of(user)
             with self.assertRaises(kind):
                 ask(user)
             self.assertTrue(user.closed)
@@ -145,20 +146,20 @@ class Endings(unittest.TestCase):
             with self.assertRaises(ProcessLookupError):
                 os.kill(pid, 0)
 
-    def test_a_body_without_its_count(self):
+    def test_a_body_without_its_count(self) -> None:
         self.ends(refusals.Body, lambda user: user.ask("LOAD a 256 1 1 rest"))
 
-    def test_a_line_that_is_too_long(self):
+    def test_a_line_that_is_too_long(self) -> None:
         self.ends(refusals.Long, lambda user: user.ask("x" * 65536))
 
-    def test_a_million_commands(self):
+    def test_a_million_commands(self) -> None:
         self.ends(refusals.Enough, spend)
 
-    def test_no_more_follows_what_ends_the_connection(self):
+    def test_no_more_follows_what_ends_the_connection(self) -> None:
         self.ends(refusals.Body, lambda user: user.ask_all(["LIST", "LOAD a", "LIST", "LIST"]))
 
 
-def spend(user):
+def spend(user: Any) -> None:
     """Asks until the connection's commands are spent. With a session that `ask` has loaded there is no going on elsewhere."""
     user.ask(f"LOAD a 256 1 131072 rest {len(DIMER)}", DIMER.encode())
     for _ in range(101):
@@ -166,7 +167,7 @@ def spend(user):
 
 
 class Denials(unittest.TestCase):
-    def test_denied(self):
+    def test_denied(self) -> None:
         with Server() as server:
             for name, token in [("ann", "b" * 32), ("bob", TOKEN), ("ann", "short")]:
                 with self.assertRaises(refusals.Denied) as caught:

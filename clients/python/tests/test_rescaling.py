@@ -2,6 +2,7 @@
 import math
 import signal
 from unittest import mock
+from typing import Any, Iterator, List, Tuple
 
 import pytest
 
@@ -13,16 +14,16 @@ CRYSTAL = EXAMPLES / "argon_256.xyz"
 
 
 @pytest.fixture(name="user")
-def user_of_a_program():
+def user_of_a_program() -> Iterator[Any]:
     with run(PROGRAM) as user:
         yield user
 
 
-def argon(user, name="argon", **words):
+def argon(user: Any, name: str = "argon", **words: Any) -> Any:
     return user.load(name, CRYSTAL, edge=21.04, dt=2, **units.ARGON, **words)
 
 
-def both(session):
+def both(session: Any) -> Tuple[Any, Any]:
     """Both frames."""
     now = listed(session.places())
     session.reverse()
@@ -31,13 +32,13 @@ def both(session):
     return now, before
 
 
-def moved(session):
+def moved(session: Any) -> List[Any]:
     now, before = both(session)
     return [tuple((a - b + RING // 2) % RING - RING // 2 for a, b in zip(*pair)) for pair in zip(now, before)]
 
 
 @pytest.mark.parametrize("kind", KINDS)
-def test_all_velocities_are_stretched_alike(user, kind):
+def test_all_velocities_are_stretched_alike(user: Any, kind: Any) -> None:
     a = argon(user)
     a.heat(90, seed=2)
     a.tug(7, (3000, 0, -1000))
@@ -56,14 +57,14 @@ def test_all_velocities_are_stretched_alike(user, kind):
     assert (a.step, listed(a.places())) == (step, places)
 
 
-def test_in_reduced_units(user):
+def test_in_reduced_units(user: Any) -> None:
     a = user.load("a", CRYSTAL, edge=21.04, sigma=3.4, h=4295)
     a.heat(0.5)
     assert a.rescale(0.72) == pytest.approx(0.72, rel=1e-5)
     assert (a.rescale(0), a.measure().kinetic, a.rescale(0)) == (0, 0, 0)
 
 
-def test_it_is_walked_back_from_a_branch(user):
+def test_it_is_walked_back_from_a_branch(user: Any) -> None:
     a, twin = argon(user), argon(user, "twin")
     for each in (a, twin):
         each.heat(90)
@@ -86,7 +87,7 @@ def test_it_is_walked_back_from_a_branch(user):
 
 
 @pytest.mark.parametrize("order", [None, "space"])
-def test_equilibrated_to_a_temperature(user, order):
+def test_equilibrated_to_a_temperature(user: Any, order: Any) -> None:
     a = argon(user, order=order)
     a.branch("start")
     assert a.equilibrate(100, 120, every=50) == pytest.approx(100, rel=1e-5)
@@ -99,7 +100,7 @@ def test_equilibrated_to_a_temperature(user, order):
     assert both(a) == there
 
 
-def test_equilibrate_is_rescale_and_advance(user):
+def test_equilibrate_is_rescale_and_advance(user: Any) -> None:
     a, twin = argon(user), argon(user, "twin")
     a.equilibrate(80, 25, every=10, seed=3)
     twin.heat(80, seed=3)
@@ -115,13 +116,13 @@ def test_equilibrate_is_rescale_and_advance(user):
     assert (a.equilibrate(70, 0), a.step) == (pytest.approx(70, rel=1e-5), 30)
 
 
-def test_how_far_it_is(user):
+def test_how_far_it_is(user: Any) -> None:
     told = []
     argon(user).equilibrate(80, 5, every=3, progress=lambda *numbers: told.append(numbers))
     assert told == [(0, 5), (3, 5), (3, 5), (5, 5)]
 
 
-def test_what_cannot_be(user):
+def test_what_cannot_be(user: Any) -> None:
     a = dimer(user)
     for wrong, text in [(1, "at rest.*heat"), (-1, "from 0 on"), (math.nan, "from 0 on")]:
         with pytest.raises(ValueError, match=text):
@@ -138,14 +139,14 @@ def test_what_cannot_be(user):
     assert a.step == 5
 
 
-def test_an_interrupt_waits_until_all_atoms_have_theirs(user):
+def test_an_interrupt_waits_until_all_atoms_have_theirs(user: Any) -> None:
     a, twin = argon(user), argon(user, "twin")
     for each in (a, twin):
         each.heat(50)
     twin.rescale(90)
     ask_rows = user.ask_rows
 
-    def interrupted(lines):
+    def interrupted(lines: Any) -> Any:
         if lines[0].startswith("TUG"):
             signal.raise_signal(signal.SIGINT)
         return ask_rows(lines)
@@ -159,7 +160,7 @@ def test_an_interrupt_waits_until_all_atoms_have_theirs(user):
     assert both(a) == both(twin)
 
 
-def test_the_sum_is_rounded_once():
+def test_the_sum_is_rounded_once() -> None:
     scale = units.Scale.of(256, 1, 4295)
     for count in (2, 3, 50):
         old = [(7 * number, -3 * number, number % 5) for number in range(1, count + 1)]

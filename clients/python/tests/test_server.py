@@ -5,20 +5,21 @@ import threading
 import time
 import unittest
 from unittest import mock
+from typing import Any
 
 from ljclient import Closed, ConnectionLost, TimedOut, connect, refusals, user as users
 from support import DIMER_SCALE, EXAMPLES, SECONDS, TOKEN, Server, dimer
 
 
 class Connections(unittest.TestCase):
-    def setUp(self):
+    def setUp(self) -> None:
         self.server = Server(users=("ann", "ben"))
         self.addCleanup(self.server.end)
 
-    def join(self, name="ann", timeout=SECONDS):
+    def join(self, name: str = "ann", timeout: Any = SECONDS) -> Any:
         return connect("127.0.0.1", self.server.port, name, TOKEN, timeout=timeout)
 
-    def test_a_dialogue(self):
+    def test_a_dialogue(self) -> None:
         with self.join() as user:
             self.assertEqual(user.name, "ann")
             a = dimer(user)
@@ -29,7 +30,7 @@ class Connections(unittest.TestCase):
         with self.assertRaises(Closed):
             user.sessions()
 
-    def test_sessions_stay_for_the_next_connection(self):
+    def test_sessions_stay_for_the_next_connection(self) -> None:
         with self.join() as user:
             dimer(user).tug(0, (5, 0, 0))
         with self.join() as user:
@@ -37,12 +38,12 @@ class Connections(unittest.TestCase):
             self.assertEqual(user.session("a").measure().momentum, (5, 0, 0))
             self.assertEqual(user.session("a", **DIMER_SCALE).measure().kinetic_energy, 25 / 2**34)
 
-    def test_users_have_sessions_of_their_own(self):
+    def test_users_have_sessions_of_their_own(self) -> None:
         with self.join() as ann, self.join("ben") as ben:
             dimer(ann)
             self.assertEqual((len(ann.sessions()), len(ben.sessions())), (1, 0))
 
-    def test_a_second_connection_of_a_user_waits(self):
+    def test_a_second_connection_of_a_user_waits(self) -> None:
         with self.join() as first:
             with self.assertRaisesRegex(TimedOut, "is another connection of ann open"):
                 self.join(timeout=0.5)
@@ -51,7 +52,7 @@ class Connections(unittest.TestCase):
             with self.join() as second:
                 self.assertEqual(second.sessions(), [("a", 0, 2, 0)])
 
-    def test_there_and_back(self):
+    def test_there_and_back(self) -> None:
         with self.join() as user:
             argon = user.load("argon", EXAMPLES / "argon_256.xyz", edge=21.04, sigma=3.4, h=131072)
             start = [tuple(place) for place in argon.places()]
@@ -60,7 +61,7 @@ class Connections(unittest.TestCase):
                 argon.reverse()
             self.assertEqual(([tuple(place) for place in argon.places()], argon.step), (start, 0))
 
-    def test_what_was_started_is_done_for_the_next_connection(self):
+    def test_what_was_started_is_done_for_the_next_connection(self) -> None:
         with self.join() as user:
             a, b = dimer(user), dimer(user, "b")
             self.assertEqual((a.start(2), b.start(10**6)), (2, 10**6))
@@ -69,13 +70,13 @@ class Connections(unittest.TestCase):
             self.assertEqual((a.target, b.target), (2, 10**6))
             self.assertEqual((a.place(0), b.target), ((1774, 0, 0), 10**6))
 
-    def test_thousands_of_commands_under_way(self):
+    def test_thousands_of_commands_under_way(self) -> None:
         with self.join() as user:
             dimer(user)
             replies = user.ask_all(f"SHOW a {number % 2}" for number in range(20_000))
             self.assertEqual({reply.words[4] for reply in replies[1::2]}, {"25165824"})
 
-    def test_a_connection_that_has_had_its_commands_is_followed_by_another(self):
+    def test_a_connection_that_has_had_its_commands_is_followed_by_another(self) -> None:
         with mock.patch.object(users, "MAX_ITEMS", 100), self.join() as user:
             a = dimer(user)
             before = user._wire
@@ -84,7 +85,7 @@ class Connections(unittest.TestCase):
             self.assertIsNot(user._wire, before)
             self.assertTrue(before.closed)
 
-    def test_a_server_that_is_killed(self):
+    def test_a_server_that_is_killed(self) -> None:
         with self.join() as user:
             a = dimer(user)
             threading.Timer(0.3, self.server.child.kill).start()
@@ -96,7 +97,7 @@ class Connections(unittest.TestCase):
         with self.assertRaises(ConnectionLost):
             self.join()
 
-    def test_a_server_that_stops(self):
+    def test_a_server_that_stops(self) -> None:
         with self.join() as user:
             a = dimer(user)
             user._wire.timeout = 0.5
@@ -105,7 +106,7 @@ class Connections(unittest.TestCase):
         with self.join() as user:
             self.assertEqual(user.session("a").step, 0)
 
-    def test_a_refusal_that_ends_the_connection(self):
+    def test_a_refusal_that_ends_the_connection(self) -> None:
         with self.join() as user:
             dimer(user)
             with self.assertRaises(refusals.Long):
@@ -114,7 +115,7 @@ class Connections(unittest.TestCase):
         with self.join() as user:
             self.assertEqual(len(user.sessions()), 1)
 
-    def test_leaving_while_a_command_runs(self):
+    def test_leaving_while_a_command_runs(self) -> None:
         user = self.join()
         argon = user.load("argon", EXAMPLES / "argon_256.xyz", edge=21.04, sigma=3.4, h=131072, watch=False)
         user._wire.timeout = 0.3
@@ -128,24 +129,24 @@ class Connections(unittest.TestCase):
 
 
 class FullServers(unittest.TestCase):
-    def test_no_place_for_more(self):
+    def test_no_place_for_more(self) -> None:
         with Server(connections=70) as server, contextlib.ExitStack() as idle:
             for _ in range(64):
                 idle.enter_context(socket.create_connection(("127.0.0.1", server.port), SECONDS))
             with self.assertRaisesRegex(ConnectionLost, "no place for more connections"):
                 connect("127.0.0.1", server.port, "ann", TOKEN, timeout=SECONDS)
 
-    def test_the_last_connection_was_accepted(self):
+    def test_the_last_connection_was_accepted(self) -> None:
         with Server(connections=2) as server, connect("127.0.0.1", server.port, "ann", TOKEN) as user:
             with self.assertRaisesRegex(TimedOut, "all --connections of the server used up"):
                 connect("127.0.0.1", server.port, "ann", TOKEN, timeout=1)
             self.assertEqual(user.sessions(), [])
 
-    def test_a_server_that_ends_while_a_connection_waits(self):
+    def test_a_server_that_ends_while_a_connection_waits(self) -> None:
         with Server(connections=2) as server, connect("127.0.0.1", server.port, "ann", TOKEN) as user:
             connected, create = threading.Event(), socket.create_connection
 
-            def opened(*words):
+            def opened(*words: Any) -> Any:
                 stream = create(*words)
                 connected.set()
                 return stream

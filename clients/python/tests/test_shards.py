@@ -1,11 +1,13 @@
 """`tools/shards` spreads users over servers, and writes what these and HAProxy need."""
 import hashlib
+import pathlib
 import re
 import shutil
 import ssl
 import stat
 import subprocess
 import sys
+from typing import Any, Dict, Tuple
 
 import pytest
 
@@ -14,21 +16,21 @@ from support import SECONDS, TOKEN, TOP
 SHARDS = [sys.executable, str(TOP / "tools" / "shards")]
 
 
-def told(folder, *words):
+def told(folder: Any, *words: Any) -> Tuple[Any, Any, Any]:
     """The status of `shards` in a folder, and what it writes."""
     done = subprocess.run([*SHARDS, *map(str, words)], cwd=folder, capture_output=True, text=True, timeout=SECONDS)
     return done.returncode, done.stdout, done.stderr
 
 
-def token(number):
+def token(number: Any) -> str:
     return f"{number:032}"
 
 
 @pytest.fixture
-def users(tmp_path):
+def users(tmp_path: pathlib.Path) -> Any:
     """Writes a file of so many users, and returns its path."""
 
-    def write(count, first=0):
+    def write(count: Any, first: int = 0) -> Any:
         lines = [f"user{number} {token(number)} 8 16384 16\n" for number in range(first, first + count)]
         (tmp_path / "users").write_text("# secret\n\n" + "".join(lines))
         return tmp_path / "users"
@@ -36,14 +38,14 @@ def users(tmp_path):
     return write
 
 
-def spread(folder):
+def spread(folder: Any) -> Dict[Any, Any]:
     """The names of the users of each server, by its number."""
     found = {path: re.fullmatch(r"users(\d+)", path.name) for path in (folder / "shards").iterdir()}
     files = {int(number[1]): path for path, number in found.items() if number}
     return {number: [line.split()[0] for line in files[number].read_text().splitlines()] for number in sorted(files)}
 
 
-def test_each_user_is_at_one_server(users, tmp_path):
+def test_each_user_is_at_one_server(users: Any, tmp_path: pathlib.Path) -> None:
     status, out, error = told(tmp_path, users(130), 3)
     assert (status, error) == (0, "")
     sizes = {1: 44, 2: 43, 3: 43}
@@ -54,11 +56,11 @@ def test_each_user_is_at_one_server(users, tmp_path):
     assert [line in (tmp_path / "shards" / f"users{number}").read_text().splitlines() for number in (1, 2, 3)].count(True) == 1
 
 
-def test_users_of_several_servers_who_come_by_tls(tmp_path):
+def test_users_of_several_servers_who_come_by_tls(tmp_path: pathlib.Path) -> None:
     """tools/users makes as many as several servers take, with slips of the way through HAProxy."""
     by = [sys.executable, str(TOP / "tools" / "users"), "130", "--server", "class.example:4443", "--out", "users", "--slips", "slips"]
 
-    def made(*words):
+    def made(*words: Any) -> Tuple[Any, Any]:
         done = subprocess.run([*by, *words], cwd=tmp_path, capture_output=True, text=True, timeout=SECONDS)
         return done.returncode, done.stderr.splitlines()[-1:]
 
@@ -75,7 +77,7 @@ def test_users_of_several_servers_who_come_by_tls(tmp_path):
     assert sorted(map(len, spread(tmp_path).values())) == [43, 43, 44]
 
 
-def test_the_map_has_hashes_and_no_token(users, tmp_path):
+def test_the_map_has_hashes_and_no_token(users: Any, tmp_path: pathlib.Path) -> None:
     told(tmp_path, users(5), 2)
     folder = tmp_path / "shards"
     rows = dict(line.split() for line in (folder / "users.map").read_text().splitlines())
@@ -90,7 +92,7 @@ def test_the_map_has_hashes_and_no_token(users, tmp_path):
     assert stat.S_IMODE(folder.stat().st_mode) == 0o700
 
 
-def test_the_words_of_a_server(users, tmp_path):
+def test_the_words_of_a_server(users: Any, tmp_path: pathlib.Path) -> None:
     told(tmp_path, users(5), 2, "--host", "10.0.0.5", "--port", 5000, "--workers", 4)
     folder = tmp_path / "shards"
     words = dict(line.split("=") for line in (folder / "server2.env").read_text().splitlines())
@@ -98,7 +100,7 @@ def test_the_words_of_a_server(users, tmp_path):
     assert "    server server2 10.0.0.5:5001 maxconn 62 check\n" in (folder / "servers.cfg").read_text()
 
 
-def test_who_has_a_server_stays_there(users, tmp_path):
+def test_who_has_a_server_stays_there(users: Any, tmp_path: pathlib.Path) -> None:
     told(tmp_path, users(6), 2)
     before = spread(tmp_path)
     status, out, _ = told(tmp_path, users(9, first=1), 3)
@@ -110,7 +112,7 @@ def test_who_has_a_server_stays_there(users, tmp_path):
     assert sorted(map(len, after.values())) == [3, 3, 3]
 
 
-def test_who_moves_is_told_and_how(users, tmp_path):
+def test_who_moves_is_told_and_how(users: Any, tmp_path: pathlib.Path) -> None:
     path = users(6)
     told(tmp_path, path, 3)
     name = spread(tmp_path)[1][0]
@@ -120,7 +122,7 @@ def test_who_moves_is_told_and_how(users, tmp_path):
     assert name in spread(tmp_path)[2]
 
 
-def test_a_server_that_is_no_more(users, tmp_path):
+def test_a_server_that_is_no_more(users: Any, tmp_path: pathlib.Path) -> None:
     path = users(6)
     told(tmp_path, path, 3)
     gone = spread(tmp_path)[3]
@@ -138,7 +140,7 @@ def test_a_server_that_is_no_more(users, tmp_path):
         (66, 2, ["--move", *(f"user{number}=1" for number in range(65))], "server 1 would have 65 users, and a server has at most 64"),
     ],
 )
-def test_no_room_changes_nothing(users, tmp_path, count, servers, words, cause):
+def test_no_room_changes_nothing(users: Any, tmp_path: pathlib.Path, count: Any, servers: Any, words: Any, cause: Any) -> None:
     told(tmp_path, users(4), 2)
     before = {path.name: path.read_text() for path in (tmp_path / "shards").iterdir()}
     assert told(tmp_path, users(count), servers, *words) == (1, "", f"shards: {cause}\n")
@@ -153,7 +155,7 @@ def test_no_room_changes_nothing(users, tmp_path, count, servers, words, cause):
         ("# none\n", "there is no user"),
     ],
 )
-def test_a_file_that_is_none_of_users(tmp_path, text, cause):
+def test_a_file_that_is_none_of_users(tmp_path: pathlib.Path, text: Any, cause: Any) -> None:
     (tmp_path / "users").write_text(text)
     status, out, error = told(tmp_path, "users", 2)
     assert (status, out, error) == (1, "", f"shards: users: {cause}\n")
@@ -175,18 +177,18 @@ def test_a_file_that_is_none_of_users(tmp_path, text, cause):
         ["--certificate", "a b"],
     ],
 )
-def test_words_that_are_none(tmp_path, words):
+def test_words_that_are_none(tmp_path: pathlib.Path, words: Any) -> None:
     status, out, error = told(tmp_path, *words)
     assert (status, out, error.count("\n")) == (2, "", 1) and error.startswith("shards: ")
 
 
-def test_help():
+def test_help() -> None:
     status, out, error = told(TOP, "--help")
     assert (status, error) == (0, "") and "usage: shards USERS COUNT" in out
 
 
 @pytest.mark.skipif(shutil.which("openssl") is None, reason="openssl is not installed")
-def test_a_certificate_of_a_class(tmp_path):
+def test_a_certificate_of_a_class(tmp_path: pathlib.Path) -> None:
     """It is taken by who trusts it, for the names that it has."""
     status, out, error = told(tmp_path, "--certificate", "class.example", "192.0.2.10")
     assert (status, error) == (0, "") and out == "shards/class.pem is for HAProxy, and shards/class.crt for those who connect\n"

@@ -4,6 +4,7 @@ What is expected comes from the other calls of a session that goes the same way,
 """
 import warnings
 from unittest import mock
+from typing import Any, Iterator, List
 
 import pytest
 
@@ -16,16 +17,16 @@ FAST = RING // 5
 
 
 @pytest.fixture(name="user")
-def user_of_a_program():
+def user_of_a_program() -> Iterator[Any]:
     with run(PROGRAM) as user:
         yield user
 
 
-def argon(user, name):
+def argon(user: Any, name: Any) -> Any:
     return user.load(name, EXAMPLES / "argon_256.xyz", edge=21.04, dt=2, **units.ARGON)
 
 
-def loose(user, name="loose"):
+def loose(user: Any, name: str = "loose") -> Any:
     """Two atoms out of reach of each other, of which one moves round the box by 1/5 of the edge in a step, and one the other
     way by 1/100."""
     session = user.load(name, [("Ar", 250, 0, 0), ("Ar", 10, 100, 100)], edge=EDGE, sigma=1, h=131072)
@@ -34,12 +35,12 @@ def loose(user, name="loose"):
     return session
 
 
-def rows(frame):
+def rows(frame: Any) -> List[Any]:
     return [tuple(map(float, row)) for row in frame]
 
 
 @pytest.mark.parametrize("kind", KINDS)
-def test_a_frame_has_what_the_session_tells(user, kind):
+def test_a_frame_has_what_the_session_tells(user: Any, kind: Any) -> None:
     a, twin = argon(user, "a"), argon(user, "twin")
     with mock.patch.object(arrays, "numpy", kind):
         told = list(a.frames(every=3, n=4))
@@ -58,7 +59,7 @@ def test_a_frame_has_what_the_session_tells(user, kind):
     assert a.step == twin.step == 9
 
 
-def test_frames_of_a_list_of_steps(user):
+def test_frames_of_a_list_of_steps(user: Any) -> None:
     a = dimer(user)
     a.advance(1)
     assert [frame.step for frame in a.frames([0, 1, 2, 4, 8, 16])] == [1, 2, 3, 5, 9, 17]
@@ -69,7 +70,7 @@ def test_frames_of_a_list_of_steps(user):
     assert [frame.step for frame in a.frames(every=50, n=3)] == [119, 69, 19]
 
 
-def test_the_session_stands_at_the_frame(user):
+def test_the_session_stands_at_the_frame(user: Any) -> None:
     a = dimer(user)
     for frame in a.frames(every=2, n=5):
         assert (a.step, listed(a.places())) == (frame.step, listed(frame.places))
@@ -79,7 +80,7 @@ def test_the_session_stands_at_the_frame(user):
     assert a.advance(1) == 5
 
 
-def test_how_far_it_is(user):
+def test_how_far_it_is(user: Any) -> None:
     told = []
     list(dimer(user).frames([0, 2, 3], progress=lambda *numbers: told.append(numbers)))
     assert told == [(0, 3), (2, 3), (2, 3), (3, 3)]
@@ -97,7 +98,7 @@ def test_how_far_it_is(user):
         ((1, 0), "n is 1 at least"),
     ],
 )
-def test_what_is_no_list_of_steps(user, words, text):
+def test_what_is_no_list_of_steps(user: Any, words: Any, text: Any) -> None:
     a = dimer(user)
     with pytest.raises(ValueError, match=text):
         a.frames(*words)
@@ -107,7 +108,7 @@ def test_what_is_no_list_of_steps(user, words, text):
 
 
 @pytest.mark.parametrize("kind", KINDS)
-def test_atoms_are_followed_round_the_box(user, kind):
+def test_atoms_are_followed_round_the_box(user: Any, kind: Any) -> None:
     with mock.patch.object(arrays, "numpy", kind), warnings.catch_warnings():
         warnings.simplefilter("error")
         a = loose(user)
@@ -127,7 +128,7 @@ def test_atoms_are_followed_round_the_box(user, kind):
 
 
 @pytest.mark.parametrize("kind", KINDS)
-def test_displacements_from_call_to_call(user, kind):
+def test_displacements_from_call_to_call(user: Any, kind: Any) -> None:
     with mock.patch.object(arrays, "numpy", kind):
         a = loose(user)
         assert rows(a.displacements()) == [(0, 0, 0), (0, 0, 0)]
@@ -144,7 +145,7 @@ def test_displacements_from_call_to_call(user, kind):
 
 
 @pytest.mark.parametrize("kind", KINDS)
-def test_an_atom_that_moves_too_far_is_a_warning(user, kind):
+def test_an_atom_that_moves_too_far_is_a_warning(user: Any, kind: Any) -> None:
     with mock.patch.object(arrays, "numpy", kind):
         a = loose(user)
         a.displacements()
@@ -157,12 +158,12 @@ def test_an_atom_that_moves_too_far_is_a_warning(user, kind):
                 a.sample(every=2, frames=2, exact=exact, unwrap=True)
 
 
-def test_frames_of_a_sample_that_is_broken_off_are_followed_too(user):
+def test_frames_of_a_sample_that_is_broken_off_are_followed_too(user: Any) -> None:
     a = loose(user)
     start = listed(a.places())[0][0]
     advance, calls = a.advance, []
 
-    def breaks(*words):
+    def breaks(*words: Any) -> Any:
         calls.append(words)
         if len(calls) == 3:
             raise KeyboardInterrupt

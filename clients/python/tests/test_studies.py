@@ -2,33 +2,35 @@
 back, a server that ends on the way, and a notebook."""
 import json
 import os
+import pathlib
 import re
 import subprocess
 import sys
+from typing import Any, Dict
 
 import pytest
 
 from ljclient import connect, run, units
-from support import EXAMPLES, PROGRAM, TOKEN, Server, listed
+from support import EXAMPLES, PROGRAM, TOKEN, Server, listed, present
 
 STEPS = int(os.environ.get("LJ_STEPS", "3000"))  # a million takes some minutes
 
 
-def told(*words):
+def told(*words: Any) -> Any:
     """What an example prints."""
-    environment = {**os.environ, "LJSERVE": PROGRAM, "PYTHONDONTWRITEBYTECODE": "1", "MPLBACKEND": "Agg"}
+    environment: Dict[str, Any] = {**os.environ, "LJSERVE": PROGRAM, "PYTHONDONTWRITEBYTECODE": "1", "MPLBACKEND": "Agg"}
     command = [sys.executable, "-W", "ignore", *words]
     done = subprocess.run(command, cwd=EXAMPLES, env=environment, capture_output=True, text=True, timeout=600)
     assert done.returncode == 0, done
     return done.stdout
 
 
-def needs(*modules):
+def needs(*modules: Any) -> None:
     for module in modules:
         pytest.importorskip(module, reason=f"{module} is not installed")
 
 
-def test_liquid_argon_by_mdanalysis(tmp_path):
+def test_liquid_argon_by_mdanalysis(tmp_path: pathlib.Path) -> None:
     """Rahman has the first maximum at 3.7 angstrom, and a diffusion of 2.43; LAMMPS has a maximum of 2.8."""
     needs("ase", "MDAnalysis", "matplotlib")
     text = told("argon.py", "--steps", "5000", "--plot", str(tmp_path / "x.png"))
@@ -38,21 +40,21 @@ def test_liquid_argon_by_mdanalysis(tmp_path):
     assert (tmp_path / "x.png").read_bytes()[:4] == b"\x89PNG"
 
 
-def test_the_study_of_argon_is_short():
+def test_the_study_of_argon_is_short() -> None:
     assert len((EXAMPLES / "argon.py").read_text().splitlines()) <= 40
 
 
-def test_kob_and_andersen_by_ase():
+def test_kob_and_andersen_by_ase() -> None:
     """After so few steps the lattice has melted, and the liquid has not quite come to rest."""
     needs("ase")
     text = told("kob_andersen.py", "--steps", "1000")
-    energy, by_lammps = map(float, re.search(r"(-[0-9.]+), by LAMMPS (-[0-9.]+)", text).groups())
+    energy, by_lammps = map(float, present(re.search(r"(-[0-9.]+), by LAMMPS (-[0-9.]+)", text)).groups())
     assert abs(energy - by_lammps) < 0.6, text
     for highest, by_lammps in re.findall(r"maximum ([0-9.]+), by LAMMPS ([0-9.]+)", text)[:2]:
         assert abs(float(highest) - float(by_lammps)) < 0.5, text
 
 
-def test_a_long_way_and_back():
+def test_a_long_way_and_back() -> None:
     """The atoms are sorted anew on the way and back, and come to their places to the bit."""
     with run(PROGRAM) as user:
         argon = user.load("argon", EXAMPLES / "argon_256.xyz", edge=21.04, dt=2, order="space", **units.ARGON)
@@ -64,9 +66,10 @@ def test_a_long_way_and_back():
         assert (listed(argon.places()), argon.measure(), argon.step) == (start, energy, 0)
 
 
-def test_a_server_that_ends_on_the_way(tmp_path):
+def test_a_server_that_ends_on_the_way(tmp_path: pathlib.Path) -> None:
     """What was saved goes on at another server as it would have gone on at the first."""
-    path, words = tmp_path / "argon.saved", {"edge": 21.04, "dt": 2, **units.ARGON}
+    path = tmp_path / "argon.saved"
+    words: Dict[str, Any] = {"edge": 21.04, "dt": 2, **units.ARGON}
     with run(PROGRAM) as user:
         alone = user.load("argon", EXAMPLES / "argon_256.xyz", **words)
         alone.advance(600)
@@ -74,7 +77,7 @@ def test_a_server_that_ends_on_the_way(tmp_path):
     with Server() as first, connect("127.0.0.1", first.port, "ann", TOKEN) as user:
         argon = user.load("argon", EXAMPLES / "argon_256.xyz", **words)
 
-        def end(done, total):
+        def end(done: Any, total: Any) -> None:
             if done >= 300:
                 first.end()
 
@@ -87,7 +90,7 @@ def test_a_server_that_ends_on_the_way(tmp_path):
         assert listed(argon.places()) == wanted
 
 
-def test_the_notebook_runs():
+def test_the_notebook_runs() -> None:
     needs("matplotlib")
     cells = json.loads((EXAMPLES / "ljserve.ipynb").read_text())["cells"]
     lines = [line for cell in cells if cell["cell_type"] == "code" for line in [*cell["source"], "\n"]]

@@ -1,4 +1,6 @@
 """Substances, the edge of a box by its density, and energies in electronvolt."""
+from typing import Any, Dict, List
+
 import pytest
 
 from ljclient import Mixture, ThermoInElectronvolt, run, units
@@ -9,7 +11,7 @@ BOYLE = {"NEON": 122.1, "ARGON": 411.5, "KRYPTON": 575, "XENON": 768}
 
 
 @pytest.mark.parametrize("name", BOYLE)
-def test_a_substance_is_that_of_its_gas(name):
+def test_a_substance_is_that_of_its_gas(name: Any) -> None:
     substance = getattr(units, name)
     assert 3.418 * substance["epsilon"] / units.kelvin == pytest.approx(BOYLE[name], rel=0.03)
     with run(PROGRAM) as user:
@@ -18,9 +20,9 @@ def test_a_substance_is_that_of_its_gas(name):
         assert (a.scale.sigma, a.scale.mass) == (substance["sigma"], substance["mass"])
 
 
-def test_kob_and_andersen():
+def test_kob_and_andersen() -> None:
     dt = units.time_unit(1, 1, 1) / 1024
-    pairs = {"first": (1.0, 1.0), "mixed": (0.8, 1.5), "second": (0.88, 0.5)}
+    pairs: Dict[str, Any] = {"first": (1.0, 1.0), "mixed": (0.8, 1.5), "second": (0.88, 0.5)}
     wanted = Mixture.of(9.4, ("A", "B"), mass=1.0, dt=dt, **pairs)
     mixture = Mixture.of(9.4, **units.KOB_ANDERSEN)
     assert mixture == Mixture.of(9.4, ("A", "B"), classes=[(1, 4096, 256), (0.8, 9600, 384), (0.88, 2645, 128)])
@@ -32,7 +34,7 @@ def test_kob_and_andersen():
         assert mix.measure().potential_energy == pytest.approx(6 * ((8 / 9) ** 12 - (8 / 9) ** 6), abs=0.01)
 
 
-def test_the_edge_of_a_density():
+def test_the_edge_of_a_density() -> None:
     assert units.edge_of_density(1000, 1) == pytest.approx(10)
     assert units.edge_of_density(864, 0.8442, sigma=3.4) == pytest.approx(3.4 * (864 / 0.8442) ** (1 / 3))
     # 864 / 6.02214076e23 mol of 39.948 g, 1.374 g in a cubic centimetre, of 10^24 cubic angstrom.
@@ -45,14 +47,15 @@ def test_the_edge_of_a_density():
     ]:
         with pytest.raises(ValueError, match=text):
             units.edge_of_density(*words)
-    for words, text in [({"sigma": 0}, "sigma is"), ({"mass": -1}, "mass is"), ({"mass": 1, "sigma": 3.4}, "leave sigma= out")]:
+    named: List[Any] = [({"sigma": 0}, "sigma is"), ({"mass": -1}, "mass is"), ({"mass": 1, "sigma": 3.4}, "leave sigma= out")]
+    for said, text in named:
         with pytest.raises(ValueError, match=text):
-            units.edge_of_density(100, 1, **words)
+            units.edge_of_density(100, 1, **said)
     with pytest.raises(TypeError, match="a number of atoms is a whole number"):
-        units.edge_of_density(10.5, 1)
+        units.edge_of_density(10.5, 1)  # type: ignore[arg-type]
 
 
-def test_energies_in_electronvolt():
+def test_energies_in_electronvolt() -> None:
     with run(PROGRAM) as user:
         argon = user.load("argon", EXAMPLES / "argon_256.xyz", edge=21.04, dt=2, **units.ARGON)
         row = list(argon.thermo(every=1, rows=2))[1]

@@ -1,4 +1,7 @@
 """Symbols that name no element: what is written in their place, and what ASE is given."""
+import pathlib
+from typing import Any, Callable, Dict, Iterator, List
+
 import pytest
 
 from ljclient import run
@@ -18,29 +21,29 @@ ALL_NAMED = r"symbols=\{'A': 'Ar', 'B': \.\.\}"
 
 
 @pytest.fixture
-def user():
+def user() -> Iterator[Any]:
     with run(PROGRAM) as user:
         yield user
 
 
 @pytest.fixture
-def mix(user):
+def mix(user: Any) -> Any:
     return user.load_mix("mix", ATOMS, edge=256, species=("A", "B"), classes=(LIKE, LIKE, LIKE))
 
 
 @with_ase
-def test_ase_is_given_the_elements_that_are_said(mix):
+def test_ase_is_given_the_elements_that_are_said(mix: Any) -> None:
     assert mix.to_ase(symbols=NOBLE).get_chemical_symbols() == MEANT
 
 
 @with_ase
-def test_a_symbol_that_is_no_element_is_an_error_that_says_what_to_pass(mix):
+def test_a_symbol_that_is_no_element_is_an_error_that_says_what_to_pass(mix: Any) -> None:
     with pytest.raises(ValueError, match=f"ASE knows no element 'A'.*{ALL_NAMED}"):
         mix.to_ase()
 
 
 @with_ase
-def test_a_species_is_no_element_if_the_other_one_is_none(user):
+def test_a_species_is_no_element_if_the_other_one_is_none(user: Any) -> None:
     mix = user.load_mix("b", "1\nb\nB 0 0 0\n", edge=256, species=("A", "B"), classes=(LIKE, LIKE, LIKE))
     with pytest.raises(ValueError, match=f"ASE knows no element 'A'.*{ALL_NAMED}"):
         mix.to_ase()
@@ -48,15 +51,15 @@ def test_a_species_is_no_element_if_the_other_one_is_none(user):
 
 
 @with_ase
-def test_elements_stay_as_they_are(user):
-    words = {"edge": 256, "classes": (LIKE, LIKE, LIKE)}
+def test_elements_stay_as_they_are(user: Any) -> None:
+    words: Dict[str, Any] = {"edge": 256, "classes": (LIKE, LIKE, LIKE)}
     salt = user.load_mix("salt", "2\nsalt\nNa 0 0 0\nB 1.5 0 0\n", species=("Na", "B"), **words)
     assert salt.to_ase().get_chemical_symbols() == ["Na", "B"]
     assert salt.to_ase({"Na": "K", "B": "B"}).get_chemical_symbols() == ["K", "B"]
 
 
 @with_ase
-def test_what_is_said_is_whole_and_names_elements(mix):
+def test_what_is_said_is_whole_and_names_elements(mix: Any) -> None:
     for said, told in (
         ({"A": "Ar"}, f"nothing in place of 'B'.*{ALL_NAMED}"),
         ({}, f"nothing in place of 'B'.*{ALL_NAMED}"),
@@ -70,7 +73,7 @@ def test_what_is_said_is_whole_and_names_elements(mix):
 
 
 @with_ase
-def test_ase_reads_a_trajectory_with_elements(mix, tmp_path):
+def test_ase_reads_a_trajectory_with_elements(mix: Any, tmp_path: pathlib.Path) -> None:
     path = tmp_path / "way.xyz"
     mix.write_trajectory(path, every=2, frames=3, symbols=NOBLE)
     frames = ase.io.read(path, index=":")
@@ -79,22 +82,23 @@ def test_ase_reads_a_trajectory_with_elements(mix, tmp_path):
     assert frames[0].positions.tolist() == [[0, 0, 0], [1.5, 0, 0], [3, 0, 0]]
 
 
-def test_a_trajectory_has_the_symbols_of_the_session_if_none_are_said(mix, tmp_path):
+def test_a_trajectory_has_the_symbols_of_the_session_if_none_are_said(mix: Any, tmp_path: pathlib.Path) -> None:
     path = tmp_path / "way.xyz"
     mix.write_trajectory(path, every=1, frames=1)
     assert [line.split(" ")[0] for line in path.read_text().splitlines()[2:]] == ["B", "A", "A"]
 
 
-def test_symbols_that_are_not_whole_leave_file_and_session_as_they_were(mix, tmp_path):
+def test_symbols_that_are_not_whole_leave_file_and_session_as_they_were(mix: Any, tmp_path: pathlib.Path) -> None:
     path = tmp_path / "way.xyz"
     path.write_text("of before")
-    for write in (lambda: mix.write_trajectory(path, 1, 3, symbols={"B": "Kr"}), lambda: mix.write(path, {"B": "Kr"})):
+    ways: List[Callable[[], object]] = [lambda: mix.write_trajectory(path, 1, 3, symbols={"B": "Kr"}), lambda: mix.write(path, {"B": "Kr"})]
+    for write in ways:
         with pytest.raises(ValueError, match="nothing in place of 'A'"):
             write()
     assert (path.read_text(), mix.step) == ("of before", 0)
 
 
-def test_a_dump_has_the_symbols_that_are_said(mix, tmp_path):
+def test_a_dump_has_the_symbols_that_are_said(mix: Any, tmp_path: pathlib.Path) -> None:
     rows = ["Kr 0.000000 0.000000 0.000000", "Ar 1.500000 0.000000 0.000000", "Ar 3.000000 0.000000 0.000000"]
     text = "\n".join(["3", "step 0", *rows, ""])
     assert mix.dump(NOBLE) == text
@@ -103,9 +107,9 @@ def test_a_dump_has_the_symbols_that_are_said(mix, tmp_path):
 
 
 @with_ase
-def test_a_session_in_the_order_of_space(user):
+def test_a_session_in_the_order_of_space(user: Any) -> None:
     rows = [(symbol, at % 5, at // 5 % 5, at // 25) for at, symbol in enumerate("AABAB" * 25)]
-    words = {"edge": 8, "species": ("A", "B"), "classes": (LIKE, LIKE, LIKE), "order": "space"}
+    words: Dict[str, Any] = {"edge": 8, "species": ("A", "B"), "classes": (LIKE, LIKE, LIKE), "order": "space"}
     mix = user.load_mix("s", rows, **words)
     assert mix.to_ase(NOBLE).get_chemical_symbols() == [NOBLE[row[0]] for row in rows]
     assert [line.split(" ")[0] for line in mix.dump(NOBLE).splitlines()[2:]] == [NOBLE[row[0]] for row in rows]

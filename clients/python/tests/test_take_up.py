@@ -2,16 +2,18 @@
 
 What is expected comes from the places that SHOW tells, by fractions: `place * edge / 2^32`, rounded down to six decimals.
 """
+import pathlib
 import warnings
 from fractions import Fraction
 from unittest import mock
+from typing import Any, Dict, Iterator, List
 
 import pytest
 
 from ljclient import BadReply, Order, arrays, connect, refusals
 from support import DIMER, DIMER_SCALE, EXAMPLES, RING, SECONDS, TOKEN, Server, dimer, listed, peer, says
 
-SCALE = {"edge": 21.04, "sigma": 3.4, "h": 131072}
+SCALE: Dict[str, Any] = {"edge": 21.04, "sigma": 3.4, "h": 131072}
 RING_EDGE = "4294.967296"
 KINDS = [arrays.numpy, None] if arrays.numpy else [None]
 # One atom that moves by a million ring units a step, from 0: loaded by ask, in the box that shows each ring unit or in another.
@@ -19,34 +21,34 @@ MOVING = "1\nbefore\nAr {before} 0 0\n1\nnow\nAr 0 0 0\n"
 
 
 @pytest.fixture
-def join():
+def join() -> Iterator[Any]:
     """Makes connections of one user to a server, one after the other."""
     with Server() as server:
         yield lambda: connect("127.0.0.1", server.port, "ann", TOKEN)
 
 
 @pytest.fixture
-def no_warnings():
+def no_warnings() -> Iterator[Any]:
     with warnings.catch_warnings():
         warnings.simplefilter("error")
         yield
 
 
-def argon(user, **words):
+def argon(user: Any, **words: Any) -> Any:
     return user.load("a", EXAMPLES / "argon_256.xyz", **{**SCALE, **words})
 
 
-def in_space(user, folder):
+def in_space(user: Any, folder: Any) -> None:
     argon(user, order="space").advance(300)
 
 
-def sorted_anew(user, folder):
+def sorted_anew(user: Any, folder: Any) -> None:
     session = argon(user)
     session.advance(300)
     session.resort()
 
 
-def from_a_file(user, folder):
+def from_a_file(user: Any, folder: Any) -> None:
     session = argon(user)
     session.advance(300)
     session.save(folder / "saved")
@@ -56,23 +58,23 @@ def from_a_file(user, folder):
 WAYS = [in_space, sorted_anew, from_a_file]
 
 
-def shown(user, count=256):
+def shown(user: Any, count: int = 256) -> List[Any]:
     """The places of the atoms in the server's order, by the protocol."""
     return [tuple(map(int, user.ask(f"SHOW a {atom}").words[4:])) for atom in range(count)]
 
 
-def in_box(places, edge):
+def in_box(places: Any, edge: Any) -> List[Any]:
     """The millionths of the coordinates in a box of this edge."""
     return [tuple(int(Fraction(str(edge)) * part * 10**6 / RING) for part in place) for place in places]
 
 
-def millionths(rows):
+def millionths(rows: Any) -> List[Any]:
     """The millionths of positions, or of the last three words of each line of atoms."""
     rows = [row.split()[1:4] if isinstance(row, str) else row for row in rows]
     return [tuple(round(float(part) * 10**6) for part in row) for row in rows]
 
 
-def seen(session, folder):
+def seen(session: Any, folder: Any) -> List[Any]:
     """The millionths that a dump, a sample and a trajectory tell."""
     session.write_trajectory(folder / "way.xyz", every=1, frames=1)
     texts = session.dump(), (folder / "way.xyz").read_text()
@@ -81,20 +83,20 @@ def seen(session, folder):
 
 
 @pytest.mark.parametrize("way", WAYS)
-def test_frames_are_in_the_box_that_is_said(join, tmp_path, way):
+def test_frames_are_in_the_box_that_is_said(join: Any, tmp_path: pathlib.Path, way: Any) -> None:
     with join() as user:
         way(user, tmp_path)
     with join() as user:
         with pytest.warns(UserWarning, match="a is in a box whose edge is 4294.967296 at the server"):
             session = user.session("a", **SCALE)
         places = shown(user)
-        assert max(map(max, places)) > RING // 2
+        assert max(max(place) for place in places) > RING // 2
         assert seen(session, tmp_path) == [in_box(places, 21.04)] * 3
         assert listed(session.places()) == places
         assert [list(each) for each in session.positions()] == [[part * 21.04 / RING for part in each] for each in places]
 
 
-def test_atoms_of_ase(join, tmp_path):
+def test_atoms_of_ase(join: Any, tmp_path: pathlib.Path) -> None:
     pytest.importorskip("ase")
     with join() as user:
         in_space(user, tmp_path)
@@ -105,7 +107,7 @@ def test_atoms_of_ase(join, tmp_path):
 
 
 @pytest.mark.parametrize("way", WAYS)
-def test_an_order_hands_on_atoms_and_steps(join, tmp_path, no_warnings, way):
+def test_an_order_hands_on_atoms_and_steps(join: Any, tmp_path: pathlib.Path, no_warnings: Any, way: Any) -> None:
     with join() as user:
         way(user, tmp_path)
         session = user.session("a")
@@ -117,7 +119,7 @@ def test_an_order_hands_on_atoms_and_steps(join, tmp_path, no_warnings, way):
         assert session.sample(every=5, frames=2).steps == [300, 305]
 
 
-def test_a_step_alone_is_handed_on(join, tmp_path, no_warnings):
+def test_a_step_alone_is_handed_on(join: Any, tmp_path: pathlib.Path, no_warnings: Any) -> None:
     with join() as user:
         from_a_file(user, tmp_path)
         wanted = user.session("a").dump()
@@ -126,7 +128,7 @@ def test_a_step_alone_is_handed_on(join, tmp_path, no_warnings):
         assert (session.step, session.dump()) == (300, wanted)
 
 
-def test_a_list_of_numbers_says_no_steps(join, tmp_path):
+def test_a_list_of_numbers_says_no_steps(join: Any, tmp_path: pathlib.Path) -> None:
     with join() as user:
         in_space(user, tmp_path)
         session = user.session("a")
@@ -138,7 +140,7 @@ def test_a_list_of_numbers_says_no_steps(join, tmp_path):
         assert user.session("a", order=numbers).dump().splitlines()[2:] == rows
 
 
-def test_it_is_told_once(join, tmp_path, no_warnings):
+def test_it_is_told_once(join: Any, tmp_path: pathlib.Path, no_warnings: Any) -> None:
     with join() as user:
         in_space(user, tmp_path)
     with join() as user:
@@ -150,7 +152,7 @@ def test_it_is_told_once(join, tmp_path, no_warnings):
         assert user._wire.asked == asked + 1
 
 
-def test_a_warning_that_is_an_error_changes_nothing(join, tmp_path):
+def test_a_warning_that_is_an_error_changes_nothing(join: Any, tmp_path: pathlib.Path) -> None:
     with join() as user:
         in_space(user, tmp_path)
     with join() as user:
@@ -163,7 +165,7 @@ def test_a_warning_that_is_an_error_changes_nothing(join, tmp_path):
 
 
 @pytest.mark.parametrize("kind", KINDS)
-def test_sessions_in_a_box_of_the_user(join, tmp_path, no_warnings, kind):
+def test_sessions_in_a_box_of_the_user(join: Any, tmp_path: pathlib.Path, no_warnings: Any, kind: Any) -> None:
     with mock.patch.object(arrays, "numpy", kind):
         with join() as user:
             argon(user).advance(50)
@@ -174,7 +176,7 @@ def test_sessions_in_a_box_of_the_user(join, tmp_path, no_warnings, kind):
 
 
 @pytest.mark.parametrize("kind", KINDS)
-def test_lists_without_numpy(join, tmp_path, kind):
+def test_lists_without_numpy(join: Any, tmp_path: pathlib.Path, kind: Any) -> None:
     with mock.patch.object(arrays, "numpy", kind):
         with join() as user:
             sorted_anew(user, tmp_path)
@@ -182,7 +184,7 @@ def test_lists_without_numpy(join, tmp_path, kind):
             assert seen(user.session("a", **SCALE), tmp_path) == [in_box(shown(user), 21.04)] * 3
 
 
-def test_an_edge_that_is_not_that_of_the_load(join):
+def test_an_edge_that_is_not_that_of_the_load(join: Any) -> None:
     with join() as user:
         argon(user)
     with join() as user:
@@ -195,7 +197,7 @@ def test_an_edge_that_is_not_that_of_the_load(join):
             assert user.session("a", **{**SCALE, "edge": right}).edge == 21.04
 
 
-def test_what_is_no_edge(join):
+def test_what_is_no_edge(join: Any) -> None:
     with join() as user:
         argon(user)
         for wrong in (0, -21.04, "x", "nan", "inf"):
@@ -203,7 +205,7 @@ def test_what_is_no_edge(join):
                 user.session("a", **{**SCALE, "edge": wrong})
 
 
-def test_an_edge_as_near_as_it_can_be_told(join):
+def test_an_edge_as_near_as_it_can_be_told(join: Any) -> None:
     # 36 millionths of an edge of 256 are 603.98 ring units. Those who know the two know one digit of the edge: 255.. or 262..
     body = b"1\nnear 0\nAr 36e-6 0 0\n"
     with join() as user:
@@ -213,7 +215,7 @@ def test_an_edge_as_near_as_it_can_be_told(join):
         user.session("a", **DIMER_SCALE)
 
 
-def test_a_session_that_is_not_there(join):
+def test_a_session_that_is_not_there(join: Any) -> None:
     with join() as user:
         dimer(user, "b")
         asked = user._wire.asked
@@ -223,7 +225,7 @@ def test_a_session_that_is_not_there(join):
         assert user._wire.asked == asked + 4
 
 
-def test_what_it_asks(join, tmp_path):
+def test_what_it_asks(join: Any, tmp_path: pathlib.Path) -> None:
     with join() as user:
         in_space(user, tmp_path)
         for words in ({}, SCALE):
@@ -239,7 +241,7 @@ def test_what_it_asks(join, tmp_path):
             assert user._wire.asked == asked + count
 
 
-def test_without_an_edge_a_frame_is_that_of_the_server(join, tmp_path):
+def test_without_an_edge_a_frame_is_that_of_the_server(join: Any, tmp_path: pathlib.Path) -> None:
     with join() as user:
         in_space(user, tmp_path)
     with join() as user:
@@ -247,7 +249,7 @@ def test_without_an_edge_a_frame_is_that_of_the_server(join, tmp_path):
         assert millionths(session.dump().splitlines()[2:]) == shown(user) == listed(session.places())
 
 
-def test_steps_that_are_owed(join, tmp_path):
+def test_steps_that_are_owed(join: Any, tmp_path: pathlib.Path) -> None:
     with join() as user:
         session = argon(user, order="space")
         session.start(2000)
@@ -257,19 +259,19 @@ def test_steps_that_are_owed(join, tmp_path):
         assert seen(session, tmp_path) == [in_box(shown(user), 21.04)] * 3
 
 
-def test_two_species(join, tmp_path):
+def test_two_species(join: Any, tmp_path: pathlib.Path) -> None:
     classes = [(3.4, 131072, 256), (3.5, 130000, 300), (3.6, 129000, 350)]
     with join() as user:
         positions = argon(user).positions()
         symbols = ["Ar", "Kr"] * 128
-        mix = {"species": ("Ar", "Kr"), "edge": 21.04, "classes": classes, "replace": True, "order": "space"}
+        mix: Dict[str, Any] = {"species": ("Ar", "Kr"), "edge": 21.04, "classes": classes, "replace": True, "order": "space"}
         user.load_mix("a", positions, symbols=symbols, **mix).advance(20)
     with join() as user, pytest.warns(UserWarning):
         assert seen(user.session("a", **SCALE), tmp_path) == [in_box(shown(user), 21.04)] * 3
 
 
 @pytest.mark.parametrize("edge, before", [(RING_EDGE, "-1"), ("21.04", "-0.0048987")])
-def test_an_atom_at_0_tells_nothing_until_it_moves(join, tmp_path, edge, before):
+def test_an_atom_at_0_tells_nothing_until_it_moves(join: Any, tmp_path: pathlib.Path, edge: Any, before: Any) -> None:
     body = MOVING.format(before=before).encode()
     with join() as user:
         user.ask(f"LOAD a {edge} 0.1 131072 pair {len(body)}", body)
@@ -291,7 +293,7 @@ def test_an_atom_at_0_tells_nothing_until_it_moves(join, tmp_path, edge, before)
         assert seen(session, tmp_path) == [in_box(shown(user, 1), 21.04)] * 3
 
 
-def test_an_order_of_an_atom_at_0(join, no_warnings):
+def test_an_order_of_an_atom_at_0(join: Any, no_warnings: Any) -> None:
     body = MOVING.format(before="-1").encode()
     with join() as user:
         user.ask(f"LOAD a {RING_EDGE} 0.1 131072 pair {len(body)}", body)
@@ -304,7 +306,7 @@ def test_an_order_of_an_atom_at_0(join, no_warnings):
 
 @pytest.mark.parametrize("edge, x", [(4294.97, 4000), (4294.97, 1.5), (4294.96, 1.5), (4294.967296, 1.5), (4294.967297, 4000)])
 @pytest.mark.parametrize("at_server", ["said", RING_EDGE])
-def test_an_edge_that_is_nearly_that_of_the_ring(join, tmp_path, edge, x, at_server):
+def test_an_edge_that_is_nearly_that_of_the_ring(join: Any, tmp_path: pathlib.Path, edge: Any, x: Any, at_server: Any) -> None:
     body = f"2\nnear\nAr 0 0 0\nAr {x} 0 0\n".encode()
     with join() as user:
         user.ask(f"LOAD a {edge if at_server == 'said' else at_server} 1 131072 rest {len(body)}", body)
@@ -315,7 +317,7 @@ def test_an_edge_that_is_nearly_that_of_the_ring(join, tmp_path, edge, x, at_ser
         assert listed(session.places()) == shown(user, 2)
 
 
-def test_what_was_saved_before_an_edge_was_said(join, tmp_path):
+def test_what_was_saved_before_an_edge_was_said(join: Any, tmp_path: pathlib.Path) -> None:
     with join() as user:
         in_space(user, tmp_path)
     with join() as user, pytest.warns(UserWarning):
@@ -328,7 +330,7 @@ def test_what_was_saved_before_an_edge_was_said(join, tmp_path):
         assert seen(session, tmp_path) == [in_box(shown(user), 21.04)] * 3
 
 
-def test_what_was_saved_before_an_order_was_said(join, tmp_path):
+def test_what_was_saved_before_an_order_was_said(join: Any, tmp_path: pathlib.Path) -> None:
     with join() as user:
         in_space(user, tmp_path)
         order, wanted = user.session("a").order, user.session("a").dump()
@@ -340,7 +342,7 @@ def test_what_was_saved_before_an_order_was_said(join, tmp_path):
         assert session.dump() == wanted
 
 
-def test_an_order_of_a_session_that_was_loaded_anew(join, tmp_path):
+def test_an_order_of_a_session_that_was_loaded_anew(join: Any, tmp_path: pathlib.Path) -> None:
     with join() as user:
         in_space(user, tmp_path)
         order = user.session("a").order
@@ -352,7 +354,7 @@ def test_an_order_of_a_session_that_was_loaded_anew(join, tmp_path):
         assert user.session("a", **SCALE).order == Order()
 
 
-def test_a_saved_file_of_a_session_that_was_taken_up(join, tmp_path):
+def test_a_saved_file_of_a_session_that_was_taken_up(join: Any, tmp_path: pathlib.Path) -> None:
     with join() as user:
         in_space(user, tmp_path)
         order, places = user.session("a").order, listed(user.session("a").places())
@@ -362,7 +364,7 @@ def test_a_saved_file_of_a_session_that_was_taken_up(join, tmp_path):
         assert (back.step, listed(back.places())) == (300, places)
 
 
-def test_a_peer_that_shows_another_place_than_it_dumps():
+def test_a_peer_that_shows_another_place_than_it_dumps() -> None:
     dumped = b"OK DUMP a 0 3\n1\nstep 0\nAr 5.000000 0.000000 0.000000\n"
     with peer(says(b"OK LIST a 0\n", dumped, b"OK SHOW a 0 0 0 0 0\n")) as port:
         with connect("127.0.0.1", port, "ann", TOKEN, timeout=SECONDS) as user:
@@ -371,7 +373,7 @@ def test_a_peer_that_shows_another_place_than_it_dumps():
             user._wire.close()
 
 
-def test_a_dimer_of_ask(join):
+def test_a_dimer_of_ask(join: Any) -> None:
     with join() as user:
         user.ask(f"LOAD a 256 1 131072 rest {len(DIMER)}", DIMER.encode())
         session = user.session("a", **DIMER_SCALE)

@@ -2,6 +2,7 @@
 import signal
 import threading
 import time
+from typing import Any
 
 import pytest
 
@@ -16,12 +17,12 @@ REPLY = f"OK DUMP a 7 {ATOMS + 2}\n".encode() + TEXT
 NOTHING = b"OK LIST 0\n"
 
 
-def joined(port):
+def joined(port: Any) -> Any:
     return connect("127.0.0.1", port, "ann", TOKEN, timeout=SECONDS)
 
 
-def in_pieces(size):
-    def talk(connection, stop):
+def in_pieces(size: Any) -> Any:
+    def talk(connection: Any, stop: Any) -> None:
         read_line(connection)
         for at in range(0, len(REPLY), size):
             connection.sendall(REPLY[at : at + size])
@@ -34,14 +35,14 @@ def in_pieces(size):
 
 
 @pytest.mark.parametrize("size", [97, 1000, 4096, len(REPLY)])
-def test_a_frame_may_come_in_pieces(size):
+def test_a_frame_may_come_in_pieces(size: Any) -> None:
     with peer(says(then=in_pieces(size))) as port, joined(port) as user:
         assert user.ask_text("DUMP a") == (["DUMP", "a", "7", str(ATOMS + 2)], TEXT)
         assert user.sessions() == []
         user._wire.close()
 
 
-def test_a_refusal_is_raised_and_the_next_reply_is_read():
+def test_a_refusal_is_raised_and_the_next_reply_is_read() -> None:
     with peer(says(b"ERR 10 NO_SESSION\n", NOTHING)) as port, joined(port) as user:
         with pytest.raises(refusals.NoSession):
             user.ask_text("DUMP a")
@@ -50,7 +51,7 @@ def test_a_refusal_is_raised_and_the_next_reply_is_read():
 
 
 @pytest.mark.parametrize("cut", [3, len(REPLY) // 2, len(REPLY) - 1])
-def test_a_frame_that_is_broken_off(cut):
+def test_a_frame_that_is_broken_off(cut: Any) -> None:
     with peer(says(REPLY[:cut])) as port, joined(port) as user:
         with pytest.raises(ConnectionLost, match="`DUMP a` was not answered"):
             user.ask_text("DUMP a")
@@ -59,23 +60,23 @@ def test_a_frame_that_is_broken_off(cut):
 @pytest.mark.parametrize(
     "reply", [b"HTTP/1.1 400\n", b"OK LIST 1\n", b"OK DUMP a 7 x\n", b"OK DUMP a 7 99999\n", b"OK DUMP a 7 3\n1\n" + b"x" * 5000]
 )
-def test_what_is_no_frame(reply):
+def test_what_is_no_frame(reply: Any) -> None:
     with peer(says(reply)) as port, joined(port) as user:
         with pytest.raises(BadReply):
             user.ask_text("DUMP a")
 
 
-def test_a_line_too_much_is_left_for_the_next_reply():
+def test_a_line_too_much_is_left_for_the_next_reply() -> None:
     with peer(says(REPLY + b"OK SHOW a\n")) as port, joined(port) as user:
         assert user.ask_text("DUMP a")[1] == TEXT
         with pytest.raises(BadReply, match="is no reply to `LIST`"):
             user.ask("LIST")
 
 
-def test_a_frame_that_nobody_came_for_is_passed_over():
+def test_a_frame_that_nobody_came_for_is_passed_over() -> None:
     caught = threading.Event()
 
-    def slowly(connection, stop):
+    def slowly(connection: Any, stop: Any) -> None:
         read_line(connection)
         connection.sendall(REPLY[:5000])
         caught.wait(SECONDS)
@@ -98,6 +99,6 @@ def test_a_frame_that_nobody_came_for_is_passed_over():
         signal.signal(signal.SIGINT, before)
 
 
-def test_line_ends_are_counted_in_texts_of_any_length():
+def test_line_ends_are_counted_in_texts_of_any_length() -> None:
     for count in (0, 1, LONG_TEXT // 2, LONG_TEXT):
         assert count_of_lines(b"a\n" * count + b"b") == count

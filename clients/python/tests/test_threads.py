@@ -1,31 +1,33 @@
 """Several threads that use one user: none is told what another one asked for, and what each asks for is whole."""
+import pathlib
 import random
 import signal
 import threading
 from concurrent.futures import ThreadPoolExecutor
+from typing import Any, Iterator, List
 
 import pytest
 
 from ljclient import run
-from support import PROGRAM, SECONDS, dimer, listed
+from support import PROGRAM, SECONDS, dimer, listed, present
 
 ROUNDS = 30
 NAMES = "abcd"
 
 
 @pytest.fixture
-def user():
+def user() -> Iterator[Any]:
     with run(PROGRAM) as user:
         yield user
 
 
-def in_threads(*works):
+def in_threads(*works: Any) -> List[Any]:
     """What each of these returns, each in a thread of its own."""
     with ThreadPoolExecutor(len(works)) as pool:
         return [work.result(SECONDS) for work in [pool.submit(work) for work in works]]
 
 
-def crystal(user, name="a", **words):
+def crystal(user: Any, name: str = "a", **words: Any) -> Any:
     """A session of 125 atoms in any order, in motion."""
     rows = [("Ar", 1.2 * (at % 5), 1.2 * (at // 5 % 5), 1.2 * (at // 25)) for at in range(125)]
     random.Random(7).shuffle(rows)
@@ -34,7 +36,7 @@ def crystal(user, name="a", **words):
     return session
 
 
-def look(session):
+def look(session: Any) -> Any:
     """What a session is like at each of some steps."""
     seen = []
     for _ in range(ROUNDS):
@@ -42,7 +44,7 @@ def look(session):
     return seen
 
 
-def test_four_threads_are_told_what_each_asks_for(user):
+def test_four_threads_are_told_what_each_asks_for(user: Any) -> None:
     for number, name in enumerate(NAMES):
         dimer(user, name).tug(0, (number << 10, 0, 0))
     seen = in_threads(*[lambda name=name: look(user.session(name, edge=256, sigma=1, h=131072)) for name in NAMES])
@@ -53,7 +55,7 @@ def test_four_threads_are_told_what_each_asks_for(user):
         assert seen == [look(alone.session(name, edge=256, sigma=1, h=131072)) for name in NAMES]
 
 
-def test_both_frames_are_read_while_another_thread_asks(user):
+def test_both_frames_are_read_while_another_thread_asks(user: Any) -> None:
     crystal(user, epsilon=1, mass=1)
     a = user.session("a")
     start, measured = listed(a.places()), a.measure()
@@ -67,7 +69,7 @@ def test_both_frames_are_read_while_another_thread_asks(user):
     assert a.measure() == measured
 
 
-def test_atoms_are_sorted_anew_while_another_thread_reads_them(user):
+def test_atoms_are_sorted_anew_while_another_thread_reads_them(user: Any) -> None:
     a = crystal(user, order="space")
     start = listed(a.places())
     _, places, atoms = in_threads(
@@ -79,10 +81,10 @@ def test_atoms_are_sorted_anew_while_another_thread_reads_them(user):
     assert atoms == [start[3]] * ROUNDS
 
 
-def is_free(user):
+def is_free(user: Any) -> Any:
     """Whether another thread could use the user now."""
 
-    def try_it():
+    def try_it() -> Any:
         if got := user.lock.acquire(blocking=False):
             user.lock.release()
         return got
@@ -105,7 +107,7 @@ def is_free(user):
     ],
     ids=["heat", "resort", "restore", "tug", "advance", "positions", "thermo", "save", "saved"],
 )
-def test_what_takes_several_commands_is_whole(user, monkeypatch, tmp_path, ask):
+def test_what_takes_several_commands_is_whole(user: Any, monkeypatch: pytest.MonkeyPatch, tmp_path: pathlib.Path, ask: Any) -> None:
     a = crystal(user, order="space", epsilon=1, mass=1)
     a.branch("there")
     if "resort" in ask.__code__.co_names:
@@ -113,39 +115,44 @@ def test_what_takes_several_commands_is_whole(user, monkeypatch, tmp_path, ask):
     seen = []
     for name in ("ask_commands", "ask_text", "ask_rows"):
         asked = getattr(user, name)
-        monkeypatch.setattr(user, name, lambda words, asked=asked: (seen.append(is_free(user)), asked(words))[1])
+
+        def ask_and_see(words: Any, asked: Any = asked) -> Any:
+            seen.append(is_free(user))
+            return asked(words)
+
+        monkeypatch.setattr(user, name, ask_and_see)
     ask(a, tmp_path)
     assert set(seen) == {False}
 
 
-def test_a_long_run_leaves_the_user_to_others(user):
+def test_a_long_run_leaves_the_user_to_others(user: Any) -> None:
     a, b = dimer(user), dimer(user, "b")
     begun, measured = threading.Event(), threading.Event()
 
     class Enough(Exception):
         pass
 
-    def report(done, total):
+    def report(done: Any, total: Any) -> None:
         begun.set()
         if measured.is_set():
             raise Enough
 
-    def measure():
+    def measure() -> None:
         assert begun.wait(SECONDS)
         b.measure()
         measured.set()
 
-    def go_on():
+    def go_on() -> None:
         with pytest.raises(Enough):
             a.advance(10**9, progress=report)
 
     in_threads(go_on, measure)
 
 
-def test_several_calls_are_whole_under_the_lock(user):
+def test_several_calls_are_whole_under_the_lock(user: Any) -> None:
     a = dimer(user)
 
-    def forth_and_back():
+    def forth_and_back() -> None:
         for _ in range(ROUNDS):
             with user.lock:
                 a.advance(3)
@@ -157,18 +164,18 @@ def test_several_calls_are_whole_under_the_lock(user):
     assert set(steps) == {0}
 
 
-def test_an_interrupt_ends_the_wait_for_another_thread(user):
+def test_an_interrupt_ends_the_wait_for_another_thread(user: Any) -> None:
     a = dimer(user)
     begun, over = threading.Event(), threading.Event()
 
-    def hold():
+    def hold() -> None:
         with user.lock:
             begun.set()
             assert over.wait(SECONDS)
 
-    def press():
+    def press() -> None:
         assert begun.wait(SECONDS)
-        signal.pthread_kill(threading.main_thread().ident, signal.SIGINT)
+        signal.pthread_kill(present(threading.main_thread().ident), signal.SIGINT)
 
     before = signal.signal(signal.SIGINT, signal.default_int_handler)
     threads = [threading.Thread(target=target) for target in (hold, press)]

@@ -1,9 +1,11 @@
 """Connections over TLS, through a relay that decrypts in front of a server, with certificates that openssl makes."""
+import pathlib
 import shutil
 import ssl
 import subprocess
 import sys
 from unittest import mock
+from typing import Any, Dict, Iterator, Tuple
 
 import pytest
 
@@ -17,32 +19,33 @@ pytestmark = pytest.mark.skipif(shutil.which("openssl") is None, reason="openssl
 
 
 @pytest.fixture(scope="module")
-def good(tmp_path_factory):
+def good(tmp_path_factory: pytest.TempPathFactory) -> Any:
     return certificate(tmp_path_factory.mktemp("good"), "good")
 
 
 @pytest.fixture(scope="module")
-def other(tmp_path_factory):
+def other(tmp_path_factory: pytest.TempPathFactory) -> Any:
     return certificate(tmp_path_factory.mktemp("other"), "other")
 
 
 @pytest.fixture(scope="module")
-def server():
+def server() -> Iterator[Any]:
     with Server() as server:
         yield server
 
 
 @pytest.fixture
-def relay(server, good):
+def relay(server: Any, good: Any) -> Iterator[Any]:
     with Relay(server.port, good) as relay:
         yield relay
 
 
-def joined(relay, host="127.0.0.1", **words):
-    return connect(host, relay.port, "ann", TOKEN, **{"timeout": SECONDS, "tls": True, **words})
+def joined(relay: Any, host: str = "127.0.0.1", **words: Any) -> Any:
+    usual: Dict[str, Any] = {"timeout": SECONDS, "tls": True}
+    return connect(host, relay.port, "ann", TOKEN, **{**usual, **words})
 
 
-def why(relay, host="127.0.0.1", **words):
+def why(relay: Any, host: str = "127.0.0.1", **words: Any) -> Any:
     """What is told where there is no connection."""
     with pytest.raises(ConnectionLost) as caught:
         joined(relay, host, **words)
@@ -54,7 +57,7 @@ def why(relay, host="127.0.0.1", **words):
 
 
 @pytest.mark.parametrize("host", ["127.0.0.1", "localhost"])
-def test_a_user(relay, good, host):
+def test_a_user(relay: Any, good: Any, host: Any) -> None:
     with joined(relay, host, ca=good[0]) as user:
         a = dimer(user, replace=True)
         assert (a.advance(2), a.place(0)) == (2, (1774, 0, 0))
@@ -62,9 +65,9 @@ def test_a_user(relay, good, host):
     assert relay.heard.startswith(f"HELLO ann {TOKEN}\n".encode()) and relay.heard.endswith(b"BYE\n")
 
 
-def test_long_replies_and_many_commands(server, relay, good):
+def test_long_replies_and_many_commands(server: Any, relay: Any, good: Any) -> None:
     """They are those that come without TLS, however they are cut into records."""
-    scale = {"edge": 52.6, "sigma": 3.4, "h": 3706, "replace": True, "watch": False}
+    scale: Dict[str, Any] = {"edge": 52.6, "sigma": 3.4, "h": 3706, "replace": True, "watch": False}
     with joined(relay, ca=str(good[0])) as user:
         big = user.load("big", EXAMPLES / "argon_4000.xyz", **scale)
         told = [big.dump() for _ in range(5)], listed(big.places()), user.ask_all(["LIST big", "MEASURE big"] * 3000)
@@ -76,7 +79,7 @@ def test_long_replies_and_many_commands(server, relay, good):
         big.drop()
 
 
-def test_an_issuer_that_is_not_known(relay, other):
+def test_an_issuer_that_is_not_known(relay: Any, other: Any) -> None:
     file = "ca=FILE or --ca FILE, a file with that of the issuer, from its operator"
     text = f"the issuer of its certificate is not known here: say {file}"
     assert why(relay) == text
@@ -85,7 +88,7 @@ def test_an_issuer_that_is_not_known(relay, other):
     assert relay.heard == b""
 
 
-def test_another_name(server, tmp_path):
+def test_another_name(server: Any, tmp_path: pathlib.Path) -> None:
     elsewhere = certificate(tmp_path, "elsewhere", "DNS:md.example.org,IP:192.0.2.1")
     with Relay(server.port, elsewhere) as relay:
         for host in ("127.0.0.1", "localhost"):
@@ -94,7 +97,7 @@ def test_another_name(server, tmp_path):
         assert relay.heard == b""
 
 
-def test_a_certificate_of_another_time(server, tmp_path):
+def test_a_certificate_of_another_time(server: Any, tmp_path: pathlib.Path) -> None:
     old = expired(tmp_path)
     with Relay(server.port, old) as relay:
         text = "its certificate is not valid now (certificate has expired): ask its operator for a new one, or set the clock"
@@ -105,8 +108,8 @@ def test_a_certificate_of_another_time(server, tmp_path):
 NO_TLS = "it does not speak TLS there: say the port that does, or leave TLS out if the network may see the token"
 
 
-def test_a_plain_server(good):
-    def denies(connection, stop):
+def test_a_plain_server(good: Any) -> None:
+    def denies(connection: Any, stop: Any) -> None:
         connection.recv(1)
         connection.sendall(b"ERR 01 DENIED\n")
         stop.wait(SECONDS)
@@ -115,29 +118,29 @@ def test_a_plain_server(good):
         assert why(mock.Mock(port=port), ca=good[0]) == NO_TLS
 
 
-def test_a_plain_server_that_waits_for_the_end_of_a_line(server, good):
+def test_a_plain_server_that_waits_for_the_end_of_a_line(server: Any, good: Any) -> None:
     with mock.patch.object(tls, "HANDSHAKE_SECONDS", 0.5):
         text = why(server, ca=good[0])
     assert text in (NO_TLS, "it does not answer in TLS: does it speak TLS at this port?")
 
 
-def test_what_ends_the_connection_at_once(good):
+def test_what_ends_the_connection_at_once(good: Any) -> None:
     with peer(lambda connection, stop: None) as port:
         text = "it has ended the connection before it was encrypted: does it speak TLS at this port?"
         assert why(mock.Mock(port=port), ca=good[0]) == text
 
 
 @pytest.mark.parametrize("kind", [ssl.SSLEOFError, ssl.SSLZeroReturnError, ConnectionResetError, BrokenPipeError])
-def test_each_way_in_which_a_handshake_ends(good, kind):
+def test_each_way_in_which_a_handshake_ends(good: Any, kind: Any) -> None:
     text = "it has ended the connection before it was encrypted: does it speak TLS at this port?"
     assert tls.Trust(good[0]).fault(kind(1, "no"), "here") == text
 
 
-def test_no_server(good):
+def test_no_server(good: Any) -> None:
     assert why(mock.Mock(port=free_port()), ca=good[0]) == "Connection refused"
 
 
-def test_files_that_are_no_certificates(relay, tmp_path):
+def test_files_that_are_no_certificates(relay: Any, tmp_path: pathlib.Path) -> None:
     (tmp_path / "bad.pem").write_text("no certificate\n")
     with pytest.raises(ClientError, match="bad.pem has no certificate: say a file in PEM with that of the server's issuer"):
         joined(relay, ca=tmp_path / "bad.pem")
@@ -147,17 +150,17 @@ def test_files_that_are_no_certificates(relay, tmp_path):
         joined(relay, tls=False, ca=tmp_path / "bad.pem")
 
 
-def test_a_wrong_token(relay, good):
+def test_a_wrong_token(relay: Any, good: Any) -> None:
     with pytest.raises(refusals.Denied):
         connect("127.0.0.1", relay.port, "ann", "b" * 32, timeout=SECONDS, tls=True, ca=good[0])
 
 
-def test_a_plain_client_is_told_of_tls(relay):
+def test_a_plain_client_is_told_of_tls(relay: Any) -> None:
     with pytest.raises(ConnectionLost, match=r"or does it want tls=True or --tls\?\)$"):
         joined(relay, tls=False)
 
 
-def test_connections_that_are_begun_anew(relay, good):
+def test_connections_that_are_begun_anew(relay: Any, good: Any) -> None:
     with mock.patch.object(users, "MAX_ITEMS", 100), joined(relay, ca=good[0]) as user:
         a = dimer(user, replace=True)
         for step in range(1, 150):
@@ -166,7 +169,7 @@ def test_connections_that_are_begun_anew(relay, good):
     assert relay.heard.count(b"HELLO ann ") == 2
 
 
-def test_a_connection_that_is_lost(relay, good):
+def test_a_connection_that_is_lost(relay: Any, good: Any) -> None:
     with joined(relay, ca=good[0]) as user:
         a = dimer(user, replace=True)
         relay.cut()
@@ -176,7 +179,7 @@ def test_a_connection_that_is_lost(relay, good):
         assert user.closed
 
 
-def prompt(*words):
+def prompt(*words: Any) -> Tuple[Any, Any, Any]:
     """The status of a prompt that is asked for a list, and what it writes."""
     command = [sys.executable, "-m", "ljclient", *map(str, words)]
     env = environment(LJSERVE_TOKEN=TOKEN)
@@ -184,7 +187,7 @@ def prompt(*words):
     return done.returncode, done.stdout, done.stderr
 
 
-def test_a_prompt(server, relay, good):
+def test_a_prompt(server: Any, relay: Any, good: Any) -> None:
     with connect("127.0.0.1", server.port, "ann", TOKEN, timeout=SECONDS) as user:
         for row in user.sessions():
             user.session(row.name).drop()
@@ -198,7 +201,7 @@ def test_a_prompt(server, relay, good):
     assert prompt("--tls")[2].endswith("ljclient: --tls is for a server: say HOST:PORT NAME\n")
 
 
-def test_a_record_that_is_verified(relay, good, tmp_path):
+def test_a_record_that_is_verified(relay: Any, good: Any, tmp_path: pathlib.Path) -> None:
     path = tmp_path / "run.lj"
     path.write_text(with_checks(DIMER_TEXT))
     over = "--server", f"127.0.0.1:{relay.port}", "ann"

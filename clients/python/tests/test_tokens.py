@@ -1,13 +1,15 @@
 """Tokens stand in files of their owner alone, and on no command line: `tools/users`, `examples/session` and the scripts."""
 import os
+import pathlib
 import re
 import stat
 import subprocess
 import sys
+from typing import Any, Dict, Tuple
 
 import pytest
 
-from support import EXAMPLES, PROGRAM, SECONDS, TOKEN, TOP, Server
+from support import EXAMPLES, PROGRAM, SECONDS, TOKEN, TOP, Server, present
 
 USERS = str(TOP / "tools" / "users")
 GOOD = f"ann {TOKEN} 8 16384 16\n"
@@ -16,34 +18,34 @@ SCRIPT = ["energy.py", "--steps", "500", "--server", "127.0.0.1:1", "--user", "a
 SCRIPTS = ["butterfly.py", "energy.py", "temperatures.py", "there_and_back.py", "unmixing.py"]
 
 
-def users(folder, *words, **options):
+def users(folder: Any, *words: Any, **options: Any) -> Tuple[Any, Any, Any]:
     done = subprocess.run([sys.executable, USERS, *words], cwd=folder, text=True, timeout=SECONDS, **options)
     return done.returncode, done.stdout, done.stderr
 
 
-def made(folder, *words):
+def made(folder: Any, *words: Any) -> Any:
     return users(folder, *words, capture_output=True)
 
 
-def mode_of(path):
+def mode_of(path: Any) -> Any:
     return stat.S_IMODE(os.stat(path).st_mode)
 
 
-def tokens_in(path):
+def tokens_in(path: Any) -> Any:
     return re.findall(r"^\w+ (\w{32}) ", path.read_text(), re.M)
 
 
-def example(words, **env):
+def example(words: Any, **env: Any) -> Tuple[Any, Any]:
     """The status of an example, and what it says on standard error, where the environment has no token but that of `env`."""
     environment = {name: value for name, value in os.environ.items() if name != "LJSERVE_TOKEN"}
     environment.update({"LJSERVE": PROGRAM, "PYTHONDONTWRITEBYTECODE": "1", **env})
     command = [sys.executable, str(EXAMPLES / words[0]), *words[1:]]
-    streams = {"stdin": subprocess.DEVNULL, "capture_output": True, "text": True}
+    streams: Dict[str, Any] = {"stdin": subprocess.DEVNULL, "capture_output": True, "text": True}
     done = subprocess.run(command, env=environment, timeout=2 * SECONDS, **streams)
     return done.returncode, done.stderr
 
 
-def test_files_are_for_their_owner_alone_whatever_the_umask(tmp_path):
+def test_files_are_for_their_owner_alone_whatever_the_umask(tmp_path: pathlib.Path) -> None:
     before = os.umask(0)
     try:
         assert made(tmp_path, "2", "--out", "users", "--slips", "slips") == (0, "", "")
@@ -56,7 +58,7 @@ def test_files_are_for_their_owner_alone_whatever_the_umask(tmp_path):
     assert made(tmp_path, "--check", "users") == (0, "2 users\n", "")
 
 
-def test_the_slips_follow_the_users_if_they_have_no_file(tmp_path):
+def test_the_slips_follow_the_users_if_they_have_no_file(tmp_path: pathlib.Path) -> None:
     assert made(tmp_path, "ann", "--server", "räume:4000", "--out", "users") == (0, "", "")
     assert made(tmp_path, "--check", "users") == (0, "1 user\n", "")
     (token,) = tokens_in(tmp_path / "users")
@@ -64,7 +66,7 @@ def test_the_slips_follow_the_users_if_they_have_no_file(tmp_path):
 
 
 @pytest.mark.parametrize("there", ["users", "slips"])
-def test_a_file_that_is_there_stays(tmp_path, there):
+def test_a_file_that_is_there_stays(tmp_path: pathlib.Path, there: Any) -> None:
     (tmp_path / there).write_text("precious")
     status, out, err = made(tmp_path, "2", "--out", "users", "--slips", "slips")
     assert (status, out) == (1, "")
@@ -72,7 +74,7 @@ def test_a_file_that_is_there_stays(tmp_path, there):
     assert os.listdir(tmp_path) == [there] and (tmp_path / there).read_text() == "precious"
 
 
-def test_a_file_is_written_anew_if_that_is_asked_for(tmp_path):
+def test_a_file_is_written_anew_if_that_is_asked_for(tmp_path: pathlib.Path) -> None:
     (tmp_path / "users").write_text(GOOD)
     (tmp_path / "users").chmod(0o644)
     assert made(tmp_path, "ann", "--out", "users", "--replace") == (0, "", "")
@@ -82,7 +84,7 @@ def test_a_file_is_written_anew_if_that_is_asked_for(tmp_path):
 
 
 @pytest.mark.parametrize("words", [["--out", "no/users"], ["--out", "users", "--slips", "no/slips"]])
-def test_what_cannot_be_written_leaves_nothing(tmp_path, words):
+def test_what_cannot_be_written_leaves_nothing(tmp_path: pathlib.Path, words: Any) -> None:
     status, out, err = made(tmp_path, "2", *words)
     assert (status, out, err) == (1, "", f"users: cannot write {words[-1]}: No such file or directory\n")
     assert os.listdir(tmp_path) == []
@@ -96,24 +98,24 @@ def test_what_cannot_be_written_leaves_nothing(tmp_path, words):
         (["--check", "x", "--out", "y"], "--check FILE goes without --out"),
     ],
 )
-def test_words_that_do_not_go_together(tmp_path, words, why):
+def test_words_that_do_not_go_together(tmp_path: pathlib.Path, words: Any, why: Any) -> None:
     status, out, err = made(tmp_path, *words)
     assert (status, out) == (2, "") and why in err
     assert os.listdir(tmp_path) == []
 
 
 @pytest.mark.parametrize("mode, word", [(0o644, "read"), (0o640, "read"), (0o620, "change"), (0o666, "read and change")])
-def test_a_check_warns_of_a_file_that_is_open_to_others(tmp_path, mode, word):
+def test_a_check_warns_of_a_file_that_is_open_to_others(tmp_path: pathlib.Path, mode: Any, word: Any) -> None:
     path = tmp_path / "my users"
     path.write_text(GOOD)
     path.chmod(mode)
     warning = f"my users: its mode lets others {word} it, with all tokens; `chmod 600 'my users'` leaves it to its owner"
     assert made(tmp_path, "--check", "my users") == (0, f"1 user\n{warning}\n", "")
-    subprocess.run(re.search("`(.*)`", warning)[1], shell=True, check=True, cwd=tmp_path)
+    subprocess.run(present(re.search("`(.*)`", warning))[1], shell=True, check=True, cwd=tmp_path)
     assert made(tmp_path, "--check", "my users") == (0, "1 user\n", "")
 
 
-def test_a_check_tells_faults_and_warns(tmp_path):
+def test_a_check_tells_faults_and_warns(tmp_path: pathlib.Path) -> None:
     (tmp_path / "users").write_text("ann\n")
     (tmp_path / "users").chmod(0o644)
     status, out, _ = made(tmp_path, "--check", "users")
@@ -121,7 +123,7 @@ def test_a_check_tells_faults_and_warns(tmp_path):
 
 
 @pytest.mark.parametrize("mask, warns", [(0o022, True), (0o077, False)])
-def test_printing_into_a_file_that_others_can_read_is_told(tmp_path, mask, warns):
+def test_printing_into_a_file_that_others_can_read_is_told(tmp_path: pathlib.Path, mask: Any, warns: Any) -> None:
     before = os.umask(mask)
     try:
         with open(tmp_path / "users", "w") as file:
@@ -133,19 +135,19 @@ def test_printing_into_a_file_that_others_can_read_is_told(tmp_path, mask, warns
     assert len(tokens_in(tmp_path / "users")) == 2
 
 
-def test_what_is_printed_into_a_pipe_needs_no_warning(tmp_path):
+def test_what_is_printed_into_a_pipe_needs_no_warning(tmp_path: pathlib.Path) -> None:
     status, out, err = made(tmp_path, "1")
     assert (status, err) == (0, "") and "student01" in out
 
 
 @pytest.mark.parametrize("name", SCRIPTS)
-def test_no_script_takes_a_token_on_the_command_line(name):
+def test_no_script_takes_a_token_on_the_command_line(name: Any) -> None:
     status, told = example([name, "--server", "127.0.0.1:1", "--user", "ann", "--token", TOKEN])
     assert status == 2 and TOKEN not in told
     assert "a token is never said on the command line, where others see it: use --token-file FILE or LJSERVE_TOKEN" in told
 
 
-def test_the_session_takes_no_token_on_the_command_line():
+def test_the_session_takes_no_token_on_the_command_line() -> None:
     for words in ([*SESSION[:3], TOKEN, *SESSION[3:]], [*SESSION, "--token", TOKEN], [*SESSION, f"--token={TOKEN}"]):
         status, told = example(words)
         assert status == 2 and TOKEN not in told
@@ -153,7 +155,7 @@ def test_the_session_takes_no_token_on_the_command_line():
 
 
 @pytest.mark.parametrize("words", [SESSION, SCRIPT], ids=["session", "script"])
-def test_a_token_that_is_not_there_is_told(tmp_path, words):
+def test_a_token_that_is_not_there_is_told(tmp_path: pathlib.Path, words: Any) -> None:
     name = words[0]
     assert example(words) == (1, f"{name}: there is no token: say --token-file FILE, or set LJSERVE_TOKEN\n")
     missing, other = str(tmp_path / "none"), tmp_path / "users"
@@ -165,7 +167,7 @@ def test_a_token_that_is_not_there_is_told(tmp_path, words):
 
 
 @pytest.mark.parametrize("text", [TOKEN + "\n", "aaaa " * 8, "# users\n" + GOOD], ids=["alone", "in groups", "users"])
-def test_the_examples_read_a_token_from_a_file(tmp_path, text):
+def test_the_examples_read_a_token_from_a_file(tmp_path: pathlib.Path, text: Any) -> None:
     (tmp_path / "token").write_text(text)
     where = ["--token-file", str(tmp_path / "token")]
     with Server() as server:

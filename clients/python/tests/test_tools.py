@@ -8,18 +8,19 @@ import subprocess
 import sys
 import tempfile
 import unittest
+from typing import Any, Dict, Iterator, List, Tuple
 
 from ljclient import connect, refusals
-from support import EXAMPLES, PROGRAM, SECONDS, TOKEN, TOP, Server, dimer
+from support import EXAMPLES, PROGRAM, SECONDS, TOKEN, TOP, Server, dimer, present
 
 USERS = TOP / "tools" / "users"
 sys.path.append(str(USERS.parent))
-TOOL = {"__name__": "users"}
+TOOL: Dict[str, Any] = {"__name__": "users"}
 exec(compile(USERS.read_text(), str(USERS), "exec"), TOOL)
 GOOD = f"ann {TOKEN} 8 16384 16\n"
 
 
-def told(*words):
+def told(*words: Any) -> Tuple[Any, Any, Any]:
     """The status of `users` with these words, and what it writes."""
     out, err = io.StringIO(), io.StringIO()
     with contextlib.redirect_stdout(out), contextlib.redirect_stderr(err):
@@ -31,7 +32,7 @@ def told(*words):
 
 
 @contextlib.contextmanager
-def file_of(text):
+def file_of(text: Any) -> Iterator[Any]:
     with tempfile.NamedTemporaryFile() as file:
         file.write(text if isinstance(text, bytes) else text.encode())
         file.flush()
@@ -39,7 +40,7 @@ def file_of(text):
 
 
 class Users(unittest.TestCase):
-    def test_so_many_students(self):
+    def test_so_many_students(self) -> None:
         status, out, err = told("20", "--server", "10.0.0.5:4000")
         lines = [line.split(" ") for line in out.splitlines() if not line.startswith("#")]
         self.assertEqual((status, err, len(lines)), (0, "", 20))
@@ -55,10 +56,10 @@ class Users(unittest.TestCase):
             self.assertIn(f"#     token   {groups}\n", slip)
             self.assertIn(f'connect("10.0.0.5", 4000, "{name}",\n#                    "{groups}")', slip)
 
-    def test_another_time_there_are_other_tokens(self):
+    def test_another_time_there_are_other_tokens(self) -> None:
         self.assertFalse(set(re.findall(r"\b\w{32}\b", told("3")[1])) & set(re.findall(r"\b\w{32}\b", told("3")[1])))
 
-    def test_names_quota_and_slips_in_a_file(self):
+    def test_names_quota_and_slips_in_a_file(self) -> None:
         with tempfile.TemporaryDirectory() as folder:
             slips = os.path.join(folder, "slips")
             words = ["ann", "ben-2", "--quota", "2", "4096", "0", "--slips", slips]
@@ -73,8 +74,8 @@ class Users(unittest.TestCase):
             self.assertEqual((status, out), (1, ""))
             self.assertIn(f"users: {slips} is there already", err)
 
-    def test_words_that_say_no_users(self):
-        for words, why in [
+    def test_words_that_say_no_users(self) -> None:
+        cases: List[Any] = [
             ([], "say how many"),
             (["0"], "1 to 64"),
             (["65"], "1 to 64"),
@@ -85,14 +86,15 @@ class Users(unittest.TestCase):
             (["3", "--server", "x"], "HOST:PORT"),
             (["3", "--check", "x"], "say how many"),
             (["--quota"], "expected 3"),
-        ]:
+        ]
+        for words, why in cases:
             status, out, err = told(*words)
             self.assertEqual((status, out), (2, ""), words)
             self.assertIn(why, err)
 
-    def test_a_server_takes_them(self):
+    def test_a_server_takes_them(self) -> None:
         _, out, _ = told("3", "--quota", "1", "2", "0")
-        name, token = re.search(r"^(student03) (\w+) ", out, re.M).groups()
+        name, token = present(re.search(r"^(student03) (\w+) ", out, re.M)).groups()
         with Server(lines=out) as server, connect("127.0.0.1", server.port, name, token) as user:
             dimer(user)
             with self.assertRaises(refusals.QuotaSessions):
@@ -127,7 +129,7 @@ class Checks(unittest.TestCase):
         ("# class", 2, "there is no user"),
     ]
 
-    def test_each_fault(self):
+    def test_each_fault(self) -> None:
         for text, line, cause in self.CASES:
             with self.subTest(text), file_of(text) as path:
                 status, out, err = told("--check", path)
@@ -137,12 +139,12 @@ class Checks(unittest.TestCase):
                 self.assertNotIn(TOKEN[1:], out)
                 self.assertEqual(self.begins(path), (2, f"ljserve: users line {line}\n"))
 
-    def test_several_faults(self):
+    def test_several_faults(self) -> None:
         with file_of(f"ann\n{GOOD}\nben {TOKEN} x 1 1\n") as path:
             status, out, _ = told("--check", path)
         self.assertEqual((status, re.findall(r"line (\d+)", out)), (1, ["1", "4"]))
 
-    def test_good_files(self):
+    def test_good_files(self) -> None:
         for text, count in [
             (GOOD, "1 user"),
             (GOOD.rstrip() + "\n\n# end", "1 user"),
@@ -156,17 +158,17 @@ class Checks(unittest.TestCase):
                 self.assertEqual(told("--check", path), (0, f"{count}\n", ""))
                 self.assertEqual(self.begins(path), (1, "ljserve: cannot listen\n"))
 
-    def test_a_file_that_is_not_there(self):
+    def test_a_file_that_is_not_there(self) -> None:
         self.assertEqual(told("--check", "/no/such"), (1, "", "users: cannot read /no/such: No such file or directory\n"))
 
-    def begins(self, path):
+    def begins(self, path: Any) -> Tuple[Any, Any]:
         """How the program ends that should serve these users at a port that is taken."""
         with socket.create_server(("127.0.0.1", 0)) as taken:
             words = ["--listen", f"127.0.0.1:{taken.getsockname()[1]}", "--users", path, "--workers", "1", "--connections", "1"]
             done = subprocess.run([PROGRAM, "serve", *words], capture_output=True, text=True, timeout=SECONDS)
         return done.returncode, done.stderr
 
-    def test_a_run(self):
+    def test_a_run(self) -> None:
         for word, status, part in (("--help", 0, "usage: users "), ("2", 0, "student02"), ("0", 2, "")):
             done = subprocess.run([USERS, word], capture_output=True, text=True, timeout=SECONDS)
             self.assertEqual((done.returncode, bool(done.stderr)), (status, status != 0))

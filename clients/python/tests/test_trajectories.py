@@ -3,8 +3,10 @@
 The dimer's motion is worked out by hand in test_commands; a ring unit is 2^-24 there. A lone atom moves straight on.
 """
 import os
+import pathlib
 import sys
 import warnings
+from typing import Any, Iterator, List
 
 import pytest
 
@@ -38,24 +40,24 @@ KILOJOULE_PER_MOLE = 96.48533212
 
 
 @pytest.fixture
-def user():
+def user() -> Iterator[Any]:
     with run(PROGRAM) as user:
         yield user
 
 
 @pytest.fixture
-def argon(user):
+def argon(user: Any) -> Any:
     argon = user.load("argon", EXAMPLES / "argon_256.xyz", edge=21.04, dt=5, **units.ARGON)
     argon.heat(100)
     argon.advance(20)
     return argon
 
 
-def universe(path, atoms):
+def universe(path: Any, atoms: Any) -> Any:
     return MDAnalysis.Universe.empty(atoms).load_new(str(path))
 
 
-def read(path, atoms):
+def read(path: Any, atoms: Any) -> List[Any]:
     """Time, positions and edge of each frame of a file: those of MDAnalysis, of which times are in picoseconds, or of ASE."""
     if path.suffix in (".dcd", ".nc"):
         return [(step.time * 1000, step.positions.copy(), step.dimensions[0]) for step in universe(path, atoms).trajectory]
@@ -63,7 +65,7 @@ def read(path, atoms):
 
 
 @pytest.mark.parametrize("ending", ENDINGS)
-def test_positions_box_and_time(argon, tmp_path, ending):
+def test_positions_box_and_time(argon: Any, tmp_path: pathlib.Path, ending: Any) -> None:
     path = tmp_path / f"way{ending}"
     argon.branch("start")
     argon.write_trajectory(path, every=10, frames=3)
@@ -78,7 +80,7 @@ def test_positions_box_and_time(argon, tmp_path, ending):
 
 
 @pytest.mark.parametrize("ending", ENDINGS)
-def test_what_is_appended_stands_behind(argon, tmp_path, ending):
+def test_what_is_appended_stands_behind(argon: Any, tmp_path: pathlib.Path, ending: Any) -> None:
     path = tmp_path / f"way{ending}"
     argon.write_trajectory(path, every=10, frames=2)
     before = read(path, argon.atoms)
@@ -93,14 +95,14 @@ def test_what_is_appended_stands_behind(argon, tmp_path, ending):
 
 
 @pytest.mark.parametrize("ending", ENDINGS)
-def test_a_file_that_is_not_there_may_be_appended_to(user, tmp_path, ending):
+def test_a_file_that_is_not_there_may_be_appended_to(user: Any, tmp_path: pathlib.Path, ending: Any) -> None:
     a, path = dimer(user), tmp_path / f"way{ending}"
     a.write_trajectory(path, every=1, frames=2, append=True)
     assert len(read(path, 2)) == 2
 
 
 @pytest.mark.parametrize("ending", ENDINGS)
-def test_a_file_of_before_is_written_anew(user, tmp_path, ending):
+def test_a_file_of_before_is_written_anew(user: Any, tmp_path: pathlib.Path, ending: Any) -> None:
     a, path = dimer(user), tmp_path / f"way{ending}"
     for _ in range(2):
         a.write_trajectory(path, every=1, frames=2)
@@ -108,7 +110,7 @@ def test_a_file_of_before_is_written_anew(user, tmp_path, ending):
 
 
 @pytest.mark.parametrize("ending", ENDINGS)
-def test_an_atom_goes_on_where_it_leaves_the_box(user, tmp_path, ending):
+def test_an_atom_goes_on_where_it_leaves_the_box(user: Any, tmp_path: pathlib.Path, ending: Any) -> None:
     lone = user.load("lone", "1\nlone\nAr 255.9 0 0\n", edge=256, sigma=1, h=131072)
     lone.tug(0, (2**20, 0, 0))  # a sixteenth for each step
     lone.branch("start")
@@ -120,7 +122,7 @@ def test_an_atom_goes_on_where_it_leaves_the_box(user, tmp_path, ending):
 
 
 @pytest.mark.parametrize("ending", ENDINGS)
-def test_on_the_way_back_time_goes_down(user, tmp_path, ending):
+def test_on_the_way_back_time_goes_down(user: Any, tmp_path: pathlib.Path, ending: Any) -> None:
     a, path = dimer(user), tmp_path / f"way{ending}"
     a.advance(4)
     a.reverse()
@@ -130,7 +132,7 @@ def test_on_the_way_back_time_goes_down(user, tmp_path, ending):
 
 
 @with_ase
-def test_xyz_has_velocities_and_energies(argon, tmp_path):
+def test_xyz_has_velocities_and_energies(argon: Any, tmp_path: pathlib.Path) -> None:
     path = tmp_path / "way.xyz"
     argon.write_trajectory(path, every=1, frames=1)
     frame = ase.io.read(path)
@@ -142,7 +144,7 @@ def test_xyz_has_velocities_and_energies(argon, tmp_path):
 
 
 @with_ase
-def test_traj_has_momenta_energy_and_forces(argon, tmp_path):
+def test_traj_has_momenta_energy_and_forces(argon: Any, tmp_path: pathlib.Path) -> None:
     path = tmp_path / "way.traj"
     argon.write_trajectory(path, every=10, frames=2)
     frame = ase.io.read(path)
@@ -153,7 +155,7 @@ def test_traj_has_momenta_energy_and_forces(argon, tmp_path):
 
 
 @with_ase
-def test_traj_takes_elements_alone(user, tmp_path):
+def test_traj_takes_elements_alone(user: Any, tmp_path: pathlib.Path) -> None:
     classes = [(1, 131072, 256)] * 3
     mix = user.load_mix("mix", "2\nmix\nB 0 0 0\nA 1.5 0 0\n", edge=256, species=("A", "B"), classes=classes)
     path = tmp_path / "way.traj"
@@ -166,7 +168,7 @@ def test_traj_takes_elements_alone(user, tmp_path):
 
 @with_mda
 @quiet
-def test_nc_has_velocities_and_forces_in_the_units_of_mdanalysis(argon, tmp_path):
+def test_nc_has_velocities_and_forces_in_the_units_of_mdanalysis(argon: Any, tmp_path: pathlib.Path) -> None:
     path = tmp_path / "way.nc"
     argon.write_trajectory(path, every=10, frames=2)
     frame = universe(path, argon.atoms).trajectory[1]
@@ -176,7 +178,7 @@ def test_nc_has_velocities_and_forces_in_the_units_of_mdanalysis(argon, tmp_path
 
 @with_mda
 @quiet
-def test_frames_of_a_dcd_are_equally_far_apart(argon, tmp_path):
+def test_frames_of_a_dcd_are_equally_far_apart(argon: Any, tmp_path: pathlib.Path) -> None:
     path = tmp_path / "way.dcd"
     argon.write_trajectory(path, every=10, frames=3)
     before = path.read_bytes()
@@ -190,7 +192,7 @@ def test_frames_of_a_dcd_are_equally_far_apart(argon, tmp_path):
 @with_mda
 @quiet
 @pytest.mark.parametrize("ending", [".dcd", ".nc"])
-def test_a_file_of_other_atoms_is_not_appended_to(user, argon, tmp_path, ending):
+def test_a_file_of_other_atoms_is_not_appended_to(user: Any, argon: Any, tmp_path: pathlib.Path, ending: Any) -> None:
     path = tmp_path / f"way{ending}"
     argon.write_trajectory(path, every=1, frames=1)
     before = path.read_bytes()
@@ -202,7 +204,7 @@ def test_a_file_of_other_atoms_is_not_appended_to(user, argon, tmp_path, ending)
 @with_mda
 @quiet
 @pytest.mark.parametrize("ending", [".dcd", ".nc"])
-def test_no_fifo_is_replaced(user, tmp_path, ending):
+def test_no_fifo_is_replaced(user: Any, tmp_path: pathlib.Path, ending: Any) -> None:
     path = tmp_path / f"way{ending}"
     os.mkfifo(path)
     with pytest.raises(ValueError, match="is a FIFO, and stays as it is"):
@@ -210,8 +212,10 @@ def test_no_fifo_is_replaced(user, tmp_path, ending):
 
 
 @pytest.mark.parametrize("ending, told", [(".dcd", "python3-mdanalysis"), (".nc", "python3-mdanalysis")])
-def test_a_library_that_is_missing_is_told_before_anything_is_written(user, tmp_path, monkeypatch, ending, told):
-    monkeypatch.setitem(sys.modules, "MDAnalysis", None)
+def test_a_library_that_is_missing_is_told_before_anything_is_written(
+    user: Any, tmp_path: pathlib.Path, monkeypatch: pytest.MonkeyPatch, ending: Any, told: Any
+) -> None:
+    monkeypatch.setitem(sys.modules, "MDAnalysis", None)  # type: ignore[misc]
     a, path = dimer(user), tmp_path / f"way{ending}"
     path.write_text("of before")
     with pytest.raises(Missing, match=f"a {ending} file needs MDAnalysis.*pip install MDAnalysis.*{told}"):
@@ -219,13 +223,13 @@ def test_a_library_that_is_missing_is_told_before_anything_is_written(user, tmp_
     assert (path.read_text(), a.step) == ("of before", 0)
 
 
-def test_any_other_ending_is_text(user, tmp_path):
+def test_any_other_ending_is_text(user: Any, tmp_path: pathlib.Path) -> None:
     a = dimer(user)
     a.write_trajectory(tmp_path / "way", every=1, frames=1)
     assert (tmp_path / "way").read_text().startswith('2\nLattice="256.0')
 
 
-def test_a_trajectory_without_numpy(user, tmp_path, monkeypatch):
+def test_a_trajectory_without_numpy(user: Any, tmp_path: pathlib.Path, monkeypatch: pytest.MonkeyPatch) -> None:
     pytest.importorskip("numpy", reason="numpy is not installed")
     a = dimer(user)
     for name, unwrap in (("one", False), ("other", True)):

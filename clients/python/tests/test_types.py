@@ -1,7 +1,9 @@
 """The types of the package and of the Python in both READMEs and in the reference, held strictly by mypy."""
 import os
+import pathlib
 import subprocess
 import sys
+from typing import Any, Dict, Tuple
 
 import pytest
 
@@ -23,15 +25,15 @@ with run() as user:
 WITHOUT_TYPES = "[mypy]\n[mypy-ase.*]\nignore_missing_imports = True\n"
 
 
-def told(folder, *words):
+def told(folder: Any, *words: Any) -> Tuple[Any, Any]:
     """The status of mypy and what it says, in a folder where no settings are but those of the words."""
-    environment = {**os.environ, "MYPYPATH": str(CLIENT)}
+    environment: Dict[str, Any] = {**os.environ, "MYPYPATH": str(CLIENT)}
     command = [sys.executable, "-m", "mypy", "--strict", "--config-file=", f"--cache-dir={folder / 'cache'}", *words]
     done = subprocess.run(command, cwd=folder, env=environment, capture_output=True, text=True, timeout=300)
     return done.returncode, done.stdout + done.stderr
 
 
-def test_the_package(tmp_path):
+def test_the_package(tmp_path: pathlib.Path) -> None:
     status, text = told(tmp_path, "-p", "ljclient")
     assert status == 0, text
 
@@ -39,12 +41,12 @@ def test_the_package(tmp_path):
 WITH_PYTHON = [path for path in [TOP / "README.md", CLIENT / "README.md", *(TOP / "docs" / "api").glob("*.md")] if python_blocks(path)]
 
 
-def test_documents_have_python():
+def test_documents_have_python() -> None:
     assert {"README.md", "loading.md", "steps.md"} <= {path.name for path in WITH_PYTHON}
 
 
 @pytest.mark.parametrize("path", WITH_PYTHON, ids=lambda path: f"{path.parent.name}_{path.stem}")
-def test_each_block_of_a_document(tmp_path, path):
+def test_each_block_of_a_document(tmp_path: pathlib.Path, path: Any) -> None:
     blocks = python_blocks(path)
     files = []
     for number, text in enumerate(blocks, 1):
@@ -55,13 +57,13 @@ def test_each_block_of_a_document(tmp_path, path):
     assert status == 0, text
 
 
-def test_substances_are_words_of_load(tmp_path):
+def test_substances_are_words_of_load(tmp_path: pathlib.Path) -> None:
     (tmp_path / "good.py").write_text(SUBSTANCE)
     status, text = told(tmp_path, "good.py")
     assert status == 0, text
 
 
-def test_a_substance_that_lacks_its_mass_is_an_error(tmp_path):
+def test_a_substance_that_lacks_its_mass_is_an_error(tmp_path: pathlib.Path) -> None:
     (tmp_path / "bad.py").write_text(SUBSTANCE.replace(", mass=83.798", ""))
     status, text = told(tmp_path, "bad.py")
     assert (status, text.splitlines()[0][:34]) == (1, 'bad.py:3: error: Missing key "mass')

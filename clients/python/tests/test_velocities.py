@@ -3,8 +3,10 @@
 The values are those of the two atoms of test_commands: at the steps 0, 1, 2 and 3 atom 0 stands at 0, 589, 1774 and 3555, and
 atom 1 as far below 25165824. In a box of 256 a ring unit is 2^-24, and h = 2^17 is a time step of 2^-7.5.
 """
+import pathlib
 import signal
 from unittest import mock
+from typing import Any, Iterator, List, Tuple
 
 import pytest
 
@@ -18,18 +20,18 @@ UNIT = 2**-24
 
 
 @pytest.fixture(name="user")
-def user_of_a_program():
+def user_of_a_program() -> Iterator[Any]:
     with run(PROGRAM) as user:
         yield user
 
 
-def along_x(rows):
+def along_x(rows: Any) -> List[Any]:
     """The numbers along x of rows that have none along y and z."""
     assert all(tuple(row[1:]) == (0, 0) for row in rows)
     return [float(row[0]) for row in rows]
 
 
-def seen(session):
+def seen(session: Any) -> Tuple[Any, Any]:
     """All that can be seen of a session, which is as it was afterwards."""
     measured, places = session.measure(), listed(session.places())
     now = session.step, measured, places, session.dump(), session.saved(), session.order
@@ -40,7 +42,7 @@ def seen(session):
 
 
 @pytest.mark.parametrize("kind", KINDS)
-def test_they_are_the_differences_of_the_frames_beside(user, kind):
+def test_they_are_the_differences_of_the_frames_beside(user: Any, kind: Any) -> None:
     a = dimer(user)
     with mock.patch.object(arrays, "numpy", kind):
         for step in range(3):
@@ -53,7 +55,7 @@ def test_they_are_the_differences_of_the_frames_beside(user, kind):
         assert a.velocities().shape == a.forces().shape == (2, 3)
 
 
-def test_turned_back_they_have_the_other_sign(user):
+def test_turned_back_they_have_the_other_sign(user: Any) -> None:
     a = dimer(user)
     a.advance(1)
     velocities, forces = along_x(a.velocities()), along_x(a.forces())
@@ -63,7 +65,7 @@ def test_turned_back_they_have_the_other_sign(user):
     assert along_x(a.forces()) == forces
 
 
-def test_in_angstrom_and_electronvolt(user):
+def test_in_angstrom_and_electronvolt(user: Any) -> None:
     a = user.load("a", [("Ar", 1, 1, 1)], edge=20, dt=2, **units.ARGON)
     a.tug(0, (1000, -2000, 0))
     unit = 20 / 2**32
@@ -74,14 +76,14 @@ def test_in_angstrom_and_electronvolt(user):
     assert along_x(b.forces()) == pytest.approx([wanted, -wanted], rel=1e-3)
 
 
-def argon(user, name, **words):
+def argon(user: Any, name: Any, **words: Any) -> Any:
     session = user.load(name, EXAMPLES / "argon_256.xyz", edge=21.04, dt=2, **units.ARGON, **words)
     session.advance(30)
     return session
 
 
 @pytest.mark.parametrize("order", [None, "space"])
-def test_the_session_is_as_it_was(user, order):
+def test_the_session_is_as_it_was(user: Any, order: Any) -> None:
     a, twin = argon(user, "a", order=order), argon(user, "twin", order=order)
     a.branch("here")
     twin.branch("here")
@@ -96,7 +98,7 @@ def test_the_session_is_as_it_was(user, order):
         assert (a.restore("here"), a.reverse()) == (twin.restore("here"), twin.reverse())
 
 
-def test_both_boxes_tell_the_same(user, tmp_path):
+def test_both_boxes_tell_the_same(user: Any, tmp_path: pathlib.Path) -> None:
     a = argon(user, "a")
     a.save(tmp_path / "saved")
     b, c = user.load_saved(tmp_path / "saved", name="b"), argon(user, "c", order="space")
@@ -104,11 +106,11 @@ def test_both_boxes_tell_the_same(user, tmp_path):
         assert listed_floats(getattr(a, tell)()) == listed_floats(getattr(b, tell)()) == listed_floats(getattr(c, tell)())
 
 
-def listed_floats(rows):
+def listed_floats(rows: Any) -> List[Any]:
     return [tuple(map(float, row)) for row in rows]
 
 
-def test_no_place_for_a_branch_is_needed():
+def test_no_place_for_a_branch_is_needed() -> None:
     with run(PROGRAM, sessions=1, branches=1) as user:
         a = dimer(user)
         a.branch("only")
@@ -116,19 +118,19 @@ def test_no_place_for_a_branch_is_needed():
         assert a.saved() == [("only", 0)]
 
 
-def test_what_was_started_is_waited_for(user):
+def test_what_was_started_is_waited_for(user: Any) -> None:
     a = dimer(user)
     a.start(2)
     assert along_x(a.velocities())[0] == pytest.approx((3555 - 589) * UNIT / (2 * DT))
     assert a.step == 2
 
 
-def test_an_interrupt_leaves_it_as_it_was(user):
+def test_an_interrupt_leaves_it_as_it_was(user: Any) -> None:
     a = dimer(user)
     a.advance(1)
     ask_rows = user.ask_rows
 
-    def interrupted(lines):
+    def interrupted(lines: Any) -> Any:
         signal.raise_signal(signal.SIGINT)
         return ask_rows(lines)
 
@@ -142,10 +144,10 @@ def test_an_interrupt_leaves_it_as_it_was(user):
     assert a.advance(1) == 2 and listed(a.places())[0] == (1774, 0, 0)
 
 
-def test_at_the_last_step_it_is_refused_and_stays():
+def test_at_the_last_step_it_is_refused_and_stays() -> None:
     lines = []
 
-    def talk(connection, stop):
+    def talk(connection: Any, stop: Any) -> None:
         for reply in (b"OK HELLO ann\n", b"OK LIST a 0\n", b"OK ADVANCE a 1000000000000\n", b"ERR 23 STEP_RANGE\n"):
             lines.append(read_line(connection))
             connection.sendall(reply)
@@ -159,7 +161,7 @@ def test_at_the_last_step_it_is_refused_and_stays():
     assert lines[1:] == [b"LIST a\n", b"ADVANCE a 0\n", b"ADVANCE a 1\n"]
 
 
-def test_without_a_scale_they_are_a_value_error(user):
+def test_without_a_scale_they_are_a_value_error(user: Any) -> None:
     dimer(user)
     user._known.clear()
     with pytest.raises(ValueError, match="the scale is not known"):

@@ -1,9 +1,11 @@
 """`python3 -m ljclient verify`: a record is played again, and each reply is told to be the same or not."""
 import contextlib
 import hashlib
+import pathlib
 import random
 import re
 from unittest import mock
+from typing import Any, Callable, List, Tuple
 
 import pytest
 
@@ -22,19 +24,19 @@ MOVED = "moved\n" + DIMER_TEXT[DIMER_TEXT.index("> LOAD") : DIMER_TEXT.index("> 
 
 
 @pytest.fixture
-def path(tmp_path):
+def path(tmp_path: pathlib.Path) -> Any:
     path = tmp_path / "run.lj"
     path.write_text(with_checks(DIMER_TEXT))
     return path
 
 
-def edited(path, text):
+def edited(path: Any, text: Any) -> Any:
     """A record of these lines, whose checks are right."""
     path.write_text(with_checks(text))
     return path
 
 
-def test_a_line_for_each_command(path):
+def test_a_line_for_each_command(path: Any) -> None:
     status, (heading, *told, verdict), faults = verified(path)
     assert (status, faults) == (0, [])
     assert heading.startswith("recorded by ljclient 1.1.0 over a program that tells no version; played over ")
@@ -45,13 +47,13 @@ def test_a_line_for_each_command(path):
     assert verified("--quiet", path) == (0, [verdict], [])
 
 
-def test_another_implementation(path):
+def test_another_implementation(path: Any) -> None:
     status, told, faults = verified(path, "--program", TOP / "conformance" / "reference.py", "--quiet")
     assert (status, faults) == (0, [])
     assert " replies are the same; SHA-256 " in told[0]
 
 
-ACTS = (
+ACTS: Tuple[Callable[[Any, Any], object], ...] = (
     lambda a, pick: a.advance(pick(30)),
     lambda a, pick: a.start(pick(30)),
     lambda a, pick: a.reverse(),
@@ -69,7 +71,7 @@ ACTS = (
 
 
 @pytest.mark.parametrize("seed", range(5))
-def test_sessions_at_random_over_another_implementation(tmp_path, seed):
+def test_sessions_at_random_over_another_implementation(tmp_path: pathlib.Path, seed: Any) -> None:
     chance, path = random.Random(seed), tmp_path / "run.lj"
     with run(PROGRAM, branches=2) as user:
         others, a = dimer(user, "b"), dimer(user, record=path)
@@ -82,7 +84,7 @@ def test_sessions_at_random_over_another_implementation(tmp_path, seed):
     assert len(told) > 60
 
 
-def test_the_program_of_another_version(path, tmp_path):
+def test_the_program_of_another_version(path: Any, tmp_path: pathlib.Path) -> None:
     edited(path, DIMER_TEXT.replace("quota", "program ljserve 1.0.0\nprogram of another kit\nquota", 1))
     status, (heading, *_), _ = verified(path, "--program", twisted(tmp_path, "none", "none"))
     assert (status, heading) == (0, "recorded by ljclient 1.1.0 over ljserve 1.0.0; played over ljserve 9.9.9")
@@ -102,7 +104,7 @@ def test_the_program_of_another_version(path, tmp_path):
         ("ERR 12 NO_BRANCH", "OK RESTORE a z 1", 22, "`ERR 12 NO_BRANCH`, and `OK RESTORE a z 1` here"),
     ],
 )
-def test_a_program_that_replies_otherwise(path, tmp_path, wanted, other, line, here):
+def test_a_program_that_replies_otherwise(path: Any, tmp_path: pathlib.Path, wanted: Any, other: Any, line: Any, here: Any) -> None:
     status, told, faults = verified(path, "--program", twisted(tmp_path, wanted, other))
     assert status == 1
     command = COMMANDS[BEGINS.index(line)]
@@ -112,7 +114,7 @@ def test_a_program_that_replies_otherwise(path, tmp_path, wanted, other, line, h
     assert [each.split()[1] for each in told[1:-1]][BEGINS.index(line) :] == ["-"] * (len(BEGINS) - BEGINS.index(line))
 
 
-def test_commands_that_were_edited_with_their_checks(path):
+def test_commands_that_were_edited_with_their_checks(path: Any) -> None:
     """Nothing in the file tells, but the replies do, and the SHA-256."""
     edited(path, DIMER_TEXT.replace("Ar 1.5 0 0", "Ar 1.4 0 0"))
     status, told, faults = verified(path)
@@ -122,7 +124,7 @@ def test_commands_that_were_edited_with_their_checks(path):
 
 
 @pytest.mark.parametrize("number", range(1, len(LINES) + 1))
-def test_a_line_with_another_byte(path, number):
+def test_a_line_with_another_byte(path: Any, number: Any) -> None:
     rows = path.read_bytes().split(b"\n")
     for at in (0, len(rows[number - 1]) // 2, len(rows[number - 1]) - 1):
         row = bytearray(rows[number - 1])
@@ -133,7 +135,7 @@ def test_a_line_with_another_byte(path, number):
         assert caught.value.line == number
 
 
-def test_a_line_that_is_gone_doubled_or_moved(path):
+def test_a_line_that_is_gone_doubled_or_moved(path: Any) -> None:
     rows = path.read_bytes().split(b"\n")
     for number in range(1, len(LINES) - 1):
         others = [[*rows[:number], *rows[number + 1 :]], [*rows[:number], rows[number], *rows[number:]]]
@@ -145,14 +147,14 @@ def test_a_line_that_is_gone_doubled_or_moved(path):
             assert caught.value.line == line
 
 
-def test_what_is_damaged_is_not_played(path):
+def test_what_is_damaged_is_not_played(path: Any) -> None:
     path.write_bytes(path.read_bytes().replace(b"LIST a", b"LIST b"))
     number = LINES.index("> LIST a") + 1
     why = "the line was changed, or one above it is missing"
     assert verified(path, "--program", "/nowhere") == (2, [], [f"ljclient: {path}, line {number}: {why}"])
 
 
-def test_a_file_that_is_cut_short_anywhere(path):
+def test_a_file_that_is_cut_short_anywhere(path: Any) -> None:
     """What stands above is whole; the line that is cut is told."""
     data = path.read_bytes()
     for size in range(len(b"ljserve record 1\n"), len(data)):
@@ -167,7 +169,7 @@ def test_a_file_that_is_cut_short_anywhere(path):
         assert not file.is_ended
 
 
-def test_a_file_that_is_cut_short_is_played_up_to_there(path):
+def test_a_file_that_is_cut_short_is_played_up_to_there(path: Any) -> None:
     data = path.read_bytes()
     path.write_bytes(data[:-3])
     status, told, (fault,) = verified(path)
@@ -189,7 +191,7 @@ def test_a_file_that_is_cut_short_is_played_up_to_there(path):
         ("ljserve rec", "a record begins with `ljserve record 1`"),
     ],
 )
-def test_files_that_are_no_records(path, head, why):
+def test_files_that_are_no_records(path: Any, head: Any, why: Any) -> None:
     path.write_text(head)
     assert verified(path) == (2, [], [f"ljclient: {path}, line 1: {why}"])
 
@@ -228,7 +230,7 @@ def test_files_that_are_no_records(path, head, why):
         ("< OK DUMP a 2 4\n+", "< OK DUMP a 2 4\n>", 21, "here the sum of the lines of a reply should stand"),
     ],
 )
-def test_records_that_another_writer_has_made_badly(path, wanted, other, line, why):
+def test_records_that_another_writer_has_made_badly(path: Any, wanted: Any, other: Any, line: Any, why: Any) -> None:
     """Nothing but commands of one session is ever played, with bodies as long as they say."""
     assert wanted in DIMER_TEXT
     edited(path, DIMER_TEXT.replace(wanted, other, 1))
@@ -237,7 +239,7 @@ def test_records_that_another_writer_has_made_badly(path, wanted, other, line, w
     assert (caught.value.line, str(caught.value)) == (line, f"{path}, line {line}: {why}")
 
 
-def test_what_a_terminal_would_obey_is_escaped(path):
+def test_what_a_terminal_would_obey_is_escaped(path: Any) -> None:
     edited(path, DIMER_TEXT.replace("client ljclient 1.1.0", "client \x1b[2J").replace("> RESTORE a z", "> RESTORE a z \x1b]0;\r"))
     status, told, faults = verified(path)
     assert status == 1
@@ -257,19 +259,19 @@ def test_what_a_terminal_would_obey_is_escaped(path):
         (["a", "--timeout", "0"], "SECONDS is a number above 0"),
     ],
 )
-def test_words_of_the_command_line(words, told):
+def test_words_of_the_command_line(words: Any, told: Any) -> None:
     status, lines, faults = verified(*words)
     assert (status, lines) == (2, [])
     assert faults[-1].endswith(told) and faults[-1].startswith("ljclient: ")
 
 
-def test_files_and_programs_that_are_not_there(path, tmp_path):
+def test_files_and_programs_that_are_not_there(path: Any, tmp_path: pathlib.Path) -> None:
     assert verified(tmp_path / "none") == (2, [], [f"ljclient: cannot read {tmp_path / 'none'}: No such file or directory"])
     status, told, (fault,) = verified("--quiet", path, "--program", "/nowhere/ljserve")
     assert (status, told, fault) == (2, [], "ljclient: cannot start /nowhere/ljserve: No such file or directory")
 
 
-def test_more_commands_than_a_program_takes(path):
+def test_more_commands_than_a_program_takes(path: Any) -> None:
     """Those of a server go on over a new connection, and a program has one."""
     options = verify.options_of([str(path)])
     with mock.patch.object(verify, "MAX_ITEMS", len(COMMANDS)):
@@ -283,11 +285,11 @@ def test_more_commands_than_a_program_takes(path):
 # Over a server
 
 
-def over(server, name="ann"):
+def over(server: Any, name: str = "ann") -> List[Any]:
     return ["--server", f"127.0.0.1:{server.port}", name]
 
 
-def test_a_user_of_a_server(path):
+def test_a_user_of_a_server(path: Any) -> None:
     """The sessions that are there stay as they are, and that of the record is gone at the end."""
     with Server() as server:
         with connect("127.0.0.1", server.port, "ann", TOKEN, timeout=SECONDS) as user:
@@ -311,14 +313,14 @@ def test_a_user_of_a_server(path):
         ((1, 2, 0), 15, "BRANCH a k", "ERR 22 QUOTA_BRANCHES"),
     ],
 )
-def test_a_quota_that_is_too_small(path, quota, line, command, reply):
+def test_a_quota_that_is_too_small(path: Any, quota: Any, line: Any, command: Any, reply: Any) -> None:
     with Server(quota=quota) as server:
         status, told, faults = verified("--quiet", path, *over(server), LJSERVE_TOKEN=TOKEN)
     why = f"`{command}` is answered `{reply}` here; the record needs a quota of sessions 1 atoms 2 branches 1"
     assert (status, told, faults) == (2, [], [f"ljclient: {path}, line {line}: {why}"])
 
 
-def test_a_server_that_does_not_know_the_user(path, tmp_path):
+def test_a_server_that_does_not_know_the_user(path: Any, tmp_path: pathlib.Path) -> None:
     with Server() as server:
         status, told, (fault,) = verified("--quiet", path, *over(server, "bob"), LJSERVE_TOKEN=TOKEN)
         assert (status, told) == (2, [])
@@ -331,13 +333,13 @@ def test_a_server_that_does_not_know_the_user(path, tmp_path):
     assert (status, fault) == (2, f"ljclient: cannot connect to 127.0.0.1:{server.port}: Connection refused")
 
 
-def test_a_program_without_memory(path, tmp_path):
+def test_a_program_without_memory(path: Any, tmp_path: pathlib.Path) -> None:
     status, told, (fault,) = verified("--quiet", path, "--program", twisted(tmp_path, "OK BRANCH a k 1", "ERR 90 MEMORY"))
     assert (status, told) == (2, [])
     assert fault.startswith(f"ljclient: {path}, line 15: `BRANCH a k` is answered `ERR 90 MEMORY` here; ")
 
 
-def test_the_quota_of_its_own_program_suffices(tmp_path):
+def test_the_quota_of_its_own_program_suffices(tmp_path: pathlib.Path) -> None:
     """That which a program has by itself would not."""
     path = tmp_path / "run.lj"
     with run(PROGRAM, branches=20) as user:

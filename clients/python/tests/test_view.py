@@ -3,11 +3,12 @@ import http.client
 import json
 import re
 import unittest
+from typing import Any, List, Tuple
 
 from web_sockets import Refused  # first, since without aiohttp these tests are skipped
 from ljclient import run, units
 from ljclient.view import server
-from support import DIMER, EXAMPLES, PROGRAM, RING, SECONDS
+from support import DIMER, EXAMPLES, PROGRAM, RING, SECONDS, present
 from viewing import Page, Stream, View, file_of, places_of
 
 ARGON = [EXAMPLES / "argon_256.xyz", "--edge", "21.04"]
@@ -17,71 +18,73 @@ SCALE = ["--edge", "256", "--sigma", "1", "--h", "131072"]
 class Asked(unittest.TestCase):
     """Who may ask, and for what."""
 
+    view: Any
+
     @classmethod
-    def setUpClass(cls):
+    def setUpClass(cls) -> None:
         cls.view = View()
         cls.addClassCleanup(cls.view.end)
         stays = cls.view.page()  # without a page the view ends
         cls.addClassCleanup(stays.close)
 
-    def get(self, path, **headers):
+    def get(self, path: Any, **headers: Any) -> Tuple[Any, Any, Any]:
         connection = http.client.HTTPConnection("127.0.0.1", self.view.port, timeout=SECONDS)
         self.addCleanup(connection.close)
         connection.request("GET", path, headers={name.replace("_", "-"): value for name, value in headers.items()})
         told = connection.getresponse()
         return told.status, told.getheader("Content-Type"), told.read()
 
-    def test_the_files_of_the_page(self):
+    def test_the_files_of_the_page(self) -> None:
         for path, (name, kind) in server.FILES.items():
             status, told, body = self.get(f"/{path}")
             self.assertEqual((status, told), (200, f"{kind}; charset=utf-8"))
             self.assertEqual(body, (server.FOLDER / name).read_bytes())
 
-    def test_the_page_names_no_other_file(self):
+    def test_the_page_names_no_other_file(self) -> None:
         named = re.findall(r'(?:src|href)="([^"]+)"', (server.FOLDER / "page.html").read_text())
         for script in server.FOLDER.glob("*.js"):
             named += re.findall(r'from "\./([^"]+)"', script.read_text())
         self.assertEqual({*named, ""}, set(server.FILES))
 
-    def test_no_other_file(self):
+    def test_no_other_file(self) -> None:
         for path in ("/server.py", "/../server.py", "/%2e%2e/server.py", "//etc/passwd", "/page.html/"):
             self.assertEqual(self.get(path)[0], 404)
 
-    def test_only_this_address_is_answered(self):
+    def test_only_this_address_is_answered(self) -> None:
         for host in ("example.org", f"example.org:{self.view.port}", "127.0.0.1", "127.0.0.1:1", ""):
             self.assertEqual(self.get("/", Host=host)[::2], (403, b"Host is not the address of this page"))
         for host in (self.view.url, f"localhost:{self.view.port}"):
             self.assertEqual(self.get("/", Host=host)[0], 200)
 
-    def test_no_other_page_is_answered(self):
+    def test_no_other_page_is_answered(self) -> None:
         for origin in ("http://example.org", "null", f"https://{self.view.url}", "http://127.0.0.1:1"):
             self.assertEqual(self.get("/", Origin=origin)[::2], (403, b"Origin is another page"))
             with self.assertRaisesRegex(Refused, "403"):
                 self.view.page(Origin=origin)
 
-    def test_a_session_is_for_a_page(self):
+    def test_a_session_is_for_a_page(self) -> None:
         with self.assertRaisesRegex(Refused, "403"):
             Page(self.view.port, {})
         with self.assertRaisesRegex(Refused, "403"):
             self.view.page(Host="example.org")
         self.assertEqual(self.get("/session", Origin=f"http://{self.view.url}")[0], 400)
 
-    def test_nothing_may_frame_the_page_or_be_asked_by_it(self):
+    def test_nothing_may_frame_the_page_or_be_asked_by_it(self) -> None:
         connection = http.client.HTTPConnection("127.0.0.1", self.view.port, timeout=SECONDS)
         self.addCleanup(connection.close)
         connection.request("GET", "/")
         policy = connection.getresponse().getheader("Content-Security-Policy")
-        self.assertIn("default-src 'none'", policy)
-        self.assertIn("frame-ancestors 'none'", policy)
+        self.assertIn("default-src 'none'", present(policy))
+        self.assertIn("frame-ancestors 'none'", present(policy))
 
-    def test_a_page_has_a_session_of_its_own(self):
+    def test_a_page_has_a_session_of_its_own(self) -> None:
         with self.view.page() as one, self.view.page() as other:
             self.assertEqual(one.first, other.first)
             tugged = one.ask("tug", atom=0, by=[1000, 0, 0])
             self.assertNotEqual(places_of(one.ask("frame", steps=1)), places_of(other.ask("frame", steps=1)))
             self.assertEqual(places_of(tugged), places_of(other.ask("restart")))
 
-    def test_messages_as_a_browser_may_send_them(self):
+    def test_messages_as_a_browser_may_send_them(self) -> None:
         """In two frames with a ping between, which is answered first; a pong that nobody asked for; a close, which is answered."""
         with Stream(self.view) as stream:
             self.assertIn(stream.ACCEPTED, stream.head)
@@ -96,7 +99,7 @@ class Asked(unittest.TestCase):
             stream.send(0x88, b"\x03\xe8")
             self.assertEqual(stream.receive()[0], 0x88)
 
-    def test_what_is_no_message(self):
+    def test_what_is_no_message(self) -> None:
         """Bytes that are no text, a message that goes on and has not begun, text that is no UTF-8, and a kind that is none."""
         for first, data in ((0x82, b"abcd"), (0x80, b"abcd"), (0x81, b"\xff"), (0x83, b"")):
             with Stream(self.view) as stream:
@@ -107,7 +110,7 @@ class Asked(unittest.TestCase):
         with self.view.page() as page:
             self.assertEqual(page.ask("frame", steps=1)["step"], 1)
 
-    def test_a_message_is_not_too_long(self):
+    def test_a_message_is_not_too_long(self) -> None:
         with self.view.page() as page:
             page.channel.send("x" * (server.MAX_MESSAGE + 1))
             self.assertIsNone(page.channel.receive())
@@ -119,17 +122,17 @@ class Asked(unittest.TestCase):
 class Told(unittest.TestCase):
     """What a page is told, of two atoms whose motion is known by hand and of a crystal."""
 
-    def page(self, *words):
+    def page(self, *words: Any) -> Any:
         shown = View(*words)
         self.addCleanup(shown.end)
         page = shown.page()
         self.addCleanup(page.close)
         return page
 
-    def dimer(self):
+    def dimer(self) -> Any:
         return self.page(file_of(self, DIMER), *SCALE)
 
-    def test_two_atoms(self):
+    def test_two_atoms(self) -> None:
         page = self.dimer()
         self.assertEqual(places_of(page.first), [(0, 0, 0), (3 << 23, 0, 0)])
         told = page.ask("frame", steps=1)
@@ -139,18 +142,18 @@ class Told(unittest.TestCase):
         self.assertEqual(told["potential"], -5399727 / 2**24 / 2)
         self.assertAlmostEqual(told["temperature"], told["kinetic"] * 2 / 3)
 
-    def test_a_crystal_begins_at_its_temperature(self):
+    def test_a_crystal_begins_at_its_temperature(self) -> None:
         """No force acts at the sites of a crystal, so the first step is that of the velocities alone."""
         told = self.page("--temperature", "0.7").ask("frame", steps=1)
         self.assertAlmostEqual(told["temperature"], 0.7, places=3)
 
-    def test_a_tug(self):
+    def test_a_tug(self) -> None:
         page = self.dimer()
         page.ask("frame", steps=1)
         page.ask("tug", atom=0, by=[5, 0, -7])
         self.assertEqual(places_of(page.ask("frame", steps=1))[0], (2 * 589 + 5 + 596, 0, RING - 7))
 
-    def test_reverse(self):
+    def test_reverse(self) -> None:
         page = self.dimer()
         page.ask("frame", steps=2)
         back = page.ask("reverse")
@@ -160,7 +163,7 @@ class Told(unittest.TestCase):
         again = page.ask("reverse")
         self.assertEqual((again["step"], again["direction"]), (-2, 1))
 
-    def test_there_and_back(self):
+    def test_there_and_back(self) -> None:
         page = self.page()
         away = page.ask("frame", steps=300)
         self.assertEqual(page.ask("exact")["same"], {"start": 0})
@@ -171,7 +174,7 @@ class Told(unittest.TestCase):
         told = page.ask("exact")
         self.assertEqual((told["same"], told["atoms"]), ({"start": 256}, 256))
 
-    def test_save_and_restore(self):
+    def test_save_and_restore(self) -> None:
         page = self.page()
         self.assertEqual(page.ask("restore"), {"error": "nothing is saved yet"})
         for steps in (40, 20):
@@ -186,14 +189,14 @@ class Told(unittest.TestCase):
         self.assertEqual(page.ask("restart")["atoms"], page.first["atoms"])
         self.assertEqual(page.ask("frame", steps=1)["step"], 1)
 
-    def test_the_places_of_a_step_and_of_the_one_before(self):
+    def test_the_places_of_a_step_and_of_the_one_before(self) -> None:
         page = self.dimer()
         page.ask("frame", steps=1)
         told = page.ask("speeds")
         self.assertEqual([places_of(told, frame)[0] for frame in ("before", "now")], [(0, 0, 0), (589, 0, 0)])
         self.assertEqual(page.ask("frame", steps=1)["step"], 2)
 
-    def test_a_second_run_of_two_atoms(self):
+    def test_a_second_run_of_two_atoms(self) -> None:
         """Atom 0 goes one unit further. A step later that unit is doubled, and the push is that of the same bin."""
         page = self.dimer()
         told = page.ask("second", on=True)
@@ -206,7 +209,7 @@ class Told(unittest.TestCase):
         page.ask("second", on=True)
         self.assertNotIn("second", page.ask("restart"))
 
-    def test_a_second_run_comes_back(self):
+    def test_a_second_run_comes_back(self) -> None:
         """It begins on the way and goes far away, and time turned back leads both to where it began."""
         page = self.page()
         begun = page.ask("frame", steps=100)
@@ -218,7 +221,7 @@ class Told(unittest.TestCase):
         back = page.ask("frame", steps=599)
         self.assertEqual((back["step"], back["atoms"], back["second"]), (100, begun["atoms"], begun["atoms"]))
 
-    def test_it_is_the_trajectory_of_the_file(self):
+    def test_it_is_the_trajectory_of_the_file(self) -> None:
         page = self.page(*ARGON)
         told = page.ask("frame", steps=150)
         with run(PROGRAM) as user:
@@ -229,7 +232,7 @@ class Told(unittest.TestCase):
         self.assertAlmostEqual(told["temperature"], measured.temperature)
         self.assertAlmostEqual(told["potential"], measured.potential_energy / 256)
 
-    def test_the_crystal_is_begun_anew(self):
+    def test_the_crystal_is_begun_anew(self) -> None:
         """4 atoms for each of 3 cells along each axis. A step of 0.001 has the step factor 4295, and 4295 stands for 0.00100001."""
         page = self.page()
         self.assertEqual(page.first["scene"]["settings"]["sizes"], [108, 256, 500, 864, 1372, 2048, 2916, 4000])
@@ -245,23 +248,23 @@ class Told(unittest.TestCase):
             self.assertEqual(list(page.ask("load", scene=0, **words)), ["error"], words)
         self.assertEqual((page.ask("frame", steps=1)["step"], len(places_of(page.ask("frame", steps=0)))), (2, 108))
 
-    def test_a_file_is_begun_anew(self):
+    def test_a_file_is_begun_anew(self) -> None:
         page = self.page(*ARGON)
         self.assertEqual(page.first["scene"]["settings"]["sizes"], [256])
         told = page.ask("load", scene=0, temperature=90, dt=2)
         self.assertAlmostEqual(told["scene"]["dt"], 2.000109, places=6)
         self.assertAlmostEqual(told["temperature"], 90, places=3)
 
-    def test_several_files(self):
+    def test_several_files(self) -> None:
         page = self.page(*ARGON, EXAMPLES / "argon_4000.xyz")
         self.assertEqual(page.first["scene"]["titles"], ["argon_256.xyz", "argon_4000.xyz"])
         self.assertEqual(len(places_of(page.ask("load", scene=1))), 4000)
         again = page.ask("load", scene=0)
         self.assertEqual((again["atoms"], again["scene"]["number"]), (page.first["atoms"], 0))
 
-    def test_what_cannot_be_asked(self):
+    def test_what_cannot_be_asked(self) -> None:
         page = self.dimer()
-        for what, words in (
+        cases: List[Any] = [
             *(("frame", {"steps": steps}) for steps in (-1, 1001, True, 1.0, "1", None)),
             *(("tug", {"atom": 0, "by": by}) for by in ([0, 0], "abc", [2**31, 0, 0], [0, 0, 0.5], None)),
             ("tug", {"atom": 2, "by": [0, 0, 0]}),
@@ -270,7 +273,8 @@ class Told(unittest.TestCase):
             ("exit", {}),
             (None, {}),
             ([], {}),
-        ):
+        ]
+        for what, words in cases:
             self.assertEqual(list(page.ask(what, **words)), ["error"])
         for message in ("", "{", "[]", "1", "[" * 60000):
             page.channel.send(message)

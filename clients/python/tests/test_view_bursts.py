@@ -2,6 +2,7 @@
 import json
 import os
 import pathlib
+from typing import Any, Iterator
 
 import pytest
 
@@ -31,17 +32,17 @@ WRITTEN = """import('./charts.js').then(script => {
 
 
 @pytest.fixture(scope="module")
-def browser():
+def browser() -> Iterator[Any]:
     with Browser() as one:
         yield one
 
 
 @pytest.fixture
-def opened(browser, tmp_path):
+def opened(browser: Any, tmp_path: pathlib.Path) -> Iterator[Any]:
     """Opens a page of these atoms with these options, until the test ends. Without atoms it is the crystal."""
     views = []
 
-    def open_page(atoms, *options):
+    def open_page(atoms: Any, *options: Any) -> Any:
         path = tmp_path / "atoms.xyz"
         path.write_text(atoms)
         views.append(View(*([path, "--edge", 20] if atoms else []), *options))
@@ -65,18 +66,18 @@ APART = "2\n\nAr 10 10 0\nAr 3 3 0\n"
 LARGE = ["--h", 5000000]
 
 
-def warning_is(browser, text):
+def warning_is(browser: Any, text: Any) -> Any:
     browser.wait_for(f"document.getElementById('warning').textContent.startsWith({json.dumps(text)})")
     return browser.text("warning")
 
 
-def play_until(browser, condition):
+def play_until(browser: Any, condition: Any) -> None:
     browser.click("play")
     browser.wait_for(condition)
     browser.click("play")
 
 
-def test_a_burst_is_said_with_what_helps_for_as_long_as_it_is_true(opened):
+def test_a_burst_is_said_with_what_helps_for_as_long_as_it_is_true(opened: Any) -> None:
     page = opened("", *LARGE)
     assert page.text("warning") == ""
     page.click("play")
@@ -101,13 +102,13 @@ def test_a_burst_is_said_with_what_helps_for_as_long_as_it_is_true(opened):
     assert page.text("warning") == ""
 
 
-def test_femtoseconds_are_named_where_they_were_said(opened):
+def test_femtoseconds_are_named_where_they_were_said(opened: Any) -> None:
     page = opened(CLOSE, "--sigma", 1, "--dt", 30)
     page.click("play")
     assert warning_is(page, BURST) == f"{BURST} Begin anew with a smaller step than 30 fs."
 
 
-def test_a_tug_is_no_burst(opened):
+def test_a_tug_is_no_burst(opened: Any) -> None:
     """By 10 sigma per unit of time one of two atoms is given 50 epsilon, which is 25 an atom."""
     page = opened(APART, "--h", 131072)
     box = page.value("document.getElementById('box').getBoundingClientRect().toJSON()")
@@ -130,7 +131,7 @@ def test_a_tug_is_no_burst(opened):
         [[0, 0], [12345678, 8e11]],
     ],
 )
-def test_labels_are_whole_and_apart(opened, rows):
+def test_labels_are_whole_and_apart(opened: Any, rows: Any) -> None:
     page = opened(APART, "--h", 131072)
     written = page.value(WRITTEN.replace("ROWS", json.dumps(rows)))
     assert [label for label in written if label["left"] < 0 or label["right"] > 260] == []
@@ -151,6 +152,6 @@ def test_labels_are_whole_and_apart(opened, rows):
         (-8e11, "−8e11"),
     ],
 )
-def test_a_label_has_few_letters(opened, value, text):
+def test_a_label_has_few_letters(opened: Any, value: Any, text: Any) -> None:
     page = opened(APART, "--h", 131072)
     assert page.value(f"import('./charts.js').then(script => script.label({value}))") == text

@@ -5,11 +5,12 @@ import os
 import pathlib
 import re
 import time
+from typing import Any, Dict, Iterator
 
 import pytest
 
 from browsing import CHROMIUM, Browser
-from support import SECONDS
+from support import SECONDS, present
 from viewing import View
 
 pytestmark = pytest.mark.skipif(not CHROMIUM, reason="Chromium is not installed")
@@ -19,13 +20,13 @@ FRAME_IS_DRAWN = "new Promise(done => requestAnimationFrame(() => requestAnimati
 
 
 @pytest.fixture(scope="module")
-def browser():
+def browser() -> Iterator[Any]:
     with Browser(1280, 800) as one:
         yield one
 
 
 @pytest.fixture
-def page(browser):
+def page(browser: Any) -> Iterator[Any]:
     """A page of the crystal."""
     browser.leave()
     browser.ask("Emulation.setDeviceMetricsOverride", width=1280, height=800, deviceScaleFactor=1, mobile=False)
@@ -36,13 +37,13 @@ def page(browser):
         assert browser.faults == []
 
 
-def picture(page, name):
+def picture(page: Any, name: Any) -> None:
     page.value(FRAME_IS_DRAWN)
     if PICTURES:
         (pathlib.Path(PICTURES) / f"{name}.png").write_bytes(page.picture())
 
 
-def fill(page, form, **values):
+def fill(page: Any, form: Any, **values: Any) -> None:
     """Types these values into the fields of a form, and presses its button."""
     fields = f"document.getElementById('{form}').elements"
     for name, value in values.items():
@@ -50,14 +51,14 @@ def fill(page, form, **values):
     page.value(f"document.querySelector('#{form} button').click()")
 
 
-def play_to(page, step):
+def play_to(page: Any, step: Any) -> None:
     page.click("play")
     page.wait_for(f"Number(document.getElementById('step').textContent.replaceAll(',', '')) >= {step}")
     page.click("play")
     page.wait_for("document.getElementById('play').textContent === 'Play'")
 
 
-def test_the_crystal_is_begun_anew_from_the_page(page):
+def test_the_crystal_is_begun_anew_from_the_page(page: Any) -> None:
     fill(page, "settings", atoms=108, temperature=0.7, dt=0.001)
     page.wait_for("document.getElementById('about').textContent.includes('108 atoms')")
     assert page.text("about").endswith("a step is 0.0010 τ")
@@ -70,7 +71,7 @@ def test_the_crystal_is_begun_anew_from_the_page(page):
     picture(page, "begun_anew")
 
 
-def test_a_second_run_is_drawn_with_its_distance(page):
+def test_a_second_run_is_drawn_with_its_distance(page: Any) -> None:
     page.click("second")
     page.wait_for("document.getElementById('message').textContent.startsWith('A second run from step 0')")
     play_to(page, 800)
@@ -93,12 +94,12 @@ def test_a_second_run_is_drawn_with_its_distance(page):
     page.wait_for("document.getElementById('of-second').hidden")
 
 
-def of_script(page, name, text):
+def of_script(page: Any, name: Any, text: Any) -> Any:
     """The value of an expression over what a script of the page exports."""
     return page.value(f"import('./{name}').then(script => {text})")
 
 
-def show(page, *charts):
+def show(page: Any, *charts: Any) -> None:
     """Ticks the boxes of these charts, and of no other."""
     page.value(
         f"""document.querySelectorAll('#charts input').forEach(box => {{
@@ -107,7 +108,7 @@ def show(page, *charts):
     )
 
 
-def test_speeds_and_distances_are_shown_of_the_frame(page):
+def test_speeds_and_distances_are_shown_of_the_frame(page: Any) -> None:
     """At the sites of a crystal the first twelve neighbours are half the diagonal of a face away, and no pair is nearer."""
     show(page, "of-speeds", "of-radial")
     page.click("one")
@@ -118,7 +119,7 @@ def test_speeds_and_distances_are_shown_of_the_frame(page):
     picture(page, "speeds")
 
 
-def test_the_radial_distribution_of_a_crystal(page):
+def test_the_radial_distribution_of_a_crystal(page: Any) -> None:
     """Each of 256 atoms has 12 neighbours at 0.5^0.5 of a fourth of the edge: in that bin g is their number beside that of atoms
     which lie anywhere."""
     sites = [
@@ -137,7 +138,7 @@ def test_the_radial_distribution_of_a_crystal(page):
     assert abs(found[first] - 12 / anywhere) < 1e-9
 
 
-def test_speeds_of_atoms(page):
+def test_speeds_of_atoms(page: Any) -> None:
     """One is 3, 4 and 12 units further, round the box: 13 units. With sigma 100 units and a step of 0.01 it is 13 sigma a unit."""
     places = "new Float64Array([1, 4, 12, 7, 7, 7]), new Float64Array([2 ** 32 - 2, 0, 0, 7, 7, 7])"
     assert of_script(page, "measures.js", f"[...script.speeds({places}, {{ sigma: 100, reduced_dt: 0.01 }})]") == [13, 0]
@@ -149,18 +150,18 @@ def test_speeds_of_atoms(page):
     assert abs(mean - (8 * 1.5 / math.pi) ** 0.5) < 1e-4
 
 
-def hover(page, chart, share):
+def hover(page: Any, chart: Any, share: Any) -> None:
     """Moves the mouse over a chart, at a share of its width."""
     at = page.value(f"document.getElementById('{chart}').getBoundingClientRect().toJSON()")
     page.ask("Input.dispatchMouseEvent", type="mouseMoved", x=at["x"] + share * at["width"], y=at["y"] + at["height"] / 2)
     page.value(FRAME_IS_DRAWN)
 
 
-def told_at(page, chart):
+def told_at(page: Any, chart: Any) -> Any:
     return page.value(f"document.getElementById('{chart}').parentElement.querySelector('.at').textContent")
 
 
-def test_time_and_the_values_at_the_pointer(page):
+def test_time_and_the_values_at_the_pointer(page: Any) -> None:
     """131072 / 2^32 is the square of the time step. Exact? is answered after each frame that was asked for."""
     play_to(page, 300)
     page.click("exact")
@@ -170,26 +171,26 @@ def test_time_and_the_values_at_the_pointer(page):
     assert abs(shown - step * (131072 / 2**32) ** 0.5) < 0.001
     hover(page, "distances", 0.99)
     told = re.fullmatch(r"step (\d+) · ([\d.]+) τ: ([\d.]+) σ", told_at(page, "distances"))
-    assert (int(told[1]), float(told[2])) == (step, shown)
-    assert abs(float(told[3]) - float(page.text("distance"))) < 0.001
+    assert (int(present(told)[1]), float(present(told)[2])) == (step, shown)
+    assert abs(float(present(told)[3]) - float(page.text("distance"))) < 0.001
     hover(page, "energies", 0.5)
     picture(page, "hover")
     assert told_at(page, "distances") == ""
     told = re.fullmatch(r"step (\d+) · ([\d.]+) τ: ([\d.]+), −([\d.]+), −([\d.]+)", told_at(page, "energies"))
-    assert 0 < int(told[1]) < step
-    kinetic, total, potential = (sign * float(told[k]) for sign, k in ((1, 3), (-1, 4), (-1, 5)))
+    assert 0 < int(present(told)[1]) < step
+    kinetic, total, potential = (sign * float(present(told)[k]) for sign, k in ((1, 3), (-1, 4), (-1, 5)))
     assert abs(kinetic + potential - total) < 0.002
     page.value("(axis => { axis.value = 'time'; axis.dispatchEvent(new Event('change')); })(document.getElementById('axis'))")
     assert page.value("document.getElementById('axis').selectedOptions[0].textContent") == "time in τ"
     picture(page, "in_time")
 
 
-def test_time_in_picoseconds(page):
+def test_time_in_picoseconds(page: Any) -> None:
     text = "[new script.Clock({ dt: 10.0005, reduced_dt: 0.0046 }).text(250), script.stepText(-1200, null)]"
     assert of_script(page, "clock.js", text) == ["2.5 ps", "step −1,200"]
 
 
-def saved_files(page, folder, *buttons):
+def saved_files(page: Any, folder: Any, *buttons: Any) -> Dict[Any, Any]:
     """The files that the browser saves by these buttons, by their endings."""
     page.ask("Browser.setDownloadBehavior", behavior="allow", downloadPath=str(folder))
     for button in buttons:
@@ -201,7 +202,7 @@ def saved_files(page, folder, *buttons):
     return {path.suffix: path for path in found}
 
 
-def test_a_picture_and_the_rows_are_saved(page, tmp_path):
+def test_a_picture_and_the_rows_are_saved(page: Any, tmp_path: pathlib.Path) -> None:
     for step in (1, 2):
         page.click("one")
         page.wait_for(f"document.getElementById('step').textContent === '{step}'")

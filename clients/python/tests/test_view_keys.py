@@ -1,4 +1,7 @@
 """The keys of the live view, in Chromium: each presses its button once, wherever the focus is."""
+import pathlib
+from typing import Any, Dict, Iterator
+
 import pytest
 
 from browsing import CHROMIUM, Browser
@@ -17,7 +20,7 @@ LIST_IS_OPEN = "document.getElementById('keys').matches(':popover-open')"
 COUNT = "window.pressed = []; document.addEventListener('click', event => pressed.push(event.target.id), true)"
 
 
-def letter(key):
+def letter(key: Any) -> Dict[Any, Any]:
     code, shift = ord(key.upper()), 8 * key.isupper()
     return {"key": key, "code": f"Key{key.upper()}", "windowsVirtualKeyCode": code, "text": key, "modifiers": shift}
 
@@ -25,37 +28,37 @@ def letter(key):
 class Keyboard:
     """The page of a view, its keyboard, and which buttons were pressed."""
 
-    def __init__(self, browser):
+    def __init__(self, browser: Any) -> None:
         self.browser = browser
         browser.value(COUNT)
 
-    def down(self, key, **words):
+    def down(self, key: Any, **words: Any) -> None:
         self.browser.ask("Input.dispatchKeyEvent", type="keyDown" if "text" in key else "rawKeyDown", **key, **words)
 
-    def up(self, key):
+    def up(self, key: Any) -> None:
         self.browser.ask("Input.dispatchKeyEvent", type="keyUp", **{name: part for name, part in key.items() if name != "text"})
 
-    def press(self, key):
+    def press(self, key: Any) -> None:
         self.down(key)
         self.up(key)
 
-    def focus(self, name):
+    def focus(self, name: Any) -> None:
         self.browser.value(f"document.getElementById('{name}').focus()")
         assert self.browser.value("document.activeElement.id") == name
 
-    def pressed(self):
+    def pressed(self) -> Any:
         """The buttons that were pressed since this was asked last."""
         return self.browser.value("pressed.splice(0)")
 
 
 @pytest.fixture(scope="module")
-def browser():
+def browser() -> Iterator[Any]:
     with Browser() as one:
         yield one
 
 
 @pytest.fixture
-def keyboard(browser, tmp_path):
+def keyboard(browser: Any, tmp_path: pathlib.Path) -> Iterator[Any]:
     """The keyboard of a page that has a choice of two files."""
     paths = [tmp_path / name for name in ("one.xyz", "two.xyz")]
     for path in paths:
@@ -68,7 +71,7 @@ def keyboard(browser, tmp_path):
         assert browser.faults == []
 
 
-def test_space_after_a_click_plays_and_does_not_turn_time_again(keyboard):
+def test_space_after_a_click_plays_and_does_not_turn_time_again(keyboard: Any) -> None:
     keyboard.browser.click("reverse")
     assert keyboard.pressed() == ["reverse"]
     keyboard.press(SPACE)
@@ -76,7 +79,7 @@ def test_space_after_a_click_plays_and_does_not_turn_time_again(keyboard):
 
 
 @pytest.mark.parametrize("focus", ["reverse", "depth", "scene"])
-def test_each_key_presses_its_button_once_wherever_the_focus_is(keyboard, focus):
+def test_each_key_presses_its_button_once_wherever_the_focus_is(keyboard: Any, focus: Any) -> None:
     """A button, a slider and the choice of a file."""
     keyboard.browser.click("save")
     keyboard.browser.wait_for("!document.getElementById('restore').disabled")
@@ -88,13 +91,13 @@ def test_each_key_presses_its_button_once_wherever_the_focus_is(keyboard, focus)
         assert keyboard.pressed() == [name]
 
 
-def test_letters_count_with_shift_too(keyboard):
+def test_letters_count_with_shift_too(keyboard: Any) -> None:
     keyboard.press(letter("R"))
     keyboard.press(letter("E"))
     assert keyboard.pressed() == ["reverse", "exact"]
 
 
-def test_a_key_that_is_held_counts_once(keyboard):
+def test_a_key_that_is_held_counts_once(keyboard: Any) -> None:
     keyboard.down(SPACE)
     for _ in range(3):
         keyboard.down(SPACE, autoRepeat=True)
@@ -102,7 +105,7 @@ def test_a_key_that_is_held_counts_once(keyboard):
     assert keyboard.pressed() == ["play"]
 
 
-def test_the_key_of_one_step_may_be_held(keyboard):
+def test_the_key_of_one_step_may_be_held(keyboard: Any) -> None:
     keyboard.down(POINT)
     keyboard.browser.wait_for("document.getElementById('step').textContent === '1'")
     keyboard.down(POINT, autoRepeat=True)
@@ -110,7 +113,7 @@ def test_the_key_of_one_step_may_be_held(keyboard):
     keyboard.up(POINT)
 
 
-def test_keys_do_nothing_while_text_is_typed(keyboard):
+def test_keys_do_nothing_while_text_is_typed(keyboard: Any) -> None:
     keyboard.browser.value("document.body.append(Object.assign(document.createElement('input'), { id: 'field' }))")
     keyboard.focus("field")
     for key in (letter("r"), SPACE, POINT, QUESTION):
@@ -120,19 +123,19 @@ def test_keys_do_nothing_while_text_is_typed(keyboard):
     assert not keyboard.browser.value(LIST_IS_OPEN)
 
 
-def test_a_key_with_control_is_left_to_the_browser(keyboard):
+def test_a_key_with_control_is_left_to_the_browser(keyboard: Any) -> None:
     keyboard.press({**letter("e"), "modifiers": 2, "text": ""})
     assert keyboard.pressed() == []
 
 
-def test_enter_presses_the_button_that_has_the_focus(keyboard):
+def test_enter_presses_the_button_that_has_the_focus(keyboard: Any) -> None:
     keyboard.focus("exact")
     keyboard.press(ENTER)
     assert keyboard.pressed() == ["exact"]
 
 
 @pytest.mark.parametrize("closes", [QUESTION, ESCAPE], ids=["question", "escape"])
-def test_a_question_mark_shows_the_keys(keyboard, closes):
+def test_a_question_mark_shows_the_keys(keyboard: Any, closes: Any) -> None:
     assert "? shows the keys" in keyboard.browser.value("document.body.innerText")
     keyboard.press(QUESTION)
     assert keyboard.browser.value(LIST_IS_OPEN)
@@ -143,6 +146,6 @@ def test_a_question_mark_shows_the_keys(keyboard, closes):
     assert keyboard.pressed() == []
 
 
-def test_the_keys_are_shown_without_a_keyboard_too(keyboard):
+def test_the_keys_are_shown_without_a_keyboard_too(keyboard: Any) -> None:
     keyboard.browser.value("document.querySelector('[popovertarget=keys]').click()")
     assert keyboard.browser.value(LIST_IS_OPEN)

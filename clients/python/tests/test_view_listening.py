@@ -3,6 +3,7 @@ import http.client
 import re
 import signal
 import subprocess
+from typing import Any, Iterator, Tuple
 
 import pytest
 
@@ -13,12 +14,12 @@ from web_sockets import Refused
 
 
 @pytest.fixture
-def view():
+def view() -> Iterator[Any]:
     with View("--listen", "127.0.0.1:0", "--address", "class.example") as one:
         yield one
 
 
-def get(view, path, **headers):
+def get(view: Any, path: Any, **headers: Any) -> Tuple[Any, Any, Any]:
     connection = http.client.HTTPConnection("127.0.0.1", view.port, timeout=SECONDS)
     connection.request("GET", path, headers=headers)
     answer = connection.getresponse()
@@ -27,7 +28,7 @@ def get(view, path, **headers):
     return answer.status, dict(answer.getheaders()), body
 
 
-def test_the_link_has_a_secret(view):
+def test_the_link_has_a_secret(view: Any) -> None:
     told = re.fullmatch(r"The page is at http://class\.example:\d+/([\w-]{16})/ and the program ends by Ctrl-C\.\n", view.said)
     assert told
     with View("--listen", "127.0.0.1:0") as other:
@@ -35,7 +36,7 @@ def test_the_link_has_a_secret(view):
         assert told[1] not in other.said
 
 
-def test_whoever_has_the_link_is_answered(view):
+def test_whoever_has_the_link_is_answered(view: Any) -> None:
     """By whatever name, since a class reaches the machine by more than one."""
     for host in (f"127.0.0.1:{view.port}", "class.example", "[2001:db8::1]:80"):
         status, headers, body = get(view, view.path, Host=host)
@@ -48,7 +49,7 @@ def test_whoever_has_the_link_is_answered(view):
     assert get(view, f"{view.path}page.js")[0] == 200
 
 
-def test_without_the_secret_there_is_no_page(view):
+def test_without_the_secret_there_is_no_page(view: Any) -> None:
     wrong = f"/{'A' * 16}/"
     for path in ("/", "/page.html", "/page.js", "/session", wrong, f"{wrong}page.js", view.path[:-2], view.path.lower() + "x"):
         assert get(view, path)[0] == 404
@@ -56,14 +57,14 @@ def test_without_the_secret_there_is_no_page(view):
         Page(view.port, {"Origin": f"http://{view.url}", "Host": view.url}, wrong)
 
 
-def test_no_page_of_another_site_is_answered(view):
+def test_no_page_of_another_site_is_answered(view: Any) -> None:
     for headers in ({"Origin": "http://example.org"}, {"Host": "a b"}, {"Host": "x;y"}, {"Host": ""}):
         assert get(view, view.path, **headers)[0] == 403
     with pytest.raises(Refused, match="403"):
         Page(view.port, {"Origin": "http://example.org"}, view.path)
 
 
-def test_it_stays_when_a_page_is_closed_and_ends_by_an_interrupt(view):
+def test_it_stays_when_a_page_is_closed_and_ends_by_an_interrupt(view: Any) -> None:
     with Page(view.port, {"Origin": f"http://127.0.0.1:{view.port}"}, view.path):
         pass
     with pytest.raises(subprocess.TimeoutExpired):
@@ -81,6 +82,6 @@ def test_it_stays_when_a_page_is_closed_and_ends_by_an_interrupt(view):
         (["--address", "class.example"], "--address is for --listen"),
     ],
 )
-def test_words_that_do_not_fit(words, told):
+def test_words_that_do_not_fit(words: Any, told: Any) -> None:
     done = subprocess.run(**command(*words), capture_output=True, timeout=SECONDS)
     assert (done.returncode, told in done.stderr) == (2, True)

@@ -2,6 +2,7 @@
 import os
 import pathlib
 import signal
+from typing import Any, Iterator
 
 import pytest
 
@@ -21,64 +22,64 @@ TWO, THREE = 0, 1
 class Shown:
     """The page of a view, and what it says."""
 
-    def __init__(self, browser, view):
+    def __init__(self, browser: Any, view: Any) -> None:
         self.browser = browser
         self.view = view
         browser.open(f"http://{view.url}/")
         browser.wait_for("document.getElementById('about')?.textContent.startsWith('2 atoms')")
 
     @property
-    def message(self):
+    def message(self) -> Any:
         return self.browser.text("message")
 
     @property
-    def kind(self):
+    def kind(self) -> Any:
         return self.browser.value("document.getElementById('message').className").split()[1:]
 
     @property
-    def step(self):
+    def step(self) -> int:
         return int(self.browser.text("step"))
 
-    def click(self, *names):
+    def click(self, *names: Any) -> None:
         for name in names:
             self.browser.click(name)
 
-    def waits_for(self, name, sign, value):
+    def waits_for(self, name: Any, sign: Any, value: Any) -> None:
         """Waits until the text of an element compares so with a value."""
         text = f"document.getElementById('{name}').textContent"
         self.browser.wait_for(f"Number({text}) {sign} {value}" if isinstance(value, int) else f"{text} {sign} '{value}'")
 
-    def says(self, text):
+    def says(self, text: Any) -> Any:
         """Waits until the message begins so. Returns it whole."""
         self.browser.wait_for(f"document.getElementById('message').textContent.startsWith('{text}')")
         return self.message
 
-    def says_nothing(self):
+    def says_nothing(self) -> None:
         self.browser.wait_for("document.getElementById('message').textContent === ''")
         assert self.kind == []
 
-    def go(self, *steps):
+    def go(self, *steps: Any) -> None:
         """Presses One step, and waits for these steps one after the other."""
         for step in steps:
             self.click("one")
             self.waits_for("step", "===", step)
 
-    def play_until(self, sign, step):
+    def play_until(self, sign: Any, step: Any) -> None:
         self.click("play")
         self.waits_for("step", sign, step)
         self.click("play")
         self.waits_for("play", "===", "Play")
 
-    def choose(self, number, then=""):
+    def choose(self, number: Any, then: str = "") -> None:
         """Chooses a file, and does something more before the page is answered."""
         select = "document.getElementById('scene')"
         self.browser.value(f"{select}.value = {number}; {select}.dispatchEvent(new Event('change')); {then}")
 
-    def loads(self, number):
+    def loads(self, number: Any) -> None:
         self.choose(number)
         self.browser.wait_for(f"document.getElementById('about').textContent.startsWith('{number + 2} atoms')")
 
-    def pull(self, right):
+    def pull(self, right: Any) -> None:
         """Pulls the atom in the middle of the box by so many pixels."""
         box = self.browser.value("document.getElementById('box').getBoundingClientRect().toJSON()")
         x, y = box["x"] + box["width"] / 2, box["y"] + box["height"] / 2
@@ -86,19 +87,19 @@ class Shown:
         self.browser.mouse("mouseMoved", x + right, y)
         self.browser.mouse("mouseReleased", x + right, y)
 
-    def picture(self, name):
+    def picture(self, name: Any) -> None:
         if PICTURES:
             (pathlib.Path(PICTURES) / f"{name}.png").write_bytes(self.browser.picture())
 
 
 @pytest.fixture(scope="module")
-def browser():
+def browser() -> Iterator[Any]:
     with Browser() as one:
         yield one
 
 
 @pytest.fixture
-def shown(browser, tmp_path):
+def shown(browser: Any, tmp_path: pathlib.Path) -> Iterator[Any]:
     """The page with both files, of which the first is shown."""
     for name, text in FILES.items():
         (tmp_path / name).write_text(text)
@@ -108,7 +109,7 @@ def shown(browser, tmp_path):
         assert browser.faults == []
 
 
-def test_press_play_goes_when_it_plays(shown):
+def test_press_play_goes_when_it_plays(shown: Any) -> None:
     assert shown.message == "Press Play."
     shown.click("play")
     shown.waits_for("step", ">=", 8)
@@ -116,12 +117,12 @@ def test_press_play_goes_when_it_plays(shown):
     shown.picture("plays")
 
 
-def test_press_play_goes_with_one_step(shown):
+def test_press_play_goes_with_one_step(shown: Any) -> None:
     shown.go(1)
     shown.says_nothing()
 
 
-def test_a_verdict_goes_with_its_step(shown):
+def test_a_verdict_goes_with_its_step(shown: Any) -> None:
     shown.play_until(">=", 20)
     shown.click("reverse")
     shown.waits_for("direction", "===", "backward")
@@ -137,7 +138,7 @@ def test_a_verdict_goes_with_its_step(shown):
     shown.picture("verdict_gone")
 
 
-def test_a_verdict_goes_with_one_step_and_with_a_turn(shown):
+def test_a_verdict_goes_with_one_step_and_with_a_turn(shown: Any) -> None:
     for act, step in (("one", "1"), ("reverse", "-1")):
         shown.click("restart", "exact")
         shown.says("2 of 2, to the bit")
@@ -147,7 +148,7 @@ def test_a_verdict_goes_with_one_step_and_with_a_turn(shown):
         assert shown.kind == []
 
 
-def test_exact_pauses_so_that_its_verdict_is_of_the_step_shown(shown):
+def test_exact_pauses_so_that_its_verdict_is_of_the_step_shown(shown: Any) -> None:
     shown.click("play")
     shown.waits_for("step", ">=", 20)
     shown.click("exact")
@@ -156,7 +157,7 @@ def test_exact_pauses_so_that_its_verdict_is_of_the_step_shown(shown):
     assert message == f"0 of 2 atoms have the place that they had at the start. This is step {shown.step}."
 
 
-def test_a_verdict_says_which_places_it_counts(shown):
+def test_a_verdict_says_which_places_it_counts(shown: Any) -> None:
     """The third atom is pulled away and stopped. Saved there, it is where it was saved, and not where it was at the start."""
     shown.loads(THREE)
     shown.pull(60)
@@ -171,7 +172,7 @@ def test_a_verdict_says_which_places_it_counts(shown):
     assert shown.says("1 of 3") == "1 of 3 atoms have the place that they had when it was saved. This is step 2."
 
 
-def test_time_has_turned_for_as_long_as_it_runs_back(shown):
+def test_time_has_turned_for_as_long_as_it_runs_back(shown: Any) -> None:
     shown.play_until(">=", 400)
     shown.click("reverse")
     message = shown.says("Time has turned")
@@ -188,14 +189,14 @@ def test_time_has_turned_for_as_long_as_it_runs_back(shown):
     shown.says_nothing()
 
 
-def test_nothing_is_said_to_be_undone_that_was_not_done(shown):
+def test_nothing_is_said_to_be_undone_that_was_not_done(shown: Any) -> None:
     shown.click("reverse")
     shown.says("Time has turned")
     shown.go(-2)
     assert "undone" not in shown.message
 
 
-def test_a_tug_is_of_its_step(shown):
+def test_a_tug_is_of_its_step(shown: Any) -> None:
     shown.loads(THREE)
     shown.click("exact")
     shown.says("3 of 3, to the bit")
@@ -209,7 +210,7 @@ def test_a_tug_is_of_its_step(shown):
     shown.waits_for("message", "===", "Press Play.")
 
 
-def test_saved_is_of_the_file_shown(shown):
+def test_saved_is_of_the_file_shown(shown: Any) -> None:
     shown.go(1, 2)
     shown.click("save")
     shown.says("Saved at step 2.")
@@ -223,7 +224,7 @@ def test_saved_is_of_the_file_shown(shown):
     shown.picture("another_file")
 
 
-def test_restored_goes_with_its_step(shown):
+def test_restored_goes_with_its_step(shown: Any) -> None:
     shown.go(1, 2)
     shown.click("save")
     shown.go(3)
@@ -233,7 +234,7 @@ def test_restored_goes_with_its_step(shown):
     shown.says_nothing()
 
 
-def test_another_file_begins_paused(shown):
+def test_another_file_begins_paused(shown: Any) -> None:
     """Play is pressed while the other file is loaded."""
     assert shown.message == "Press Play."
     shown.choose(THREE, "document.getElementById('play').click()")
@@ -242,7 +243,7 @@ def test_another_file_begins_paused(shown):
     assert (shown.browser.text("play"), shown.step) == ("Play", 0)
 
 
-def test_an_error_goes_when_something_is_done(shown):
+def test_an_error_goes_when_something_is_done(shown: Any) -> None:
     shown.browser.value("(restore => { restore.disabled = false; restore.click(); })(document.getElementById('restore'))")
     shown.says("nothing is saved yet")
     assert shown.kind == ["bad"]
@@ -251,14 +252,14 @@ def test_an_error_goes_when_something_is_done(shown):
     shown.says_nothing()
 
 
-def test_frames_a_second_are_of_what_plays(shown):
+def test_frames_a_second_are_of_what_plays(shown: Any) -> None:
     shown.click("play")
     shown.browser.wait_for("document.getElementById('rate').textContent.endsWith(' frames a second')")
     shown.click("play")
     shown.waits_for("rate", "===", "")
 
 
-def test_an_end_is_said_for_good(shown):
+def test_an_end_is_said_for_good(shown: Any) -> None:
     """What was saved is gone with the program, and a slider that is moved brings no button back."""
     shown.click("save")
     shown.says("Saved at step 0.")
@@ -273,7 +274,7 @@ def test_an_end_is_said_for_good(shown):
     shown.picture("ended")
 
 
-def test_the_choice_is_that_of_the_atoms_shown(shown):
+def test_the_choice_is_that_of_the_atoms_shown(shown: Any) -> None:
     """A file that cannot be loaded, as the session's program is gone, is not the one that is chosen."""
     (program,) = children_of(shown.view.child.pid)
     os.kill(program, signal.SIGKILL)
@@ -283,7 +284,7 @@ def test_the_choice_is_that_of_the_atoms_shown(shown):
     assert shown.browser.text("about").startswith("2 atoms")
 
 
-def test_why_there_are_no_atoms_is_said_for_good(browser, tmp_path):
+def test_why_there_are_no_atoms_is_said_for_good(browser: Any, tmp_path: pathlib.Path) -> None:
     """A program that begins once, when the view tries its atoms, and not for the page."""
     program = tmp_path / "once"
     program.write_text(f'#!/bin/sh\nmkdir "{tmp_path}/begun" 2>/dev/null || exit 7\nexec "{PROGRAM}" "$@"\n')

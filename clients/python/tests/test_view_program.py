@@ -11,6 +11,7 @@ import unittest
 import webbrowser
 from importlib import metadata
 from unittest import mock
+from typing import Any
 
 from web_sockets import Refused  # first, since without aiohttp these tests are skipped
 from ljclient.view import command, pages, scenes, server
@@ -18,7 +19,7 @@ from support import EXAMPLES, SECONDS, TOP, children_of, interruptible, is_runni
 from viewing import View, command as command_of, file_of
 
 
-def packs():
+def packs() -> bool:
     """Whether packages can be built here as pyproject.toml says."""
     with contextlib.suppress(metadata.PackageNotFoundError):
         return int(metadata.version("setuptools").split(".")[0]) >= 61
@@ -26,12 +27,12 @@ def packs():
 
 
 class Ends(unittest.TestCase):
-    def view(self):
+    def view(self) -> Any:
         shown = View()
         self.addCleanup(shown.end)
         return shown
 
-    def test_it_ends_when_the_page_is_gone(self):
+    def test_it_ends_when_the_page_is_gone(self) -> None:
         shown = self.view()
         with shown.page() as page:
             page.ask("frame", steps=1)
@@ -39,7 +40,7 @@ class Ends(unittest.TestCase):
         self.assertEqual(shown.child.wait(SECONDS), 0)
         self.assertFalse(is_running(program))
 
-    def test_a_page_may_be_loaded_anew(self):
+    def test_a_page_may_be_loaded_anew(self) -> None:
         shown = self.view()
         shown.page().close()
         with shown.page():
@@ -47,7 +48,7 @@ class Ends(unittest.TestCase):
             self.assertIsNone(shown.child.poll())
         self.assertEqual(shown.child.wait(SECONDS), 0)
 
-    def test_of_two_pages_one_may_go(self):
+    def test_of_two_pages_one_may_go(self) -> None:
         shown = self.view()
         with shown.page() as one:
             with shown.page():
@@ -56,7 +57,7 @@ class Ends(unittest.TestCase):
             self.assertEqual(one.ask("frame", steps=1)["step"], 1)
             self.assertEqual(len(children_of(shown.child.pid)), 1)
 
-    def test_not_too_many_pages(self):
+    def test_not_too_many_pages(self) -> None:
         shown = self.view()
         opened = [shown.page() for _ in range(pages.MAX_PAGES)]
         with self.assertRaisesRegex(Refused, "503"):
@@ -66,12 +67,12 @@ class Ends(unittest.TestCase):
             page.close()
         self.assertEqual(shown.child.wait(SECONDS), 0)
 
-    def test_it_waits_for_its_first_page(self):
+    def test_it_waits_for_its_first_page(self) -> None:
         shown = self.view()
         time.sleep(pages.GRACE_SECONDS + 0.5)
         self.assertIsNone(shown.child.poll())
 
-    def test_an_interrupt_ends_it(self):
+    def test_an_interrupt_ends_it(self) -> None:
         interruptible(self)
         shown = self.view()
         with shown.page() as page:
@@ -82,7 +83,7 @@ class Ends(unittest.TestCase):
         self.assertFalse(is_running(program))
         self.assertEqual(shown.end(), (0, ""))
 
-    def test_a_program_that_dies_is_told(self):
+    def test_a_program_that_dies_is_told(self) -> None:
         shown = self.view()
         with shown.page() as page:
             (program,) = children_of(shown.child.pid)
@@ -92,38 +93,38 @@ class Ends(unittest.TestCase):
 
 
 class Options(unittest.TestCase):
-    def refused(self, *words, status=1):
+    def refused(self, *words: Any, status: int = 1) -> Any:
         done = subprocess.run(**command_of(*words), capture_output=True, timeout=SECONDS)
         self.assertEqual((done.returncode, done.stdout), (status, ""))
         return done.stderr
 
-    def test_no_file(self):
+    def test_no_file(self) -> None:
         self.assertIn("none.xyz", self.refused("none.xyz", "--edge", 10))
 
-    def test_no_edge(self):
+    def test_no_edge(self) -> None:
         told = self.refused(EXAMPLES / "argon_256.xyz")
         self.assertRegex(told, r"^view: .*argon_256.xyz: the file says no cubic Lattice: say the edge of the box by --edge")
 
-    def test_a_file_that_the_program_refuses(self):
+    def test_a_file_that_the_program_refuses(self) -> None:
         path = file_of(self, "2\n\nAr 0 0 0\nAr 1 2\n", "short.xyz")
         self.assertIn("view: short.xyz: ERR 31 XYZ_SHORT line 4", self.refused(path, "--edge", 20))
 
-    def test_a_scale_that_does_not_fit(self):
+    def test_a_scale_that_does_not_fit(self) -> None:
         argon = EXAMPLES / "argon_256.xyz"
         self.assertIn("argon_256.xyz: ERR 37 SIGMA", self.refused(argon, "--edge", 21.04, "--sigma", 5))
         self.assertIn("argon_256.xyz: dt is from", self.refused(argon, "--edge", 21.04, "--dt", 1000))
         self.assertIn("ERR 38 STEP_FACTOR", self.refused("--h", 0))
 
-    def test_a_temperature_that_is_too_high(self):
+    def test_a_temperature_that_is_too_high(self) -> None:
         self.assertIn("A crystal that melts: at a temperature of 1e+12 an atom moves by half", self.refused("--temperature", 1e12))
 
-    def test_options_that_do_not_fit(self):
+    def test_options_that_do_not_fit(self) -> None:
         self.assertIn("--h stands in place of", self.refused("x.xyz", "--h", 1, "--dt", 10, status=2))
         self.assertIn("are for the atoms of a file", self.refused("--edge", 10, status=2))
         self.assertIn("--temperature is not below 0", self.refused("--temperature", -1, status=2))
         self.assertIn("--port is from 0 to 65535", self.refused("--port", 65536, status=2))
 
-    def test_without_aiohttp_it_is_told_what_to_install(self):
+    def test_without_aiohttp_it_is_told_what_to_install(self) -> None:
         with tempfile.TemporaryDirectory() as folder:
             pathlib.Path(folder, "aiohttp.py").write_text("raise ModuleNotFoundError('No module', name='aiohttp')\n")
             words = command_of()
@@ -133,11 +134,11 @@ class Options(unittest.TestCase):
         self.assertEqual((done.returncode, done.stdout), (1, ""))
         self.assertEqual(done.stderr, f"view: {command.MISSING}\n")
 
-    def test_a_port_that_is_taken(self):
+    def test_a_port_that_is_taken(self) -> None:
         with View() as shown:
             self.assertIn("Address already in use", self.refused("--port", shown.port))
 
-    def test_only_a_browser_with_windows_is_opened(self):
+    def test_only_a_browser_with_windows_is_opened(self) -> None:
         for browser, times in ((webbrowser.GenericBrowser("w3m"), 0), (webbrowser.BackgroundBrowser("firefox"), 1)):
             with mock.patch.object(webbrowser, "get", return_value=browser), mock.patch.object(type(browser), "open") as opens:
                 command.open_browser("http://127.0.0.1:1/")
@@ -145,7 +146,7 @@ class Options(unittest.TestCase):
 
 
 class Scenes(unittest.TestCase):
-    def test_the_crystal(self):
+    def test_the_crystal(self) -> None:
         """Each atom of a face-centred cubic crystal has twelve nearest neighbours, half the diagonal of a face away."""
         scene = scenes.crystal(131072, 1.5, 1)
         edge = (256 / 0.8442) ** (1 / 3)
@@ -157,7 +158,7 @@ class Scenes(unittest.TestCase):
 
 class Packed(unittest.TestCase):
     @unittest.skipUnless(packs(), "setuptools 61 is not installed")
-    def test_an_installation_has_the_page(self):
+    def test_an_installation_has_the_page(self) -> None:
         """The packages are built as `pip install` builds them, without a network."""
         with tempfile.TemporaryDirectory() as folder:
             shutil.copytree(TOP / "clients" / "python", f"{folder}/source")

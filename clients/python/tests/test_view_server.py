@@ -5,6 +5,7 @@ import pathlib
 import subprocess
 import threading
 import time
+from typing import Any, Iterator, Tuple
 
 import pytest
 
@@ -19,31 +20,31 @@ WAITS = "ann is in by another connection, such as a prompt or a notebook. This p
 PICTURES = os.environ.get("LJVIEW_PICTURES")  # a folder to put what the page looks like into, where somebody wants to look
 
 
-def picture(page, name):
+def picture(page: Any, name: Any) -> None:
     if PICTURES:
         (pathlib.Path(PICTURES) / f"{name}.png").write_bytes(page.picture())
 
 
 @pytest.fixture
-def server():
+def server() -> Iterator[Any]:
     with Server() as one:
         yield one
 
 
 @pytest.fixture
-def ann(server):
+def ann(server: Any) -> Any:
     """Opens a connection of the user, as a prompt does."""
     return lambda timeout=SECONDS: connect("127.0.0.1", server.port, "ann", TOKEN, timeout=timeout)
 
 
 @pytest.fixture
-def view(server, tmp_path):
+def view(server: Any, tmp_path: pathlib.Path) -> Iterator[Any]:
     """Opens the view of this user, with a token from a file if nothing else is said."""
     opened = []
     token = tmp_path / "token"
     token.write_text(TOKEN)
 
-    def open_view(*words, token_file=token):
+    def open_view(*words: Any, token_file: Any = token) -> Any:
         said = ["--token-file", token_file] if token_file else []
         opened.append(View(f"127.0.0.1:{server.port}", "ann", *said, *words))
         return opened[-1]
@@ -53,7 +54,7 @@ def view(server, tmp_path):
         assert one.end()[1] == ""
 
 
-def test_it_shows_the_session_that_the_user_has(view, ann):
+def test_it_shows_the_session_that_the_user_has(view: Any, ann: Any) -> None:
     with ann() as user:
         dimer(user).advance(2)
     with view(*SCALE).page() as page:
@@ -66,7 +67,7 @@ def test_it_shows_the_session_that_the_user_has(view, ann):
         assert user.session("a").step == 3
 
 
-def test_it_shows_a_session_that_runs_back(view, ann):
+def test_it_shows_a_session_that_runs_back(view: Any, ann: Any) -> None:
     with ann() as user:
         session = dimer(user)
         session.advance(3)
@@ -76,7 +77,7 @@ def test_it_shows_a_session_that_runs_back(view, ann):
         assert page.ask("frame", steps=2)["step"] == 0
 
 
-def test_pages_share_a_session_and_its_one_connection(view, ann):
+def test_pages_share_a_session_and_its_one_connection(view: Any, ann: Any) -> None:
     with ann() as user:
         dimer(user)
     shown = view(*SCALE)
@@ -87,7 +88,7 @@ def test_pages_share_a_session_and_its_one_connection(view, ann):
         assert other.ask("frame", steps=0)["direction"] == -1
 
 
-def test_the_server_is_left_when_nobody_plays(view, ann):
+def test_the_server_is_left_when_nobody_plays(view: Any, ann: Any) -> None:
     """A prompt waits for as long as a page plays, and gets in some time after it has stopped. Then the page waits, and says so."""
     with ann() as user:
         dimer(user)
@@ -103,19 +104,20 @@ def test_the_server_is_left_when_nobody_plays(view, ann):
         assert (told["step"], told["jumped"]) == (6, True)
 
 
-def test_a_connection_is_not_open_while_it_is_given_up():
+def test_a_connection_is_not_open_while_it_is_given_up() -> None:
     """Closing takes a while, and a page that asks meanwhile has to be told that it waits."""
     closes, may_end = threading.Event(), threading.Event()
 
     class Leaving:
         closed = False
 
-        def close(self):
+        def close(self) -> None:
             closes.set()
             may_end.wait(SECONDS)
 
-    async def play():
-        shared = connection.Connection(Leaving, patience=0.01)
+    async def play() -> None:
+        leaving: Any = Leaving
+        shared = connection.Connection(leaving, patience=0.01)
         await shared.do(lambda user: None)
         assert await asyncio.to_thread(closes.wait, SECONDS)
         assert not shared.is_open
@@ -125,7 +127,7 @@ def test_a_connection_is_not_open_while_it_is_given_up():
     asyncio.run(play())
 
 
-def test_exact_counts_places_to_the_bit(view, ann):
+def test_exact_counts_places_to_the_bit(view: Any, ann: Any) -> None:
     with ann() as user:
         dimer(user)
     with view(*SCALE).page() as page:
@@ -136,7 +138,7 @@ def test_exact_counts_places_to_the_bit(view, ann):
         assert page.ask("exact")["same"] == {"start": 2}
 
 
-def test_what_was_saved_and_loaded_is_given_up_with_the_page(view, ann):
+def test_what_was_saved_and_loaded_is_given_up_with_the_page(view: Any, ann: Any) -> None:
     with ann() as user:
         dimer(user)
     shown = view(*SCALE)
@@ -153,7 +155,7 @@ def test_what_was_saved_and_loaded_is_given_up_with_the_page(view, ann):
         assert user.session("a").saved() == []
 
 
-def test_without_a_scale_the_page_is_asked_for_it(view, ann):
+def test_without_a_scale_the_page_is_asked_for_it(view: Any, ann: Any) -> None:
     with ann() as user:
         user.load("a", DIMER, edge=21.04, sigma=1, h=131072).tug(0, (RING // 3, 0, 0))
         user.session("a").advance(1)
@@ -169,12 +171,12 @@ def test_without_a_scale_the_page_is_asked_for_it(view, ann):
         assert abs(told["scene"]["edge"] - 21.04) < 1e-6
 
 
-def test_a_user_without_sessions_is_shown_the_crystal(view):
+def test_a_user_without_sessions_is_shown_the_crystal(view: Any) -> None:
     with view().page() as page:
         assert (page.first["scene"]["session"], page.first["scene"]["titles"]) == (None, ["A crystal that melts"])
 
 
-def test_the_token_is_typed_into_the_page(view, ann):
+def test_the_token_is_typed_into_the_page(view: Any, ann: Any) -> None:
     with ann() as user:
         dimer(user)
     with view(*SCALE, token_file=None).page() as page:
@@ -184,7 +186,7 @@ def test_the_token_is_typed_into_the_page(view, ann):
         assert page.ask("token", token=" ".join(TOKEN[k : k + 4] for k in range(0, 32, 4)))["scene"]["session"] == "a"
 
 
-def test_a_session_that_is_gone_or_was_loaded_anew_is_told(view, ann):
+def test_a_session_that_is_gone_or_was_loaded_anew_is_told(view: Any, ann: Any) -> None:
     with ann() as user:
         dimer(user)
         dimer(user, "b")
@@ -201,7 +203,7 @@ def test_a_session_that_is_gone_or_was_loaded_anew_is_told(view, ann):
         assert other.ask("load", session="b")["scene"]["session"] == "b"
 
 
-def overflow_at_320(page):
+def overflow_at_320(page: Any) -> Any:
     """By how many pixels the page is wider than a screen of 320."""
     page.ask("Emulation.setDeviceMetricsOverride", width=320, height=700, deviceScaleFactor=1, mobile=False)
     page.wait_for("innerWidth === 320")
@@ -212,7 +214,7 @@ def overflow_at_320(page):
 
 
 @pytest.mark.skipif(not CHROMIUM, reason="Chromium is not installed")
-def test_the_page_asks_for_what_it_has_to_know(view, ann):
+def test_the_page_asks_for_what_it_has_to_know(view: Any, ann: Any) -> None:
     """The token, and then what the session was loaded with. Keys that are typed into a field press no button."""
     with ann() as user:
         dimer(user).advance(5)
@@ -239,13 +241,13 @@ def test_the_page_asks_for_what_it_has_to_know(view, ann):
         assert page.faults == []
 
 
-def refused(*words):
+def refused(*words: Any) -> Tuple[Any, Any]:
     done = subprocess.run(**command(*words), capture_output=True, timeout=SECONDS)
     assert done.stdout == ""
     return done.returncode, done.stderr
 
 
-def test_what_is_wrong_is_told_before_a_page(server, tmp_path):
+def test_what_is_wrong_is_told_before_a_page(server: Any, tmp_path: pathlib.Path) -> None:
     token = tmp_path / "token"
     token.write_text("b" * 32)
     here = f"127.0.0.1:{server.port}"

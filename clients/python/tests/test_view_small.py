@@ -1,6 +1,7 @@
 """The live view on small screens and by touch, in Chromium."""
 import os
 import pathlib
+from typing import Any, Iterator, Tuple
 
 import pytest
 
@@ -17,13 +18,13 @@ FRAME_IS_DRAWN = "new Promise(done => requestAnimationFrame(() => requestAnimati
 
 
 @pytest.fixture(scope="module")
-def browser():
+def browser() -> Iterator[Any]:
     with Browser() as one:
         yield one
 
 
 @pytest.fixture
-def page(browser, tmp_path):
+def page(browser: Any, tmp_path: pathlib.Path) -> Iterator[Any]:
     """A page of three atoms, which is as wide as a test says by `resize`."""
     path = tmp_path / "three.xyz"
     path.write_text(ATOMS)
@@ -37,22 +38,22 @@ def page(browser, tmp_path):
         assert browser.faults == []
 
 
-def resize(browser, width, height):
+def resize(browser: Any, width: Any, height: Any) -> None:
     browser.ask("Emulation.setDeviceMetricsOverride", width=width, height=height, deviceScaleFactor=1, mobile=False)
     browser.wait_for(f"innerWidth === {width}")
     browser.value(FRAME_IS_DRAWN)
 
 
-def picture(browser, name):
+def picture(browser: Any, name: Any) -> None:
     if PICTURES:
         (pathlib.Path(PICTURES) / f"{name}.png").write_bytes(browser.picture())
 
 
-def place(browser, name):
+def place(browser: Any, name: Any) -> Any:
     return browser.value(f"document.getElementById('{name}').getBoundingClientRect().toJSON()")
 
 
-def test_no_width_overflows(page):
+def test_no_width_overflows(page: Any) -> None:
     """With the longest texts that its parts can have: time runs backward, and a step is saved that has six digits."""
     page.value("document.getElementById('direction').textContent = 'backward'")
     page.value("document.getElementById('restore').textContent = 'Restore step 123,456'")
@@ -65,7 +66,7 @@ def test_no_width_overflows(page):
     assert overflows == {}
 
 
-def test_a_phone_shows_the_box_the_buttons_the_message_and_a_chart(page):
+def test_a_phone_shows_the_box_the_buttons_the_message_and_a_chart(page: Any) -> None:
     resize(page, 390, 844)
     for name in ("box", "play", "one", "reverse", "exact", "save", "restore", "restart", "message", "distances"):
         shown = place(page, name)
@@ -73,20 +74,20 @@ def test_a_phone_shows_the_box_the_buttons_the_message_and_a_chart(page):
     assert place(page, "box")["width"] >= 300
 
 
-def test_on_a_phone_the_box_stays_in_sight_with_the_last_slider(page):
+def test_on_a_phone_the_box_stays_in_sight_with_the_last_slider(page: Any) -> None:
     resize(page, 390, 844)
     page.value("document.getElementById('speed').scrollIntoView({ block: 'end' })")
     assert place(page, "box")["top"] >= 0
     assert place(page, "box")["bottom"] <= place(page, "speed")["top"]
 
 
-def touch(browser, *events):
+def touch(browser: Any, *events: Any) -> None:
     """Touches the page: each event has its kind and the points of the fingers."""
     each = [{"type": kind, "touchPoints": [{"x": x, "y": y} for x, y in points]} for kind, *points in events]
     browser.ask_all("Input.dispatchTouchEvent", each)
 
 
-def middle_of_the_box(browser):
+def middle_of_the_box(browser: Any) -> Tuple[Any, Any]:
     resize(browser, 390, 600)
     browser.ask("Emulation.setTouchEmulationEnabled", enabled=True)
     shown = place(browser, "box")
@@ -102,7 +103,7 @@ TIMERS = """{
 }"""
 
 
-def test_a_swipe_over_an_atom_scrolls_and_tugs_nothing(page):
+def test_a_swipe_over_an_atom_scrolls_and_tugs_nothing(page: Any) -> None:
     x, y = middle_of_the_box(page)
     page.value(TIMERS)
     touch(page, ["touchStart", (x, y)], *(["touchMove", (x, y - moved)] for moved in range(20, 101, 20)), ["touchEnd"])
@@ -112,7 +113,7 @@ def test_a_swipe_over_an_atom_scrolls_and_tugs_nothing(page):
     assert page.text("message") == "Press Play."
 
 
-def test_a_long_press_takes_an_atom(page):
+def test_a_long_press_takes_an_atom(page: Any) -> None:
     x, y = middle_of_the_box(page)
     touch(page, ["touchStart", (x, y)])
     page.wait_for("document.getElementById('box').classList.contains('holding')")
@@ -123,7 +124,7 @@ def test_a_long_press_takes_an_atom(page):
     assert page.value("scrollY") == 0
 
 
-def test_a_tap_tugs_nothing(page):
+def test_a_tap_tugs_nothing(page: Any) -> None:
     x, y = middle_of_the_box(page)
     page.value(TIMERS)
     touch(page, ["touchStart", (x, y)], ["touchEnd"])
@@ -133,7 +134,7 @@ def test_a_tap_tugs_nothing(page):
 
 
 @pytest.mark.parametrize("scheme", ["light", "dark"])
-def test_what_it_looks_like(browser, scheme):
+def test_what_it_looks_like(browser: Any, scheme: Any) -> None:
     """For somebody who looks: what is tested is that nothing complains, and that nothing overflows while all is shown."""
     browser.leave()
     with View() as view:

@@ -1,8 +1,10 @@
 """The live view of a user's sessions over TLS, through a relay that decrypts in front of a server."""
 import contextlib
+import pathlib
 import shutil
 import socket
 import subprocess
+from typing import Any, Dict, Iterator, Tuple
 
 import pytest
 
@@ -22,84 +24,89 @@ WAITS = "ann is in by another connection, such as a prompt or a notebook. This p
 
 
 @pytest.fixture(scope="module")
-def good(tmp_path_factory):
+def good(tmp_path_factory: pytest.TempPathFactory) -> Any:
     return certificate(tmp_path_factory.mktemp("good"), "good")
 
 
 @pytest.fixture(scope="module")
-def other(tmp_path_factory):
+def other(tmp_path_factory: pytest.TempPathFactory) -> Any:
     return certificate(tmp_path_factory.mktemp("other"), "other")
 
 
 @pytest.fixture
-def server():
+def server() -> Iterator[Any]:
     with Server() as one:
         yield one
 
 
 @pytest.fixture
-def relay(server, good):
+def relay(server: Any, good: Any) -> Iterator[Any]:
     with Relay(server.port, good) as one:
         yield one
 
 
 @pytest.fixture
-def ann(server):
+def ann(server: Any) -> Any:
     """Opens a connection of the user, as a prompt does, at the server itself."""
     return lambda: connect("127.0.0.1", server.port, "ann", TOKEN, timeout=SECONDS)
 
 
 @pytest.fixture
-def token_file(tmp_path):
+def token_file(tmp_path: pathlib.Path) -> Any:
     path = tmp_path / "token"
     path.write_text(TOKEN)
     return path
 
 
+def ended_well(view: Any) -> None:
+    """Ends a view, which is to have told of no fault."""
+    assert view.end()[1] == ""
+
+
 @pytest.fixture
-def view(token_file):
+def view(token_file: Any) -> Iterator[Any]:
     """Opens the view of this user at a port of this machine, with a token from a file if nothing else is said."""
     with contextlib.ExitStack() as opened:
 
-        def open_view(port, *words, said=("--token-file", token_file)):
+        def open_view(port: Any, *words: Any, said: Any = ("--token-file", token_file)) -> Any:
             one = View(f"127.0.0.1:{port}", "ann", "--tls", *said, *words, *SCALE)
-            opened.callback(lambda: one.end()[1] == "" or pytest.fail("the view has told of a fault"))
+            opened.callback(ended_well, one)
             return one
 
         yield open_view
 
 
-def listener(port=0):
+def listener(port: int = 0) -> Any:
     """What listens at a port, and accepts nothing as yet."""
     return socket.create_server(("127.0.0.1", port))
 
 
-def not_answered(port):
+def not_answered(port: Any) -> Dict[Any, Any]:
     return {"waits": f"127.0.0.1:{port} has not answered yet. This page goes on when it has, or says what is wrong."}
 
 
-def cannot_connect(port, why):
+def cannot_connect(port: Any, why: Any) -> str:
     return f"cannot connect to 127.0.0.1:{port}: {why}"
 
 
-def answer(page):
+def answer(page: Any) -> Any:
     """What a page is told next, without that it waits, which it is told if this takes longer than a second."""
     while "waits" in (told := page.receive()):
         pass
     return told
 
 
-def asked(page, what, **words):
+def asked(page: Any, what: Any, **words: Any) -> Any:
     page.send(what, **words)
     return answer(page)
 
 
-def first(page):
+def first(page: Any) -> Any:
     """What a page is told first but that it waits."""
     return answer(page) if "waits" in page.first else page.first
 
 
-def test_it_shows_and_plays_a_session(view, relay, good, ann):
+def test_it_shows_and_plays_a_session(view: Any, relay: Any, good: Any, ann: Any) -> None:
     with ann() as user:
         dimer(user).advance(2)
     with view(relay.port, "--ca", good[0]).page() as page:
@@ -111,7 +118,7 @@ def test_it_shows_and_plays_a_session(view, relay, good, ann):
         assert user.session("a").step == 3
 
 
-def test_the_token_is_typed_into_the_page(view, relay, good, ann):
+def test_the_token_is_typed_into_the_page(view: Any, relay: Any, good: Any, ann: Any) -> None:
     with ann() as user:
         dimer(user)
     with view(relay.port, "--ca", good[0], said=()).page() as page:
@@ -120,7 +127,7 @@ def test_the_token_is_typed_into_the_page(view, relay, good, ann):
         assert asked(page, "token", token=TOKEN)["scene"]["session"] == "a"
 
 
-def refused(*words):
+def refused(*words: Any) -> Tuple[Any, Any]:
     """The status of a view that does not begin, and what it says."""
     done = subprocess.run(**command(*words), capture_output=True, timeout=SECONDS)
     assert done.stdout == ""
@@ -128,7 +135,9 @@ def refused(*words):
 
 
 @pytest.mark.parametrize("is_token_said", [True, False])
-def test_a_server_that_is_not_trusted_is_told_before_a_page(relay, server, other, token_file, tmp_path, is_token_said):
+def test_a_server_that_is_not_trusted_is_told_before_a_page(
+    relay: Any, server: Any, other: Any, token_file: Any, tmp_path: pathlib.Path, is_token_said: Any
+) -> None:
     said = ["--tls", *(["--token-file", token_file] if is_token_said else [])]
     (tmp_path / "bad.pem").write_text("no certificate\n")
     elsewhere = certificate(tmp_path, "elsewhere", "DNS:md.example.org,IP:192.0.2.1")
@@ -151,8 +160,8 @@ def test_a_server_that_is_not_trusted_is_told_before_a_page(relay, server, other
         assert far.heard + relay.heard == b""
 
 
-def test_a_server_without_tls_is_told_before_a_page(token_file):
-    def denies(connection, stop):
+def test_a_server_without_tls_is_told_before_a_page(token_file: Any) -> None:
+    def denies(connection: Any, stop: Any) -> None:
         connection.recv(1)
         connection.sendall(b"ERR 01 DENIED\n")
         stop.wait(SECONDS)
@@ -162,7 +171,7 @@ def test_a_server_without_tls_is_told_before_a_page(token_file):
     assert told == (1, f"view: {cannot_connect(port, NO_TLS)}\n")
 
 
-def test_options_that_do_not_fit(good):
+def test_options_that_do_not_fit(good: Any) -> None:
     for words, why in (
         (["--tls"], "--tls is for a server: say HOST:PORT NAME"),
         (["127.0.0.1:1", "ann", "--ca", good[0]], "--ca is for --tls"),
@@ -171,7 +180,7 @@ def test_options_that_do_not_fit(good):
         assert (status, told.splitlines()[-1]) == (2, f"view: error: {why}")
 
 
-def test_a_page_says_what_it_waits_for(view, server, good, ann):
+def test_a_page_says_what_it_waits_for(view: Any, server: Any, good: Any, ann: Any) -> None:
     """At first that its server answers, and then that the user is let in, who is in by another connection."""
     with Relay(server.port, good) as relay:
         shown = view(relay.port, "--ca", good[0])
@@ -187,7 +196,7 @@ def test_a_page_says_what_it_waits_for(view, server, good, ann):
         assert page.receive()["step"] == 4
 
 
-def test_a_page_that_connects_again_says_why_it_cannot(view, server, good, other, ann):
+def test_a_page_that_connects_again_says_why_it_cannot(view: Any, server: Any, good: Any, other: Any, ann: Any) -> None:
     """Its server's certificate is exchanged for that of another issuer, and then the server for one without TLS, that says nothing
     for a while. When the first is there again, the page goes on."""
     port = free_port()
@@ -215,7 +224,7 @@ def test_a_page_that_connects_again_says_why_it_cannot(view, server, good, other
 
 
 @pytest.mark.skipif(not CHROMIUM, reason="Chromium is not installed")
-def test_the_page_shows_why_it_cannot_connect_and_what_it_waits_for(view, server, good, other, ann):
+def test_the_page_shows_why_it_cannot_connect_and_what_it_waits_for(view: Any, server: Any, good: Any, other: Any, ann: Any) -> None:
     port = free_port()
     with ann() as user:
         dimer(user)

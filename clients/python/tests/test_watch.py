@@ -10,45 +10,46 @@ import sys
 import threading
 import time
 import unittest
+from typing import Any, Iterator, List
 
 from ljclient import connect, refusals
-from support import EXAMPLES, SECONDS, TOKEN, TOP, Server, peer, read_line
+from support import EXAMPLES, SECONDS, TOKEN, TOP, Server, peer, present, read_line
 from terminals import Terminal
 
 TOOL = TOP / "tools" / "watch"
-WATCH = [sys.executable, TOOL]
+WATCH = [sys.executable, str(TOOL)]
 
 
 class Watcher:
     """`watch` on a free port, in front of a server, with options."""
 
-    def __init__(self, port, *options):
+    def __init__(self, port: Any, *options: Any) -> None:
         words = [*WATCH, *options, "127.0.0.1:0", f"127.0.0.1:{port}"]
         self.child = subprocess.Popen(words, stdin=subprocess.DEVNULL, stdout=subprocess.PIPE, text=True)
-        self.port = int(re.search(r"listens on 127\.0\.0\.1:(\d+), for", self.child.stdout.readline())[1])
+        self.port = int(present(re.search(r"listens on 127\.0\.0\.1:(\d+), for", present(self.child.stdout).readline()))[1])
 
-    def lines(self, count):
+    def lines(self, count: Any) -> List[Any]:
         """The next lines that it writes, without the times."""
-        lines = [self.child.stdout.readline() for _ in range(count)]
+        lines = [present(self.child.stdout).readline() for _ in range(count)]
         return [re.sub(r"\d\d:\d\d:\d\d", "TIME", " ".join(line.split())) for line in lines]
 
-    def connected(self):
+    def connected(self) -> Any:
         return socket.create_connection(("127.0.0.1", self.port), SECONDS)
 
-    def __enter__(self):
+    def __enter__(self) -> Any:
         return self
 
-    def __exit__(self, *_):
+    def __exit__(self, *_: Any) -> None:
         self.child.terminate()
         self.child.communicate(timeout=SECONDS)
 
 
 @contextlib.contextmanager
-def many_peers(talk):
+def many_peers(talk: Any) -> Iterator[Any]:
     """The port of a peer that talks in its own way to each of many connections at once."""
     listener = socket.create_server(("127.0.0.1", 0), backlog=300)
 
-    def serve():
+    def serve() -> None:
         with contextlib.suppress(OSError):
             while True:
                 connection, _ = listener.accept()
@@ -62,14 +63,14 @@ def many_peers(talk):
         listener.close()
 
 
-def read_all(stream):
+def read_all(stream: Any) -> bytes:
     pieces = []
     while piece := stream.recv(1 << 16):
         pieces.append(piece)
     return b"".join(pieces)
 
 
-def reset(stream):
+def reset(stream: Any) -> None:
     """Closes a connection so that the other side is told of a reset."""
     stream.setsockopt(socket.SOL_SOCKET, socket.SO_LINGER, struct.pack("ii", 1, 0))
     stream.close()
@@ -78,10 +79,10 @@ def reset(stream):
 class Bytes(unittest.TestCase):
     """What is passed on, byte for byte."""
 
-    def test_both_ways_after_a_half_close(self):
+    def test_both_ways_after_a_half_close(self) -> None:
         sent = os.urandom(3_000_000)
 
-        def talk(connection, stop):
+        def talk(connection: Any, stop: Any) -> None:
             connection.sendall(hashlib.sha256(read_all(connection)).digest() + sent[::-1])
 
         with peer(talk) as port, Watcher(port) as watcher, watcher.connected() as stream:
@@ -89,10 +90,10 @@ class Bytes(unittest.TestCase):
             stream.shutdown(socket.SHUT_WR)
             self.assertEqual(read_all(stream), hashlib.sha256(sent).digest() + sent[::-1])
 
-    def test_a_reader_who_is_slow_holds_the_server_back(self):
+    def test_a_reader_who_is_slow_holds_the_server_back(self) -> None:
         told, size = [], 40_000_000
 
-        def talk(connection, stop):
+        def talk(connection: Any, stop: Any) -> None:
             connection.sendall(bytes(size))
             told.append("all is sent")
 
@@ -102,8 +103,8 @@ class Bytes(unittest.TestCase):
             self.assertEqual(len(read_all(stream)), size)
         self.assertEqual(told, ["all is sent"])
 
-    def test_many_at_once(self):
-        def talk(connection):
+    def test_many_at_once(self) -> None:
+        def talk(connection: Any) -> None:
             with connection:
                 connection.sendall(read_all(connection)[::-1])
 
@@ -117,8 +118,8 @@ class Bytes(unittest.TestCase):
                 self.assertEqual(read_all(stream), (b"%d" % number * 1000)[::-1])
             self.assertEqual(len(watcher.lines(200)), 200)
 
-    def test_the_last_reply_comes_though_the_client_is_still_sending(self):
-        def talk(connection, stop):
+    def test_the_last_reply_comes_though_the_client_is_still_sending(self) -> None:
+        def talk(connection: Any, stop: Any) -> None:
             read_line(connection)
             connection.sendall(b"ERR 04 BODY\n")
             connection.shutdown(socket.SHUT_RDWR)
@@ -128,10 +129,10 @@ class Bytes(unittest.TestCase):
                 stream.sendall(b"LOAD a\n" + bytes(5_000_000))
             self.assertEqual(stream.recv(100), b"ERR 04 BODY\n")
 
-    def test_a_client_that_is_gone(self):
+    def test_a_client_that_is_gone(self) -> None:
         ended = threading.Event()
 
-        def talk(connection, stop):
+        def talk(connection: Any, stop: Any) -> None:
             read_all(connection)
             ended.set()
 
@@ -144,7 +145,7 @@ class Bytes(unittest.TestCase):
                 self.assertTrue(ended.wait(SECONDS))
                 self.assertEqual(len(watcher.lines(1)), 1)
 
-    def test_a_server_that_is_gone(self):
+    def test_a_server_that_is_gone(self) -> None:
         with peer(lambda connection, stop: reset(connection)) as port, Watcher(port) as watcher, watcher.connected() as stream:
             self.assertEqual(stream.recv(1), b"")
         with Watcher(port) as watcher, watcher.connected() as stream:
@@ -155,16 +156,16 @@ class Bytes(unittest.TestCase):
 class Lines(unittest.TestCase):
     """What is told of each connection."""
 
-    def setUp(self):
+    def setUp(self) -> None:
         self.server = Server(users=("ann", "ben"))
         self.addCleanup(self.server.end)
         self.watcher = Watcher(self.server.port)
         self.addCleanup(self.watcher.__exit__)
 
-    def join(self, name="ann", token=TOKEN):
+    def join(self, name: str = "ann", token: Any = TOKEN) -> Any:
         return connect("127.0.0.1", self.watcher.port, name, token, timeout=SECONDS)
 
-    def test_a_user(self):
+    def test_a_user(self) -> None:
         with self.join() as user:
             origin = "127.0.0.1:{}".format(user._wire._ends._socket.getsockname()[1])
             self.assertEqual(self.watcher.lines(1), [f"TIME in ann {origin} since TIME 0 commands"])
@@ -176,12 +177,12 @@ class Lines(unittest.TestCase):
         # LOAD, DUMP, the four and BYE
         self.assertEqual(self.watcher.lines(1), [f"TIME ended ann {origin} since TIME 7 commands ERR 10 NO_SESSION"])
 
-    def test_the_line_of_a_text_that_is_refused(self):
+    def test_the_line_of_a_text_that_is_refused(self) -> None:
         with self.join() as user, contextlib.suppress(refusals.XyzNumber):
             user.load("a", "1\nERR 01 DENIED\nX x 0 0\n", edge=256, sigma=1, h=1)
         self.assertRegex(self.watcher.lines(2)[1], "2 commands ERR 33 XYZ_NUMBER line 3$")
 
-    def test_no_token_is_shown(self):
+    def test_no_token_is_shown(self) -> None:
         wrong = "b" * 32
         for words in (f"ann {wrong}", f"{wrong} ann", f"{TOKEN} ann", wrong, f"cleo  {TOKEN}"):
             with self.watcher.connected() as stream:
@@ -195,15 +196,15 @@ class Lines(unittest.TestCase):
         self.assertEqual(told, [["denied", name] for name in ["-", "-", "-", "-", "ann", "cleo"]])
         self.assertNotRegex("".join(lines), f"{wrong}|{TOKEN}")
 
-    def test_who_says_nothing(self):
+    def test_who_says_nothing(self) -> None:
         self.watcher.connected().close()
         self.assertRegex(self.watcher.lines(1)[0], "^TIME not in - 127.0.0.1:[0-9]+ since TIME 0 commands$")
 
-    def test_a_screen(self):
+    def test_a_screen(self) -> None:
         words = [*WATCH, "127.0.0.1:0", f"127.0.0.1:{self.server.port}"]
         terminal = Terminal(words)
         self.addCleanup(terminal.close)
-        port = int(re.search(r":(\d+), for", terminal.until(r"listens on 127\.0\.0\.1:\d+, for"))[1])
+        port = int(present(re.search(r":(\d+), for", terminal.until(r"listens on 127\.0\.0\.1:\d+, for")))[1])
         terminal.until("0 open")
         with connect("127.0.0.1", port, "ann", TOKEN):
             terminal.until(r"1 open\nin +ann +127\.0\.0\.1:\d+ +since [0-9:]+ +0 commands\n")
@@ -217,20 +218,21 @@ class Lines(unittest.TestCase):
 
 
 class Words(unittest.TestCase):
-    def test_words_that_are_none(self):
-        for words in ([], ["127.0.0.1:1"], ["x", "127.0.0.1:1"], ["127.0.0.1:1", "127.0.0.1:99999"], ["a:1", "b:2", "c:3"]):
+    def test_words_that_are_none(self) -> None:
+        wrong: List[List[str]] = [[], ["127.0.0.1:1"], ["x", "127.0.0.1:1"], ["127.0.0.1:1", "127.0.0.1:99999"], ["a:1", "b:2", "c:3"]]
+        for words in wrong:
             done = subprocess.run([*WATCH, *words], capture_output=True, text=True, timeout=SECONDS)
             self.assertEqual((done.returncode, done.stdout), (2, ""))
             self.assertIn("HOST:PORT", done.stderr)
 
-    def test_a_port_that_is_taken(self):
+    def test_a_port_that_is_taken(self) -> None:
         with socket.create_server(("127.0.0.1", 0)) as taken:
             address = f"127.0.0.1:{taken.getsockname()[1]}"
             done = subprocess.run([*WATCH, address, address], capture_output=True, text=True, timeout=SECONDS)
         self.assertEqual((done.returncode, done.stdout), (1, ""))
         self.assertIn(f"watch: cannot listen on {address}", done.stderr)
 
-    def test_help(self):
+    def test_help(self) -> None:
         done = subprocess.run([TOOL, "--help"], capture_output=True, text=True, timeout=SECONDS)
         self.assertEqual((done.returncode, done.stderr), (0, ""))
         self.assertIn("usage: watch ", done.stdout)

@@ -2,31 +2,32 @@
 import contextlib
 import re
 import socket
+from typing import Any, Iterator
 
 import pytest
 
-from support import SECONDS, TOKEN, TOP, Server, peer, read_line
+from support import SECONDS, TOKEN, TOP, Server, peer, present, read_line
 from terminals import Terminal
 
 WATCH = str(TOP / "tools" / "watch")
 
 
 @contextlib.contextmanager
-def screen(port):
+def screen(port: Any) -> Iterator[Any]:
     """What `watch` shows at a terminal, in front of a server at this port, and a connection to it."""
     terminal = Terminal([WATCH, "127.0.0.1:0", f"127.0.0.1:{port}"])
     try:
-        front = int(re.search(r":(\d+), for", terminal.until(r"listens on 127\.0\.0\.1:\d+, for"))[1])
+        front = int(present(re.search(r":(\d+), for", terminal.until(r"listens on 127\.0\.0\.1:\d+, for")))[1])
         with socket.create_connection(("127.0.0.1", front), SECONDS) as stream:
             yield terminal, stream
     finally:
         terminal.close()
 
 
-def answers(reply):
+def answers(reply: Any) -> Any:
     """A peer that answers the first line so, and ends when the client does."""
 
-    def talk(connection, stop):
+    def talk(connection: Any, stop: Any) -> None:
         first = read_line(connection)
         connection.sendall(reply)
         assert not connection.recv(1 << 16), first
@@ -35,7 +36,7 @@ def answers(reply):
 
 
 @pytest.mark.parametrize("line, name", [(f"HELLO ann {'b' * 32}\n", "ann"), (f"{TOKEN}\n", "-")], ids=["hello", "no hello"])
-def test_denied_while_and_after(line, name):
+def test_denied_while_and_after(line: Any, name: Any) -> None:
     with peer(answers(b"ERR 01 DENIED\n")) as port, screen(port) as (terminal, stream):
         stream.sendall(line.encode())
         terminal.until(rf"1 open\ndenied {name} +127\.0\.0\.1:\d+ [^\n]*  ERR 01 DENIED\n")
@@ -43,10 +44,10 @@ def test_denied_while_and_after(line, name):
         terminal.until(rf"denied {name} [^\n]*  ERR 01 DENIED\n0 open\n")
 
 
-def test_denied_before_its_first_line_is_whole():
+def test_denied_before_its_first_line_is_whole() -> None:
     """What a client sends after that is no second HELLO."""
 
-    def talk(connection, stop):
+    def talk(connection: Any, stop: Any) -> None:
         connection.sendall(b"ERR 01 DENIED\n")
         while connection.recv(1 << 16):
             pass
@@ -58,7 +59,7 @@ def test_denied_before_its_first_line_is_whole():
         terminal.until(r"1 open\ndenied - ")
 
 
-def test_who_is_let_in_or_waits_is_not_denied():
+def test_who_is_let_in_or_waits_is_not_denied() -> None:
     with Server() as server, screen(server.port) as (terminal, stream):
         stream.sendall(f"HELLO ann {TOKEN}\n".encode())
         terminal.until(r"1 open\nin +ann ")

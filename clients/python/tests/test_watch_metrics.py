@@ -7,11 +7,12 @@ import sys
 import time
 import urllib.error
 import urllib.request
+from typing import Any, Dict, Iterator
 
 import pytest
 
 from ljclient import connect
-from support import SECONDS, TOKEN, TOP, Server, dimer, free_port
+from support import SECONDS, TOKEN, TOP, Server, dimer, free_port, present
 from test_watch import WATCH, Watcher, read_all, reset
 
 sys.path.append(str(TOP / "tools"))
@@ -23,22 +24,24 @@ import watching  # noqa: E402
 class Seen:
     """`watch` with metrics in front of a server, or of a port where there is none."""
 
-    def __init__(self, port):
+    def __init__(self, port: Any) -> None:
         self.watcher = Watcher(port, "--metrics", "127.0.0.1:0")
         self.port = self.watcher.port
-        self.url = re.search(r"metrics are at (http://127\.0\.0\.1:\d+/metrics)\n", self.watcher.child.stdout.readline())[1]
+        line = present(self.watcher.child.stdout).readline()
+        self.url = present(re.search(r"metrics are at (http://127\.0\.0\.1:\d+/metrics)\n", line))[1]
 
-    def text(self):
+    def text(self) -> str:
         with urllib.request.urlopen(self.url, timeout=SECONDS) as answer:
             assert answer.headers["Content-Type"] == "text/plain; version=0.0.4; charset=utf-8"
-            return answer.read().decode()
+            told: str = answer.read().decode()
+            return told
 
-    def values(self):
+    def values(self) -> Dict[Any, Any]:
         """The samples by their names, with their labels."""
         lines = [line for line in self.text().splitlines() if not line.startswith("#")]
         return {name: int(value) for name, value in (line.rsplit(" ", 1) for line in lines)}
 
-    def until(self, name, value):
+    def until(self, name: Any, value: Any) -> Any:
         """All samples, when one of them has come to a value."""
         end = time.monotonic() + SECONDS
         while (values := self.values()).get(name) != value and time.monotonic() < end:
@@ -46,24 +49,24 @@ class Seen:
         assert values.get(name) == value, values
         return values
 
-    def join(self, name="ann"):
+    def join(self, name: str = "ann") -> Any:
         return connect("127.0.0.1", self.port, name, TOKEN, timeout=SECONDS)
 
 
 @pytest.fixture
-def server():
+def server() -> Iterator[Any]:
     with Server(users=("ann", "ben")) as begun:
         yield begun
 
 
 @pytest.fixture
-def seen(server):
+def seen(server: Any) -> Iterator[Any]:
     begun = Seen(server.port)
     yield begun
     begun.watcher.__exit__()
 
 
-def test_commands_and_steps_of_users(seen):
+def test_commands_and_steps_of_users(seen: Any) -> None:
     with seen.join() as user:
         dimer(user), dimer(user, "b")
         lines = "ADVANCE a 100,REVERSE a,ADVANCE a 50,START b 20,BRANCH b k,ADVANCE b 5,RESTORE b k,START b 7"
@@ -85,7 +88,7 @@ def test_commands_and_steps_of_users(seen):
     assert values["ljserve_connections_total"] == 3
 
 
-def test_who_waits_and_whose_client_is_gone(seen, server):
+def test_who_waits_and_whose_client_is_gone(seen: Any, server: Any) -> None:
     with seen.join() as user:
         user.ask("LIST")
         second = socket.create_connection(("127.0.0.1", seen.port), SECONDS)
@@ -102,7 +105,7 @@ def test_who_waits_and_whose_client_is_gone(seen, server):
     assert seen.until("ljserve_places_taken", 0)
 
 
-def test_who_waits_and_is_reset_keeps_a_place(seen, server):
+def test_who_waits_and_is_reset_keeps_a_place(seen: Any, server: Any) -> None:
     """The connection has ended here, and the server has it until its turn."""
     with seen.join() as user:
         user.ask("LIST")
@@ -116,7 +119,7 @@ def test_who_waits_and_is_reset_keeps_a_place(seen, server):
     assert seen.until("ljserve_gone_connections", 0)
 
 
-def test_who_is_denied_is_counted_and_is_no_user(seen):
+def test_who_is_denied_is_counted_and_is_no_user(seen: Any) -> None:
     for words in (f"ann {'b' * 32}", f"eve {TOKEN}", f"{TOKEN} ann"):
         with seen.watcher.connected() as stream:
             stream.sendall(f"HELLO {words}\n".encode())
@@ -126,7 +129,7 @@ def test_who_is_denied_is_counted_and_is_no_user(seen):
     assert "user=" not in text and TOKEN not in text and "b" * 32 not in text
 
 
-def test_connections_that_are_left_and_those_that_go_round(seen, server):
+def test_connections_that_are_left_and_those_that_go_round(seen: Any, server: Any) -> None:
     """A connection that does not come through it is in the places, as /proc tells it."""
     before = seen.values()
     assert (before["ljserve_up"], before["ljserve_connections_left"]) == (1, 100)
@@ -135,30 +138,30 @@ def test_connections_that_are_left_and_those_that_go_round(seen, server):
         assert (values["ljserve_connections_left"], values["ljserve_connections_total"]) == (99, 1)
 
 
-def test_a_server_that_has_ended(seen, server):
+def test_a_server_that_has_ended(seen: Any, server: Any) -> None:
     server.end()
     values = seen.until("ljserve_up", 0)
     assert values["ljserve_places_taken"] == 0 and "ljserve_connections_left" not in values
 
 
-def test_a_new_server_accepts_connections_anew(monkeypatch):
+def test_a_new_server_accepts_connections_anew(monkeypatch: pytest.MonkeyPatch) -> None:
     """Those since the last look at the one before count, since it is not known which one had them."""
     board = watching.Board(None)
     told = metrics.Metrics(("127.0.0.1", 4000), board)
     server = server_process.Server(True, 0, 0, 10, (7, "100"))
     monkeypatch.setattr(metrics, "server_at", lambda _: server)
 
-    def left(connections):
+    def left(connections: Any) -> int:
         for _ in range(connections):
             board.is_passed()
-        return int(re.search(r"^ljserve_connections_left (\d+)$", told.text(), re.M)[1])
+        return int(present(re.search(r"^ljserve_connections_left (\d+)$", told.text(), re.M))[1])
 
     assert [left(0), left(3), left(1)] == [10, 7, 6]
     server = server_process.Server(True, 0, 0, 10, (7, "200"))
     assert [left(2), left(0), left(20)] == [8, 8, 0]
 
 
-def test_a_server_on_another_machine():
+def test_a_server_on_another_machine() -> None:
     """192.0.2.1 is no machine's address. What passes through is all that is known."""
     assert server_process.server_at(("192.0.2.1", 4000)) is None
     board = watching.Board(None)
@@ -168,7 +171,7 @@ def test_a_server_on_another_machine():
     assert not re.search("ljserve_(up|connections_left)", text)
 
 
-def test_a_host_of_which_one_address_cannot_be_had(monkeypatch):
+def test_a_host_of_which_one_address_cannot_be_had(monkeypatch: pytest.MonkeyPatch) -> None:
     """As `localhost` where the machine has no IPv6."""
     both = [each for host in ("192.0.2.1", "127.0.0.1") for each in socket.getaddrinfo(host, 0, type=socket.SOCK_DGRAM)]
     here = server_process.hosts_here("127.0.0.1")
@@ -190,22 +193,25 @@ def test_a_host_of_which_one_address_cannot_be_had(monkeypatch):
         ("watch 127.0.0.1:4000 127.0.0.1:4001", None),
     ],
 )
-def test_the_words_of_a_server(words, accepts):
+def test_the_words_of_a_server(words: Any, accepts: Any) -> None:
     assert server_process.connections_of(words.split(), server_process.hosts_here("127.0.0.1"), 4000) == accepts
 
 
-def test_sockets_of_another_address_are_not_the_servers():
+def test_sockets_of_another_address_are_not_the_servers() -> None:
     """A front may listen at the port of the server, at another address of the machine."""
     with socket.create_server(("127.0.0.1", 0)) as one:
         address = one.getsockname()
         with socket.create_server(("127.0.0.2", address[1])) as other, socket.create_connection(other.getsockname()):
             accepted, _ = other.accept()
             told = [server_process.server_at((host, address[1])) for host in ("127.0.0.1", "127.0.0.2")]
-            assert [(each.listens, each.taken, each.process) for each in told] == [(True, 0, None), (True, 1, None)]
+            assert [(present(each).listens, present(each).taken, present(each).process) for each in told] == [
+                (True, 0, None),
+                (True, 1, None),
+            ]
             accepted.close()
 
 
-def test_each_metric_has_its_help_and_type(seen):
+def test_each_metric_has_its_help_and_type(seen: Any) -> None:
     with seen.join() as user:
         user.ask("LIST")
         text = seen.text()
@@ -220,7 +226,7 @@ def test_each_metric_has_its_help_and_type(seen):
     assert text.endswith("\n")
 
 
-def test_prometheus_reads_it(seen):
+def test_prometheus_reads_it(seen: Any) -> None:
     parser = pytest.importorskip("prometheus_client.parser", reason="prometheus_client is not installed")
     with seen.join() as user:
         user.ask("LIST")
@@ -230,7 +236,7 @@ def test_prometheus_reads_it(seen):
     assert families["ljserve_places"].type == "gauge" and families["ljserve_places"].documentation
 
 
-def test_labels_are_escaped():
+def test_labels_are_escaped() -> None:
     parser = pytest.importorskip("prometheus_client.parser", reason="prometheus_client is not installed")
     value = 'a"b\\c\nd'
     text = metrics.written(("x_total", "counter", "X.", [({"user": value}, 1)]))
@@ -239,8 +245,8 @@ def test_labels_are_escaped():
     assert family.samples[0].labels == {"user": value}
 
 
-def test_steps_of_a_session_that_was_not_seen_before_are_from_there_on():
-    sessions = {"ann": {}}
+def test_steps_of_a_session_that_was_not_seen_before_are_from_there_on() -> None:
+    sessions: Dict[Any, Any] = {"ann": {}}
     connection = watching.Connection("x", sessions)
     connection.hear_server(b"OK HELLO ann\nOK ADVANCE a 500\nOK ADVANCE a 510\nOK SHOW a 510 0 1 2 3\n")
     connection.hear_server(b"OK LIST 1\na 510 2 0\nOK DROP a\n")
@@ -249,18 +255,18 @@ def test_steps_of_a_session_that_was_not_seen_before_are_from_there_on():
     assert (connection.steps, sessions["ann"]) == (10 + 4 + 4, {b"a": -1})
 
 
-def test_another_path_and_one_who_is_gone(seen):
+def test_another_path_and_one_who_is_gone(seen: Any) -> None:
     with pytest.raises(urllib.error.HTTPError) as error:
         urllib.request.urlopen(seen.url.replace("/metrics", "/"), timeout=SECONDS)
     assert (error.value.code, error.value.read()) == (404, b"Metrics are at /metrics.\n")
-    host, port = re.search(r"//([^:]+):(\d+)/", seen.url).groups()
+    host, port = present(re.search(r"//([^:]+):(\d+)/", seen.url)).groups()
     for first in (b"", b"GET /met", b"\0\xff\n\n"):
         with contextlib.suppress(OSError), socket.create_connection((host, int(port)), SECONDS) as stream:
             stream.sendall(first)
     assert seen.values()["ljserve_up"] == 1
 
 
-def test_an_address_that_is_none_or_taken():
+def test_an_address_that_is_none_or_taken() -> None:
     port = free_port()
     words = ["127.0.0.1:0", f"127.0.0.1:{port}"]
     with socket.create_server(("127.0.0.1", 0)) as taken:

@@ -1,6 +1,7 @@
 """A WebSocket as a browser has one, whose calls wait: what the tests of a page and of a browser need of aiohttp."""
 import asyncio
 import unittest
+from typing import Any
 
 from support import SECONDS
 
@@ -16,36 +17,36 @@ Refused = aiohttp.WSServerHandshakeError
 class WebSocket:
     """Messages of text over a WebSocket. `Refused` with the status of HTTP if the server says no."""
 
-    def __init__(self, url, headers=None):
+    def __init__(self, url: Any, headers: Any = None) -> None:
         self._loop = asyncio.new_event_loop()
-        self._session = None
+        self._session: Any = None
         try:
             self._socket = self._wait(self._connect(url, headers or {}))
         except BaseException:
             self._end()
             raise
 
-    async def _connect(self, url, headers):
+    async def _connect(self, url: Any, headers: Any) -> Any:
         self._session = aiohttp.ClientSession(timeout=aiohttp.ClientTimeout(total=None, sock_connect=SECONDS, sock_read=SECONDS))
         return await self._session.ws_connect(url, headers=headers, max_msg_size=MOST)
 
-    def _wait(self, what):
+    def _wait(self, what: Any) -> Any:
         return self._loop.run_until_complete(what)
 
-    def send(self, text):
+    def send(self, text: Any) -> None:
         self._wait(self._socket.send_str(text))
 
-    def receive(self):
+    def receive(self) -> Any:
         """The next message, or None if there is none any more."""
         message = self._wait(self._socket.receive(timeout=SECONDS))
         return message.data if message.type is aiohttp.WSMsgType.TEXT else None
 
-    def close(self):
+    def close(self) -> None:
         if not self._loop.is_closed():
             self._wait(self._socket.close())
             self._end()
 
-    def _end(self):
+    def _end(self) -> None:
         if self._session is not None:
             self._wait(self._session.close())
         self._loop.close()
