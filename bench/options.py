@@ -36,7 +36,9 @@ class Parser(argparse.ArgumentParser):
         """The words of a program, which stand before `--`, and what those after it say."""
         parts = list(words)
         if "--" not in parts:
-            self.parse_known_args(parts)  # (which ends where help is asked for)
+            if not {"-h", "--help"}.isdisjoint(parts):
+                self.print_help()
+                self.exit()
             self.error("no `--` stands behind the words of the program")
         at = parts.index("--")
         options = self.parse_args(parts[at + 1 :])

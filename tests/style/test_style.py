@@ -27,6 +27,7 @@ SEARCHED = {
     "docs/api": "clients/python",
     "examples": "clients/python",
     "tests": "clients/python conformance",
+    "tests/bench": "bench tests",
     "tests/documents": "clients/python clients/python/tests",
     "tests/gate": "bin",
     "tools": "clients/python",
