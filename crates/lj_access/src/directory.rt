@@ -16,7 +16,7 @@ use std::alloc::{AllocError, Global};
 use std::fmt;
 use std::marker::Model;
 
-/// The most users.
+/// The most users of a server, or of a world.
 pub const MAX_USERS: usize = 64;
 
 /// Users, numbered from 0, with their tickets and their states. A user's state is either at home or lent to one ticket.
@@ -73,6 +73,9 @@ impl Directory {
     ///
     /// # Errors
     /// No user has both, or all tickets of this user are granted. Nothing has changed then.
+    ///
+    /// Promise: only who shows the name and the token of a user gets a ticket, which is that user's next one; a HELLO
+    /// that is denied changes nothing.
     pub fn hello(&mut self, name: &[u8], token: &[u8]) -> Result<Ticket, Denied>
         ensures granted { IsOk result
             ↔ IsSomeAnd (user_with self.old name.now token.now)
@@ -93,6 +96,8 @@ impl Directory {
 
     /// The state of the ticket's user, where the ticket is the user's first one that has not left and the state is at
     /// home. The state is then lent to this ticket.
+    ///
+    /// Promise: a state is lent exactly to its user's first ticket that has not left, and exactly while it is at home.
     pub fn try_enter(&mut self, ticket: &Ticket) -> Option<UserState>
         ensures enters { IsSome result
             ↔ IsSomeAnd (slice_get self.old ticket.now.user) (CanEnter ticket.now.number) }
@@ -112,6 +117,9 @@ impl Directory {
     ///
     /// # Errors
     /// The ticket has not entered, or has already left. Both are handed back, and nothing has changed.
+    ///
+    /// Promise: a state comes home exactly from the ticket that it was lent to; any other ticket is handed back with
+    /// its state, and nothing has changed.
     pub fn leave(&mut self, ticket: Ticket, state: UserState) -> Result<(), NotEntered>
         ensures entered { IsOk result
             ↔ IsSomeAnd (slice_get self.old ticket.user) (HasEntered ticket.number) }

@@ -52,6 +52,9 @@ impl GivenUp {
 
     /// Passes over the kept tickets of a user whose turn has come, one after the other. Each of them enters and leaves
     /// at once, and is kept no longer.
+    ///
+    /// Promise: of the directory nothing changes but that tickets of this user have left, and none of the user's that
+    /// are still kept may enter.
     pub fn pass(&mut self, directory: &mut Directory, user: u8)
         ensures passed { PassesOver user directory.old directory.new }
         ensures kept { IsPermutation self.old (self.new ++ tickets_passed user directory.old directory.new) }

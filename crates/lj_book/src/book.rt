@@ -103,6 +103,9 @@ impl Book {
     ///
     /// # Errors
     /// `Full`, with the task, where `MAX_ENTRIES` entries stand or 2^64 - 1 tasks have been posted.
+    ///
+    /// Promise: exactly where the book has room, a task stands open under a key that was vacant; else it is handed back,
+    /// and the book is as before.
     pub fn post(&mut self, task: Task) -> Result<(), Full>
         ensures room { IsOk result ↔ ((entry_count self.old < MAX_ENTRIES) × (self.old.posted < 2 ^ 64 - 1)) }
         ensures posts { OnOk result ((key : ℕ) × Posts self.old self.new task key) }
@@ -131,6 +134,9 @@ impl Book {
     }
 
     /// Takes the open task of the least key from `pick` on, else of the least key. It is then out.
+    ///
+    /// Promise: the open task of the least key from `pick` on, else of the least key, is out then; none exactly where
+    /// none is open.
     pub fn take(&mut self, pick: usize) -> Option<(Key, Task)>
         ensures some { IfSome result (λ taken. Takes self.old self.new taken.0 taken.1) }
         ensures picked { IfSome result (λ taken. IsPick (IsOpenAt self.old) pick taken.0) }
@@ -165,6 +171,9 @@ impl Book {
     ///
     /// # Errors
     /// The result, where that very task is not out under that key. Nothing has changed then.
+    ///
+    /// Promise: a result is taken in exactly where that very task is out under that key; else it is handed back, and
+    /// nothing has changed.
     pub fn give(&mut self, key: Key, done: Done) -> Result<(), Done>
         ensures given { IsOk result ↔ (entry_at self.old key ≡ Some (Entry.Out done)) }
         ensures gives { OnOk result (Gives self.old self.new key done) }
@@ -213,6 +222,9 @@ impl Book {
     }
 
     /// Fetches the user's result of the least key from `pick` on, else of the least key. Its entry leaves the book.
+    ///
+    /// Promise: the user's result of the least key from `pick` on, else of the least key, leaves the book; none exactly
+    /// where the user has none.
     pub fn fetch(&mut self, user: u8, pick: usize) -> Option<Done>
         ensures some { IfSome result (λ done. (key : ℕ) × Fetches self.old self.new done key
             × IsPick (IsDoneAt user self.old) pick key) }
@@ -227,6 +239,8 @@ impl Book {
     }
 
     /// Withdraws every entry of the user, also of tasks that are out.
+    ///
+    /// Promise: the user's entries leave the book, those that are out too, and no others.
     pub fn withdraw(&mut self, user: u8)
         ensures { Withdraws user self.old self.new }
     {
@@ -247,6 +261,8 @@ impl Book {
     }
 
     /// The counts. What was posted has been fetched or withdrawn, or stands in the book.
+    ///
+    /// Promise: what was posted has been fetched or withdrawn, or stands in the book; no more was given than posted.
     pub fn counts(&self) -> Counts
         ensures posted { result.posted ≡ self.now.posted }
         ensures given { result.given ≡ self.now.given }

@@ -10,7 +10,7 @@ use slab::Slab;
 use std::alloc::{AllocError, Global};
 use std::marker::Model;
 
-/// The most entries of a book.
+/// The most entries of a book: tasks that are posted, and neither fetched nor withdrawn.
 pub const MAX_ENTRIES: usize = 1024;
 
 /// How far the task of an entry has come.

@@ -46,6 +46,9 @@ impl Branches {
     ///
     /// # Errors
     /// `Exists` where the name is taken, else `Memory` where there is none for the copy. Nothing is saved then.
+    ///
+    /// Promise: a simulation that is saved stands last under its name, exactly as it was; a save that is refused
+    /// changes nothing.
     pub fn save(&mut self, name: Name, sim: &Sim) -> Result<(), SaveFault>
         ensures exists { IsErrOf result Exists ↔ IsSome (value_named name self.old) }
         ensures saved { OnOk result (self.new ≡ with_value name sim.now.sim self.old) }
@@ -66,6 +69,8 @@ impl Branches {
     ///
     /// # Errors
     /// `NoBranch` where nothing is saved under it. The simulation is unchanged then.
+    ///
+    /// Promise: exactly where something is saved under the name the simulation becomes it, and else it stays as it was.
     pub fn restore_into(&self, name: &Name, sim: &mut Sim) -> Result<(), NoBranch>
         requires { ForSome (value_named name.now self.now) (λ s. length s.cur ≡ length sim.old.sim.cur) }
         ensures found { IsOk result ↔ IsSome (value_named name.now self.now) }

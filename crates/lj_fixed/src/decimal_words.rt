@@ -184,6 +184,9 @@ impl Numeral {
 ///
 /// A word that is not of the grammar is a `BadNumber`, and one whose rounded number is above a million file
 /// units in size is `OutOfRange`.
+///
+/// Promise: the result is the nano of the word, its value times 10^9 with halves rounded away from zero, or the fault
+/// of the word.
 pub fn parse_nano(word: &[u8]) -> Result<Nano, NumberFault>
     ensures { result ≡ nano_of word.now }
 {

@@ -23,6 +23,8 @@ fn push_six_digits(text: &mut ArrayString<MAX_MICRO_BYTES>, number: u64)
 }
 
 /// So many millionths as a decimal: the whole part, a point and six decimals.
+///
+/// Promise: the text is the whole part, a point and six decimals of so many millionths.
 #[tactic(auto, unfolding(crate::specs::Millionths::millionths))]
 pub fn micro_text(micros: u64) -> ArrayString<MAX_MICRO_BYTES>
     ensures { result.bytes ≡ millionths micros }

@@ -9,6 +9,8 @@ ghost use Rattle.lj_fixed.specs.Numbers.{is_number, number_of};
 const MAX_DIGITS: usize = 19;
 
 /// The value of a word of 1 to 19 digits, and `None` for any other word.
+///
+/// Promise: the result is the value of a word of 1 to 19 digits, and nothing for any other word.
 #[tactic(auto, unfolding(crate::specs::Numbers::number_of))]
 pub fn parse_number(word: &[u8]) -> Option<u64>
     ensures { result ≡ number_of word.now }

@@ -11,7 +11,9 @@ use lj_tile::{Done, Task, compute_in};
 use std::marker::Model;
 use std::mem;
 
-/// Computes each task as it is posted, in the room of its one result. It is never closed, and takes no memory.
+/// Computes each task as it is posted, in the room of its one result. It takes no memory.
+///
+/// Promise: it is a `Pool`, and is never closed.
 #[derive(Drop)]
 pub struct InlinePool {
     table: Table,

@@ -8,13 +8,13 @@ ghost use Rattle.lj_pool.specs.Refusals.{task_of, IsClosed};
 use lj_tile::{Done, Task};
 use thiserror::Error;
 
-/// How many tasks may be owed to an end at once.
+/// The most tasks that are owed to an end of a pool at once.
 pub const MAX_OWED: usize = 64;
 
-/// So many results in a row that are of no tile that is awaited end the work for a user.
+/// The most results in a row that are of no tile that is awaited: so many end the work for a user.
 pub const MAX_STRAYS: u64 = 4096;
 
-/// How many tasks may be owed while the next command is awaited. So 63 connections that wait leave the last one room among
+/// The most tasks that are owed while the next command is awaited. So 63 connections that wait leave the last one room among
 /// the 1,024 entries of a book.
 pub const MAX_AHEAD: usize = 15;
 
@@ -42,6 +42,9 @@ pub enum Refused {
 /// any time; those that are and those that are not are counted, each count up to 2^64 - 1, where it stays.
 ///
 /// Tasks and results are large, so they pass by reference; `post`, `fetch` and `poll` copy them.
+///
+/// Promise: a task that was posted is owed until its result is handed out, and each result that is handed out is
+/// counted, as owed or as a stray.
 pub trait Pool {
     ghost seen: { Self → Seen };
 

@@ -13,6 +13,8 @@ use std::sync::Wait;
 
 /// An end of a pool for one user, with a pass. It keeps a copy of each task that it is owed, and takes no memory. It
 /// hands out results of its user's tasks: what comes of another's that is posted by it is dropped.
+///
+/// Promise: it is a `Pool`, for every number of workers, so what is served over it is the same dialogue.
 #[derive(Drop)]
 pub struct QueueEnd<'p, L: Room, R: Wait> {
     rt: &'p R,

@@ -23,7 +23,7 @@ use std::sync::atomic::{AtomicBool, AtomicUsize, Ordering};
 use std::sync::ledger::{self, Blank};
 use std::sync::{Condvar, Mutex, Wait};
 
-/// The most tasks that are open at once.
+/// The most tasks that are open at once in the pool with a queue.
 pub const MAX_OPEN_TASKS: usize = 1024;
 
 /// The number of passes for connections. Those of the workers come after them.

@@ -13,6 +13,9 @@ use std::sync::Wait;
 /// Computes tasks of the pool until it is closed, with a gate between taking a task and computing it. The share that is
 /// handed back has been credited each result that was kept. The pass has popped their tasks, and besides those each task
 /// that it pushed again because the gate sent it back.
+///
+/// Promise: what the pass has popped is, task by task and as often, what it pushed again together with other tasks, at
+/// least one for each result that is credited.
 pub fn work_queue<L: Room, G: Gate, R: Wait>(
     rt: &R,
     pool: &QueuePool<L>,

@@ -9,7 +9,7 @@ use std::collections::VecDeque;
 use std::marker::Model;
 use std::mem;
 
-/// The most results that are kept for a user.
+/// The most results that the pool with a queue keeps for a user.
 pub const MAX_RESULTS: usize = 64;
 
 /// At most 64 results, all of one user, first in first out. Each lies in a box: what comes in or goes out is the box,

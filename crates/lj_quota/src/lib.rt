@@ -61,6 +61,8 @@ impl fmt::Display for Over {
 
 /// Whether one session more, of this many atoms, stays within the quota. Where both are over it, the answer is
 /// `Sessions`.
+///
+/// Promise: yes exactly where the sessions with one more, and the atoms with these, stay within the quota.
 pub fn may_load(quota: &Quota, used: &Used, atoms: u64) -> Result<(), Over>
     ensures may { IsOk result
         ↔ ((used.now.sessions + 1 ≤ quota.now.sessions) × (used.now.atoms + atoms ≤ quota.now.atoms)) }
@@ -81,6 +83,8 @@ pub fn may_session(quota: &Quota, used: &Used) -> Result<(), Over>
 }
 
 /// Whether one saved simulation more stays within the quota.
+///
+/// Promise: yes exactly where the saved simulations with one more stay within the quota.
 pub fn may_branch(quota: &Quota, used: &Used) -> Result<(), Over>
     ensures may { IsOk result ↔ (used.now.branches + 1 ≤ quota.now.branches) }
     ensures over { IsErrOf result Branches ↔ (quota.now.branches < used.now.branches + 1) }

@@ -41,6 +41,9 @@ pub fn run<R: Read + Drop, W: Write + Drop>(
 
 /// Answers the items of a source on a sink, as those of one user with this quota and no sessions, until the input
 /// or the connection ends.
+///
+/// Promise: to a sink that tells its bytes what is written is what `serve` writes, from a user of this quota without
+/// sessions on.
 fn converse<R: Source + Drop, W: Sink>(
     alloc: Global,
     quota: Quota,

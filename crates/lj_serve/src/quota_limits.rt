@@ -1,10 +1,10 @@
 //! The most that the quota of a user may say, in a line of users or on the command line.
 
-/// Sessions.
+/// The most sessions of a quota.
 pub const MAX_QUOTA_SESSIONS: u64 = 64;
 
-/// Atoms of all sessions together.
+/// The most atoms of a quota, of all sessions together.
 pub const MAX_QUOTA_ATOMS: u64 = 65_536;
 
-/// Saved simulations of all sessions together.
+/// The most saved simulations of a quota, of all sessions together.
 pub const MAX_QUOTA_BRANCHES: u64 = 256;

@@ -25,6 +25,9 @@ use std::alloc::{AllocError, Global};
 /// # Errors
 /// `Line` at the first bad line of the schedule, or `Memory`: nothing was written then. `Write` if a
 /// write fails: a front of what is printed may have been written.
+///
+/// Promise: where it ends well, what was written is the printed transcript of a run, of which the headline holds; at a
+/// bad line nothing was written.
 pub fn replay<W: Sink>(alloc: Global, bytes: &[u8], writer: &mut W) -> Result<(), ReplayFault>
     ensures told { OnOk result (WritesRun (W.contents writer.old) (W.contents writer.new)) }
     ensures nothing { IfErr result (λ fault. fault ≢ Write → writer.new ≡ writer.old) }

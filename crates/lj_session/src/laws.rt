@@ -17,8 +17,8 @@ pub fn accept_keeps_user()
     ensures { AcceptKeepsUser }
 {}
 
-/// A command that is begun and waits will be answered as it would be now, and the user stays but for the steps of an
-/// ADVANCE that it begins to take.
+/// Promise: a command that is begun and waits will be answered as it would be now, and the user stays but for the steps
+/// of an ADVANCE that it begins to take.
 pub fn begun_waits_alike()
     ensures { BegunWaitsAlike }
 {}

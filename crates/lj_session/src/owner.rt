@@ -72,6 +72,10 @@ impl Owner {
     /// Begins a command. It is answered at once where no step is owed to the session that it waits for and it takes none of
     /// its own; else it waits. START is always answered at once, with the step that the session is going to. Only LOAD,
     /// LOADMIX and BRANCH take memory.
+    ///
+    /// Promise: a command is answered at once exactly where it has no turn to wait for, with the reply and the next
+    /// user of the definition; else it waits, and will be answered what it would be now. If it is refused nothing has
+    /// changed, and it changes no other session.
     #[inline(never)]
     pub fn begin(&mut self, command: Command) -> Begin
         requires idle { self.old.waiting ≡ None }
@@ -136,6 +140,9 @@ impl Owner {
     }
 
     /// Takes in the result of a task that the step of a session awaits. Another is handed back, and nothing has changed.
+    ///
+    /// Promise: a result is taken exactly where the step of its session awaits that very task; else it is handed back,
+    /// and nothing has changed.
     pub fn accept(&mut self, done: Done) -> Result<(), Stray>
         ensures accepted { IsOk result ↔ IsAwaitedIn self.old done }
         ensures taken { OnOk result (self.new ≡ with_task_in done self.old) }
@@ -195,6 +202,9 @@ impl Owner {
     /// Turns the step of a session: one step less is owed to it, and the next one is open if there is one. Where that was
     /// what a command waited for, the command begins again: it is answered, or begins to take steps of its own. No other
     /// session is changed. If the command is refused, the step is made and nothing else.
+    ///
+    /// Promise: what waits is answered exactly at its last turn, with the reply and the next user of the definition; no
+    /// other session is changed.
     pub fn turn_session(&mut self, name: &Name) -> Option<Reply>
         requires { is_whole_in self.old.state name.now ≡ true }
         ensures last { IsSome result ↔ IsLastTurn name.now self.old }
@@ -243,6 +253,8 @@ impl Owner {
     }
 
     /// Hands the state back, with what is owed to its sessions. Their steps are begun anew, so that no tile is posted or in.
+    ///
+    /// Promise: the state that is handed back means the same user, with what is owed to its sessions.
     pub fn into_state(self) -> UserState
         requires { self.waiting ≡ None }
         ensures state { result ≡ state_at_rest self.state }

@@ -8,15 +8,15 @@ use std::fmt;
 /// Why an item is refused. A refusal changes nothing.
 #[derive(Clone, Copy, Debug, PartialEq, Eq)]
 pub enum Refusal {
-    /// No such user, or another token.
+    /// The first line is no HELLO with the name and the token of a user.
     Denied,
-    /// A line of more than 256 bytes.
+    /// A line has more than 256 bytes.
     Line,
-    /// A line without a word, a wrong number of words, or a word not of its shape.
+    /// A line has no word, a wrong number of words, a word not of its shape, or twice the same symbol.
     Syntax,
-    /// A line of LOAD or LOADMIX without a count.
+    /// A line of LOAD or LOADMIX has no count.
     Body,
-    /// 65,536 bytes without a line feed.
+    /// 65,536 bytes came without a line feed.
     Long,
     /// The first word is no command.
     Command,
@@ -32,25 +32,25 @@ pub enum Refusal {
     BranchExists,
     /// The session has no atom of this number.
     NoAtom,
-    /// The user has as many sessions as the quota allows.
+    /// The quota of sessions is used up.
     QuotaSessions,
-    /// The user would have more atoms than the quota allows.
+    /// The quota of atoms has no room for these.
     QuotaAtoms,
-    /// The user has as many saved frames as the quota allows.
+    /// The quota of saved simulations, over all sessions, is used up.
     QuotaBranches,
-    /// More than a million steps, or a step number beyond 10^12 in size.
+    /// More than a million steps are asked for, or the step number would pass 10^12 in size.
     StepRange,
     /// The first fault of a body.
     Xyz(XyzFault),
-    /// The edge is not 10^6 to 10^15 nano.
+    /// The edge is no decimal number from 0.001 to 1000000.
     Edge,
-    /// Sigma does not fit the edge.
+    /// Sigma is no decimal number, or out of range for this edge.
     Sigma,
-    /// The step factor is not 1 to 2^24.
+    /// The step factor h is no whole number from 1 to 16777216.
     StepFactor,
-    /// The weight of energies is not 1 to 65,536.
+    /// A weight of energies is no whole number from 1 to 65536.
     Weight,
-    /// A growth was refused.
+    /// There is no memory for it.
     Memory,
 }
 

@@ -19,7 +19,7 @@ use lj_tile::{Done, Kind, Label, Name, Task};
 use lj_xyz::Symbol;
 use std::marker::Model;
 
-/// The most steps of one command.
+/// The most steps of one ADVANCE or START.
 const MAX_STEPS: u64 = 1_000_000;
 
 /// The symbols of some atoms, their simulation, what is saved of it, and how many steps are owed to it.

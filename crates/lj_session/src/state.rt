@@ -32,7 +32,10 @@ use std::alloc::Global;
 use std::marker::Model;
 
 /// A user's quota, what is used of it, and sessions by their names, in order of loading, with the steps that are owed to
-/// them. With these done it is always the last user of some list of commands, begun without sessions.
+/// them.
+///
+/// Promise: with the steps done that are owed, it is always the last user of some list of commands, begun without
+/// sessions.
 #[derive(Drop)]
 pub struct UserState {
     quota: Quota,

@@ -11,6 +11,9 @@ use lj_tile::{Kind, Label, compute};
 
 /// Goes so many steps on, reverses, goes as many back and reverses again. Nothing has changed then, but that a step
 /// that was open is closed.
+///
+/// Promise: steps on, a reversal, as many steps back and a reversal change nothing, every task computed and taken in,
+/// but that an open step is closed.
 pub fn there_and_back(sim: &mut Sim, steps: u32, label: &Label, table: &Table)
     requires { unsigned_abs sim.old.sim.step + 2 * steps < MAX_STEP }
     ensures { sim.new ≡ with_step_closed sim.old sim.old.sim }

@@ -271,6 +271,9 @@ impl Sim {
 
     /// Takes in the result of a tile that the open step awaits. It is refused exactly where no step is open, its task
     /// is none of the open step's, or that tile is already in; it is then handed back, and nothing has changed.
+    ///
+    /// Promise: a result is taken exactly where the open step awaits its task; else it is handed back, and nothing has
+    /// changed.
     pub fn accept(&mut self, label: &Label, done: Done) -> Result<(), Stray>
         ensures accepted { IsOk result ↔ steps.IsAwaitedTask self.old label.now done }
         ensures kind { steps.kind_of self.new.part ≡ steps.kind_of self.old.part }
@@ -314,6 +317,8 @@ impl Sim {
     }
 
     /// Turns a whole force step: the motion goes one step on. No step is open afterwards.
+    ///
+    /// Promise: a whole step makes the simulation the next one of the definition, whose pushes are those of all pairs.
     pub fn turn(&mut self)
         requires kind { steps.kind_of self.old.part ≡ Some Force }
         requires whole { steps.is_whole self.old.part ≡ true }
@@ -332,6 +337,8 @@ impl Sim {
     }
 
     /// The potential, of a whole energy step: the sum of the energies of all pairs, in units of 2^-24 ε.
+    ///
+    /// Promise: of a whole energy step the result is the sum of the energies of all pairs.
     pub fn potential(&self) -> i128
         requires kind { steps.kind_of self.now.part ≡ Some Energy }
         requires whole { steps.is_whole self.now.part ≡ true }

@@ -1,13 +1,13 @@
 //! Laws of visits: functions that do nothing of their own, whose contracts are the laws.
 ghost use Rattle.lj_visit.specs.VisitLaws.{AttendedIsAnswered, VisitsAreOneFold};
 
-/// What is written to a user behind OK HELLO is the dialogue of its lines, from the state that it was lent: whole, or where a
-/// write failed a front that ends within the last item that was answered.
+/// Promise: what is written to a user behind OK HELLO is the dialogue of its lines, from the state that it was lent:
+/// whole, or where a write failed a front that ends within the last item that was answered.
 pub fn attended_is_answered()
     ensures { AttendedIsAnswered }
 {}
 
-/// The visits of a user, one after the other, are one fold of all items that were answered.
+/// Promise: the visits of a user, one after the other, are one fold of all items that were answered.
 pub fn visits_are_one_fold()
     ensures { VisitsAreOneFold }
 {}

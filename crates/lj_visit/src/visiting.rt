@@ -32,6 +32,9 @@ pub enum Visited {
 
 /// Answers a connection: reads its first line, lets in whom that names, answers the lines that follow, and brings the user's
 /// state home.
+///
+/// Promise: by how the visit ends: what was read, what was written, and which events came at the backend, in which
+/// order.
 pub fn visit<B: Backend, S: Source, W: Sink>(
     backend: &mut B,
     lines: &mut LineReader<S>,

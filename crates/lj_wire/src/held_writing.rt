@@ -8,7 +8,7 @@ use crate::asked::Writes;
 use crate::ends::{CountedWriting, Sink, WriteFault};
 use std::alloc::{AllocError, Global};
 
-/// How many bytes are held back at most.
+/// The most bytes of replies that are held back.
 const MAX_HELD_BYTES: usize = 65_536;
 
 /// A counted writer, and the bytes that are held back from it. The first `sent` of them have gone there; the others stay held

@@ -6,17 +6,17 @@ ghost use Rattle.lj_wire.specs.Laws.{IsReachedAlone};
 
 use lj_session::UserState;
 
-/// A stream has one splitting into items and a rest.
+/// Promise: a stream has one splitting into items and a rest.
 pub fn one_splitting()
     ensures { OneSplitting }
 {}
 
-/// Each stream has a splitting into items and a rest.
+/// Promise: each stream has a splitting into items and a rest.
 pub fn some_splitting()
     ensures { SomeSplitting }
 {}
 
-/// The mark of an item may be read off the text that it is answered.
+/// Promise: that memory ran out may be read off the text of the answer.
 pub fn mark_is_told()
     ensures { MarkIsTold }
 {}
@@ -41,7 +41,7 @@ pub fn body_is_bounded()
     ensures { BodyIsBounded }
 {}
 
-/// The text of a reply is its lines, one after another.
+/// Promise: the text of a reply is its lines, one after another.
 pub fn lines_are_the_text()
     ensures { LinesAreTheText }
 {}
@@ -51,7 +51,7 @@ pub fn commands_are_items()
     ensures { CommandsAreItems }
 {}
 
-/// The user of every state is the last one of some items with marks, answered alone.
+/// Promise: the user of every state is the last one of some items with marks, answered alone.
 pub fn state_is_reached_alone(state: &UserState)
     ensures { IsReachedAlone (user_of state.now) }
 {

@@ -41,6 +41,8 @@ pub fn read_line(line: &[u8]) -> LineReading
 }
 
 /// The item of a line, which is given without its line feed. The body of a load is not read yet.
+///
+/// Promise: the result is the item of the line: the command that its words say, or what is wrong with it.
 pub fn parse_command(line: &[u8]) -> Item
     ensures { result ≡ item_with line.now Unread }
 {

@@ -424,6 +424,8 @@ fn dump_line(line: &mut Line, state: &UserState, i: usize, name: &Name, k: usize
 }
 
 /// Line k of a reply, counted from 0, with the state of the user after the command. None past the last line.
+///
+/// Promise: line k is that of the reply as the definition says it, and there is none past the last one.
 pub fn reply_line(state: &UserState, reply: &Reply, k: usize) -> Option<Line>
     requires settled { IsSettled state.now reply.now }
     ensures { option_map (λ line. line.items) result

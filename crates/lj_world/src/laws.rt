@@ -18,7 +18,7 @@ fn laws_of_what_waits()
     waiting_goes_on();
 }
 
-/// In every run a user's replies are the first texts of its script answered alone, one for each mark.
+/// Promise: in every run a user's replies are the first texts of its script answered alone, one for each mark.
 pub fn replies_are_first_texts()
     ensures { RepliesAreFirstTexts }
 {
@@ -26,13 +26,13 @@ pub fn replies_are_first_texts()
     laws_of_what_waits();
 }
 
-/// Of two scripts that agree the one list of texts is a prefix of the other.
+/// Promise: of two scripts that agree the one list of texts is a prefix of the other.
 pub fn agreeing_scripts_agree_in_texts()
     ensures { AgreeingScriptsAgreeInTexts }
 {}
 
-/// For every two lists of events in which a user's scripts agree, of the replies that the two runs give this user one
-/// list is a prefix of the other, and each is a prefix of the replies of that user's commands answered alone.
+/// Promise: for every two lists of events in which a user's scripts agree, of the replies that the two runs give this
+/// user one list is a prefix of the other, and each is a prefix of the replies of that user's commands answered alone.
 pub fn headline()
     ensures { Headline }
 {
@@ -40,7 +40,8 @@ pub fn headline()
     agreeing_scripts_agree_in_texts();
 }
 
-/// In every run the value of a user is that of its script so far; while something waits, it is the script's next item.
+/// Promise: in every run the value of a user is that of its script so far; while something waits, it is the script's
+/// next item.
 pub fn value_is_that_of_script()
     ensures { ValueIsThatOfScript }
 {
@@ -48,25 +49,25 @@ pub fn value_is_that_of_script()
     laws_of_what_waits();
 }
 
-/// In every run a user's n-th granted HELLO, counted from 0, gets its ticket n.
+/// Promise: in every run a user's n-th granted HELLO, counted from 0, gets its ticket n.
 pub fn tickets_are_in_order()
     ensures { TicketsAreInOrder }
 {
     laws_of_what_waits();
 }
 
-/// An event that is not a user's changes nothing of it.
+/// Promise: an event that is not a user's changes nothing of it.
 pub fn others_change_nothing()
     ensures { OthersChangeNothing }
 {}
 
-/// A refusal that is told at a NEXT leaves every session as it was, with what is owed to it and its open step. At one that is
-/// told at a TURN the step of its session is made, and nothing else.
+/// Promise: a refusal that is told at a NEXT leaves every session as it was, with what is owed to it and its open step.
+/// At one that is told at a TURN the step of its session is made, and nothing else.
 pub fn refusals_leave_sessions()
     ensures { RefusalsLeaveSessions }
 {}
 
-/// No list of events is without a run, whichever state it begins in.
+/// Promise: no list of events is without a run, whichever state it begins in.
 pub fn each_list_has_a_run()
     ensures { EachListHasARun }
 {}

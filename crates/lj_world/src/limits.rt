@@ -1,9 +1,9 @@
 //! Limits of a world.
 
-/// Connections are numbered from 1 to this number.
+/// The most connections of a world, which are numbered from 1.
 pub const MAX_CONNECTIONS: u8 = 64;
 
-/// Workers are numbered from 1 to this number.
+/// The most workers of a world, which are numbered from 1.
 pub const MAX_WORKERS: u8 = 16;
 
 /// The most tasks of one connection that are posted and not fetched.

@@ -73,6 +73,9 @@ impl World {
     ///
     /// # Errors
     /// Out of memory, now or at an earlier step: a world that has once lost memory takes no step more.
+    ///
+    /// Promise: an event is a step of the machine of events, in which one that is not possible changes nothing; its
+    /// pick decides which task is taken and which result is fetched.
     pub fn step(&mut self, event: Event) -> Result<Option<Entry>, OutOfMemory>
         ensures step { IfOk result (λ reply. Step self.old.state event reply self.new.state) }
         ensures picked { IfOk result (λ _. HeedsPick self.old.state event self.new.state) }
@@ -98,6 +101,9 @@ impl World {
     ///
     /// # Errors
     /// Out of memory.
+    ///
+    /// Promise: the transcript is that of a run of the machine from these users over these events, and the headline
+    /// holds of it against every other run.
     pub fn run(
         alloc: Global,
         users: Vec<User>,

@@ -246,6 +246,8 @@ fn first_two_frames(
 
 /// Reads the first frame of a text. What follows it is not read. Each atom is to have one of the symbols, where two are
 /// given. If there is no memory for the rows, that is answered at once, and no fault among them is.
+///
+/// Promise: of a text its first frame is answered, or its first fault in reading order, or that memory ran out.
 pub fn read_rest(alloc: Global, text: &[u8], symbols: Option<&SymbolPair>) -> Result<Rows, XyzError>
     ensures frame { IfOk result (λ rows.
         IsReading (option_copied symbols.entry) rest (lines_of text.now) (Ok (rows ∷ []))) }
@@ -264,6 +266,8 @@ pub fn read_rest(alloc: Global, text: &[u8], symbols: Option<&SymbolPair>) -> Re
 /// the first frame is to have one of the symbols, where two are given. Those of the second frame are to be symbols, and
 /// are compared neither with these nor with those of the first. If there is no memory for the rows of a frame, that is
 /// answered at once, and no fault among them or behind them is.
+///
+/// Promise: of a text its first two frames are answered, of as many atoms, or its first fault, or that memory ran out.
 pub fn read_pair(
     alloc: Global,
     text: &[u8],

@@ -15,7 +15,7 @@ pub type FrameLine = ArrayVec<u8, MAX_LINE_BYTES>;
 /// The most bytes of a blank and a coordinate.
 const MAX_COORDINATE_BYTES: usize = 1 + MAX_MICRO_BYTES;
 
-/// The most bytes of a line: the longest, of an atom, has a symbol and three coordinates, each after a blank.
+/// The most bytes of a line of a frame: the longest, of an atom, has a symbol and three coordinates, each after a blank.
 const MAX_LINE_BYTES: usize = MAX_SYMBOL_BYTES + 3 * MAX_COORDINATE_BYTES;
 
 /// The line with the number of atoms.

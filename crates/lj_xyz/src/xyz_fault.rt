@@ -12,7 +12,7 @@ use thiserror::Error;
 /// What is wrong with a body.
 #[derive(Clone, Copy, Debug, PartialEq, Eq, Error)]
 pub enum XyzKind {
-    /// There is no count line, or its first word is no number of atoms from 1 to 4,096.
+    /// The first frame has no count line, or its first word is no number of atoms from 1 to 4096.
     Count,
     /// The comment line or an atom line is missing, or an atom line has fewer than four words.
     Short,
@@ -20,7 +20,7 @@ pub enum XyzKind {
     Symbol,
     /// The symbol of an atom of the first frame is of neither species.
     Species,
-    /// A coordinate is no decimal word.
+    /// A coordinate is no decimal number.
     Number,
     /// A coordinate is beyond a million file units.
     Range,

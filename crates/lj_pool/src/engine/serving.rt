@@ -28,6 +28,10 @@ use std::alloc::Global;
 /// Serves a stream of commands from a user's state on, over a pool that owes nothing. What is written is the dialogue
 /// of what is read. The state is handed back, with the steps that are still owed to its sessions, but where the pool was
 /// given up; and the reader in any case. The pool is asked for no other user.
+///
+/// Promise: over any pool, what is written is the dialogue of what is read, or where a write failed a front of it, and
+/// the state that is handed back is that after the items answered. Where the pool was given up it is the replies
+/// before, and there is no state.
 pub fn serve<R: Source, W: Sink, P: Pool>(
     alloc: Global,
     state: UserState,

@@ -14,6 +14,8 @@ use std::sync::ledger::Ledger;
 
 /// An end of a pool behind a lock. It keeps a copy of each task that it is owed, and has room for one result. It takes no
 /// memory.
+///
+/// Promise: it is a `Pool`, for every number of workers, so what is served over it is the same dialogue.
 #[derive(Drop)]
 pub struct LockEnd<'p, L: Ledger, R: Wait> {
     rt: &'p R,

@@ -77,6 +77,8 @@ impl<L: Ledger> LockPool<L> {
     }
 
     /// The counts of the book. What was posted has been fetched or withdrawn, or stands in the book.
+    ///
+    /// Promise: what was posted has been fetched or withdrawn, or stands in the book; no more was given than posted.
     pub fn counts<R: Wait>(&self, rt: &R) -> Counts
         ensures balance { result.posted ≡ result.fetched + result.withdrawn + result.entries }
         ensures given_posted { result.given ≤ result.posted }

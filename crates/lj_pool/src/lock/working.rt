@@ -65,6 +65,8 @@ pub fn work<L: Ledger, G: Gate, R: Wait>(
 }
 
 /// How many results of all workers together were accepted, which is how many the book of the pool was given.
+///
+/// Promise: the result is the sum of the shares of all workers.
 pub fn gather<L: Ledger, R: Wait>(rt: &R, pool: &LockPool<L>, shares: Vec<Share<L>>) -> u64
     requires { vec_len shares ≡ L.parts }
     ensures { result ≡ sum shares.items }

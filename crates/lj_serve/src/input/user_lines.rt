@@ -22,6 +22,8 @@ pub type UsersFault = TextFault;
 ///
 /// # Errors
 /// The first bad line, or out of memory.
+///
+/// Promise: the users are at least one and at most 64, and no two have one name.
 pub fn read_users(alloc: Global, bytes: &[u8]) -> Result<Vec<User>, UsersFault>
     ensures users { IfOk result (λ users. AreUsers users.items) }
     ensures some { IfOk result (λ users. 1 ≤ length users.items) }

@@ -24,6 +24,8 @@ pub struct Schedule {
 /// # Errors
 /// The number of the first bad line, counted from 1 with the lines of bodies; that after the last line if there is
 /// no user; or out of memory.
+///
+/// Promise: the users are at least one and at most 64, and no two have one name.
 pub fn read_schedule(alloc: Global, bytes: &[u8]) -> Result<Schedule, TextFault>
     ensures users { IfOk result (λ schedule. AreUsers schedule.users.items) }
     ensures some { IfOk result (λ schedule. 1 ≤ length schedule.users.items) }

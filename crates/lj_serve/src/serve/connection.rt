@@ -22,7 +22,7 @@ use std::time::Duration;
 /// How many seconds a connection that has ended waits for more input at most, which is read and dropped.
 const LINGERING_SECONDS: u64 = 1;
 
-/// How often it reads at most.
+/// How often a connection that has ended reads at most.
 const MAX_LINGERING_READS: usize = 65_536;
 
 /// What the threads of a server share.

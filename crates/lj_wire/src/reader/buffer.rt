@@ -7,7 +7,7 @@ ghost use Rattle.lj_wire.specs.Ends.{Rises};
 use crate::ends::{ReadFault, Source};
 use std::marker::Model;
 
-/// How many bytes a buffer holds at most.
+/// The most bytes that a reader holds ahead.
 pub(crate) const MAX_HELD_BYTES: usize = 8192;
 
 /// The bytes from `start` to `end`.
