@@ -158,16 +158,26 @@ static void advance(long long steps) {
     step += steps;
 }
 
+/* The decimal digits of a number that may be greater than 2^64, in `room`. */
+static const char *decimal(u128 value, char room[40]) {
+    char *at = room + 39;
+    *at = 0;
+    do *--at = '0' + value % 10;
+    while (value /= 10);
+    return at;
+}
+
 static void measure(const char *name) {
     int64_t x = 0, y = 0, z = 0;
-    uint64_t kinetic = 0;
+    u128 kinetic = 0;
+    char digits[40];
     for (int i = 0; i < n; i++) {
         int32_t a = image(cur[i].x, prev[i].x), b = image(cur[i].y, prev[i].y), c = image(cur[i].z, prev[i].z);
         x += a, y += b, z += c;
-        kinetic += sq(a) + sq(b) + sq(c);
+        kinetic += (u128)sq(a) + sq(b) + sq(c);
     }
-    printf("OK MEASURE %s %lld %d %lld %lld %lld %llu %lld\n", name, (long long)step, n, (long long)x, (long long)y,
-           (long long)z, (unsigned long long)kinetic, (long long)potential());
+    printf("OK MEASURE %s %lld %d %lld %lld %lld %s %lld\n", name, (long long)step, n, (long long)x, (long long)y,
+           (long long)z, decimal(kinetic, digits), (long long)potential());
 }
 
 int main(void) {
