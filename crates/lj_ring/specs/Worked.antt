@@ -2,6 +2,7 @@
 use Rattle.std.specs.Prelude.{◌≡◌, ◌+◌, ◌-◌, ◌*◌, ◌^◌, true, false, pos, negsuc, [], ◌∷◌, Ok, Err, refl}
 use Rattle.lj_ring.specs.declared.scales.ScaleFault.TheVariants.{Edge, Sigma, StepFactor}
 use Rattle.lj_ring.specs.Arcs.{arcs_of, gap, squared_gap}
+use Rattle.lj_ring.specs.Bins.{near_bin}
 use Rattle.lj_ring.specs.Scale.{Scale, scale_of, is_in_cutoff, entry}
 
 least_edge : scale_of (pos (10 ^ 6)) (pos (10 ^ 5)) 1 ≡ Ok (record { edge = 10 ^ 6; sigma = 429496729; strength = 1 })
@@ -43,6 +44,14 @@ below_the_cutoff = refl
 at_the_cutoff : is_in_cutoff units (163840 ^ 2) ≡ false
 unfolding units
 at_the_cutoff = refl
+
+near_bin_below_the_cutoff : near_bin units (163840 ^ 2 - 1) ≡ 799
+unfolding units
+near_bin_below_the_cutoff = refl
+
+near_bin_at_the_cutoff : near_bin units (163840 ^ 2) ≡ 800
+unfolding units
+near_bin_at_the_cutoff = refl
 
 close_bin : entry 63 ≡ 64
 close_bin = refl

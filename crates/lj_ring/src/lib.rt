@@ -3,7 +3,9 @@
 #![tactic(auto)]
 
 mod arcs;
+mod bins;
 mod coordinates;
+mod lanes;
 mod mixes;
 mod scales;
 

@@ -1,12 +1,16 @@
 //! The edge of the box, and the scale of a simulation.
 ghost use Rattle.std.specs.Prelude.{ℕ, ◌≡◌, ◌≤◌, ◌<◌, ◌+◌, ◌*◌, ◌/◌, ◌^◌, ◌⊎◌, IsTrue, IsFalse, IfSome, MatchOption};
-ghost use Rattle.std.specs.Prelude.{SomeIff, unsigned_abs, nat_lt, true, false};
+ghost use Rattle.std.specs.Prelude.{SomeIff, unsigned_abs, nat_lt, true, false, slice_index};
+ghost use Rattle.lj_ring.specs.Bins.{near_bin, lane_square};
 ghost use Rattle.lj_ring.specs.Places.{units_of};
 ghost use Rattle.lj_ring.specs.Scale.{is_edge, is_sigma, is_strength, scale_of, bin, is_in_cutoff, least_scale, IsScale};
 
+use crate::bins::{cut_of, quotients, reciprocal_of, shift_of, squares_cut_off};
+use crate::lanes::{least, narrowed};
 use lj_fixed::{MAX_NANO, Nano};
 use std::fmt;
 use std::marker::Model;
+use std::simd::prelude::*;
 use thiserror::Error;
 
 /// The least edge of a box, in nano.
@@ -114,6 +118,12 @@ pub struct Scale {
     reach: u64,
     /// `ceil(2^95 / sigma²)`, by which a bin is guessed without a division.
     inverse: u64,
+    /// The least length beyond the cutoff, `floor(5 sigma / 2) + 1`: no pair interacts one of whose images is as long.
+    cut: u32,
+    /// By how many bits three squares of `cut` are longer than 32.
+    shift: u64,
+    /// `floor(2^(58 + shift) / sigma²)`, below 2^32, by which bins are guessed in lanes.
+    reciprocal: u64,
 }
 
 impl Model for Scale {
@@ -184,6 +194,19 @@ impl Scale {
         self.reach
     }
 
+    /// The bins of eight pairs whose images have these lengths along the axes, in ring units, and [`BINS`] of those that do
+    /// not interact.
+    #[inline(always)]
+    pub fn bins(&self, x: u32x8, y: u32x8, z: u32x8) -> u32x8
+        ensures value { (k : ℕ) → k < 8 → slice_index result k
+            ≡ near_bin self.now (lane_square x k + lane_square y k + lane_square z k) }
+        ensures within { (k : ℕ) → k < 8 → slice_index result k ≤ BINS }
+    {
+        let squared = squares_cut_off(x, y, z, self.cut);
+        let quotients = quotients(squared, self.sigma_square, self.shift, self.reciprocal);
+        least(narrowed(quotients), BINS as u32)
+    }
+
     /// The bin, below [`BINS`], of a pair at squared distance `s`, or None where it does not interact.
     #[inline]
     pub fn bin_within_reach(&self, s: u64) -> Option<usize>
@@ -207,6 +230,7 @@ impl Scale {
     {
         let sigma_square = u64::from(sigma) * u64::from(sigma);
         let inverse = (1u128 << 95).div_ceil(u128::from(sigma_square)) as u64;
+        let shift = shift_of(sigma);
         Scale {
             edge,
             sigma,
@@ -214,6 +238,9 @@ impl Scale {
             sigma_square,
             reach: (CUTOFF_HALVES * CUTOFF_HALVES * sigma_square).div_ceil(4),
             inverse,
+            cut: cut_of(sigma),
+            shift,
+            reciprocal: reciprocal_of(sigma, shift),
         }
     }
 }

@@ -1,0 +1,12 @@
+-- Bins of pairs that may lie out of reach, by the lengths of their images in lanes.
+use Rattle.std.specs.Prelude.{ℕ, ◌*◌, List, slice_index, if◌then◌else◌}
+use Rattle.lj_ring.specs.declared.scales.TheConstants.{BINS}
+use Rattle.lj_ring.specs.Scale.{Scale, bin, is_in_cutoff}
+
+-- the bin of a squared distance where the pair interacts, and else the number of bins
+abbrev pub near_bin : Scale → ℕ → ℕ
+near_bin u s = if is_in_cutoff u s then bin u s else BINS
+
+-- the square of the number in lane k
+abbrev pub lane_square : List ℕ → ℕ → ℕ
+lane_square v k = slice_index v k * slice_index v k

@@ -1,0 +1,92 @@
+//! Bins of squared distance in lanes, by a guess without a division, and what a scale keeps for it.
+ghost use Rattle.std.specs.Prelude.{ℕ, ◌≡◌, ◌≤◌, ◌<◌, ◌+◌, ◌-◌, ◌*◌, ◌/◌, ◌%◌, ◌^◌, slice_index};
+ghost use Rattle.lj_ring.specs.declared.scales.TheConstants.{MIN_SIGMA, CUTOFF_HALVES, BINS_TO_SQUARE};
+ghost use Rattle.lj_ring.specs.Kept as kept;
+
+use crate::lanes::{
+    differences, least, low, products, shifted_left, shifted_right, splat, squares, sums,
+};
+use crate::scales::CUTOFF_HALVES;
+use std::simd::prelude::*;
+
+/// The least length beyond the cutoff, in ring units.
+pub(crate) fn cut_of(sigma: u32) -> u32
+    requires { CUTOFF_HALVES * sigma < 2 ^ 32 }
+    ensures value { result ≡ kept.cut_of sigma }
+    ensures most { result ≤ 2 ^ 31 }
+{
+    (CUTOFF_HALVES * u64::from(sigma) / 2 + 1) as u32
+}
+
+/// By how many bits three squares of that length are longer than 32.
+pub(crate) fn shift_of(sigma: u32) -> u64
+    requires { CUTOFF_HALVES * sigma < 2 ^ 32 }
+    ensures value { result ≡ kept.shift_of sigma }
+    ensures most { result ≤ 32 }
+{
+    let cut = u64::from(cut_of(sigma));
+    u64::from(32u32.saturating_sub((3 * (cut * cut)).leading_zeros()))
+}
+
+/// `2^(58 + shift) / sigma²`, which is below 2^32.
+pub(crate) fn reciprocal_of(sigma: u32, shift: u64) -> u64
+    requires least { MIN_SIGMA ≤ sigma }
+    requires most { CUTOFF_HALVES * sigma < 2 ^ 32 }
+    requires shift { shift ≡ kept.shift_of sigma }
+    ensures { result ≡ kept.reciprocal_of sigma }
+{
+    ((1u128 << (58 + shift)) / (u128::from(sigma) * u128::from(sigma))) as u64
+}
+
+/// The squared distances of eight pairs by the lengths of their images along the axes, with `cut` in place of longer ones.
+#[inline(always)]
+pub(crate) fn squares_cut_off(x: u32x8, y: u32x8, z: u32x8, cut: u32) -> u64x8
+    requires { cut ≤ 2 ^ 31 }
+    ensures { (k : ℕ) → k < 8
+        → slice_index result k ≡ kept.cut_sum cut (slice_index x k) (slice_index y k) (slice_index z k) }
+{
+    let (x, y, z) = (least(x, cut), least(y, cut), least(z, cut));
+    sums(sums(squares(x), squares(y)), squares(z))
+}
+
+/// `128 s / sigma_square` in each lane, by a guess that is right or one less, and a correction: the rest after the guess is
+/// below two squares, so it is exact modulo 2^64.
+#[inline(always)]
+pub(crate) fn quotients(squared: u64x8, sigma_square: u64, shift: u64, reciprocal: u64) -> u64x8
+    requires shift { shift ≤ 32 }
+    requires small { (k : ℕ) → k < 8 → slice_index squared k < 2 ^ (32 + shift) }
+    requires some { 0 < sigma_square }
+    requires few { sigma_square < 2 ^ 60 }
+    requires reciprocal { reciprocal ≡ 2 ^ (58 + shift) / sigma_square }
+    requires fits { reciprocal < 2 ^ 32 }
+    ensures value { (k : ℕ) → k < 8
+        → slice_index result k ≡ BINS_TO_SQUARE * slice_index squared k / sigma_square }
+    ensures within { (k : ℕ) → k < 8 → slice_index result k ≤ 2 ^ 13 }
+{
+    let guess = guesses(squared, shift, reciprocal);
+    let rest = differences(shifted_left(squared, 7), multiples(guess, sigma_square));
+    let beyond = differences(splat(sigma_square - 1), rest);
+    sums(guess, shifted_right(beyond, 63))
+}
+
+#[inline(always)]
+fn guesses(squared: u64x8, shift: u64, reciprocal: u64) -> u64x8
+    requires shift { shift ≤ 32 }
+    requires small { (k : ℕ) → k < 8 → slice_index squared k < 2 ^ (32 + shift) }
+    requires fits { reciprocal < 2 ^ 32 }
+    ensures { (k : ℕ) → k < 8
+        → slice_index result k ≡ slice_index squared k / 2 ^ shift * reciprocal / 2 ^ 51 }
+{
+    let product = products(low(shifted_right(squared, shift)), low(splat(reciprocal)));
+    shifted_right(product, 51)
+}
+
+/// The lanes times a number, modulo 2^64, by the halves of the number.
+#[inline(always)]
+fn multiples(v: u64x8, number: u64) -> u64x8
+    ensures { (k : ℕ) → k < 8 → slice_index result k ≡ slice_index v k * number % 2 ^ 64 }
+{
+    let number = splat(number);
+    let upper = products(v, shifted_right(number, 32));
+    sums(products(v, low(number)), shifted_left(upper, 32))
+}
