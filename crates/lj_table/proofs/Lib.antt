@@ -1,3 +1,4 @@
 pub mod Quotients
 pub mod Sizes
 pub mod Cells
+pub mod Signs

@@ -27,7 +27,7 @@ quotient_over f t c d over =
     let e : pos t -ℤ pos c ≡ pos (t - c) = omega (arith, ints) in
     rw e refl
 
-abs_neg : (m : ℕ) → unsigned_abs (neg_ℤ (pos m)) ≡ m
+pub abs_neg : (m : ℕ) → unsigned_abs (neg_ℤ (pos m)) ≡ m
 abs_neg zero = refl
 abs_neg (suc m) = refl
 

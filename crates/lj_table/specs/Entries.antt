@@ -1,6 +1,6 @@
 -- The entries of the Lennard-Jones tables, at the centres of the bins of squared distance.
 use Rattle.std.specs.Prelude.{ℕ, ◌+◌, ◌*◌, ◌^◌, ◌<◌, ◌≡◌, ℤ, pos, ◌-ℤ◌, ◌*ℤ◌, int_div, unsigned_abs, List}
-use Rattle.std.specs.Prelude.{slice_index_or, if◌then◌else◌}
+use Rattle.std.specs.Prelude.{slice_index, slice_index_or, nat_lt, if◌then◌else◌, ◌≤◌}
 use Rattle.lj_ring.specs.declared.scales.TheConstants.{BINS}
 use Rattle.lj_ring.specs.Scale.{Scale, bin, is_in_cutoff, entry}
 
@@ -19,6 +19,10 @@ energy_entry k = int_div (pos (2 ^ 50) *ℤ (pos (2 ^ 24) -ℤ pos (centre k ^ 3
 -- what a table gives for a pair at a squared distance: the entry of its bin, and 0 out of reach
 abbrev pub table_value : (ℕ → ℤ) → Scale → ℕ → ℤ
 table_value entry_of u s = if is_in_cutoff u s then entry_of (entry (bin u s)) else pos 0
+
+-- the entry of a bin, and 0 of the bin of all pairs out of reach
+abbrev pub cell : (ℕ → ℤ) → ℕ → ℤ
+cell entry_of k = if nat_lt k BINS then entry_of (entry k) else pos 0
 
 -- the push of a pair at a squared distance
 abbrev pub push_at : Scale → ℕ → ℤ
@@ -39,3 +43,7 @@ HasEntries entry_of cells = (k : ℕ) → k < BINS → slice_index_or cells k (p
 -- each cell of a table is below 2^37 in size
 abbrev pub AreSmall : List ℤ → Type 0
 AreSmall cells = (k : ℕ) → k < BINS → unsigned_abs (slice_index_or cells k (pos 0)) < 2 ^ 37
+
+-- the cells of a table are the sizes of the pushes of the bins, and 0 of the bin out of reach
+abbrev pub HasSizes : List ℕ → Type 0
+HasSizes cells = (k : ℕ) → k ≤ BINS → slice_index cells k ≡ unsigned_abs (cell push_entry k)

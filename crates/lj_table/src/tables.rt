@@ -1,20 +1,30 @@
 //! The tables of the entries of all bins within reach.
-ghost use Rattle.std.specs.Prelude.{◌≡◌, ℕ, ℤ, ◌≤◌, ◌<◌, ◌^◌, unsigned_abs};
+ghost use Rattle.std.specs.Prelude.{◌≡◌, ℕ, ℤ, ◌≤◌, ◌<◌, ◌^◌, pos, neg_ℤ, unsigned_abs, slice_index};
 ghost use Rattle.lj_table.specs.Entries.{HasEntries, AreSmall, push_entry, energy_entry, push_at, energy_at, table_value};
-ghost use Rattle.lj_table.specs.Entries.{weighted_energy};
+ghost use Rattle.lj_table.specs.Entries.{weighted_energy, cell, HasSizes};
 
 use crate::table_entries;
 use lj_ring::{BINS, MIN_BIN, Scale, Weight};
+use std::simd::prelude::*;
+
+/// The last bin whose push drives two atoms apart: from the next on they are drawn together.
+pub const LAST_APART: u32 = 160;
+
+/// The bins within reach, and one for all pairs out of reach.
+const CELLS: usize = BINS + 1;
 
 /// The pushes and energies of the bins within reach. The cells below bin [`MIN_BIN`] repeat that of this bin.
 #[derive(Drop)]
 pub struct Table {
     pushes: [i64; BINS],
     energies: [i64; BINS],
+    /// The sizes of the pushes, and 0 of bin [`BINS`].
+    push_sizes: [u64; CELLS],
     ghost push_entries: { HasEntries push_entry pushes },
     ghost energy_entries: { HasEntries energy_entry energies },
-    ghost push_sizes: { AreSmall pushes },
-    ghost energy_sizes: { AreSmall energies },
+    ghost small_pushes: { AreSmall pushes },
+    ghost small_energies: { AreSmall energies },
+    ghost sizes: { HasSizes push_sizes },
 }
 
 impl Table {
@@ -22,11 +32,17 @@ impl Table {
     pub fn new() -> Table {
         let mut pushes = [0; BINS];
         let mut energies = [0; BINS];
+        let mut push_sizes = [0; CELLS];
         for k in 0..BINS as u16 {
             pushes[usize::from(k)] = table_entries::push_entry(k.max(MIN_BIN));
             energies[usize::from(k)] = table_entries::energy_entry(k.max(MIN_BIN));
+            push_sizes[usize::from(k)] = pushes[usize::from(k)].unsigned_abs();
         }
-        Table { pushes, energies }
+        Table {
+            pushes,
+            energies,
+            push_sizes,
+        }
     }
 
     /// The push of a pair at squared distance `s` (square ring units), in units of 2^-24; 0 out of reach.
@@ -36,6 +52,20 @@ impl Table {
         ensures size { unsigned_abs result < 2 ^ 37 }
     {
         looked_up(&self.pushes, s, scale)
+    }
+
+    /// The sizes of the pushes of eight bins, in units of 2^-24, and 0 of bin [`BINS`]. Up to bin [`LAST_APART`] a push
+    /// drives two atoms apart, and from the next on together.
+    #[inline(always)]
+    pub fn push_sizes(&self, bins: u32x8) -> u64x8
+        requires { (k : ℕ) → k < 8 → slice_index bins k ≤ BINS }
+        ensures size { (k : ℕ) → k < 8 → slice_index result k < 2 ^ 37 }
+        ensures apart { (k : ℕ) → k < 8 → slice_index bins k ≤ LAST_APART
+            → cell push_entry (slice_index bins k) ≡ pos (slice_index result k) }
+        ensures together { (k : ℕ) → k < 8 → LAST_APART < slice_index bins k
+            → cell push_entry (slice_index bins k) ≡ neg_ℤ (pos (slice_index result k)) }
+    {
+        each_of(&self.push_sizes, bins)
     }
 
     /// The energy of a pair at squared distance `s` (square ring units) by its weight, in units of 2^-24 ε and toward
@@ -57,6 +87,24 @@ fn weighted(entry: i64, weight: Weight) -> i64
     ensures size { unsigned_abs result < 2 ^ 45 }
 {
     entry * i64::from(weight.parts()) / 256
+}
+
+/// The cells of eight bins.
+#[inline(always)]
+fn each_of(cells: &[u64; CELLS], bins: u32x8) -> u64x8
+    requires { (k : ℕ) → k < 8 → slice_index bins k ≤ BINS }
+    ensures { (k : ℕ) → k < 8 → slice_index result k ≡ slice_index cells.now (slice_index bins k) }
+{
+    u64x8::from_array([
+        cells[bins[0] as usize],
+        cells[bins[1] as usize],
+        cells[bins[2] as usize],
+        cells[bins[3] as usize],
+        cells[bins[4] as usize],
+        cells[bins[5] as usize],
+        cells[bins[6] as usize],
+        cells[bins[7] as usize],
+    ])
 }
 
 // The cell of a pair at squared distance `s`, and 0 out of reach.

@@ -1,8 +1,9 @@
-use Rattle.std.proofs.Common.{ℕ, ℤ, ◌≡◌, ◌<◌, ◌^◌, unsigned_abs, FitsSigned, w64, rules, arith, length-set}
+use Rattle.std.proofs.Common.{ℕ, ℤ, pos, ◌≡◌, ◌<◌, ◌^◌, unsigned_abs, FitsSigned, w64, rules, arith, length-set, ◌≢◌, get_or-set_other, ap, ◌∙◌}
 use Rattle.std.proofs.lemmas.Int.{to_z-of_z}
 use Rattle.lj_ring.specs.Scale.{entry}
 use Rattle.lj_table.specs.Entries.{push_entry, energy_entry}
-use Rattle.lj_table.proofs.Cells.{cells_more}
+use Rattle.lj_table.proofs.Cells.{cells_more, size_read}
+use Rattle.lj_table.proofs.Signs.{sizes_whole}
 use Rattle.lj_table.proofs.tables.Table.new.Goals as goal
 
 pub loop-k-preserved : goal.loop-k-preserved
@@ -12,26 +13,43 @@ loop-k-preserved c =
     let IsPush : ℕ → ℤ → Type 0 = λ k z. z ≡ push_entry (entry k) in
     let IsEnergy : ℕ → ℤ → Type 0 = λ k z. z ≡ energy_entry (entry k) in
     let IsSmall : ℕ → ℤ → Type 0 = λ k z. unsigned_abs z < 2 ^ 37 in
+    let value : c.push_entry.result ≡ push_entry (entry c.loop-k.k) =
+    rw (← c.max.ensures) c.push_entry.ensures.value in
+    let IsSize : ℕ → ℕ → Type 0 = λ k n. n ≡ unsigned_abs (push_entry (entry k)) in
+    let size : c.unsigned_abs.result ≡ unsigned_abs c.push_entry.result =
+    c.unsigned_abs.ensures.value
+    ∙ size_read c.loop-k.pushes c.from.result c.from-in-loop-k-2.result c.loop-k.k c.push_entry.result c.from.ensures
+    c.from-in-loop-k-2.ensures (omega (arith, c.loop-k.invariant.push_cells)) push_fits in
     rw (
       c.from.ensures,
       c.from-in-loop-k.ensures,
+      c.from-in-loop-k-3.ensures,
       to_z-of_z w64 c.push_entry.result push_fits,
       to_z-of_z w64 c.energy_entry.result energy_fits,
     )
     record {
       push_cells = rw length-set c.loop-k.invariant.push_cells;
       energy_cells = rw length-set c.loop-k.invariant.energy_cells;
-      pushes = cells_more IsPush c.loop-k.pushes c.loop-k.k c.push_entry.result
+      pushes = cells_more (pos 0) IsPush c.loop-k.pushes c.loop-k.k c.push_entry.result
           (omega (arith, c.loop-k.invariant.push_cells)) c.loop-k.invariant.pushes
-          (rw (← c.max.ensures) c.push_entry.ensures.value);
+          value;
       energies =
-          cells_more IsEnergy c.loop-k.energies c.loop-k.k c.energy_entry.result
+          cells_more (pos 0) IsEnergy c.loop-k.energies c.loop-k.k c.energy_entry.result
           (omega (arith, c.loop-k.invariant.energy_cells)) c.loop-k.invariant.energies
           (rw (← c.max-in-loop-k.ensures) c.energy_entry.ensures.value);
-      push_sizes =
-          cells_more IsSmall c.loop-k.pushes c.loop-k.k c.push_entry.result
-          (omega (arith, c.loop-k.invariant.push_cells)) c.loop-k.invariant.push_sizes c.push_entry.ensures.size;
-      energy_sizes =
-          cells_more IsSmall c.loop-k.energies c.loop-k.k c.energy_entry.result
-          (omega (arith, c.loop-k.invariant.energy_cells)) c.loop-k.invariant.energy_sizes c.energy_entry.ensures.size;
+      small_pushes =
+          cells_more (pos 0) IsSmall c.loop-k.pushes c.loop-k.k c.push_entry.result
+          (omega (arith, c.loop-k.invariant.push_cells)) c.loop-k.invariant.small_pushes c.push_entry.ensures.size;
+      small_energies =
+          cells_more (pos 0) IsSmall c.loop-k.energies c.loop-k.k c.energy_entry.result
+          (omega (arith, c.loop-k.invariant.energy_cells)) c.loop-k.invariant.small_energies c.energy_entry.ensures.size;
+      size_cells = rw length-set c.loop-k.invariant.size_cells;
+      sizes =
+          cells_more 0 IsSize c.loop-k.push_sizes c.loop-k.k c.unsigned_abs.result
+          (omega (arith, c.loop-k.invariant.size_cells)) c.loop-k.invariant.sizes
+          (size ∙ ap unsigned_abs value);
+      last = let ne : 800 ≢ c.loop-k.k = omega arith in rw get_or-set_other c.loop-k.invariant.last;
     }
+
+pub invariant_of-result-clause-sizes : goal.invariant_of-result-clause-sizes
+invariant_of-result-clause-sizes c = sizes_whole c.loop-k.push_sizes c.loop-k.invariant.last (λ j h. c.loop-k.invariant.sizes j (omega arith))
