@@ -7,11 +7,13 @@ use Rattle.lj_table.specs.Entries.{weighted_energy}
 use Rattle.std.proofs.lemmas.Int.{ints, unsigned_abs-mul, fits_signed_from_abs}
 use Rattle.std.proofs.lemmas.Nat.{mul-le}
 
-div_neg : (m d : ℕ) → int_div (neg_ℤ (pos m)) (pos d) ≡ neg_ℤ (pos (m / d))
+-- a quotient of a number below zero
+pub div_neg : (m d : ℕ) → int_div (neg_ℤ (pos m)) (pos d) ≡ neg_ℤ (pos (m / d))
 div_neg zero d = rw zero-div refl
 div_neg (suc m) d = refl
 
-mul_neg : (f m : ℕ) → pos f *ℤ neg_ℤ (pos m) ≡ neg_ℤ (pos (f * m))
+-- a product with one
+pub mul_neg : (f m : ℕ) → pos f *ℤ neg_ℤ (pos m) ≡ neg_ℤ (pos (f * m))
 mul_neg f zero = omega (arith, ints)
 mul_neg f (suc m) = *ℤ-negsuc (pos f) m ∙ ap neg_ℤ (pos-*ℤ-pos f (suc m))
 
