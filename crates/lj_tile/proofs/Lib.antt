@@ -6,4 +6,5 @@ pub mod RowLemmas
 pub mod Splits
 pub mod SameLemmas
 pub mod NearLemmas
+pub mod NearLanes
 pub mod FirstSums

@@ -3,27 +3,24 @@ use Rattle.std.proofs.Common.{ℕ, zero, suc, ◌+◌, ◌-◌, ◌*◌, ◌/◌
 use Rattle.std.specs.Simd.Lanes.{zip2, mask_l}
 use Rattle.std.specs.Int.{cast_signed, bit_at, div_ceil}
 use Rattle.std.proofs.lemmas.List.{get_or-map, get_or-replicate, length-replicate}
-use Rattle.std.proofs.lemmas.Bool.{cases_eq, ltb-false, ltb-true, le-ltb}
+use Rattle.std.proofs.lemmas.Bool.{cases_eq, cases_lt, ltb-false, ltb-true, le-ltb}
 use Rattle.std.proofs.lemmas.Int.{ints}
 use Rattle.std.proofs.lemmas.Nat.{mul-le, mod-mul-add, pow-add, le-div}
 use Rattle.std.proofs.Math.Nat.{div-mul-le_self, mod-add-div, mod-lt, div-lt_iff_lt-mul, div-div-eq-div-mul}
 use Rattle.std.proofs.lemmas.Grind.{pow_more, div_ceil_times}
 use Rattle.std.proofs.lemmas.Nat.Bits.{bit_at_and}
-use Rattle.std.proofs.lemmas.Simd.{get_or-zip2, length-zip2, bit_mask_l}
+use Rattle.std.proofs.lemmas.Simd.{get_or-zip2, bit_mask_l}
 use Rattle.lj_ring.specs.Ring.{image}
-use Rattle.lj_tile.specs.Near.{grains, square_unit, SpansFew}
+use Rattle.lj_tile.specs.Grains.{grains, square_unit}
+use Rattle.lj_tile.specs.Near.{SpansFew}
 
 -- each lane with one number
-pub splat_lanes : (f : ℕ → ℕ → ℕ) (v : List ℕ) (n : ℕ) → length v ≡ 64 → (k : ℕ) → k < 64 → get_or (zip2 f v (replicate 64 n)) k 0 ≡ f (get_or v k 0) n
+pub splat_lanes : (f : ℕ → ℕ → ℕ) (v : List ℕ) (n : ℕ) → length v ≡ 16 → (k : ℕ) → k < 16 → get_or (zip2 f v (replicate 16 n)) k 0 ≡ f (get_or v k 0) n
 splat_lanes f v n long k l =
-    get_or-zip2 f v (replicate 64 n) k 0 0 0 (omega (arith, long)) (omega (arith, length-replicate {A = ℕ} 64 n))
-    ∙ ap (f (get_or v k 0)) (get_or-replicate 64 k n 0 l)
+    get_or-zip2 f v (replicate 16 n) k 0 0 0 (omega (arith, long)) (omega (arith, length-replicate {A = ℕ} 16 n))
+    ∙ ap (f (get_or v k 0)) (get_or-replicate 16 k n 0 l)
 
--- three numbers whose sum does not wrap
-pub no_wrap : (x y z : ℕ) → x ≤ 2 ^ 14 → y ≤ 2 ^ 14 → z ≤ 2 ^ 14 → ((x + y) % 2 ^ 16 + z) % 2 ^ 16 ≡ x + y + z
-no_wrap x y z p q r = omega arith
-
-not_set : (t : Bool) → cond {A = ℕ} t 1 0 ≡ 0 → t ≡ false
+pub not_set : (t : Bool) → cond {A = ℕ} t 1 0 ≡ 0 → t ≡ false
 not_set true e = absurd (omega arith)
 not_set false e = refl
 
@@ -32,19 +29,6 @@ pub not_below : (v : List ℕ) (reach k : ℕ) → k < length v → bit_at (mask
 not_below v reach k l empty =
     let bit : cond {A = ℕ} (get_or (map (λ x. ltb x reach) v) k false) 1 0 ≡ 0 = sym (bit_mask_l (map (λ x. ltb x reach) v) k) ∙ empty in
     ltb-false (get_or v k 0) reach (sym (get_or-map (λ x. ltb x reach) v k 0 false l) ∙ not_set _ bit)
-
-abbrev pub wrapped_sum : ℕ → ℕ → ℕ
-wrapped_sum a b = (a + b) % 2 ^ 16
-
--- the sum of three vectors, lane by lane
-pub sum_lanes : (x y z : List ℕ) → length x ≡ 64 → length y ≡ 64 → length z ≡ 64
-    → ((k : ℕ) → k < 64 → get_or x k 0 ≤ 2 ^ 14) → ((k : ℕ) → k < 64 → get_or y k 0 ≤ 2 ^ 14) → ((k : ℕ) → k < 64 → get_or z k 0 ≤ 2 ^ 14)
-    → (k : ℕ) → k < 64 → get_or (zip2 wrapped_sum (zip2 wrapped_sum x y) z) k 0 ≡ get_or x k 0 + get_or y k 0 + get_or z k 0
-sum_lanes x y z p q r x_small y_small z_small k l =
-    let xy : length (zip2 wrapped_sum x y) ≡ 64 = length-zip2 wrapped_sum x y (p ∙ sym q) ∙ p in
-    get_or-zip2 wrapped_sum (zip2 wrapped_sum x y) z k 0 0 0 (omega (arith, xy)) (omega (arith, r))
-    ∙ (λ i. wrapped_sum (get_or-zip2 wrapped_sum x y k 0 0 0 (omega (arith, p)) (omega (arith, q)) i) (get_or z k 0))
-    ∙ no_wrap (get_or x k 0) (get_or y k 0) (get_or z k 0) (x_small k l) (y_small k l) (z_small k l)
 
 cast_size : (d : ℕ) → d < 2 ^ 32 → min d (2 ^ 32 - d) ≤ unsigned_abs (cast_signed w32 d)
 cast_size d h = grind (arith, ints)
@@ -258,6 +242,27 @@ rounded_up reach side grain_side e some most =
     let up : reach ≤ div_ceil reach (side * side * 65536) * (side * side * 65536) =
     (div_ceil_times reach (side * side * 65536) (omega (arith, least))).0 in
     rw (unit, sym e) (omega (arith, up))
+
+most_times : (d n s r : ℕ) → d * s < r + s → r ≤ n * s → d ≤ n
+most_times d n s r p q =
+    elim (cases_lt n d) [
+      | inl more ↦ let least : (n + 1) * s ≤ d * s = mul-le (n + 1) s d s (omega (arith, more)) (omega arith) in absurd (omega (arith, least, p, q))
+      | inr some ↦ some
+    ]
+
+-- a quotient rounded up, of a reach that the ring has room for
+pub rounded_small : (reach side grain_side : ℕ) → side ≡ grain_side → 1 ≤ side → side ≤ 2 ^ 16
+    → reach ≤ 2 ^ 30 * (grain_side * grain_side)
+    → div_ceil reach (side * side * 65536 % 2 ^ 64) + 3 < 2 ^ 15
+rounded_small reach side grain_side e some most few =
+    let least : 1 * 1 ≤ side * side = mul-le 1 1 side side some some in
+    let small : side * side ≤ 2 ^ 16 * 2 ^ 16 = mul-le side side (2 ^ 16) (2 ^ 16) most most in
+    let unit : side * side * 65536 % 2 ^ 64 ≡ side * side * 65536 = omega (arith, small) in
+    let up = div_ceil_times reach (side * side * 65536) (omega (arith, least)) in
+    let below : reach ≤ 2 ^ 30 * (side * side) = rw e few in
+    let ceil : ℕ = div_ceil reach (side * side * 65536) in
+    let ceil_most : ceil ≤ 2 ^ 14 = most_times ceil (2 ^ 14) (side * side * 65536) reach up.1 (omega (arith, below)) in
+    rw unit (omega (arith, ceil_most))
 
 -- the square of a longer side
 pub square_most : (a b s : ℕ) → a ≤ b → b * b ≤ s → a * a ≤ s

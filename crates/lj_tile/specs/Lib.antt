@@ -7,6 +7,7 @@ pub mod Task
 pub mod Blank
 pub mod Rows
 pub mod Results
+pub mod Grains
 pub mod Near
 pub mod Worked
 pub mod Limits

@@ -1,17 +1,10 @@
 -- A quick test of which places are out of reach, by the coordinates of a block in grains of a few ring units.
-use Rattle.std.specs.Prelude.{ℕ, Bool, ◌+◌, ◌*◌, ◌/◌, ◌%◌, ◌^◌, ◌≡◌, ◌<◌, ◌≤◌, false, List, length, slice_index}
+use Rattle.std.specs.Prelude.{ℕ, Bool, ◌+◌, ◌*◌, ◌^◌, ◌≡◌, ◌<◌, ◌≤◌, false, List, length, slice_index}
 use Rattle.lj_ring.specs.declared.coordinates.Place.{Place}
 use Rattle.lj_ring.specs.Ring.{IsOnRing, place_at}
 use Rattle.lj_tile.specs.declared.near.Columns.{Columns}
 use Rattle.lj_tile.specs.declared.near.Lanes.{Lanes}
-
--- a coordinate in whole grains of 2^grain ring units, round a ring of 2^16 grains
-abbrev pub grains : ℕ → ℕ → ℕ
-grains grain coordinate = coordinate / 2 ^ grain % 2 ^ 16
-
--- 2^16 square grains, in square ring units
-abbrev pub square_unit : ℕ → ℕ
-square_unit grain = 2 ^ 16 * (2 ^ grain * 2 ^ grain)
+use Rattle.lj_tile.specs.Grains.{grains, square_unit}
 
 -- the s-th lanes have the place in grains
 pub record IsLane (grain : ℕ) (lanes : Lanes) (s : ℕ) (p : Place) : Type 0 where

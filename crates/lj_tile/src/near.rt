@@ -1,11 +1,11 @@
 //! A quick test of which places of a block may be near one, all of them at once.
 ghost use Rattle.std.specs.Prelude.{◌≡◌, ◌≤◌, ◌<◌, ◌+◌, ◌-◌, ◌*◌, ◌/◌, ◌%◌, ◌^◌, ℕ, Bool, List, length, slice_index};
-ghost use Rattle.std.specs.Prelude.{unsigned_abs, false};
+ghost use Rattle.std.specs.Prelude.{unsigned_abs, slice_index_or, pos, false};
 ghost use Rattle.std.specs.Int.{bit_at};
 ghost use Rattle.lj_ring.specs.declared.coordinates.Place.{Place};
 ghost use Rattle.lj_ring.specs.Ring.{distance, image, place_at};
 ghost use Rattle.lj_ring.specs.Mix.{can_interact};
-ghost use Rattle.lj_tile.specs.Near.{HasColumns, HasLanes, IsLane, grains, square_unit};
+ghost use Rattle.lj_tile.specs.Grains.{grains, square_unit};
 
 use crate::blocks::BLOCK;
 use lj_ring::{Mix, Place};
@@ -18,25 +18,29 @@ const COARSEST: u32 = 16;
 /// and fewer than 2,048 where the grain is not the coarsest.
 #[derive(Drop)]
 pub(crate) struct Columns {
-    /// The binary logarithm of the grain, at most 16.
-    grain: u32,
-    /// A squared distance, in units of 2^16 square grains, from three less than which on no pair interacts.
-    reach: u16,
     /// The places in grains.
     fine: Lanes,
     /// The places in the coarsest grains.
     whole: Lanes,
+    /// The binary logarithm of the grain, at most 16.
+    grain: u32,
+    /// A squared distance, in units of 2^16 square grains, from three less than which on no pair interacts.
+    reach: u16,
+    ghost reach_fits: { reach < 2 ^ 15 },
 }
 
-/// Coordinates of places, axis by axis, in grains round a ring of 2^16 of them.
+/// Coordinates of places, axis by axis, in grains round a ring of 2^16 of them. Those behind the last place are the
+/// first one's.
 #[derive(Clone, Copy, Drop)]
 struct Lanes {
-    x: u16x64,
-    y: u16x64,
-    z: u16x64,
+    x: [u16; BLOCK],
+    y: [u16; BLOCK],
+    z: [u16; BLOCK],
 }
 
 impl Columns {
+    ghost use Rattle.lj_tile.specs.Near.{HasColumns};
+
     pub(crate) fn new(places: &[Place], mix: &Mix) -> Columns
         requires { length places.now ≤ BLOCK }
         ensures { HasColumns (can_interact mix.now) result places.now }
@@ -50,17 +54,17 @@ impl Columns {
             fine
         };
         Columns {
-            grain,
-            reach: coarse_reach(reach, grain),
             fine,
             whole,
+            grain,
+            reach: coarse_reach(reach, grain),
         }
     }
 
     /// A mask of the places: where a bit is 0, that place and `here` do not interact. Grains of a ring shorter than the
     /// box do not tell a place from one that stands whole turns away, so what they leave is looked at in coarsest
     /// grains too.
-    #[inline]
+    #[inline(always)]
     pub(crate) fn near(&self, here: &Place) -> u64
         requires { self.now.grain ≤ 16 }
         ensures { (interact : ℕ → Bool) (places : List Place) → HasColumns interact self.now places → (k : ℕ)
@@ -68,7 +72,7 @@ impl Columns {
             → interact (distance here.now (place_at places k)) ≡ false }
     {
         let near = self.fine.near(here, self.grain, self.reach);
-        if near == 0 || self.grain == COARSEST {
+        if self.grain == COARSEST || near == 0 {
             return near;
         }
         near & self.whole.within(here, span_of(self.grain))
@@ -76,38 +80,55 @@ impl Columns {
 }
 
 impl Lanes {
+    ghost use Rattle.lj_tile.specs.Near.{HasLanes, IsLane};
+
     fn new(places: &[Place], grain: u32) -> Lanes
         requires few { length places.now ≤ BLOCK }
         requires grain { grain ≤ 16 }
         ensures { HasLanes grain result places.now }
     {
-        let mut x = [0; BLOCK];
-        let mut y = [0; BLOCK];
-        let mut z = [0; BLOCK];
+        let first = first_of(places);
+        let mut x = [in_grains(first.x, grain); BLOCK];
+        let mut y = [in_grains(first.y, grain); BLOCK];
+        let mut z = [in_grains(first.z, grain); BLOCK];
         for (s, place) in places.iter().enumerate() {
             x[s] = in_grains(place.x, grain);
             y[s] = in_grains(place.y, grain);
             z[s] = in_grains(place.z, grain);
         }
-        Lanes {
-            x: u16x64::from_array(x),
-            y: u16x64::from_array(y),
-            z: u16x64::from_array(z),
-        }
+        Lanes { x, y, z }
     }
 
     /// A mask of the places: where a bit is 0, the squared distance of that place and `here` is not below `reach` less
     /// 3, in units of 2^16 square grains.
-    #[inline]
+    #[inline(always)]
     fn near(&self, here: &Place, grain: u32, reach: u16) -> u64
-        requires { grain ≤ 16 }
+        requires grain { grain ≤ 16 }
+        requires reach { reach < 2 ^ 15 }
         ensures { (k : ℕ) (there : Place) → k < BLOCK → bit_at result k ≡ 0 → IsLane grain self.now k there
             → reach * square_unit grain ≤ distance here.now there + 3 * square_unit grain }
     {
-        let x = coarse_squares(self.x, here.x, grain);
-        let y = coarse_squares(self.y, here.y, grain);
-        let z = coarse_squares(self.z, here.z, grain);
-        below(sums(x, y, z), reach)
+        joined(
+            self.near_part(0, here, grain, reach),
+            self.near_part(16, here, grain, reach),
+            self.near_part(32, here, grain, reach),
+            self.near_part(48, here, grain, reach),
+        )
+    }
+
+    /// The same of the sixteen places from `at` on.
+    #[inline(always)]
+    fn near_part(&self, at: usize, here: &Place, grain: u32, reach: u16) -> u64
+        requires within { at + 16 ≤ BLOCK }
+        requires grain { grain ≤ 16 }
+        requires reach { reach < 2 ^ 15 }
+        ensures { (k : ℕ) (there : Place) → k < 16 → bit_at result k ≡ 0 → IsLane grain self.now (at + k) there
+            → reach * square_unit grain ≤ distance here.now there + 3 * square_unit grain }
+    {
+        let x = coarse_squares(sixteen(&self.x, at), here.x, grain);
+        let y = coarse_squares(sixteen(&self.y, at), here.y, grain);
+        let z = coarse_squares(sixteen(&self.z, at), here.z, grain);
+        below(x, y, z, reach)
     }
 
     /// A mask of the places, which are in coarsest grains: where a bit is 0, that place and `here` are farther apart
@@ -118,10 +139,34 @@ impl Lanes {
         ensures { (k : ℕ) (there : Place) → k < BLOCK → bit_at result k ≡ 0 → IsLane 16 self.now k there
             → span * 2 ^ 16 * (span * 2 ^ 16) ≤ distance here.now there }
     {
-        let x = shifted(self.x, here.x, span);
-        let y = shifted(self.y, here.y, span);
-        let z = shifted(self.z, here.z, span);
-        below(x, 2 * span + 1) & below(y, 2 * span + 1) & below(z, 2 * span + 1)
+        joined(
+            self.within_part(0, here, span),
+            self.within_part(16, here, span),
+            self.within_part(32, here, span),
+            self.within_part(48, here, span),
+        )
+    }
+
+    /// The same of the sixteen places from `at` on.
+    #[inline(always)]
+    fn within_part(&self, at: usize, here: &Place, span: u16) -> u64
+        requires within { at + 16 ≤ BLOCK }
+        requires span { span < 2 ^ 15 }
+        ensures { (k : ℕ) (there : Place) → k < 16 → bit_at result k ≡ 0 → IsLane 16 self.now (at + k) there
+            → span * 2 ^ 16 * (span * 2 ^ 16) ≤ distance here.now there }
+    {
+        let x = shifted(sixteen(&self.x, at), here.x, span);
+        let y = shifted(sixteen(&self.y, at), here.y, span);
+        let z = shifted(sixteen(&self.z, at), here.z, span);
+        less_than(x, 2 * span + 1) & less_than(y, 2 * span + 1) & less_than(z, 2 * span + 1)
+    }
+}
+
+/// The first place, where there is one.
+fn first_of(places: &[Place]) -> Place {
+    match places.first() {
+        Some(place) => *place,
+        None => Place { x: 0, y: 0, z: 0 },
     }
 }
 
@@ -142,7 +187,8 @@ fn grain_of(reach: u64) -> u32
 fn coarse_reach(reach: u64, grain: u32) -> u16
     requires grain { grain ≤ 16 }
     requires fits { reach ≤ 2 ^ 30 * (2 ^ grain * 2 ^ grain) }
-    ensures { reach + 3 * square_unit grain ≤ result * square_unit grain }
+    ensures least { reach + 3 * square_unit grain ≤ result * square_unit grain }
+    ensures most { result < 2 ^ 15 }
 {
     let side = units_of(grain);
     (reach.div_ceil((side * side) << 16) + 3) as u16
@@ -182,12 +228,12 @@ fn in_grains(coordinate: u32, grain: u32) -> u16
 /// They may be too great by what was cut off, less than one unit. LLVM makes one product of 16-bit lanes of the steps
 /// from `signed` on.
 #[inline(always)]
-fn coarse_squares(there: u16x64, here: u32, grain: u32) -> u16x64
+fn coarse_squares(there: u16x16, here: u32, grain: u32) -> u16x16
     requires { grain ≤ 16 }
-    ensures least { (k c : ℕ) → k < BLOCK → c < 2 ^ 32 → slice_index there k ≡ grains grain c
+    ensures least { (k c : ℕ) → k < 16 → c < 2 ^ 32 → slice_index there k ≡ grains grain c
         → let size = unsigned_abs (image here c) in
         slice_index result k * square_unit grain < size * size + square_unit grain }
-    ensures small { (k : ℕ) → k < BLOCK → slice_index result k ≤ 2 ^ 14 }
+    ensures small { (k : ℕ) → k < 16 → slice_index result k ≤ 2 ^ 14 }
 {
     let apart = signed(differences(there, splat(in_grains(here, grain))));
     narrowed(shift_by_16(squares(apart)))
@@ -196,24 +242,24 @@ fn coarse_squares(there: u16x64, here: u32, grain: u32) -> u16x64
 /// The differences of coordinates, in coarsest grains, with `span` more. They are at most twice `span` only where the
 /// image is no longer than `span` grains.
 #[inline(always)]
-fn shifted(there: u16x64, here: u32, span: u16) -> u16x64
+fn shifted(there: u16x16, here: u32, span: u16) -> u16x16
     requires { span < 2 ^ 15 }
-    ensures { (k c : ℕ) → k < BLOCK → c < 2 ^ 32 → slice_index there k ≡ grains 16 c
+    ensures { (k c : ℕ) → k < 16 → c < 2 ^ 32 → slice_index there k ≡ grains 16 c
         → 2 * span < slice_index result k → span * 2 ^ 16 ≤ unsigned_abs (image here c) }
 {
     raised(differences(there, splat(in_grains(here, COARSEST))), span)
 }
 
 #[inline(always)]
-fn splat(number: u16) -> u16x64
-    ensures { (k : ℕ) → k < BLOCK → slice_index result k ≡ number }
+fn splat(number: u16) -> u16x16
+    ensures { (k : ℕ) → k < 16 → slice_index result k ≡ number }
 {
-    u16x64::splat(number)
+    u16x16::splat(number)
 }
 
 #[inline(always)]
-fn differences(a: u16x64, b: u16x64) -> u16x64
-    ensures { (k : ℕ) → k < BLOCK
+fn differences(a: u16x16, b: u16x16) -> u16x16
+    ensures { (k : ℕ) → k < 16
         → slice_index result k ≡ (slice_index a k + (2 ^ 16 - slice_index b k)) % 2 ^ 16 }
 {
     a - b
@@ -221,71 +267,117 @@ fn differences(a: u16x64, b: u16x64) -> u16x64
 
 /// The lanes as numbers with a sign, modulo 2^32.
 #[inline(always)]
-fn signed(v: u16x64) -> u32x64
-    ensures { (k : ℕ) → k < BLOCK →
+fn signed(v: u16x16) -> u32x16
+    ensures { (k : ℕ) → k < 16 →
         slice_index result k ≡ ((slice_index v k + 2 ^ 15) % 2 ^ 16 + (2 ^ 32 - 2 ^ 15)) % 2 ^ 32 }
 {
     less_half(widened(raised(v, 1 << 15)))
 }
 
 #[inline(always)]
-fn raised(v: u16x64, by: u16) -> u16x64
-    ensures { (k : ℕ) → k < BLOCK → slice_index result k ≡ (slice_index v k + by) % 2 ^ 16 }
+fn raised(v: u16x16, by: u16) -> u16x16
+    ensures { (k : ℕ) → k < 16 → slice_index result k ≡ (slice_index v k + by) % 2 ^ 16 }
 {
-    v + u16x64::splat(by)
+    v + u16x16::splat(by)
 }
 
 #[inline(always)]
-fn widened(v: u16x64) -> u32x64
-    ensures { (k : ℕ) → k < BLOCK → slice_index result k ≡ slice_index v k }
+fn widened(v: u16x16) -> u32x16
+    ensures { (k : ℕ) → k < 16 → slice_index result k ≡ slice_index v k }
 {
     v.cast::<u32>()
 }
 
 #[inline(always)]
-fn less_half(v: u32x64) -> u32x64
-    ensures { (k : ℕ) → k < BLOCK → slice_index result k ≡ (slice_index v k + (2 ^ 32 - 2 ^ 15)) % 2 ^ 32 }
+fn less_half(v: u32x16) -> u32x16
+    ensures { (k : ℕ) → k < 16 → slice_index result k ≡ (slice_index v k + (2 ^ 32 - 2 ^ 15)) % 2 ^ 32 }
 {
-    v - u32x64::splat(1 << 15)
+    v - u32x16::splat(1 << 15)
 }
 
 #[inline(always)]
-fn squares(v: u32x64) -> u32x64
-    ensures { (k : ℕ) → k < BLOCK → slice_index result k ≡ slice_index v k * slice_index v k % 2 ^ 32 }
+fn squares(v: u32x16) -> u32x16
+    ensures { (k : ℕ) → k < 16 → slice_index result k ≡ slice_index v k * slice_index v k % 2 ^ 32 }
 {
     v * v
 }
 
 #[inline(always)]
-fn shift_by_16(v: u32x64) -> u32x64
-    ensures { (k : ℕ) → k < BLOCK → slice_index result k ≡ slice_index v k / 2 ^ 16 }
+fn shift_by_16(v: u32x16) -> u32x16
+    ensures { (k : ℕ) → k < 16 → slice_index result k ≡ slice_index v k / 2 ^ 16 }
 {
-    v >> u32x64::splat(16)
+    v >> u32x16::splat(16)
 }
 
 #[inline(always)]
-fn narrowed(v: u32x64) -> u16x64
-    requires { (k : ℕ) → k < BLOCK → slice_index v k < 2 ^ 16 }
-    ensures { (k : ℕ) → k < BLOCK → slice_index result k ≡ slice_index v k }
+fn narrowed(v: u32x16) -> u16x16
+    requires { (k : ℕ) → k < 16 → slice_index v k < 2 ^ 16 }
+    ensures { (k : ℕ) → k < 16 → slice_index result k ≡ slice_index v k }
 {
     v.cast::<u16>()
 }
 
+/// Bit k tells whether the sum of lanes k is below `reach`: whether lane k of `z` is less than what the others leave of
+/// it. Numbers with a sign are compared in one step on any processor.
 #[inline(always)]
-fn sums(x: u16x64, y: u16x64, z: u16x64) -> u16x64
-    requires x_small { (k : ℕ) → k < BLOCK → slice_index x k ≤ 2 ^ 14 }
-    requires y_small { (k : ℕ) → k < BLOCK → slice_index y k ≤ 2 ^ 14 }
-    requires z_small { (k : ℕ) → k < BLOCK → slice_index z k ≤ 2 ^ 14 }
-    ensures { (k : ℕ) → k < BLOCK
-        → slice_index result k ≡ slice_index x k + slice_index y k + slice_index z k }
+fn below(x: u16x16, y: u16x16, z: u16x16, reach: u16) -> u64
+    requires reach { reach < 2 ^ 15 }
+    requires small { (k : ℕ) → k < 16 → slice_index z k ≤ 2 ^ 14 }
+    ensures { (k : ℕ) → k < 16 → bit_at result k ≡ 0
+        → reach ≤ slice_index x k + slice_index y k + slice_index z k }
 {
-    x + y + z
+    with_sign(left(reach, x, y))
+        .simd_gt(with_sign(z))
+        .to_bitmask()
 }
 
-/// Bit k tells whether lane k is below `reach`.
+/// What two numbers leave of `reach`, and 0 where they are more.
 #[inline(always)]
-fn below(v: u16x64, reach: u16) -> u64
-    ensures { (k : ℕ) → k < BLOCK → bit_at result k ≡ 0 → reach ≤ slice_index v k }
+fn left(reach: u16, x: u16x16, y: u16x16) -> u16x16
+    ensures { (k : ℕ) → k < 16 → slice_index result k ≡ reach - slice_index x k - slice_index y k }
 {
-    v.simd_lt(u16x64::splat(reach)).to_bitmask()
+    less(less(splat(reach), x), y)
+}
+
+#[inline(always)]
+fn less(v: u16x16, by: u16x16) -> u16x16
+    ensures { (k : ℕ) → k < 16 → slice_index result k ≡ slice_index v k - slice_index by k }
+{
+    v.saturating_sub(by)
+}
+
+#[inline(always)]
+fn with_sign(v: u16x16) -> i16x16
+    requires { (k : ℕ) → k < 16 → slice_index v k < 2 ^ 15 }
+    ensures { (k : ℕ) → k < 16 → slice_index_or result k (pos 0) ≡ pos (slice_index v k) }
+{
+    v.cast::<i16>()
+}
+
+/// Bit k tells whether lane k is below `bound`.
+#[inline(always)]
+fn less_than(v: u16x16, bound: u16) -> u64
+    ensures { (k : ℕ) → k < 16 → bit_at result k ≡ 0 → bound ≤ slice_index v k }
+{
+    v.simd_lt(u16x16::splat(bound)).to_bitmask()
+}
+
+/// The sixteen numbers from `at` on.
+#[inline(always)]
+fn sixteen(numbers: &[u16; BLOCK], at: usize) -> u16x16
+    requires { at + 16 ≤ BLOCK }
+    ensures { (k : ℕ) → k < 16 → slice_index result k ≡ slice_index numbers.now (at + k) }
+{
+    u16x16::from_slice(&numbers[at..])
+}
+
+/// One mask of those of four times sixteen places.
+#[inline(always)]
+fn joined(first: u64, second: u64, third: u64, fourth: u64) -> u64
+    ensures first { (k : ℕ) → k < 16 → bit_at result k ≡ 0 → bit_at first k ≡ 0 }
+    ensures second { (k : ℕ) → k < 16 → bit_at result (16 + k) ≡ 0 → bit_at second k ≡ 0 }
+    ensures third { (k : ℕ) → k < 16 → bit_at result (32 + k) ≡ 0 → bit_at third k ≡ 0 }
+    ensures fourth { (k : ℕ) → k < 16 → bit_at result (48 + k) ≡ 0 → bit_at fourth k ≡ 0 }
+{
+    first | second << 16 | third << 32 | fourth << 48
 }

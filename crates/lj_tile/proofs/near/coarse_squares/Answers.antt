@@ -1,9 +1,9 @@
 use Rattle.std.proofs.Common.{◌≡◌, ◌<◌, ℕ, slice_index, refl, arith}
-use Rattle.lj_tile.specs.Near.{grains}
+use Rattle.lj_tile.specs.Grains.{grains}
 use Rattle.lj_tile.proofs.NearLemmas.{coarse_difference, coarse_square, coarse_least, coarse_small}
 use Rattle.lj_tile.proofs.near.coarse_squares.Goals as goal
 
-lane : (c : goal.After-narrowed) (k : ℕ) → k < 64
+lane : (c : goal.After-narrowed) (k : ℕ) → k < 16
     → slice_index c.narrowed.result k ≡ coarse_square (coarse_difference (slice_index c.args.there k) (grains c.args.grain c.args.here))
 lane c k l =
     rw (

@@ -1,6 +1,6 @@
 use Rattle.std.proofs.Common.{◌≡◌, ◌<◌, ℕ, length, slice_index}
 use Rattle.lj_ring.specs.Ring.{IsOnRing, place_at}
-use Rattle.lj_tile.specs.Near.{grains}
+use Rattle.lj_tile.specs.Grains.{grains}
 use Rattle.lj_tile.proofs.near.Lanes.new.Given as goal
 
 abbrev pub invariant-loop-s : goal.invariant-loop-s

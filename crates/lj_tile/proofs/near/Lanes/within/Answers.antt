@@ -1,22 +1,17 @@
-use Rattle.std.proofs.Common.{◌*◌, ◌^◌, inl, inr, bit_and, unsigned_abs, arith}
-use Rattle.lj_ring.specs.Ring.{image}
-use Rattle.lj_tile.proofs.NearLemmas.{far_x, far_y, far_z, bit_of_either}
+use Rattle.std.proofs.Common.{◌*◌, ◌^◌, ◌≤◌, ◌≡◌}
+use Rattle.std.specs.Int.{bit_at}
+use Rattle.lj_ring.specs.Ring.{distance}
+use Rattle.lj_tile.specs.Near.{IsLane}
+use Rattle.lj_tile.proofs.NearLanes.{each_of_four, low_bit}
 use Rattle.lj_tile.proofs.near.Lanes.within.Goals as goal
 
 pub returns : goal.returns
-returns c k there l none lane =
-    let h = c.args.here.now in
-    let s = c.args.span * 2 ^ 16 in
-    let x = unsigned_abs (image h.x there.x) in
-    let y = unsigned_abs (image h.y there.y) in
-    let z = unsigned_abs (image h.z there.z) in
-    elim (bit_of_either (bit_and c.below.result c.below-2.result) c.below-3.result k none) [
-      | inl either ↦ elim (bit_of_either c.below.result c.below-2.result k either) [
-        | inl clear ↦
-            far_x s x y z (c.shifted-x.ensures k there.x l lane.ring.x lane.x (omega (arith, c.below.ensures k l clear)))
-        | inr clear ↦
-            far_y s x y z (c.shifted-y.ensures k there.y l lane.ring.y lane.y (omega (arith, c.below-2.ensures k l clear)))
-      ]
-      | inr clear ↦
-          far_z s x y z (c.shifted-z.ensures k there.z l lane.ring.z lane.z (omega (arith, c.below-3.ensures k l clear)))
-    ]
+returns c k there l =
+    each_of_four
+    (λ j. bit_at c.joined.result j ≡ 0 → IsLane 16 c.args.self.now j there
+    → c.args.span * 2 ^ 16 * (c.args.span * 2 ^ 16) ≤ distance c.args.here.now there)
+    (λ j m none. c.within_part.ensures j there m (c.joined.ensures.first j m (low_bit c.joined.result j none)))
+    (λ j m none. c.within_part-2.ensures j there m (c.joined.ensures.second j m none))
+    (λ j m none. c.within_part-3.ensures j there m (c.joined.ensures.third j m none))
+    (λ j m none. c.within_part-4.ensures j there m (c.joined.ensures.fourth j m none))
+    k l

@@ -1,0 +1,137 @@
+-- The steps of the quick test, lane by lane.
+use Rattle.std.proofs.Common.{ℕ, ◌+◌, ◌-◌, ◌*◌, ◌/◌, ◌%◌, ◌^◌, ◌<◌, ◌≤◌, ◌≡◌, Bool, true, false, cond, ltb, ℤ, pos, List, length, get_or, map, refl, sym, ap, subst, ◌∙◌, inl, inr, bit_or, Fits, w16, max, take, drop, pow_pos, to_z, of_z, arith}
+use Rattle.std.specs.Simd.Lanes.{zip2, mask_l, sel_l, top, chunk, Each1}
+use Rattle.std.specs.Int.{bit_at}
+use Rattle.std.specs.Int.Signed.{lt_z}
+use Rattle.std.proofs.lemmas.List.{get_or-map, get_or-take, get_or-drop, length-map}
+use Rattle.std.proofs.lemmas.Bool.{cases_lt, ltb-false, ltb-true}
+use Rattle.std.proofs.lemmas.Nat.Bits.{bit_at_or, bit_at_cat_low, bit_at_cat_high}
+use Rattle.std.proofs.lemmas.Int.{to_z_pos}
+use Rattle.std.proofs.lemmas.Simd.{get_or-zip2, length-zip2, length-sel_l, get_or-sel_l, tops_compared, Each1-get_or, mask_l-mod, bit_mask_l}
+use Rattle.lj_tile.proofs.NearLemmas.{not_set}
+
+-- sixteen lanes of a longer list
+pub sixteen_of : (at : ℕ) (v : List ℕ) (k : ℕ) → at + 16 ≤ 64 → k < 16
+    → get_or (chunk 0 16 (take (64 - at) (drop at v))) k 0 ≡ get_or v (at + k) 0
+sixteen_of at v k in_v l =
+    get_or-take 16 (take (64 - at) (drop at v)) k 0 l ∙ get_or-take (64 - at) (drop at v) k 0 (omega (arith, in_v, l)) ∙ get_or-drop at v k 0
+
+abbrev pub wrapped_difference : ℕ → ℕ → ℕ
+wrapped_difference a b = (a + (2 ^ 16 - b)) % 2 ^ 16
+
+abbrev pub is_less : ℕ → ℕ → ℕ
+is_less a b = cond (ltb a b) (2 ^ 16 - 1) 0
+
+-- the greater of two numbers, less one of them
+more_than : (t : Bool) (a b : ℕ) → a < 2 ^ 16 → b < 2 ^ 16 → ltb a b ≡ t → wrapped_difference (cond t b a) b ≡ a - b
+more_than true a b p q e = let less : a < b = ltb-true a b e in omega (arith, less, p, q)
+more_than false a b p q e = let more : b ≤ a = ltb-false a b e in omega (arith, more, p, q)
+
+-- what the second lane leaves of the first
+pub left_lanes : (v by : List ℕ) → length v ≡ 16 → length by ≡ 16 → Each1 (Fits w16) v → Each1 (Fits w16) by → (k : ℕ) → k < 16
+    → get_or (zip2 wrapped_difference (sel_l (map (top 15) (zip2 is_less v by)) by v) by) k 0 ≡ get_or v k 0 - get_or by k 0
+left_lanes v by p q v_fits by_fits k l =
+    let tops : map (top 15) (zip2 is_less v by) ≡ zip2 ltb v by = tops_compared w16 ltb v by in
+    let long : length (zip2 ltb v by) ≡ 16 = length-zip2 ltb v by (p ∙ sym q) ∙ p in
+    let chosen : length (sel_l (zip2 ltb v by) by v) ≡ 16 = length-sel_l (zip2 ltb v by) by v (long ∙ sym q) (long ∙ sym p) ∙ long in
+    let a_fits : Fits w16 (get_or v k 0) = Each1-get_or (Fits w16) v k 0 (omega (arith, p, l)) v_fits in
+    let b_fits : Fits w16 (get_or by k 0) = Each1-get_or (Fits w16) by k 0 (omega (arith, q, l)) by_fits in
+    rw tops
+    (get_or-zip2 wrapped_difference (sel_l (zip2 ltb v by) by v) by k 0 0 0 (omega (arith, chosen, l)) (omega (arith, q, l))
+    ∙ ap (λ n. wrapped_difference n (get_or by k 0))
+    (get_or-sel_l (zip2 ltb v by) by v k 0 (omega (arith, long, l)) (omega (arith, q, l)) (omega (arith, p, l))
+    ∙ ap (λ t. cond t (get_or by k 0) (get_or v k 0)) (get_or-zip2 ltb v by k 0 0 false (omega (arith, p, l)) (omega (arith, q, l))))
+    ∙ more_than (ltb (get_or v k 0) (get_or by k 0)) (get_or v k 0) (get_or by k 0) a_fits.fits b_fits.fits refl)
+
+-- a mask moved up
+abbrev shifted : ℕ → ℕ → ℕ
+shifted n by = n * 2 ^ by % 2 ^ 64
+
+abbrev four_masks : ℕ → ℕ → ℕ → ℕ → ℕ
+four_masks a b c d = bit_or (bit_or (bit_or a (shifted b 16)) (shifted c 32)) (shifted d 48)
+
+bit_of_shifted : (n by k : ℕ) → by + k < 64 → bit_at (shifted n by) (by + k) ≡ bit_at n k
+bit_of_shifted n by k h =
+    let moved : ℕ = n * 2 ^ by in
+    let whole : moved ≡ moved / 2 ^ 64 * 2 ^ 64 + moved % 2 ^ 64 = omega arith in
+    let zero_added : moved ≡ moved + 0 = omega arith in
+    let back : by + k - by ≡ k = omega arith in
+    sym (bit_at_cat_low (moved / 2 ^ 64) 64 (moved % 2 ^ 64) (by + k) h)
+    ∙ ap (λ m. bit_at m (by + k)) (sym whole ∙ zero_added)
+    ∙ bit_at_cat_high n by 0 (by + k) (pow_pos by) (omega arith)
+    ∙ ap (λ i. bit_at n i) back
+
+-- a bit that neither of two masks has
+neither_first : (a b k : ℕ) → bit_at (bit_or a b) k ≡ 0 → bit_at a k ≡ 0
+neither_first a b k e = let most : max (bit_at a k) (bit_at b k) ≡ 0 = sym (bit_at_or a b k) ∙ e in omega (arith, most)
+
+neither_second : (a b k : ℕ) → bit_at (bit_or a b) k ≡ 0 → bit_at b k ≡ 0
+neither_second a b k e = let most : max (bit_at a k) (bit_at b k) ≡ 0 = sym (bit_at_or a b k) ∙ e in omega (arith, most)
+
+-- lanes that are kept as numbers with a sign
+pub signed_lanes : (f : ℕ → ℕ) (v : List ℕ) → length v ≡ 16 → ((n : ℕ) → f n ≡ n) → ((k : ℕ) → k < 16 → get_or v k 0 < 2 ^ 15)
+    → (k : ℕ) → k < 16 → get_or (map (to_z w16) (map f v)) k (pos 0) ≡ pos (get_or v k 0)
+signed_lanes f v long same small k l =
+    let kept : length (map f v) ≡ 16 = length-map v f ∙ long in
+    get_or-map (to_z w16) (map f v) k 0 (pos 0) (omega (arith, kept, l))
+    ∙ ap (λ n. to_z w16 n) (get_or-map f v k 0 0 (omega (arith, long, l)) ∙ same (get_or v k 0))
+    ∙ to_z_pos w16 (get_or v k 0) (small k l)
+
+abbrev pub is_less_signed : ℕ → ℕ → ℕ
+is_less_signed a b = cond (lt_z (to_z w16 a) (to_z w16 b)) (2 ^ 16 - 1) 0
+
+-- where a bit of the mask is 0, the first number is not below the second
+pub not_less_signed : (u v : List ℤ) (a b k : ℕ) → length u ≡ 16 → length v ≡ 16 → k < 16
+    → get_or u k (pos 0) ≡ pos a → get_or v k (pos 0) ≡ pos b → a < 2 ^ 15 → b < 2 ^ 15
+    → bit_at (mask_l (map (top 15) (zip2 is_less_signed (map (of_z w16) u) (map (of_z w16) v))) % 2 ^ 64) k ≡ 0 → b ≤ a
+not_less_signed u v a b k p q l is_a is_b a_small b_small none =
+    let less : ℕ → ℕ → Bool = λ x y. lt_z (to_z w16 x) (to_z w16 y) in
+    let us : List ℕ = map (of_z w16) u in
+    let vs : List ℕ = map (of_z w16) v in
+    let us_long : length us ≡ 16 = length-map u (of_z w16) ∙ p in
+    let vs_long : length vs ≡ 16 = length-map v (of_z w16) ∙ q in
+    let long : length (zip2 less us vs) ≡ 16 = length-zip2 less us vs (us_long ∙ sym vs_long) ∙ us_long in
+    let a_lane : get_or us k 0 ≡ a = get_or-map (of_z w16) u k (pos 0) 0 (omega (arith, p, l)) ∙ ap (λ z. of_z w16 z) is_a in
+    let b_lane : get_or vs k 0 ≡ b = get_or-map (of_z w16) v k (pos 0) 0 (omega (arith, q, l)) ∙ ap (λ z. of_z w16 z) is_b in
+    let lane : get_or (zip2 less us vs) k false ≡ ltb a b =
+    get_or-zip2 less us vs k 0 0 false (omega (arith, us_long, l)) (omega (arith, vs_long, l))
+    ∙ rw (a_lane, b_lane, to_z_pos w16 a a_small, to_z_pos w16 b b_small) refl in
+    let mask : mask_l (map (top 15) (zip2 is_less_signed us vs)) % 2 ^ 64 ≡ mask_l (zip2 less us vs) =
+    rw (tops_compared w16 less us vs) (mask_l-mod (zip2 less us vs) 64 (omega (arith, long))) in
+    ltb-false a b
+    (sym lane ∙ not_set (get_or (zip2 less us vs) k false) (sym (bit_mask_l (zip2 less us vs) k) ∙ ap (λ m. bit_at m k) (sym mask) ∙ none))
+
+-- a bit that no mask of four has, each sixteen bits after the one before
+pub first_of_four : (a b c d k : ℕ) → k < 16 → bit_at (four_masks a b c d) k ≡ 0 → bit_at a k ≡ 0
+first_of_four a b c d k l e = neither_first a (shifted b 16) k (neither_first _ (shifted c 32) k (neither_first _ (shifted d 48) k e))
+
+pub second_of_four : (a b c d k : ℕ) → k < 16 → bit_at (four_masks a b c d) (16 + k) ≡ 0 → bit_at b k ≡ 0
+second_of_four a b c d k l e =
+    let h : bit_at (shifted b 16) (16 + k) ≡ 0 = neither_second a _ (16 + k) (neither_first _ (shifted c 32) (16 + k) (neither_first _ (shifted d 48) (16 + k) e)) in
+    sym (bit_of_shifted b 16 k (omega (arith, l))) ∙ h
+
+pub third_of_four : (a b c d k : ℕ) → k < 16 → bit_at (four_masks a b c d) (32 + k) ≡ 0 → bit_at c k ≡ 0
+third_of_four a b c d k l e =
+    let h : bit_at (shifted c 32) (32 + k) ≡ 0 = neither_second (bit_or a (shifted b 16)) (shifted c 32) (32 + k) (neither_first _ (shifted d 48) (32 + k) e) in
+    sym (bit_of_shifted c 32 k (omega (arith, l))) ∙ h
+
+pub fourth_of_four : (a b c d k : ℕ) → k < 16 → bit_at (four_masks a b c d) (48 + k) ≡ 0 → bit_at d k ≡ 0
+fourth_of_four a b c d k l e = sym (bit_of_shifted d 48 k (omega (arith, l))) ∙ neither_second _ _ (48 + k) e
+
+pub low_bit : (n k : ℕ) → bit_at n (0 + k) ≡ 0 → bit_at n k ≡ 0
+low_bit n k none = let e : 0 + k ≡ k = omega arith in subst (λ i. bit_at n i ≡ 0) e none
+
+-- what is true of each of four times sixteen places
+pub each_of_four : (P : ℕ → Type 0) → ((k : ℕ) → k < 16 → P (0 + k)) → ((k : ℕ) → k < 16 → P (16 + k)) → ((k : ℕ) → k < 16 → P (32 + k))
+    → ((k : ℕ) → k < 16 → P (48 + k)) → (k : ℕ) → k < 64 → P k
+each_of_four P first second third fourth k l =
+    elim (cases_lt k 32) [
+      | inl low ↦ elim (cases_lt k 16) [
+        | inl in_first ↦ subst P (omega arith) (first k in_first)
+        | inr in_second ↦ subst P (omega (arith, in_second)) (second (k - 16) (omega (arith, low)))
+      ]
+      | inr high ↦ elim (cases_lt k 48) [
+        | inl in_third ↦ subst P (omega (arith, high)) (third (k - 32) (omega (arith, in_third)))
+        | inr in_fourth ↦ subst P (omega (arith, in_fourth)) (fourth (k - 48) (omega (arith, l)))
+      ]
+    ]
