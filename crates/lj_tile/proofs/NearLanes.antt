@@ -1,13 +1,17 @@
 -- The steps of the quick test, lane by lane.
-use Rattle.std.proofs.Common.{ℕ, ◌+◌, ◌-◌, ◌*◌, ◌/◌, ◌%◌, ◌^◌, ◌<◌, ◌≤◌, ◌≡◌, Bool, true, false, cond, ltb, ℤ, pos, List, length, get_or, map, refl, sym, ap, subst, ◌∙◌, inl, inr, bit_or, Fits, w16, max, take, drop, pow_pos, to_z, of_z, arith}
-use Rattle.std.specs.Simd.Lanes.{zip2, mask_l, sel_l, top, chunk, Each1}
+use Rattle.std.proofs.Common.{ℕ, ◌+◌, ◌-◌, ◌*◌, ◌/◌, ◌%◌, ◌^◌, ◌<◌, ◌≤◌, ◌≡◌, Bool, true, false, cond, ltb, ℤ, pos, List, length, get_or, map, refl, sym, ap, subst, ◌∙◌, inl, inr, bit_or, Fits, w16, max, min, ◌++◌, take, drop, pow_pos, to_z, of_z, arith}
+use Rattle.std.specs.Simd.Lanes.{zip2, mask_l, sel_l, top, chunk, pick_l, Each1}
+use Rattle.std.specs.List.{range_with_len}
 use Rattle.std.specs.Int.{bit_at}
 use Rattle.std.specs.Int.Signed.{lt_z}
-use Rattle.std.proofs.lemmas.List.{get_or-map, get_or-take, get_or-drop, length-map}
+use Rattle.std.proofs.lemmas.List.{get_or-map, get_or-take, get_or-drop, get_or_append_left, length-map, length-append}
+use Rattle.std.proofs.lemmas.List.FromFn.{length-range_with_len}
 use Rattle.std.proofs.lemmas.Bool.{cases_lt, ltb-false, ltb-true}
+use Rattle.std.proofs.lemmas.Nat.{mod-mul-add}
+use Rattle.std.proofs.Math.Nat.{mod-lt}
 use Rattle.std.proofs.lemmas.Nat.Bits.{bit_at_or, bit_at_cat_low, bit_at_cat_high}
 use Rattle.std.proofs.lemmas.Int.{to_z_pos}
-use Rattle.std.proofs.lemmas.Simd.{get_or-zip2, length-zip2, length-sel_l, get_or-sel_l, tops_compared, Each1-get_or, mask_l-mod, bit_mask_l}
+use Rattle.std.proofs.lemmas.Simd.{get_or-zip2, length-zip2, length-sel_l, get_or-sel_l, tops_compared, Each1-get_or, pick_l-range_with_len, get_or-chunk, mask_l-mod, bit_mask_l}
 use Rattle.lj_tile.proofs.NearLemmas.{not_set}
 
 -- sixteen lanes of a longer list
@@ -27,21 +31,100 @@ more_than : (t : Bool) (a b : ℕ) → a < 2 ^ 16 → b < 2 ^ 16 → ltb a b ≡
 more_than true a b p q e = let less : a < b = ltb-true a b e in omega (arith, less, p, q)
 more_than false a b p q e = let more : b ≤ a = ltb-false a b e in omega (arith, more, p, q)
 
+-- lanes chosen by which of two is less
+chosen_lanes : (n : ℕ) (a b u v : List ℕ) → length a ≡ n → length b ≡ n → length u ≡ n → length v ≡ n → (k : ℕ) → k < n
+    → get_or (sel_l (map (top 15) (zip2 is_less a b)) u v) k 0 ≡ cond (ltb (get_or a k 0) (get_or b k 0)) (get_or u k 0) (get_or v k 0)
+chosen_lanes n a b u v a_long b_long u_long v_long k l =
+    let tops : map (top 15) (zip2 is_less a b) ≡ zip2 ltb a b = tops_compared w16 ltb a b in
+    let long : length (zip2 ltb a b) ≡ n = length-zip2 ltb a b (a_long ∙ sym b_long) ∙ a_long in
+    rw tops
+    (get_or-sel_l (zip2 ltb a b) u v k 0 (omega (arith, long, l)) (omega (arith, u_long, l)) (omega (arith, v_long, l))
+    ∙ ap (λ t. cond t (get_or u k 0) (get_or v k 0)) (get_or-zip2 ltb a b k 0 0 false (omega (arith, a_long, l)) (omega (arith, b_long, l))))
+
+length-chosen : (n : ℕ) (a b u v : List ℕ) → length a ≡ n → length b ≡ n → length u ≡ n → length v ≡ n
+    → length (sel_l (map (top 15) (zip2 is_less a b)) u v) ≡ n
+length-chosen n a b u v a_long b_long u_long v_long =
+    let tops : map (top 15) (zip2 is_less a b) ≡ zip2 ltb a b = tops_compared w16 ltb a b in
+    let long : length (zip2 ltb a b) ≡ n = length-zip2 ltb a b (a_long ∙ sym b_long) ∙ a_long in
+    rw tops (length-sel_l (zip2 ltb a b) u v (long ∙ sym u_long) (long ∙ sym v_long) ∙ long)
+
 -- what the second lane leaves of the first
 pub left_lanes : (v by : List ℕ) → length v ≡ 16 → length by ≡ 16 → Each1 (Fits w16) v → Each1 (Fits w16) by → (k : ℕ) → k < 16
     → get_or (zip2 wrapped_difference (sel_l (map (top 15) (zip2 is_less v by)) by v) by) k 0 ≡ get_or v k 0 - get_or by k 0
 left_lanes v by p q v_fits by_fits k l =
-    let tops : map (top 15) (zip2 is_less v by) ≡ zip2 ltb v by = tops_compared w16 ltb v by in
-    let long : length (zip2 ltb v by) ≡ 16 = length-zip2 ltb v by (p ∙ sym q) ∙ p in
-    let chosen : length (sel_l (zip2 ltb v by) by v) ≡ 16 = length-sel_l (zip2 ltb v by) by v (long ∙ sym q) (long ∙ sym p) ∙ long in
+    let more : List ℕ = sel_l (map (top 15) (zip2 is_less v by)) by v in
+    let long : length more ≡ 16 = length-chosen 16 v by by v p q q p in
     let a_fits : Fits w16 (get_or v k 0) = Each1-get_or (Fits w16) v k 0 (omega (arith, p, l)) v_fits in
     let b_fits : Fits w16 (get_or by k 0) = Each1-get_or (Fits w16) by k 0 (omega (arith, q, l)) by_fits in
-    rw tops
-    (get_or-zip2 wrapped_difference (sel_l (zip2 ltb v by) by v) by k 0 0 0 (omega (arith, chosen, l)) (omega (arith, q, l))
-    ∙ ap (λ n. wrapped_difference n (get_or by k 0))
-    (get_or-sel_l (zip2 ltb v by) by v k 0 (omega (arith, long, l)) (omega (arith, q, l)) (omega (arith, p, l))
-    ∙ ap (λ t. cond t (get_or by k 0) (get_or v k 0)) (get_or-zip2 ltb v by k 0 0 false (omega (arith, p, l)) (omega (arith, q, l))))
-    ∙ more_than (ltb (get_or v k 0) (get_or by k 0)) (get_or v k 0) (get_or by k 0) a_fits.fits b_fits.fits refl)
+    get_or-zip2 wrapped_difference more by k 0 0 0 (omega (arith, long, l)) (omega (arith, q, l))
+    ∙ ap (λ n. wrapped_difference n (get_or by k 0)) (chosen_lanes 16 v by by v p q q p k l)
+    ∙ more_than (ltb (get_or v k 0) (get_or by k 0)) (get_or v k 0) (get_or by k 0) a_fits.fits b_fits.fits refl
+
+chosen_least : (t : Bool) (a b : ℕ) → ltb a b ≡ t → cond t a b ≡ min a b
+chosen_least true a b e = let less : a < b = ltb-true a b e in omega (arith, less)
+chosen_least false a b e = let more : b ≤ a = ltb-false a b e in omega (arith, more)
+
+chosen_greatest : (t : Bool) (a b : ℕ) → ltb a b ≡ t → cond t b a ≡ max a b
+chosen_greatest true a b e = let less : a < b = ltb-true a b e in omega (arith, less)
+chosen_greatest false a b e = let more : b ≤ a = ltb-false a b e in omega (arith, more)
+
+-- the lesser of two lanes
+pub least_lanes : (n : ℕ) (a b : List ℕ) → length a ≡ n → length b ≡ n → (k : ℕ) → k < n
+    → get_or (sel_l (map (top 15) (zip2 is_less a b)) a b) k 0 ≡ min (get_or a k 0) (get_or b k 0)
+least_lanes n a b p q k l =
+    chosen_lanes n a b a b p q p q k l ∙ chosen_least (ltb (get_or a k 0) (get_or b k 0)) (get_or a k 0) (get_or b k 0) refl
+
+-- the greater of two lanes
+pub greatest_lanes : (n : ℕ) (a b : List ℕ) → length a ≡ n → length b ≡ n → (k : ℕ) → k < n
+    → get_or (sel_l (map (top 15) (zip2 is_less a b)) b a) k 0 ≡ max (get_or a k 0) (get_or b k 0)
+greatest_lanes n a b p q k l =
+    chosen_lanes n a b b a p q q p k l ∙ chosen_greatest (ltb (get_or a k 0) (get_or b k 0)) (get_or a k 0) (get_or b k 0) refl
+
+-- neighbouring lanes, as they are taken out of a vector
+abbrev part : ℕ → ℕ → List ℕ → List ℕ
+part at n v = pick_l 0 (v ++ v) (range_with_len at n)
+
+part_lanes : (at n : ℕ) (v : List ℕ) → at + n ≤ length v → (k : ℕ) → k < n → get_or (part at n v) k 0 ≡ get_or v (at + k) 0
+part_lanes at n v room k l =
+    let twice : length (v ++ v) ≡ length v + length v = length-append v v in
+    ap (λ xs. get_or xs k 0) (pick_l-range_with_len 0 (v ++ v) at n (omega (arith, twice, room)))
+    ∙ get_or-chunk at n (v ++ v) k 0 l ∙ get_or_append_left v v 0 (at + k) (omega (arith, room, l))
+
+length-part : (at n : ℕ) (v : List ℕ) → length (part at n v) ≡ n
+length-part at n v = length-map (range_with_len at n) (λ k. get_or (v ++ v) k 0) ∙ length-range_with_len at n
+
+mod-small : (k n : ℕ) → k < n → k % n ≡ k
+mod-small k n l = let none : 0 * n + k ≡ k = omega arith in subst (λ m. m % n ≡ k) none (mod-mul-add 0 n k l)
+
+mod-once : (k n : ℕ) → n ≤ k → k < n + n → n + k % n ≡ k
+mod-once k n some l =
+    let rest : (1 * n + (k - n)) % n ≡ k - n = mod-mul-add 1 n (k - n) (omega (arith, some, l)) in
+    let whole : k ≡ 1 * n + (k - n) = omega (arith, some) in
+    let once : k % n ≡ k - n = ap (λ m. m % n) whole ∙ rest in
+    omega (arith, once, some)
+
+-- of the lanes of both halves, the lesser ones
+abbrev pub lesser_half : ℕ → List ℕ → List ℕ
+lesser_half n v = sel_l (map (top 15) (zip2 is_less (part 0 n v) (part n n v))) (part 0 n v) (part n n v)
+
+pub lesser_of_both : (n : ℕ) (v : List ℕ) → 0 < n → length v ≡ n + n → (k : ℕ) → k < n + n → get_or (lesser_half n v) (k % n) 0 ≤ get_or v k 0
+lesser_of_both n v some long k l =
+    let j : ℕ = k % n in
+    let in_half : j < n = mod-lt k some in
+    let lane : get_or (lesser_half n v) j 0 ≡ min (get_or (part 0 n v) j 0) (get_or (part n n v) j 0) =
+    least_lanes n (part 0 n v) (part n n v) (length-part 0 n v) (length-part n n v) j in_half in
+    let low : get_or (part 0 n v) j 0 ≡ get_or v (0 + j) 0 = part_lanes 0 n v (omega (arith, long)) j in_half in
+    let high : get_or (part n n v) j 0 ≡ get_or v (n + j) 0 = part_lanes n n v (omega (arith, long)) j in_half in
+    elim (cases_lt k n) [
+      | inl first ↦
+          let same : 0 + j ≡ k = omega (arith, mod-small k n first) in
+          let at : get_or v (0 + j) 0 ≡ get_or v k 0 = ap (λ i. get_or v i 0) same in
+          omega (arith, lane, low, at)
+      | inr second ↦
+          let same : n + j ≡ k = omega (arith, mod-once k n second l) in
+          let at : get_or v (n + j) 0 ≡ get_or v k 0 = ap (λ i. get_or v i 0) same in
+          omega (arith, lane, high, at)
+    ]
 
 -- a mask moved up
 abbrev shifted : ℕ → ℕ → ℕ

@@ -11,7 +11,7 @@ use Rattle.std.proofs.lemmas.Grind.{pow_more, div_ceil_times}
 use Rattle.std.proofs.lemmas.Nat.Bits.{bit_at_and}
 use Rattle.std.proofs.lemmas.Simd.{get_or-zip2, bit_mask_l}
 use Rattle.lj_ring.specs.Ring.{image}
-use Rattle.lj_tile.specs.Grains.{grains, square_unit}
+use Rattle.lj_tile.specs.Grains.{grains, grains_between, grains_apart, square_unit}
 use Rattle.lj_tile.specs.Near.{SpansFew}
 
 -- each lane with one number
@@ -64,19 +64,11 @@ square_either false d h e =
 pub square_is : (d : ℕ) → d < 2 ^ 16 → signed_value d * signed_value d % 2 ^ 32 ≡ min d (2 ^ 16 - d) * min d (2 ^ 16 - d)
 square_is d h = square_either (ltb d (2 ^ 15)) d h refl
 
--- the difference of two coordinates in grains, round the ring of 2^16
-abbrev pub coarse_difference : ℕ → ℕ → ℕ
-coarse_difference b a = (b + (2 ^ 16 - a)) % 2 ^ 16
-
--- the shorter way round that ring
-abbrev pub coarse_size : ℕ → ℕ → ℕ
-coarse_size b a = min (coarse_difference b a) (2 ^ 16 - coarse_difference b a)
-
 -- the ring of 2^16 makes no way longer
-size_up : (a b n w : ℕ) → a + n ≡ b + w * 2 ^ 16 → coarse_size (b % 2 ^ 16) (a % 2 ^ 16) ≤ n
+size_up : (a b n w : ℕ) → a + n ≡ b + w * 2 ^ 16 → grains_apart (b % 2 ^ 16) (a % 2 ^ 16) ≤ n
 size_up a b n w e = omega (arith, e)
 
-size_down : (a b n w : ℕ) → b + n ≡ a + w * 2 ^ 16 → coarse_size (b % 2 ^ 16) (a % 2 ^ 16) ≤ n
+size_down : (a b n w : ℕ) → b + n ≡ a + w * 2 ^ 16 → grains_apart (b % 2 ^ 16) (a % 2 ^ 16) ≤ n
 size_down a b n w e = omega (arith, e)
 
 scaled : (a n b m u : ℕ) → a + n ≡ b + m → a * u + n * u ≡ b * u + m * u
@@ -91,16 +83,16 @@ cut_most a u some = omega (arith, mod-add-div a u, mod-lt a some)
 
 -- one way from a up to b, of n grains
 way_up : (a b n w u z : ℕ) → 1 ≤ u → a / u + n ≡ b / u + w * 2 ^ 16 → a + z ≡ b + w * 2 ^ 16 * u
-    → coarse_size (b / u % 2 ^ 16) (a / u % 2 ^ 16) * u < z + u
+    → grains_apart (b / u % 2 ^ 16) (a / u % 2 ^ 16) * u < z + u
 way_up a b n w u z some e whole =
-    let c : ℕ = coarse_size (b / u % 2 ^ 16) (a / u % 2 ^ 16) in
+    let c : ℕ = grains_apart (b / u % 2 ^ 16) (a / u % 2 ^ 16) in
     let few : c * u ≤ n * u = mul-le c u n u (size_up (a / u) (b / u) n w e) (omega arith) in
     omega (arith, few, scaled (a / u) n (b / u) (w * 2 ^ 16) u e, cut_most a u some, cut_least b u, whole)
 
 way_down : (a b n w u z : ℕ) → 1 ≤ u → b / u + n ≡ a / u + w * 2 ^ 16 → b + z ≡ a + w * 2 ^ 16 * u
-    → coarse_size (b / u % 2 ^ 16) (a / u % 2 ^ 16) * u < z + u
+    → grains_apart (b / u % 2 ^ 16) (a / u % 2 ^ 16) * u < z + u
 way_down a b n w u z some e whole =
-    let c : ℕ = coarse_size (b / u % 2 ^ 16) (a / u % 2 ^ 16) in
+    let c : ℕ = grains_apart (b / u % 2 ^ 16) (a / u % 2 ^ 16) in
     let few : c * u ≤ n * u = mul-le c u n u (size_down (a / u) (b / u) n w e) (omega arith) in
     omega (arith, few, scaled (b / u) n (a / u) (w * 2 ^ 16) u e, cut_most b u some, cut_least a u, whole)
 
@@ -118,7 +110,7 @@ image_ways a b p q = grind (arith, ints)
 
 -- the size in grains is at most that of the image, but for the grain that was cut off
 size_least : (grain a b : ℕ) → grain ≤ 16 → a < 2 ^ 32 → b < 2 ^ 32
-    → coarse_size (grains grain b) (grains grain a) * 2 ^ grain < unsigned_abs (image a b) + 2 ^ grain
+    → grains_apart (grains grain b) (grains grain a) * 2 ^ grain < unsigned_abs (image a b) + 2 ^ grain
 size_least grain a b most p q =
     let u : ℕ = 2 ^ grain in
     let w : ℕ = 2 ^ (16 - grain) in
@@ -151,30 +143,46 @@ square_least (suc c) z u some small h =
     let square : 1 * 1 ≤ u * u = mul-le 1 1 u u some some in
     omega (arith, least, cut, square)
 
--- the square of a difference with a sign, in units of 2^16 square grains
-abbrev pub coarse_square : ℕ → ℕ
-coarse_square d = signed_value d * signed_value d % 2 ^ 32 / 2 ^ 16
+-- the square of a way round the ring of grains, that is at most the image's and what was cut off, is less than its square
+-- and one unit
+way_least : (grain o z : ℕ) → o ≤ 2 ^ 15 → o * 2 ^ grain < z + 2 ^ grain → o * o / 2 ^ 16 * square_unit grain < z * z + square_unit grain
+way_least grain o z small h =
+    let u : ℕ = 2 ^ grain in
+    let least : o * o * (u * u) < z * z + 2 ^ 16 * (u * u) = square_least o z u (omega (arith, pow_pos grain)) small h in
+    let whole : o * o / 2 ^ 16 * 2 ^ 16 * (u * u) ≤ o * o * (u * u) =
+    mul-le (o * o / 2 ^ 16 * 2 ^ 16) (u * u) (o * o) (u * u) (omega arith) (omega arith) in
+    omega (arith, least, whole)
 
 -- the coarse square is less than the square of the image and one unit
 pub coarse_least : (grain a b : ℕ) → grain ≤ 16 → a < 2 ^ 32 → b < 2 ^ 32
-    → coarse_square (coarse_difference (grains grain b) (grains grain a)) * square_unit grain
-    < unsigned_abs (image a b) * unsigned_abs (image a b) + square_unit grain
+    → let o = grains_apart (grains grain b) (grains grain a) in
+    o * o / 2 ^ 16 * square_unit grain < unsigned_abs (image a b) * unsigned_abs (image a b) + square_unit grain
 coarse_least grain a b most p q =
-    let u : ℕ = 2 ^ grain in
-    let z : ℕ = unsigned_abs (image a b) in
-    let d : ℕ = coarse_difference (grains grain b) (grains grain a) in
-    let c : ℕ = coarse_size (grains grain b) (grains grain a) in
-    let least : c * c * (u * u) < z * z + 2 ^ 16 * (u * u) =
-    square_least c z u (omega (arith, pow_pos grain)) (omega arith) (size_least grain a b most p q) in
-    let whole : c * c / 2 ^ 16 * 2 ^ 16 * (u * u) ≤ c * c * (u * u) =
-    mul-le (c * c / 2 ^ 16 * 2 ^ 16) (u * u) (c * c) (u * u) (omega arith) (omega arith) in
-    rw (square_is d (omega arith)) (omega (arith, least, whole))
+    way_least grain (grains_apart (grains grain b) (grains grain a)) (unsigned_abs (image a b)) (omega arith) (size_least grain a b most p q)
 
-pub coarse_small : (d : ℕ) → d < 2 ^ 16 → coarse_square d ≤ 2 ^ 14
-coarse_small d h =
-    let m : ℕ = min d (2 ^ 16 - d) in
-    let small : m * m ≤ 2 ^ 15 * 2 ^ 15 = mul-le m m (2 ^ 15) (2 ^ 15) (omega arith) (omega arith) in
-    rw (square_is d h) (omega (arith, small))
+pub coarse_small : (o : ℕ) → o ≤ 2 ^ 15 → o * o / 2 ^ 16 ≤ 2 ^ 14
+coarse_small o h = let small : o * o ≤ 2 ^ 15 * 2 ^ 15 = mul-le o o (2 ^ 15) (2 ^ 15) h h in omega (arith, small)
+
+-- two ways from the middle of a span differ by at most the way between their ends
+apart_least : (a b m h : ℕ) → a < 2 ^ 16 → b < 2 ^ 16 → grains_apart b m ≤ h → grains_apart a m - h ≤ grains_apart b a
+apart_least a b m h in_a in_b inside = omega (arith, inside, in_a, in_b)
+
+-- how far a coordinate lies outside of a span is at most how far it is from one inside
+pub outside_least : (a b m h : ℕ) → a < 2 ^ 32 → b < 2 ^ 32 → grains_apart (grains 16 b) m ≤ h
+    → let o = grains_apart (grains 16 a) m - h in
+    o * o / 2 ^ 16 * square_unit 16 < unsigned_abs (image a b) * unsigned_abs (image a b) + square_unit 16
+outside_least a b m h p q inside =
+    let o : ℕ = grains_apart (grains 16 a) m - h in
+    let c : ℕ = grains_apart (grains 16 b) (grains 16 a) in
+    let few : o ≤ c = apart_least (grains 16 a) (grains 16 b) m h (omega arith) (omega arith) inside in
+    way_least 16 o (unsigned_abs (image a b)) (omega arith) (omega (arith, few, size_least 16 a b (omega arith) p q))
+
+-- a coordinate between the least and the greatest lies in the span that is made of them
+pub in_span : (g start least greatest wide : ℕ) → start < 2 ^ 16 → wide ≡ greatest - least
+    → least ≤ grains_between g start → grains_between g start ≤ greatest
+    → let half = wide / 2 + 1 in
+    grains_apart g (((start + least) % 2 ^ 16 + half) % 2 ^ 16) ≤ half
+in_span g start least greatest wide in_start is over under = omega (arith, in_start, is, over, under)
 
 -- a sum of coarse squares is at most the squared distance and three units
 pub distance_least : (reach cx cy cz x y z unit : ℕ) → reach ≤ cx + cy + cz

@@ -2,9 +2,10 @@
 use Rattle.std.specs.Prelude.{ℕ, Bool, ◌+◌, ◌*◌, ◌^◌, ◌≡◌, ◌<◌, ◌≤◌, false, List, length, slice_index}
 use Rattle.lj_ring.specs.declared.coordinates.Place.{Place}
 use Rattle.lj_ring.specs.Ring.{IsOnRing, place_at}
+use Rattle.lj_tile.specs.declared.near.Bounds.{Bounds}
 use Rattle.lj_tile.specs.declared.near.Columns.{Columns}
 use Rattle.lj_tile.specs.declared.near.Lanes.{Lanes}
-use Rattle.lj_tile.specs.Grains.{grains, square_unit}
+use Rattle.lj_tile.specs.Grains.{grains, grains_apart, square_unit}
 
 -- the s-th lanes have the place in grains
 pub record IsLane (grain : ℕ) (lanes : Lanes) (s : ℕ) (p : Place) : Type 0 where
@@ -16,6 +17,13 @@ pub record IsLane (grain : ℕ) (lanes : Lanes) (s : ℕ) (p : Place) : Type 0 w
 -- the lanes have the places in grains
 abbrev pub HasLanes : ℕ → Lanes → List Place → Type 0
 HasLanes grain lanes places = (s : ℕ) → s < length places → IsLane grain lanes s (place_at places s)
+
+-- a place lies within the bounds
+pub record IsInside (bounds : Bounds) (p : Place) : Type 0 where
+  pub x : grains_apart (grains 16 p.x) bounds.x.middle ≤ bounds.x.half
+  pub y : grains_apart (grains 16 p.y) bounds.y.middle ≤ bounds.y.half
+  pub z : grains_apart (grains 16 p.z) bounds.z.middle ≤ bounds.z.half
+  pub ring : IsOnRing p
 
 -- no pair interacts, by a test of squared distances, whose squared distance is `reach` less 3, in units of 2^16 square
 -- grains, or more

@@ -1,11 +1,11 @@
 //! A quick test of which places of a block may be near one, all of them at once.
 ghost use Rattle.std.specs.Prelude.{◌≡◌, ◌≤◌, ◌<◌, ◌+◌, ◌-◌, ◌*◌, ◌/◌, ◌%◌, ◌^◌, ℕ, Bool, List, length, slice_index};
-ghost use Rattle.std.specs.Prelude.{unsigned_abs, slice_index_or, pos, false};
+ghost use Rattle.std.specs.Prelude.{unsigned_abs, slice_index_or, min, max, pos, false};
 ghost use Rattle.std.specs.Int.{bit_at};
 ghost use Rattle.lj_ring.specs.declared.coordinates.Place.{Place};
 ghost use Rattle.lj_ring.specs.Ring.{distance, image, place_at};
 ghost use Rattle.lj_ring.specs.Mix.{can_interact};
-ghost use Rattle.lj_tile.specs.Grains.{grains, square_unit};
+ghost use Rattle.lj_tile.specs.Grains.{grains, grains_apart, square_unit};
 
 use crate::blocks::BLOCK;
 use lj_ring::{Mix, Place};
@@ -13,6 +13,9 @@ use std::simd::prelude::*;
 
 /// The binary logarithm of the coarsest grain, of which the box has 2^16 to its edge.
 const COARSEST: u32 = 16;
+
+/// Bounds are narrow that on some axis reach less far than this to both sides, in coarsest grains: a quarter of the box.
+const NARROW: u16 = 1 << 14;
 
 /// The coordinates of a block's places, and what is out of reach of them. The cutoff spans 1,024 grains at the least,
 /// and fewer than 2,048 where the grain is not the coarsest.
@@ -36,6 +39,22 @@ struct Lanes {
     x: [u16; BLOCK],
     y: [u16; BLOCK],
     z: [u16; BLOCK],
+}
+
+/// A span of coordinates in coarsest grains: those that are no farther from its middle than its half width, round the
+/// ring.
+#[derive(Clone, Copy)]
+struct Span {
+    middle: u16,
+    half: u16,
+}
+
+/// Spans that places lie in, axis by axis.
+#[derive(Clone, Copy)]
+struct Bounds {
+    x: Span,
+    y: Span,
+    z: Span,
 }
 
 impl Columns {
@@ -77,10 +96,29 @@ impl Columns {
         }
         near & self.whole.within(here, span_of(self.grain))
     }
+
+    /// A mask of the places of another block: where a bit is 0, that place and none of these interact. Where these
+    /// places are not narrow it is not looked for, and each bit is 1.
+    #[inline(always)]
+    pub(crate) fn rows_near(&self, rows: &[Place]) -> u64
+        requires { length rows.now ≤ BLOCK }
+        ensures { (interact : ℕ → Bool) (places : List Place) → HasColumns interact self.now places → (t : ℕ)
+            → t < length rows.now → bit_at result t ≡ 0 → (k : ℕ) → k < length places
+            → interact (distance (place_at rows.now t) (place_at places k)) ≡ false }
+    {
+        if self.grain != COARSEST {
+            return u64::MAX;
+        }
+        let bounds = self.fine.bounds();
+        if bounds.x.half.min(bounds.y.half).min(bounds.z.half) >= NARROW {
+            return u64::MAX;
+        }
+        Lanes::new(rows, COARSEST).near_bounds(&bounds, self.reach)
+    }
 }
 
 impl Lanes {
-    ghost use Rattle.lj_tile.specs.Near.{HasLanes, IsLane};
+    ghost use Rattle.lj_tile.specs.Near.{HasLanes, IsInside, IsLane};
 
     fn new(places: &[Place], grain: u32) -> Lanes
         requires few { length places.now ≤ BLOCK }
@@ -160,10 +198,55 @@ impl Lanes {
         let z = shifted(sixteen(&self.z, at), here.z, span);
         less_than(x, 2 * span + 1) & less_than(y, 2 * span + 1) & less_than(z, 2 * span + 1)
     }
+
+    /// The bounds of the places, which are in coarsest grains.
+    #[inline(always)]
+    fn bounds(&self) -> Bounds
+        ensures { (k : ℕ) (there : Place) → k < BLOCK → IsLane 16 self.now k there → IsInside result there }
+    {
+        Bounds {
+            x: span_over(&self.x),
+            y: span_over(&self.y),
+            z: span_over(&self.z),
+        }
+    }
+
+    /// A mask of the places, which are in coarsest grains: where a bit is 0, the squared distance of that place and each
+    /// place within the bounds is not below `reach` less 3, in units of 2^16 square grains.
+    #[inline(always)]
+    fn near_bounds(&self, bounds: &Bounds, reach: u16) -> u64
+        requires { reach < 2 ^ 15 }
+        ensures { (k : ℕ) (here there : Place) → k < BLOCK → bit_at result k ≡ 0 → IsLane 16 self.now k here
+            → IsInside bounds.now there → reach * square_unit 16 ≤ distance here there + 3 * square_unit 16 }
+    {
+        joined(
+            self.near_bounds_part(0, bounds, reach),
+            self.near_bounds_part(16, bounds, reach),
+            self.near_bounds_part(32, bounds, reach),
+            self.near_bounds_part(48, bounds, reach),
+        )
+    }
+
+    /// The same of the sixteen places from `at` on.
+    #[inline(always)]
+    fn near_bounds_part(&self, at: usize, bounds: &Bounds, reach: u16) -> u64
+        requires within { at + 16 ≤ BLOCK }
+        requires reach { reach < 2 ^ 15 }
+        ensures { (k : ℕ) (here there : Place) → k < 16 → bit_at result k ≡ 0 → IsLane 16 self.now (at + k) here
+            → IsInside bounds.now there → reach * square_unit 16 ≤ distance here there + 3 * square_unit 16 }
+    {
+        let x = outside_squares(sixteen(&self.x, at), bounds.x);
+        let y = outside_squares(sixteen(&self.y, at), bounds.y);
+        let z = outside_squares(sixteen(&self.z, at), bounds.z);
+        below(x, y, z, reach)
+    }
 }
 
 /// The first place, where there is one.
-fn first_of(places: &[Place]) -> Place {
+#[inline(always)]
+fn first_of(places: &[Place]) -> Place
+    ensures { 0 < length places.now → result ≡ place_at places.now 0 }
+{
     match places.first() {
         Some(place) => *place,
         None => Place { x: 0, y: 0, z: 0 },
@@ -225,8 +308,7 @@ fn in_grains(coordinate: u32, grain: u32) -> u16
 }
 
 /// The squares of the images of coordinates, of which `there` has the grains, in whole units of 2^16 square grains.
-/// They may be too great by what was cut off, less than one unit. LLVM makes one product of 16-bit lanes of the steps
-/// from `signed` on.
+/// They may be too great by what was cut off, less than one unit.
 #[inline(always)]
 fn coarse_squares(there: u16x16, here: u32, grain: u32) -> u16x16
     requires { grain ≤ 16 }
@@ -235,8 +317,41 @@ fn coarse_squares(there: u16x16, here: u32, grain: u32) -> u16x16
         slice_index result k * square_unit grain < size * size + square_unit grain }
     ensures small { (k : ℕ) → k < 16 → slice_index result k ≤ 2 ^ 14 }
 {
-    let apart = signed(differences(there, splat(in_grains(here, grain))));
-    narrowed(shift_by_16(squares(apart)))
+    square_units(differences(there, splat(in_grains(here, grain))))
+}
+
+/// The squares of how far coordinates, of which `here` has the coarsest grains, lie outside of the span, in whole units
+/// of 2^16 square grains. They may be too great by what was cut off, less than one unit.
+#[inline(always)]
+fn outside_squares(here: u16x16, span: Span) -> u16x16
+    ensures least { (k a b : ℕ) → k < 16 → a < 2 ^ 32 → b < 2 ^ 32 → slice_index here k ≡ grains 16 a
+        → grains_apart (grains 16 b) span.middle ≤ span.half
+        → let size = unsigned_abs (image a b) in
+        slice_index result k * square_unit 16 < size * size + square_unit 16 }
+    ensures small { (k : ℕ) → k < 16 → slice_index result k ≤ 2 ^ 14 }
+{
+    let apart = differences(here, splat(span.middle));
+    let length = lesser(apart, differences(splat(0), apart));
+    square_units(less(length, splat(span.half)))
+}
+
+/// The span of coordinates in grains, round the ring: from the least image from the first one's to the greatest.
+#[inline(always)]
+fn span_over(grains: &[u16; BLOCK]) -> Span
+    ensures { (k : ℕ) → k < BLOCK → grains_apart (slice_index grains.now k) result.middle ≤ result.half }
+{
+    let start = grains[0].wrapping_sub(1 << 15);
+    let a = differences(sixteen(grains, 0), splat(start));
+    let b = differences(sixteen(grains, 16), splat(start));
+    let c = differences(sixteen(grains, 32), splat(start));
+    let d = differences(sixteen(grains, 48), splat(start));
+    let least = least(lesser(lesser(a, b), lesser(c, d)));
+    let greatest = greatest(greater(greater(a, b), greater(c, d)));
+    let half = greatest.saturating_sub(least) / 2 + 1;
+    Span {
+        middle: start.wrapping_add(least).wrapping_add(half),
+        half,
+    }
 }
 
 /// The differences of coordinates, in coarsest grains, with `span` more. They are at most twice `span` only where the
@@ -263,6 +378,16 @@ fn differences(a: u16x16, b: u16x16) -> u16x16
         → slice_index result k ≡ (slice_index a k + (2 ^ 16 - slice_index b k)) % 2 ^ 16 }
 {
     a - b
+}
+
+/// The squares of differences in grains, the shorter way round, in whole units of 2^16 square grains. LLVM makes one
+/// product of 16-bit lanes of these steps.
+#[inline(always)]
+fn square_units(v: u16x16) -> u16x16
+    ensures { (k : ℕ) → k < 16 → let size = min (slice_index v k) (2 ^ 16 - slice_index v k) in
+        slice_index result k ≡ size * size / 2 ^ 16 }
+{
+    narrowed(shift_by_16(squares(signed(v))))
 }
 
 /// The lanes as numbers with a sign, modulo 2^32.
@@ -380,4 +505,55 @@ fn joined(first: u64, second: u64, third: u64, fourth: u64) -> u64
     ensures fourth { (k : ℕ) → k < 16 → bit_at result (48 + k) ≡ 0 → bit_at fourth k ≡ 0 }
 {
     first | second << 16 | third << 32 | fourth << 48
+}
+
+#[inline(always)]
+fn lesser(a: u16x16, b: u16x16) -> u16x16
+    ensures { (k : ℕ) → k < 16 → slice_index result k ≡ min (slice_index a k) (slice_index b k) }
+{
+    a.simd_min(b)
+}
+
+#[inline(always)]
+fn greater(a: u16x16, b: u16x16) -> u16x16
+    ensures { (k : ℕ) → k < 16 → slice_index result k ≡ max (slice_index a k) (slice_index b k) }
+{
+    a.simd_max(b)
+}
+
+#[inline(always)]
+fn least(v: u16x16) -> u16
+    ensures { (k : ℕ) → k < 16 → result ≤ slice_index v k }
+{
+    let pair = lesser_of_4(lesser_of_8(lesser_of_16(v)));
+    pair[0].min(pair[1])
+}
+
+#[inline(always)]
+fn greatest(v: u16x16) -> u16
+    ensures { (k : ℕ) → k < 16 → slice_index v k ≤ result }
+{
+    u16::MAX - least(differences(splat(u16::MAX), v))
+}
+
+/// Of the lanes of both halves, the lesser ones.
+#[inline(always)]
+fn lesser_of_16(v: u16x16) -> u16x8
+    ensures { (k : ℕ) → k < 16 → slice_index result (k % 8) ≤ slice_index v k }
+{
+    v.extract::<0, 8>().simd_min(v.extract::<8, 8>())
+}
+
+#[inline(always)]
+fn lesser_of_8(v: u16x8) -> u16x4
+    ensures { (k : ℕ) → k < 8 → slice_index result (k % 4) ≤ slice_index v k }
+{
+    v.extract::<0, 4>().simd_min(v.extract::<4, 4>())
+}
+
+#[inline(always)]
+fn lesser_of_4(v: u16x4) -> u16x2
+    ensures { (k : ℕ) → k < 4 → slice_index result (k % 2) ≤ slice_index v k }
+{
+    v.extract::<0, 2>().simd_min(v.extract::<2, 2>())
 }

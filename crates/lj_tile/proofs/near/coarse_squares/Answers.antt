@@ -1,20 +1,12 @@
-use Rattle.std.proofs.Common.{◌≡◌, ◌<◌, ℕ, slice_index, refl, arith}
-use Rattle.lj_tile.specs.Grains.{grains}
-use Rattle.lj_tile.proofs.NearLemmas.{coarse_difference, coarse_square, coarse_least, coarse_small}
+use Rattle.std.proofs.Common.{◌≡◌, ◌<◌, ◌*◌, ◌/◌, ◌^◌, ℕ, slice_index, refl, arith}
+use Rattle.lj_tile.specs.Grains.{grains, grains_apart}
+use Rattle.lj_tile.proofs.NearLemmas.{coarse_least, coarse_small}
 use Rattle.lj_tile.proofs.near.coarse_squares.Goals as goal
 
-lane : (c : goal.After-narrowed) (k : ℕ) → k < 16
-    → slice_index c.narrowed.result k ≡ coarse_square (coarse_difference (slice_index c.args.there k) (grains c.args.grain c.args.here))
-lane c k l =
-    rw (
-      c.narrowed.ensures k l,
-      c.shift_by_16.ensures k l,
-      c.squares.ensures k l,
-      c.signed-apart.ensures k l,
-      c.differences.ensures k l,
-      c.splat.ensures k l,
-      c.in_grains.ensures.value,
-    ) refl
+lane : (c : goal.After-square_units) (k : ℕ) → k < 16
+    → let o = grains_apart (slice_index c.args.there k) (grains c.args.grain c.args.here) in
+    slice_index c.square_units.result k ≡ o * o / 2 ^ 16
+lane c k l = rw (c.square_units.ensures k l, c.differences.ensures k l, c.splat.ensures k l, c.in_grains.ensures.value) refl
 
 pub returns : goal.returns
 returns c = record {
