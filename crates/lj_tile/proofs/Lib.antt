@@ -8,3 +8,5 @@ pub mod SameLemmas
 pub mod NearLemmas
 pub mod NearLanes
 pub mod FirstSums
+pub mod LaneLemmas
+pub mod LanePushes

@@ -9,5 +9,6 @@ pub mod Rows
 pub mod Results
 pub mod Grains
 pub mod Near
+pub mod Lanes
 pub mod Worked
 pub mod Limits

@@ -2,6 +2,7 @@
 #![tactic(auto)]
 
 mod blocks;
+mod lanes;
 mod names;
 mod near;
 mod pairs;
