@@ -8,5 +8,9 @@ pub mod SameLemmas
 pub mod NearLemmas
 pub mod NearLanes
 pub mod FirstSums
+pub mod BitLists
+pub mod ListLemmas
+pub mod PairSums
 pub mod LaneLemmas
 pub mod LanePushes
+pub mod RowSums

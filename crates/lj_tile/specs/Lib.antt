@@ -6,9 +6,10 @@ pub mod Tiles
 pub mod Task
 pub mod Blank
 pub mod Rows
+pub mod Pairs
+pub mod Lanes
 pub mod Results
 pub mod Grains
 pub mod Near
-pub mod Lanes
 pub mod Worked
 pub mod Limits

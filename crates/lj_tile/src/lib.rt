@@ -5,6 +5,8 @@ mod blocks;
 mod lanes;
 mod names;
 mod near;
+mod near_pairs;
+mod pair_sums;
 mod pairs;
 mod results;
 mod sums;

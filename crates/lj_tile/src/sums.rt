@@ -1,6 +1,6 @@
 //! The sums of a task: of pushes and of energies.
-ghost use Rattle.std.specs.Prelude.{◌≡◌, ◌≤◌, ◌<◌, ◌+◌, ◌*◌, ◌^◌, ◌&&◌, ℕ, length, slice_index_or};
-ghost use Rattle.std.specs.Prelude.{unsigned_abs, nat_lt, take};
+ghost use Rattle.std.specs.Prelude.{◌≡◌, ◌≤◌, ◌<◌, ◌+◌, ◌*◌, ◌^◌, ◌&&◌, ◌++◌, ℕ, length, slice_index_or};
+ghost use Rattle.std.specs.Prelude.{unsigned_abs, nat_lt, take, replicate};
 ghost use Rattle.std.specs.Int.{bit_at};
 ghost use Rattle.lj_ring.specs.Ring.{IsOnRing};
 ghost use Rattle.lj_ring.specs.Mix.{can_interact};
@@ -10,11 +10,16 @@ ghost use Rattle.lj_tile.specs.Species.{is_in};
 ghost use Rattle.lj_tile.specs.Tiles.{place_at};
 ghost use Rattle.lj_tile.specs.Near.{HasColumns};
 ghost use Rattle.lj_tile.specs.Task.{task_force, task_second, task_energy, are_in_order};
-ghost use Rattle.lj_tile.specs.Rows.{sum_on_first, sum_on_second, pushes_in, energies_in, energy_row, AreRows, ArePushed, IsSilent};
+ghost use Rattle.lj_tile.specs.Rows.{sum_on_first, sum_on_second, energies_in, energy_row, IsSilent};
+ghost use Rattle.lj_tile.specs.Pairs.{row_pairs, scale_between, ArePairs, AreOnRing, AreRowsOf, HaveRow, HaveRows, HaveTotals, IsPushOnRing};
+ghost use Rattle.lj_ring.specs.declared.mixes.Species.TheVariants as variants;
+ghost use Rattle.lj_tile.specs.declared.near_pairs.TheConstants.{FULL};
 
 use crate::blocks::BLOCK;
 use crate::near::Columns;
-use crate::pairs::{Push, pair_push};
+use crate::near_pairs::{FULL, NearPairs};
+use crate::pair_sums::{add_all, work_off};
+use crate::pairs::Push;
 use crate::tasks::Task;
 use lj_ring::{Class, Place, Scale, Species, dist2};
 use lj_table::Table;
@@ -28,7 +33,10 @@ pub(crate) struct ForceSums {
 
 impl ForceSums {
     /// No push on any place.
-    pub(crate) fn none() -> ForceSums {
+    pub(crate) fn none() -> ForceSums
+        ensures first { result.first ≡ replicate BLOCK no_push }
+        ensures second { result.second ≡ replicate BLOCK no_push }
+    {
         ForceSums {
             first: [Push::NONE; BLOCK],
             second: [Push::NONE; BLOCK],
@@ -97,20 +105,53 @@ fn join(sums: &mut ForceSums)
     }
 }
 
-/// Sums over the pairs of atoms i < j, i in the first block and j in the second: each pair is looked at once.
+/// Sums over the pairs of atoms i < j, i in the first block and j in the second: each pair is looked at once. The pairs of
+/// each class are kept in a list until there are many of them.
 fn sum_pairs(task: &Task, table: &Table, sums: &mut ForceSums)
     ensures first { (t : ℕ) → t < length task.now.a.places →
         slice_index_or sums.new.first t no_push ≡ sum_on_first task.now t (length task.now.b.places) }
     ensures second { (s : ℕ) → s < length task.now.b.places →
         slice_index_or sums.new.second s no_push ≡ sum_on_second task.now s (length task.now.a.places) }
 {
-    let places = task.second().places();
-    read_each(places);
-    let columns = Columns::new(places, task.mix());
-    sums.second = [Push::NONE; BLOCK];
-    for t in 0..task.first().places().len() {
-        sums.first[t] = row(t, task, &columns, table, &mut sums.second);
-    }
+    let (first, second) = (task.first().places(), task.second().places());
+    read_each(first);
+    read_each(second);
+    let columns = Columns::new(second, task.mix());
+    *sums = ForceSums::none();
+    let rows = near_rows(task, &columns);
+    let seconds = task.first().seconds();
+    let mut like = NearPairs::new();
+    let mut unlike = NearPairs::new();
+    let mut others = NearPairs::new();
+    add_rows(
+        rows & !seconds,
+        Species::First,
+        task,
+        &columns,
+        table,
+        &mut like,
+        &mut unlike,
+        sums,
+    );
+    add_rows(
+        rows & seconds,
+        Species::Second,
+        task,
+        &columns,
+        table,
+        &mut unlike,
+        &mut others,
+        sums,
+    );
+    let mix = task.mix();
+    let class = mix.class(Species::First, Species::First);
+    add_all(&like, first, second, &class.scale, table, sums);
+    let class = mix.class(Species::First, Species::Second);
+    add_all(&unlike, first, second, &class.scale, table, sums);
+    let class = mix.class(Species::Second, Species::Second);
+    add_all(&others, first, second, &class.scale, table, sums);
+    read_sums(&sums.first);
+    read_sums(&sums.second);
 }
 
 /// Reads each place, and does nothing with it: of what is read it is known that it lies on the ring.
@@ -127,90 +168,185 @@ fn read(_place: Place)
     ensures { IsOnRing _place }
 {}
 
-/// The sum of the pushes on place `t` of the first block of later atoms of the second, to whose sums in `second` the
-/// opposite pushes come. It looks closely only at those places of the second block that may interact with it.
-#[inline]
-fn row(t: usize, task: &Task, columns: &Columns, table: &Table, second: &mut [Push; BLOCK]) -> Push
-    requires first { t < length task.now.a.places }
-    requires columns { HasColumns (can_interact task.now.mix) columns.now task.now.b.places }
-    requires on_ring { (s : ℕ) → s < length task.now.b.places → IsOnRing (place_at task.now.b.places s) }
-    requires before { AreRows task.now t second.old }
-    ensures sum { result ≡ sum_on_first task.now t (length task.now.b.places) }
-    ensures after { AreRows task.now (t + 1) second.new }
+/// Reads each sum, and does nothing with it: of what is read it is known that it lies on the ring.
+fn read_sums(sums: &[Push; BLOCK])
+    ensures { (k : ℕ) → k < BLOCK → IsPushOnRing (slice_index_or sums.now k no_push) }
 {
-    let here = task.first().places()[t];
-    read(here);
-    let near = columns.near(&here);
-    if near == 0 {
-        return Push::NONE;
+    for sum in sums {
+        read_sum(*sum);
     }
-    near_row(near, t, task, table, second)
 }
 
-/// The same, where only those places of the second block push whose bit in `near` is set: first those of the first
-/// species, then those of the second.
+#[inline(always)]
+fn read_sum(_sum: Push)
+    ensures { IsPushOnRing _sum }
+{}
+
+/// The places of the first block, bit by bit, that may interact with one of the second. It looks for those that don't
+/// only where the blocks are two.
 #[inline]
-fn near_row(near: u64, t: usize, task: &Task, table: &Table, second: &mut [Push; BLOCK]) -> Push
-    requires first { t < length task.now.a.places }
-    requires near { (s : ℕ) → s < length task.now.b.places → bit_at near s ≡ 0 → IsSilent task.now t s }
-    requires before { AreRows task.now t second.old }
-    ensures sum { result ≡ sum_on_first task.now t (length task.now.b.places) }
-    ensures after { AreRows task.now (t + 1) second.new }
+fn near_rows(task: &Task, columns: &Columns) -> u64
+    requires columns { HasColumns (can_interact task.now.mix) columns.now task.now.b.places }
+    requires first { AreOnRing task.now.a.places }
+    requires second { AreOnRing task.now.b.places }
+    ensures within { (t : ℕ) → bit_at result t ≡ 1 → t < length task.now.a.places }
+    ensures far { (t : ℕ) → t < length task.now.a.places → bit_at result t ≡ 0
+        → (s : ℕ) → s < length task.now.b.places → IsSilent task.now t s }
 {
-    let near = near & later(t, task);
-    let here = &task.first().places()[t];
-    let own = species_at(task.first().seconds(), t);
-    let (places, seconds) = (task.second().places(), task.second().seconds());
-    let first_class = task.mix().class(own, Species::First);
-    let of_firsts = add_row(
-        near & !seconds,
-        here,
-        places,
-        &first_class.scale,
-        table,
-        second,
-    );
-    let second_class = task.mix().class(own, Species::Second);
-    let of_seconds = add_row(
-        near & seconds,
-        here,
-        places,
-        &second_class.scale,
-        table,
-        second,
-    );
-    of_firsts.plus(of_seconds)
+    let places = task.first().places();
+    let all = lowest_bits(places.len());
+    if task.name().bi == task.name().bj {
+        return all;
+    }
+    all & columns.rows_near(places)
 }
 
-/// The sum of the pushes on an atom at `here` of those of `places` whose bit is set, to whose sums in `second` the
-/// opposite pushes come.
-#[inline]
-fn add_row(
-    set: u64,
-    here: &Place,
-    places: &[Place],
-    scale: &Scale,
+/// Adds the pushes of rows of a set, whose atoms are of one species. Those of the last pairs are left in two lists, of
+/// pairs with atoms of the first species and with atoms of the second.
+fn add_rows(
+    rows: u64,
+    own: Species,
+    task: &Task,
+    columns: &Columns,
     table: &Table,
-    second: &mut [Push; BLOCK],
-) -> Push
-    requires few { length places.now ≤ BLOCK }
-    requires within { (s : ℕ) → bit_at set s ≡ 1 → s < length places.now }
-    ensures sum { result ≡ pushes_in scale.now set here.now places.now (length places.now) }
-    ensures after { ArePushed scale.now set here.now places.now (length places.now) second.old second.new }
+    of_firsts: &mut NearPairs,
+    of_seconds: &mut NearPairs,
+    sums: &mut ForceSums,
+)
+    requires columns { HasColumns (can_interact task.now.mix) columns.now task.now.b.places }
+    requires first { AreOnRing task.now.a.places }
+    requires second { AreOnRing task.now.b.places }
+    requires rows { AreRowsOf task.now own rows }
+    requires few_firsts { length of_firsts.old < FULL }
+    requires few_seconds { length of_seconds.old < FULL }
+    requires firsts { ArePairs task.now.a.places task.now.b.places of_firsts.old }
+    requires seconds { ArePairs task.now.a.places task.now.b.places of_seconds.old }
+    ensures few_firsts { length of_firsts.new < FULL }
+    ensures few_seconds { length of_seconds.new < FULL }
+    ensures firsts { ArePairs task.now.a.places task.now.b.places of_firsts.new }
+    ensures seconds { ArePairs task.now.a.places task.now.b.places of_seconds.new }
+    ensures sums { HaveRows task.now (scale_between task.now own variants.First) (scale_between task.now own variants.Second) rows BLOCK
+        of_firsts.old of_seconds.old of_firsts.new of_seconds.new sums.old sums.new }
 {
-    let mut s = 0;
-    let mut rest = set;
-    let mut sum = Push::NONE;
+    let mut t = 0;
+    let mut rest = rows;
     while rest != 0 {
         let skipped = rest.trailing_zeros();
-        s += skipped as usize;
-        let push = pair_push(table, scale, here, &places[s]);
-        second[s] = second[s].minus(push);
-        sum = sum.plus(push);
+        t += skipped as usize;
+        add_row(t, own, task, columns, table, of_firsts, of_seconds, sums);
         rest = rest >> skipped >> 1;
-        s += 1;
+        t += 1;
     }
-    sum
+}
+
+/// Adds the pushes of place `t` of the first block with later atoms of the second, but for those of the last pairs. It looks
+/// closely only at those places of the second block that may interact with it.
+#[inline(always)]
+fn add_row(
+    t: usize,
+    own: Species,
+    task: &Task,
+    columns: &Columns,
+    table: &Table,
+    of_firsts: &mut NearPairs,
+    of_seconds: &mut NearPairs,
+    sums: &mut ForceSums,
+)
+    requires columns { HasColumns (can_interact task.now.mix) columns.now task.now.b.places }
+    requires first { AreOnRing task.now.a.places }
+    requires second { AreOnRing task.now.b.places }
+    requires row { t < length task.now.a.places }
+    requires own { own ≡ species.species_at task.now.a.seconds t }
+    requires few_firsts { length of_firsts.old < FULL }
+    requires few_seconds { length of_seconds.old < FULL }
+    requires firsts { ArePairs task.now.a.places task.now.b.places of_firsts.old }
+    requires seconds { ArePairs task.now.a.places task.now.b.places of_seconds.old }
+    ensures few_firsts { length of_firsts.new < FULL }
+    ensures few_seconds { length of_seconds.new < FULL }
+    ensures firsts { ArePairs task.now.a.places task.now.b.places of_firsts.new }
+    ensures seconds { ArePairs task.now.a.places task.now.b.places of_seconds.new }
+    ensures sums { HaveRow task.now (scale_between task.now own variants.First) (scale_between task.now own variants.Second) t
+        of_firsts.old of_seconds.old of_firsts.new of_seconds.new sums.old sums.new }
+{
+    let near = columns.near(&task.first().places()[t]) & later(t, task);
+    let seconds = task.second().seconds();
+    let like = task.mix().class(own, Species::First);
+    add_pairs(
+        t,
+        near & !seconds,
+        task,
+        &like.scale,
+        table,
+        of_firsts,
+        sums,
+    );
+    let unlike = task.mix().class(own, Species::Second);
+    add_some_pairs(
+        t,
+        near & seconds,
+        task,
+        &unlike.scale,
+        table,
+        of_seconds,
+        sums,
+    );
+}
+
+/// Adds pairs of place `t` to a list, if there are any.
+#[inline(always)]
+fn add_some_pairs(
+    t: usize,
+    set: u64,
+    task: &Task,
+    scale: &Scale,
+    table: &Table,
+    pairs: &mut NearPairs,
+    sums: &mut ForceSums,
+)
+    requires first { AreOnRing task.now.a.places }
+    requires second { AreOnRing task.now.b.places }
+    requires row { t < length task.now.a.places }
+    requires set { (s : ℕ) → bit_at set s ≡ 1 → s < length task.now.b.places }
+    requires few { length pairs.old < FULL }
+    requires pairs { ArePairs task.now.a.places task.now.b.places pairs.old }
+    ensures few { length pairs.new < FULL }
+    ensures pairs { ArePairs task.now.a.places task.now.b.places pairs.new }
+    ensures totals { HaveTotals scale.now task.now.a.places task.now.b.places (pairs.old ++ row_pairs t set) pairs.new
+        sums.old sums.new }
+{
+    if set != 0 {
+        add_pairs(t, set, task, scale, table, pairs, sums);
+    }
+}
+
+/// Adds the pairs of place `t` of the first block with a set of places of the second to a list, and where this becomes full
+/// the pushes of its pairs to the sums.
+#[inline(always)]
+fn add_pairs(
+    t: usize,
+    set: u64,
+    task: &Task,
+    scale: &Scale,
+    table: &Table,
+    pairs: &mut NearPairs,
+    sums: &mut ForceSums,
+)
+    requires first { AreOnRing task.now.a.places }
+    requires second { AreOnRing task.now.b.places }
+    requires row { t < length task.now.a.places }
+    requires set { (s : ℕ) → bit_at set s ≡ 1 → s < length task.now.b.places }
+    requires few { length pairs.old < FULL }
+    requires pairs { ArePairs task.now.a.places task.now.b.places pairs.old }
+    ensures few { length pairs.new < FULL }
+    ensures pairs { ArePairs task.now.a.places task.now.b.places pairs.new }
+    ensures totals { HaveTotals scale.now task.now.a.places task.now.b.places (pairs.old ++ row_pairs t set) pairs.new
+        sums.old sums.new }
+{
+    let (first, second) = (task.first().places(), task.second().places());
+    pairs.append(t, set);
+    if pairs.len() >= FULL {
+        work_off(pairs, first, second, scale, table, sums);
+    }
 }
 
 /// The species of the atom at place `t` of a block.

@@ -1,77 +1,78 @@
-use Rattle.std.proofs.Common.{◌<◌, ◌+◌, ℕ, length, slice_index_or, ap, sym, ◌∙◌, refl, w64, arith}
-use Rattle.std.specs.Int.{trailing_zeros}
-use Rattle.lj_tile.specs.Pushes.{sum_of_pushes, no_push}
-use Rattle.lj_tile.proofs.SumLemmas.{next_set, from_next, from_empty, from_all}
-use Rattle.lj_tile.proofs.RowLemmas.{pushes_more, pushes_past, inside, pushed_none, pushed_past, pushed_next, length_set}
+use Rattle.std.proofs.Common.{◌≡◌, ◌<◌, ◌-◌, ℕ, length, List, bit_and, ap, subst, ◌∙◌, arith}
+use Rattle.std.specs.Int.{bit_at}
+use Rattle.lj_ring.specs.declared.coordinates.Place.{Place}
+use Rattle.lj_ring.specs.declared.mixes.Class.{Class}
+use Rattle.lj_ring.specs.declared.mixes.Species.{Species}
+use Rattle.lj_ring.specs.declared.mixes.Species.TheVariants.{First, Second}
+use Rattle.lj_ring.specs.Mix.{Mix, class_of, can_interact}
+use Rattle.lj_ring.proofs.MixLemmas.{cannot_interact}
+use Rattle.lj_tile.specs.Block.{Block}
+use Rattle.lj_tile.specs.Species.{species_at}
+use Rattle.lj_tile.specs.Tiles.{place_at}
+use Rattle.lj_tile.specs.Task.{are_in_order}
+use Rattle.lj_tile.specs.Rows.{IsSilent}
+use Rattle.lj_tile.proofs.RowLemmas.{not_in_order, far_silent}
+use Rattle.lj_tile.proofs.Splits.{IsSplit, RowSplit, split_of, part_within}
+use Rattle.lj_tile.proofs.RowSums.{row_added}
 use Rattle.lj_tile.proofs.sums.add_row.Goals as goal
 
-pub loop-rest-init : goal.loop-rest-init
-loop-rest-init c = record {
-  within = omega arith;
-  bits = from_all c.args.set;
-  sum = refl;
-  room = c.told-second;
-  rows = pushed_none c.args.scale.now c.args.set c.args.here.now c.args.places.now c.args.second.now;
-}
+pub add_pairs-requires-clause-set : goal.add_pairs-requires-clause-set
+add_pairs-requires-clause-set c s set =
+    part_within c.near.result c.later.result _ s (length c.args.task.now.b.places) _ (c.later.ensures s) set
 
-pub bounds-places-s : goal.bounds-places-s
-bounds-places-s c =
-    let found = next_set c.args.set c.loop-rest.s c.loop-rest.rest c.ranges.set.fits c.loop-rest.auto.rest-fits.fits
-    (omega (arith, c.loop-rest-test.true)) c.loop-rest.invariant.bits in
-    omega (arith, c.requires.within _ found.set)
+pub add_some_pairs-requires-clause-set : goal.add_some_pairs-requires-clause-set
+add_some_pairs-requires-clause-set c s set =
+    part_within c.near.result c.later.result _ s (length c.args.task.now.b.places) _ (c.later.ensures s) set
 
-pub bounds-second-s : goal.bounds-second-s
-bounds-second-s c =
-    let found = next_set c.args.set c.loop-rest.s c.loop-rest.rest c.ranges.set.fits c.loop-rest.auto.rest-fits.fits
-    (omega (arith, c.loop-rest-test.true)) c.loop-rest.invariant.bits in
-    omega (arith, found.within)
+here_is : (c : goal.After-add_some_pairs) → place_at c.places.result.now c.args.t ≡ place_at c.args.task.now.a.places c.args.t
+here_is c =
+    ap (λ (places : List Place). place_at places c.args.t)
+    (c.places.ensures.value ∙ ap (λ (block : Block). block.places) c.first.ensures.value)
 
-pub bounds-second-s-in-loop-rest : goal.bounds-second-s-in-loop-rest
-bounds-second-s-in-loop-rest c =
-    let found = next_set c.args.set c.loop-rest.s c.loop-rest.rest c.ranges.set.fits c.loop-rest.auto.rest-fits.fits
-    (omega (arith, c.loop-rest-test.true)) c.loop-rest.invariant.bits in
-    omega (arith, found.within)
+seconds_is : (c : goal.After-add_some_pairs) → c.seconds-seconds.result ≡ c.args.task.now.b.seconds
+seconds_is c = c.seconds-seconds.ensures ∙ ap (λ (block : Block). block.seconds) c.second.ensures.value
 
-pub loop-rest-smaller : goal.loop-rest-smaller
-loop-rest-smaller c =
-    let found = next_set c.args.set c.loop-rest.s c.loop-rest.rest c.ranges.set.fits c.loop-rest.auto.rest-fits.fits
-    (omega (arith, c.loop-rest-test.true)) c.loop-rest.invariant.bits in
-    omega (arith, found.within)
+-- a place whose bit is not set does not push
+silent : (c : goal.After-add_some_pairs) (s : ℕ) → s < length c.args.task.now.b.places → bit_at c.near.result s ≡ 0
+    → IsSilent c.args.task.now c.args.t s
+silent c s within none =
+    let w = c.args.task.now in
+    far_silent w c.args.t s (c.requires.first c.args.t c.requires.row) (c.requires.second s within)
+    (cannot_interact w.mix (species_at w.a.seconds c.args.t) (species_at w.b.seconds s) _
+    (rw (here_is c) at (c.near.ensures (can_interact w.mix) w.b.places c.requires.columns s within none)))
 
-pub loop-rest-preserved : goal.loop-rest-preserved
-loop-rest-preserved c =
-    let found = next_set c.args.set c.loop-rest.s c.loop-rest.rest c.ranges.set.fits c.loop-rest.auto.rest-fits.fits
-    (omega (arith, c.loop-rest-test.true)) c.loop-rest.invariant.bits in
-    let u = c.args.scale.now in
-    let set = c.args.set in
-    let here = c.args.here.now in
-    let places = c.args.places.now in
-    let next : ℕ = c.loop-rest.s + trailing_zeros w64 c.loop-rest.rest in
-    let within : next < length places = c.requires.within next found.set in
-    record {
-      within = omega (arith, within);
-      bits = from_next set c.loop-rest.s c.loop-rest.rest _ c.loop-rest.invariant.bits;
-      sum = c.plus-sum.ensures
-          ∙ ap (λ p. sum_of_pushes p c.pair_push-push.result)
-          (c.loop-rest.invariant.sum ∙ pushes_past u set here places c.loop-rest.s next (omega arith) found.before)
-          ∙ pushes_more u set here places next c.pair_push-push.result
-          (inside u set here places next c.pair_push-push.result found.set c.pair_push-push.ensures.value);
-      room = length_set c.loop-rest.second next c.minus.result ∙ c.loop-rest.invariant.room;
-      rows = pushed_next u set here places next c.args.second.now c.loop-rest.second c.minus.result
-          (pushed_past u set here places c.loop-rest.s next c.args.second.now c.loop-rest.second c.loop-rest.invariant.rows
-          (omega arith) found.before) (omega (arith, found.within, c.loop-rest.invariant.room)) within found.set
-          (c.minus.ensures ∙ ap (sum_of_pushes (slice_index_or c.loop-rest.second next no_push)) (sym c.pair_push-push.ensures.back));
-    }
+firsts : (c : goal.After-add_some_pairs) → ℕ
+firsts c = bit_and (bit_and c.near.result c.later.result) (18446744073709551615 - c.seconds-seconds.result)
 
-pub returns-clause-sum : goal.returns-clause-sum
-returns-clause-sum c =
-    c.loop-rest.invariant.sum
-    ∙ pushes_past c.args.scale.now c.args.set c.args.here.now c.args.places.now c.loop-rest.s (length c.args.places.now)
-    c.loop-rest.invariant.within (λ k least less.
-    from_empty c.args.set c.loop-rest.s c.loop-rest.rest c.loop-rest.invariant.bits c.loop-rest-test.false k least)
+seconds : (c : goal.After-add_some_pairs) → ℕ
+seconds c = bit_and (bit_and c.near.result c.later.result) c.seconds-seconds.result
 
-pub returns-clause-after : goal.returns-clause-after
-returns-clause-after c =
-    pushed_past c.args.scale.now c.args.set c.args.here.now c.args.places.now c.loop-rest.s (length c.args.places.now)
-    c.args.second.now c.loop-rest.second c.loop-rest.invariant.rows c.loop-rest.invariant.within (λ k least less.
-    from_empty c.args.set c.loop-rest.s c.loop-rest.rest c.loop-rest.invariant.bits c.loop-rest-test.false k least)
+split : (c : goal.After-add_some_pairs) (s : ℕ) → s < length c.args.task.now.b.places
+    → RowSplit c.args.task.now c.args.t (firsts c) (seconds c) s
+unfolding firsts seconds
+split c s within =
+    let w = c.args.task.now in
+    subst
+    (λ (here : ℕ). IsSplit (bit_and (bit_and c.near.result c.later.result) (18446744073709551615 - c.seconds-seconds.result))
+    (bit_and (bit_and c.near.result c.later.result) c.seconds-seconds.result) here s (are_in_order w c.args.t s)
+    (IsSilent w c.args.t s))
+    (seconds_is c)
+    (split_of c.near.result c.later.result c.seconds-seconds.result s (length w.b.places) (are_in_order w c.args.t s)
+    (IsSilent w c.args.t s) (omega arith) (omega (arith, within, c.second.ensures.sound.most_second)) within
+    (c.later.ensures s) (silent c s within) (not_in_order w c.args.t s))
+
+scale_is : (mix other : Mix) (class : Class) (own of : Species) → class ≡ class_of mix own of → mix ≡ other
+    → class.scale ≡ (class_of other own of).scale
+scale_is mix other class own of e f = ap (λ (k : Class). k.scale) (e ∙ ap (λ m. class_of m own of) f)
+
+pub returns-clause-sums : goal.returns-clause-sums
+unfolding firsts seconds
+returns-clause-sums c =
+    let w = c.args.task.now in
+    let like = scale_is c.mix.result.now w.mix c.class-like.result.now c.args.own First c.class-like.ensures.value c.mix.ensures in
+    let unlike = scale_is c.mix-2.result.now w.mix c.class-unlike.result.now c.args.own Second c.class-unlike.ensures.value c.mix-2.ensures in
+    rw c.requires.own
+    (row_added w c.args.t (firsts c) (seconds c) c.args.of_firsts.now c.args.of_seconds.now c.add_pairs.new.pairs
+    c.add_some_pairs.new.pairs c.args.sums.now c.add_pairs.new.sums c.add_some_pairs.new.sums
+    c.second.ensures.sound.most_second (λ s set. part_within c.near.result c.later.result _ s (length w.b.places) _ (c.later.ensures s) set) (λ s set. part_within c.near.result c.later.result _ s (length w.b.places) _ (c.later.ensures s) set)
+    (split c) (rw (like, c.requires.own) at c.add_pairs.ensures.totals) (rw (unlike, c.requires.own) at c.add_some_pairs.ensures.totals))

@@ -1,10 +1,142 @@
-use Rattle.std.proofs.Common.{refl, arith}
-use Rattle.lj_tile.proofs.RowLemmas.{rows_start}
+use Rattle.std.proofs.Common.{◌≡◌, ◌≤◌, ◌<◌, ◌-◌, ◌^◌, ℕ, length, true, false, bit_and, min, refl, ap, sym, ◌∙◌, inl, inr, w64, slice_index_or, arith}
+use Rattle.std.specs.Int.{bit_at, bit_not}
+use Rattle.std.proofs.lemmas.Bool.{cases_eq}
+use Rattle.std.proofs.lemmas.Bool.Decides.{nat_tests}
+use Rattle.std.proofs.lemmas.Nat.Bits.{bit_at_and, bit_at_not, bit_at-lt}
+use Rattle.std.proofs.lemmas.List.{get_or-replicate}
+use Rattle.lj_ring.specs.declared.mixes.Class.{Class}
+use Rattle.lj_ring.specs.declared.mixes.Species.{Species}
+use Rattle.lj_ring.specs.declared.mixes.Species.TheVariants.{First, Second}
+use Rattle.lj_ring.specs.Mix.{Mix, class_of}
+use Rattle.lj_ring.proofs.MixLemmas.{class_symmetric}
+use Rattle.lj_tile.specs.Block.{Block}
+use Rattle.lj_tile.specs.Species.{species_at, is_in}
+use Rattle.lj_tile.specs.Task.{Task}
+use Rattle.lj_tile.specs.Pushes.{no_push}
+use Rattle.lj_tile.specs.Pairs.{AreRowsOf, scale_between}
+use Rattle.lj_tile.proofs.RowSums.{of_one, of_other, of_none, IsOfOne, IsSilentRow, AreAllSums, all_firsts, all_seconds}
 use Rattle.lj_tile.proofs.sums.sum_pairs.Goals as goal
 
-pub loop-t-init : goal.loop-t-init
-loop-t-init c = record {
-  room = refl;
-  done = λ k below. absurd (omega (arith, below));
-  rows = rows_start c.args.task.now c.second.ensures.sound.most_second;
+-- a bit of the rows without those of a set, and of those of the set
+split_bits : (rows set t : ℕ) → set < 2 ^ 64 → t < 64
+    → bit_at (bit_and rows (18446744073709551615 - set)) t ≡ min (bit_at rows t) (1 - bit_at set t)
+split_bits rows set t small h = bit_at_and rows (bit_not w64 set) t ∙ ap (min (bit_at rows t)) (bit_at_not w64 set t small h)
+
+of_first : (set t : ℕ) → bit_at set t ≡ 0 → species_at set t ≡ First
+of_first set t e = let f : is_in set t ≡ false = rw e (grind (arith, nat_tests)) in rw f refl
+
+of_second : (set t : ℕ) → bit_at set t ≡ 1 → species_at set t ≡ Second
+of_second set t e = let f : is_in set t ≡ true = rw e (grind (arith, nat_tests)) in rw f refl
+
+-- the rows of atoms of the first species
+first_rows : (w : Task) (rows set : ℕ) → set < 2 ^ 64 → length w.a.places ≤ 64 → set ≡ w.a.seconds
+    → ((t : ℕ) → bit_at rows t ≡ 1 → t < length w.a.places) → AreRowsOf w First (bit_and rows (18446744073709551615 - set))
+first_rows w rows set small few e within = record {
+  within = λ t one. within t (in_rows t one);
+  species = λ t one.
+      let h : t < 64 = omega (arith, few, within t (in_rows t one)) in
+      let bits = split_bits rows set t small h in
+      rw (sym e) (of_first set t (omega (arith, bits, one)));
 }
+  where
+    in_rows : (t : ℕ) → bit_at (bit_and rows (18446744073709551615 - set)) t ≡ 1 → bit_at rows t ≡ 1
+    in_rows t one =
+        let both = bit_at_and rows (bit_not w64 set) t in
+        omega (arith, both, one, bit_at-lt rows t, bit_at-lt (bit_not w64 set) t)
+
+second_rows : (w : Task) (rows set : ℕ) → set ≡ w.a.seconds
+    → ((t : ℕ) → bit_at rows t ≡ 1 → t < length w.a.places) → AreRowsOf w Second (bit_and rows set)
+second_rows w rows set e within = record {
+  within = λ t one.
+      let both = bit_at_and rows set t in
+      within t (omega (arith, both, one, bit_at-lt rows t, bit_at-lt set t));
+  species = λ t one.
+      let both = bit_at_and rows set t in
+      rw (sym e) (of_second set t (omega (arith, both, one, bit_at-lt rows t, bit_at-lt set t)));
+}
+
+-- each row is in one of the two, or silent
+of_either : (w : Task) (rows set t : ℕ) → set < 2 ^ 64 → t < 64 → (bit_at rows t ≡ 0 → IsSilentRow w t)
+    → IsOfOne (bit_and rows (18446744073709551615 - set)) (bit_and rows set) t (IsSilentRow w t)
+of_either w rows set t small h silent =
+    let bits = split_bits rows set t small h in
+    let both = bit_at_and rows set t in
+    elim (cases_eq (bit_at rows t) 1) [
+      | inl one ↦ elim (cases_eq (bit_at set t) 1) [
+        | inl second ↦ of_other (omega (arith, bits, one, second)) (omega (arith, both, one, second))
+        | inr other ↦
+            let first : bit_at set t ≡ 0 = omega (arith, other, bit_at-lt set t) in
+            of_one (omega (arith, bits, one, first)) (omega (arith, both, one, first))
+      ]
+      | inr other ↦
+          let none : bit_at rows t ≡ 0 = omega (arith, other, bit_at-lt rows t) in
+          of_none (omega (arith, bits, none)) (omega (arith, both, none)) (silent none)
+    ]
+
+pub add_rows-requires-clause-rows : goal.add_rows-requires-clause-rows
+add_rows-requires-clause-rows c =
+    first_rows c.args.task.now c.near_rows-rows.result c.seconds-seconds.result (omega arith) c.first.ensures.sound.most_first
+    (c.seconds-seconds.ensures ∙ ap (λ (block : Block). block.seconds) c.first-2.ensures.value) c.near_rows-rows.ensures.within
+
+pub add_rows-requires-2-clause-rows : goal.add_rows-requires-2-clause-rows
+add_rows-requires-2-clause-rows c =
+    second_rows c.args.task.now c.near_rows-rows.result c.seconds-seconds.result
+    (c.seconds-seconds.ensures ∙ ap (λ (block : Block). block.seconds) c.first-2.ensures.value) c.near_rows-rows.ensures.within
+
+scale_is : (mix other : Mix) (class : Class) (own of : Species) → class ≡ class_of mix own of → mix ≡ other
+    → class.scale ≡ (class_of other own of).scale
+scale_is mix other class own of e f = ap (λ (k : Class). k.scale) (e ∙ ap (λ m. class_of m own of) f)
+
+firsts_are : (c : goal.After-read_sums-2) → c.places-first.result.now ≡ c.args.task.now.a.places
+firsts_are c = c.places-first.ensures.value ∙ ap (λ (block : Block). block.places) c.first.ensures.value
+
+seconds_are : (c : goal.After-read_sums-2) → c.places-second.result.now ≡ c.args.task.now.b.places
+seconds_are c = c.places-second.ensures.value ∙ ap (λ (block : Block). block.places) c.second.ensures.value
+
+all_sums : (c : goal.After-read_sums-2)
+    → AreAllSums c.args.task.now (scale_between c.args.task.now First First) (scale_between c.args.task.now First Second)
+    (scale_between c.args.task.now Second Second)
+    (bit_and c.near_rows-rows.result (18446744073709551615 - c.seconds-seconds.result))
+    (bit_and c.near_rows-rows.result c.seconds-seconds.result) c.add_rows.new.of_firsts c.add_rows.new.of_seconds
+    c.add_rows-2.new.of_firsts c.add_rows-2.new.of_seconds c.none.result c.add_rows.new.sums c.add_rows-2.new.sums
+    c.add_all.new.sums c.add_all-2.new.sums c.add_all-3.new.sums
+all_sums c =
+    let w = c.args.task.now in
+    let like = scale_is c.mix-mix.result.now w.mix c.class-class.result.now First First c.class-class.ensures.value c.mix-mix.ensures in
+    let unlike = scale_is c.mix-mix.result.now w.mix c.class-class-2.result.now First Second c.class-class-2.ensures.value c.mix-mix.ensures in
+    let others = scale_is c.mix-mix.result.now w.mix c.class-class-3.result.now Second Second c.class-class-3.ensures.value c.mix-mix.ensures in
+    let turned : scale_between w Second First ≡ scale_between w First Second =
+    ap (λ (k : Class). k.scale) (class_symmetric w.mix Second First) in
+    record {
+      rows = rw (c.new-like.ensures, c.new-unlike.ensures) at c.add_rows.ensures.sums;
+      more_rows = rw (turned, c.new-others.ensures) at c.add_rows-2.ensures.sums;
+      like_pairs = rw (like, firsts_are c, seconds_are c) at c.add_all.ensures;
+      unlike_pairs = rw (unlike, firsts_are c, seconds_are c) at c.add_all-2.ensures;
+      other_pairs = rw (others, firsts_are c, seconds_are c) at c.add_all-3.ensures;
+      firsts = λ t h. ap (λ l. slice_index_or l t no_push) c.none.ensures.first ∙ get_or-replicate 64 t no_push no_push h;
+      seconds = λ s h. ap (λ l. slice_index_or l s no_push) c.none.ensures.second ∙ get_or-replicate 64 s no_push no_push h;
+      first_ring = c.read_sums.ensures;
+      second_ring = c.read_sums-2.ensures;
+    }
+
+either : (c : goal.After-read_sums-2) (t : ℕ) → t < length c.args.task.now.a.places
+    → IsOfOne (bit_and c.near_rows-rows.result (18446744073709551615 - c.seconds-seconds.result))
+    (bit_and c.near_rows-rows.result c.seconds-seconds.result) t (IsSilentRow c.args.task.now t)
+either c t within =
+    of_either c.args.task.now c.near_rows-rows.result c.seconds-seconds.result t (omega arith)
+    (omega (arith, within, c.first.ensures.sound.most_first)) (c.near_rows-rows.ensures.far t within)
+
+pub returns-clause-first : goal.returns-clause-first
+returns-clause-first c t within =
+    all_firsts c.args.task.now _ _ _ _ _ _ _ _ _ _ _ _ _ _ _ (all_sums c) t
+    (omega (arith, within, c.first.ensures.sound.most_first)) (either c t within)
+
+pub returns-clause-second : goal.returns-clause-second
+returns-clause-second c s within =
+    all_seconds c.args.task.now _ _ _ _ _ _ _ _ _ _ _ _ _ _ _ (all_sums c) s within
+    c.first.ensures.sound.most_second c.first.ensures.sound.most_first
+    (first_rows c.args.task.now c.near_rows-rows.result c.seconds-seconds.result (omega arith) c.first.ensures.sound.most_first
+    (c.seconds-seconds.ensures ∙ ap (λ (block : Block). block.seconds) c.first-2.ensures.value) c.near_rows-rows.ensures.within).within
+    (second_rows c.args.task.now c.near_rows-rows.result c.seconds-seconds.result
+    (c.seconds-seconds.ensures ∙ ap (λ (block : Block). block.seconds) c.first-2.ensures.value) c.near_rows-rows.ensures.within).within
+    (either c)

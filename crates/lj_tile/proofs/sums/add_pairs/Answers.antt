@@ -1,0 +1,18 @@
+use Rattle.std.proofs.Common.{arith}
+use Rattle.lj_tile.proofs.RowSums.{row_within}
+use Rattle.lj_tile.proofs.sums.add_pairs.Goals as goal
+
+pub append-requires-clause-row : goal.append-requires-clause-row
+append-requires-clause-row c = omega (arith, c.requires.row, c.first.ensures.sound.most_first)
+
+pub work_off-requires-clause-pairs : goal.work_off-requires-clause-pairs
+work_off-requires-clause-pairs c =
+    rw (c.places-first.ensures.value, c.first.ensures.value, c.places-second.ensures.value, c.second.ensures.value, c.append.ensures)
+    (row_within c.args.task.now.a.places c.args.task.now.b.places c.args.pairs.now c.args.t c.args.set c.requires.row
+    c.first.ensures.sound.most_second c.requires.set c.requires.pairs)
+
+pub returns-else-len-ge-FULL-clause-pairs : goal.returns-else-len-ge-FULL-clause-pairs
+returns-else-len-ge-FULL-clause-pairs c =
+    rw c.append.ensures
+    (row_within c.args.task.now.a.places c.args.task.now.b.places c.args.pairs.now c.args.t c.args.set c.requires.row
+    c.first.ensures.sound.most_second c.requires.set c.requires.pairs)

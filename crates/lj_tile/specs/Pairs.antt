@@ -1,0 +1,153 @@
+-- Lists of pairs of places, one of each block of a task, and the sums of their pushes.
+use Rattle.std.specs.Prelude.{ℕ, zero, suc, ◌+◌, ◌*◌, ◌/◌, ◌%◌, ◌^◌, ◌==◌, ◌&&◌, nat_lt, ◌≡◌, ◌<◌, List, [], ◌∷◌, ◌++◌, map, length}
+use Rattle.std.specs.Prelude.{slice_index_or, if◌then◌else◌}
+use Rattle.lj_ring.specs.Scale.{Scale}
+use Rattle.lj_ring.specs.Ring.{IsOnRing}
+use Rattle.lj_tile.specs.declared.blocks.TheConstants.{BLOCK}
+use Rattle.lj_tile.specs.declared.pairs.Push.{Push}
+use Rattle.lj_tile.specs.Pushes.{no_push, sum_of_pushes, push}
+use Rattle.std.specs.Int.{bit_at}
+use Rattle.lj_ring.specs.Mix.{class_of}
+use Rattle.lj_ring.specs.declared.mixes.Species.{Species}
+use Rattle.lj_tile.specs.Species.{is_in, species_at}
+use Rattle.lj_tile.specs.Task.{Task}
+use Rattle.lj_tile.specs.Rows.{sum_on_first, push_back}
+use Rattle.lj_tile.specs.Tiles.{place_at}
+use Rattle.lj_ring.specs.declared.coordinates.Place.{Place}
+use Rattle.lj_tile.specs.declared.sums.ForceSums.{ForceSums}
+
+-- the members of a set of numbers that are below n, in order
+unfoldable pub members : ℕ → ℕ → List ℕ
+members set zero = []
+members set (suc n) = if is_in set n then members set n ++ n ∷ [] else members set n
+
+-- the pairs of a place of the first block with a set of places of the second
+unfoldable pub row_pairs : ℕ → ℕ → List ℕ
+row_pairs t set = map (λ s. BLOCK * t + s) (members set BLOCK)
+
+-- the place of a pair in the first block
+abbrev pub first_of : ℕ → ℕ
+first_of pair = pair / BLOCK
+
+-- the place of a pair in the second block
+abbrev pub second_of : ℕ → ℕ
+second_of pair = pair % BLOCK
+
+-- the pairs are of places of two blocks
+pub record ArePairs (a b : List Place) (pairs : List ℕ) : Type 0 where
+  pub first : (i : ℕ) → i < length pairs → first_of (slice_index_or pairs i 0) < length a
+  pub second : (i : ℕ) → i < length pairs → second_of (slice_index_or pairs i 0) < length b
+
+-- the push that a pair of one class adds to the sum of place t of the first block
+abbrev pub push_on_first : Scale → (a b : List Place) → ℕ → ℕ → Push
+push_on_first u a b t pair =
+    if first_of pair == t then push u (place_at a (first_of pair)) (place_at b (second_of pair)) else no_push
+
+-- the push that a pair of one class adds to the sum of place s of the second block
+abbrev pub push_on_second : Scale → (a b : List Place) → ℕ → ℕ → Push
+push_on_second u a b s pair =
+    if second_of pair == s then push u (place_at b (second_of pair)) (place_at a (first_of pair)) else no_push
+
+-- the sum of pushes of the pairs of a list
+unfoldable pub sum_of_pairs : (ℕ → Push) → List ℕ → Push
+sum_of_pairs f [] = no_push
+sum_of_pairs f (pair ∷ pairs) = sum_of_pushes (f pair) (sum_of_pairs f pairs)
+
+-- a sum comes from an older one by the pushes of the pairs of a list
+abbrev pub IsMore : (ℕ → Push) → List ℕ → (old new : Push) → Type 0
+IsMore f pairs old new = sum_of_pushes new no_push ≡ sum_of_pushes old (sum_of_pairs f pairs)
+
+-- the sums of two blocks' places have the pushes of the pairs of a list, of one class, more
+pub record HavePushes (u : Scale) (a b : List Place) (pairs : List ℕ) (old new : ForceSums) : Type 0 where
+  pub first : (t : ℕ) → t < BLOCK
+      → IsMore (push_on_first u a b t) pairs (slice_index_or old.first t no_push) (slice_index_or new.first t no_push)
+  pub second : (s : ℕ) → s < BLOCK
+      → IsMore (push_on_second u a b s) pairs (slice_index_or old.second s no_push) (slice_index_or new.second s no_push)
+  pub firsts : length new.first ≡ length old.first
+  pub seconds : length new.second ≡ length old.second
+
+-- each place of a list lies on the ring
+abbrev pub AreOnRing : List Place → Type 0
+AreOnRing places = (k : ℕ) → k < length places → IsOnRing (place_at places k)
+
+-- a sum and the pushes of the pairs that are still to be added
+abbrev pub total : (ℕ → Push) → List ℕ → Push → Push
+total f pairs sum = sum_of_pushes sum (sum_of_pairs f pairs)
+
+-- the sums of two blocks' places with what the pairs of a list, of one class, are still to add are the same as before
+pub record HaveTotals (u : Scale) (a b : List Place) (before after : List ℕ) (old new : ForceSums) : Type 0 where
+  pub first : (t : ℕ) → t < BLOCK
+      → total (push_on_first u a b t) after (slice_index_or new.first t no_push)
+      ≡ total (push_on_first u a b t) before (slice_index_or old.first t no_push)
+  pub second : (s : ℕ) → s < BLOCK
+      → total (push_on_second u a b s) after (slice_index_or new.second s no_push)
+      ≡ total (push_on_second u a b s) before (slice_index_or old.second s no_push)
+  pub firsts : length new.first ≡ length old.first
+  pub seconds : length new.second ≡ length old.second
+
+-- a sum and the pushes of the pairs of two lists, each of one class, that are still to be added
+abbrev pub total_of_two : (f g : ℕ → Push) → (ps qs : List ℕ) → Push → Push
+total_of_two f g ps qs sum = total g qs (total f ps sum)
+
+-- the same with the pushes of row t more
+pub record HaveRow (w : Task) (u v : Scale) (t : ℕ) (ps qs ps_after qs_after : List ℕ) (old new : ForceSums) : Type 0 where
+  pub first : (k : ℕ) → k < BLOCK
+      → total_of_two (push_on_first u w.a.places w.b.places k) (push_on_first v w.a.places w.b.places k) ps_after qs_after
+      (slice_index_or new.first k no_push)
+      ≡ sum_of_pushes
+      (total_of_two (push_on_first u w.a.places w.b.places k) (push_on_first v w.a.places w.b.places k) ps qs
+      (slice_index_or old.first k no_push)) (if k == t then sum_on_first w t (length w.b.places) else no_push)
+  pub second : (s : ℕ) → s < length w.b.places
+      → total_of_two (push_on_second u w.a.places w.b.places s) (push_on_second v w.a.places w.b.places s) ps_after qs_after
+      (slice_index_or new.second s no_push)
+      ≡ sum_of_pushes
+      (total_of_two (push_on_second u w.a.places w.b.places s) (push_on_second v w.a.places w.b.places s) ps qs
+      (slice_index_or old.second s no_push)) (push_back w t s)
+  pub firsts : length new.first ≡ length old.first
+  pub seconds : length new.second ≡ length old.second
+
+-- the push of a row of a set on place s of the second block, and none of a row that is not in the set
+abbrev pub row_on_second : Task → ℕ → ℕ → ℕ → Push
+row_on_second w rows s t = if is_in rows t then push_back w t s else no_push
+
+-- the sum of the pushes on place s of the second block of those of the first n rows that are in a set
+unfoldable pub rows_on_second : Task → ℕ → ℕ → ℕ → Push
+rows_on_second w rows s zero = no_push
+rows_on_second w rows s (suc n) = sum_of_pushes (rows_on_second w rows s n) (row_on_second w rows s n)
+
+-- the sum of the pushes on place t of the first block, where it is one of the first n rows and in a set
+abbrev pub rows_on_first : Task → ℕ → ℕ → ℕ → Push
+rows_on_first w rows t n = if nat_lt t n && is_in rows t then sum_on_first w t (length w.b.places) else no_push
+
+-- the sums of a task's places with what the pairs of two lists are still to add, those with atoms of the first species and
+-- those with atoms of the second, have more by the first n rows that are in a set
+pub record HaveRows (w : Task) (u v : Scale) (rows n : ℕ) (ps qs ps_after qs_after : List ℕ) (old new : ForceSums) : Type 0 where
+  pub first : (t : ℕ) → t < BLOCK
+      → total_of_two (push_on_first u w.a.places w.b.places t) (push_on_first v w.a.places w.b.places t) ps_after qs_after
+      (slice_index_or new.first t no_push)
+      ≡ sum_of_pushes
+      (total_of_two (push_on_first u w.a.places w.b.places t) (push_on_first v w.a.places w.b.places t) ps qs
+      (slice_index_or old.first t no_push)) (rows_on_first w rows t n)
+  pub second : (s : ℕ) → s < length w.b.places
+      → total_of_two (push_on_second u w.a.places w.b.places s) (push_on_second v w.a.places w.b.places s) ps_after qs_after
+      (slice_index_or new.second s no_push)
+      ≡ sum_of_pushes
+      (total_of_two (push_on_second u w.a.places w.b.places s) (push_on_second v w.a.places w.b.places s) ps qs
+      (slice_index_or old.second s no_push)) (rows_on_second w rows s n)
+  pub firsts : length new.first ≡ length old.first
+  pub seconds : length new.second ≡ length old.second
+
+-- the rows of a set are of places of the first block whose atoms are of one species
+pub record AreRowsOf (w : Task) (own : Species) (rows : ℕ) : Type 0 where
+  pub within : (t : ℕ) → bit_at rows t ≡ 1 → t < length w.a.places
+  pub species : (t : ℕ) → bit_at rows t ≡ 1 → species_at w.a.seconds t ≡ own
+
+-- the scale of an atom of a species with one of another
+abbrev pub scale_between : Task → Species → Species → Scale
+scale_between w own other = (class_of w.mix own other).scale
+
+-- a push whose three parts lie on the ring
+pub record IsPushOnRing (p : Push) : Type 0 where
+  pub x : p.x < 2 ^ 32
+  pub y : p.y < 2 ^ 32
+  pub z : p.z < 2 ^ 32

@@ -1,0 +1,124 @@
+//! Lists of the near pairs of a task, a few rows long.
+ghost use Rattle.std.specs.Prelude.{◌≡◌, ◌≤◌, ◌<◌, ◌+◌, ◌++◌, ◌*◌, ◌-◌, ◌^◌, ◌%◌, [], length, take, drop, slice_index_or, slice_set};
+ghost use Rattle.std.specs.Prelude.{bit_and};
+ghost use Rattle.std.specs.Int.{trailing_zeros, w64};
+ghost use Rattle.lj_tile.specs.Pairs.{row_pairs};
+
+use crate::blocks::BLOCK;
+use std::marker::Model;
+use std::simd::prelude::*;
+
+/// From this many pairs on a list is to be worked off before the next row.
+pub(crate) const FULL: usize = 64;
+
+/// The most pairs of a list that is not full, those of one row, and what is written past the last.
+const ROOM: usize = FULL + BLOCK + 8;
+
+/// Pairs of places, one of each block: `BLOCK` times the first and the second. What stands behind the last says nothing.
+#[derive(Drop)]
+pub(crate) struct NearPairs {
+    count: usize,
+    pairs: [u16; ROOM],
+}
+
+impl Model for NearPairs {
+    ghost use Rattle.std.specs.Prelude.{List, ℕ, take};
+
+    ghost Value = { List ℕ };
+
+    ghost view = { λ n. take n.count n.pairs };
+
+    ghost use Rattle.std.specs.Prelude.{◌<◌, ◌+◌};
+    ghost use Rattle.lj_tile.specs.declared.near_pairs.TheConstants.{FULL};
+    ghost use Rattle.lj_tile.specs.declared.blocks.TheConstants.{BLOCK};
+
+    ghost invariant = { λ n. n.count < FULL + BLOCK };
+}
+
+impl NearPairs {
+    /// No pairs.
+    #[inline(always)]
+    pub(crate) fn new() -> NearPairs
+        ensures { result ≡ [] }
+    {
+        NearPairs {
+            count: 0,
+            pairs: [0; ROOM],
+        }
+    }
+
+    /// How many pairs there are.
+    #[inline(always)]
+    pub(crate) fn len(&self) -> usize
+        ensures value { result ≡ length self.now }
+        ensures few { result < FULL + BLOCK }
+    {
+        self.count
+    }
+
+    /// The pair of that number.
+    #[inline(always)]
+    pub(crate) fn at(&self, i: usize) -> u16
+        requires within { i < length self.now }
+        requires few { i < FULL + BLOCK }
+        ensures { result ≡ slice_index_or self.now i 0 }
+    {
+        self.pairs[i]
+    }
+
+    /// Appends the pairs of place `t` of the first block with a set of places of the second. Two at a time are written,
+    /// so one may be written past the last.
+    #[inline(always)]
+    pub(crate) fn append(&mut self, t: usize, set: u64)
+        requires room { length self.old < FULL }
+        requires row { t < BLOCK }
+        ensures { self.new ≡ self.old ++ row_pairs t set }
+    {
+        let row = (BLOCK * t) as u16;
+        let from = self.count;
+        let end = from + set.count_ones() as usize;
+        let mut rest = put(&mut self.pairs, from, row, set);
+        rest = put(&mut self.pairs, from + 1, row, rest);
+        let mut at = from + 2;
+        while at < end {
+            rest = put(&mut self.pairs, at, row, rest);
+            rest = put(&mut self.pairs, at + 1, row, rest);
+            at += 2;
+        }
+        self.count = end;
+    }
+
+    /// Drops the pairs before that number, which leaves fewer than eight.
+    #[inline(always)]
+    pub(crate) fn keep_from(&mut self, from: usize)
+        requires within { from ≤ length self.old }
+        requires left { length self.old < from + 8 }
+        requires few { length self.old < FULL + BLOCK }
+        ensures { self.new ≡ drop from self.old }
+    {
+        let left = eight_from(&self.pairs, from);
+        left.copy_to_slice(&mut self.pairs);
+        self.count -= from;
+    }
+}
+
+/// Eight pairs from that number on.
+#[inline(always)]
+fn eight_from(pairs: &[u16; ROOM], from: usize) -> u16x8
+    requires { from + 8 ≤ ROOM }
+    ensures { result ≡ take 8 (drop from pairs.now) }
+{
+    u16x8::from_slice(&pairs[from..])
+}
+
+/// Writes the pair of the least member of `rest`, and gives the others.
+#[inline(always)]
+fn put(pairs: &mut [u16; ROOM], at: usize, row: u16, rest: u64) -> u64
+    requires room { at < ROOM }
+    requires fits { row ≤ BLOCK * BLOCK }
+    ensures written { pairs.new ≡ slice_set pairs.old at (row + trailing_zeros w64 rest % BLOCK) }
+    ensures others { result ≡ bit_and rest ((rest + (2 ^ 64 - 1)) % 2 ^ 64) }
+{
+    pairs[at] = row + (rest.trailing_zeros() % 64) as u16;
+    rest & rest.wrapping_sub(1)
+}
