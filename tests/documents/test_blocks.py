@@ -450,6 +450,13 @@ BLOCKS = {
         "python3 -m ljclient view --listen": "clients/python/tests/test_view_listening.py begins it, at a port that is free",
         "from ljclient import": after_the_lesson,
     },
+    "docs/PROOFS.md": {
+        "pub fn image": stands_in("crates/lj_ring/src/coordinates.rt"),
+        "-- z is the least image": stands_in("crates/lj_ring/specs/Ring.antt"),
+        "pub fn steps_are_undone": stands_in("crates/lj_step/src/laws.rt"),
+        "pub fn hello": stands_in("crates/lj_access/src/directory.rt"),
+        "bin/ljserve --version": NEEDS_KIT,
+    },
     "docs/PROTOCOL.md": {
         LOADED: first_dialogue,
         "2\nstep 1": is_frame_after(1),
@@ -458,17 +465,6 @@ BLOCKS = {
         "OK DUMP a 2 4": is_frame_after(2),
         "TUG a 0 -2147483648": is_dialogue(LOADED),
         "ljserve run": runs(),
-    },
-    "docs/READING.md": {
-        "pub fn image": stands_in("crates/lj_ring/src/coordinates.rt"),
-        "-- z is the least image": stands_in("crates/lj_ring/specs/Ring.antt"),
-        "pub fn steps_are_undone": stands_in("crates/lj_step/src/laws.rt"),
-        "pub fn hello": stands_in("crates/lj_access/src/directory.rt"),
-        "pub fn visit": stands_in("crates/lj_visit/src/visiting.rt"),
-        "  pub greets": stands_in("crates/lj_visit/specs/Visits.antt"),
-        "  pub seen": stands_in("crates/lj_visit/specs/Visits.antt"),
-        "  pub happens": stands_in("crates/lj_visit/specs/Visits.antt"),
-        "bin/ljserve --version": NEEDS_KIT,
     },
     "docs/SCHEDULES.md": {
         "bin/ljserve replay": runs(),

@@ -116,11 +116,6 @@ def versions_agree(setting: Setting) -> None:
     setting.expect("which its package tells", b'version = {attr = "ljclient.__version__"}\n' in project, newest)
 
 
-def the_list_of_wrong_bodies_follows_the_edits(setting: Setting) -> None:
-    done = subprocess.run([os.path.join(TOP, "bin", "wrong_bodies"), "--check"], capture_output=True, timeout=SECONDS)
-    setting.expect("docs/WRONG_BODIES.md is what bin/wrong_bodies writes", done.returncode == 0, done)
-
-
 TESTS = (
     the_version_tells_kit_and_commit,
     a_release_needs_no_toolchain,
@@ -128,5 +123,4 @@ TESTS = (
     a_look_tells_the_status_of_the_program,
     a_look_answers_before_any_proof,
     versions_agree,
-    the_list_of_wrong_bodies_follows_the_edits,
 )

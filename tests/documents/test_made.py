@@ -1,0 +1,112 @@
+"""Parts of documents that bin/documents makes: each is what the sources give, and what is written by hand stays short."""
+import importlib.util
+import re
+import subprocess
+import sys
+from importlib.machinery import SourceFileLoader
+
+import pytest
+from blocks import TOP
+
+sys.path.insert(0, str(TOP / "bin"))
+
+
+def script(name):
+    """A command of bin/ as a module."""
+    spec = importlib.util.spec_from_loader(name, SourceFileLoader(name, str(TOP / "bin" / name)))
+    module = importlib.util.module_from_spec(spec)
+    spec.loader.exec_module(module)
+    return module
+
+
+documents = script("documents")
+MADE = re.compile(r"<!-- made by (\S+): begin (.*?) -->\n.*?<!-- made by \1: end \2 -->\n", re.S)
+WITH_PARTS = sorted(path for path in (TOP / "docs").glob("*.md") if documents.PART.search(path.read_text()))
+# The most bytes of a document that are written by hand.
+MOST_BY_HAND = {"docs/PROOFS.md": 8192}
+MOST_OF_ALL = 357_000
+
+
+def by_hand(path):
+    return len(MADE.sub("", path.read_text()).encode())
+
+
+def rows(text):
+    """The rows of a table without its head, each as its cells."""
+    return [line.strip("|").strip().split(" | ") for line in text.splitlines()[2:]]
+
+
+@pytest.mark.parametrize("path", WITH_PARTS, ids=lambda path: path.name)
+def test_each_part_is_what_the_sources_give(path):
+    text = path.read_text()
+    assert documents.made_anew(text) == text, "run bin/documents"
+
+
+@pytest.mark.parametrize("path", WITH_PARTS, ids=lambda path: path.name)
+def test_each_mark_has_its_other_one(path):
+    assert path.read_text().count("<!-- made by") == 2 * len(MADE.findall(path.read_text()))
+
+
+def test_a_part_that_is_not_that_is_told(monkeypatch, tmp_path, capsys):
+    (tmp_path / "docs").mkdir()
+    begin, end = (f"<!-- made by bin/documents: {word} contract crates/lj_quota/src/lib.rt may_branch -->\n" for word in ("begin", "end"))
+    (tmp_path / "docs" / "A.md").write_text(f"# A\n\n{begin}{end}")
+    monkeypatch.setattr(documents, "TOP", tmp_path)
+    monkeypatch.setitem(documents.MAKERS, "contract", lambda path, name: f"{path} {name}\n")
+    assert documents.main(["--check"]) == 1
+    assert capsys.readouterr().out == "docs/A.md: bin/documents makes another text of it\n"
+    assert (documents.main([]), documents.main(["--check"])) == (0, 0)
+    assert (tmp_path / "docs" / "A.md").read_text() == f"# A\n\n{begin}\ncrates/lj_quota/src/lib.rt may_branch\n\n{end}"
+
+
+def test_each_promise_has_its_row():
+    lines = [line for path in TOP.glob("crates/*/src/**/*.rt") for line in path.read_text().splitlines() if "/// Promise: " in line]
+    found = rows(documents.promises())
+    assert len(found) == len(lines) > 60
+    assert [promise for crate, name, promise in found if name == "`laws::steps_are_undone`"] == [
+        "for every n and every simulation, n steps, a reversal, n steps and a reversal give back the simulation"
+    ]
+
+
+def test_each_file_of_definitions_has_its_row():
+    files = {f"`{path.parts[-3]}/specs/{path.stem}`" for path in TOP.glob("crates/*/specs/*.antt") if path.stem != "Lib"}
+    found = rows(documents.definitions())
+    assert {name for name, _ in found} == files and len(found) == len(files)
+    assert all(text for _, text in found)
+
+
+def test_each_crate_stands_on_those_below():
+    found = {name.strip("`"): below for name, _, below in rows(documents.crates())}
+    assert set(found) == {path.parent.name for path in TOP.glob("crates/*/src")}
+    assert (found["lj_fixed"], found["lj_tile"]) == ("-", "`lj_table`")
+    assert found["lj_serve"] == "`lj_queue`, `lj_visit`, `lj_world`"
+
+
+def test_limits_are_numbers():
+    """Of some of them, by arithmetic: those that are sums, and powers of two and of ten."""
+    found = {name: value for _, value, name in rows(documents.limits())}
+    constants = [line for path in TOP.glob("crates/*/src/**/*.rt") for line in path.read_text().splitlines()]
+    assert len(found) == len([line for line in constants if re.match(r"(pub(\(crate\))? )?const (MAX|MIN)_", line)])
+    assert found["`lj_xyz::writer::MAX_LINE_BYTES`"] == str(16 + 3 * (1 + 32))
+    assert found["`lj_ring::scales::MAX_STEP_FACTOR`"] == f"{2**24:,}"
+    assert found["`lj_ring::scales::MAX_EDGE`"] == f"{10**15:,}"
+
+
+def test_each_wrong_body_is_listed():
+    done = subprocess.run([TOP / "bin" / "wrong_bodies"], capture_output=True, text=True, timeout=120, check=True)
+    for kind, cell in (("must-fail", 1), ("planted", 2)):
+        told = [
+            name for row in done.stdout.splitlines() if row.startswith("| `") for name in row.split(" | ")[cell].strip("| ").split("; ")
+        ]
+        edits = [path.stem.replace("_", " ") for path in TOP.glob(f"crates/*/{kind}/*.edit")]
+        assert sorted(filter(None, told)) == sorted(edits)
+
+
+@pytest.mark.parametrize("name", MOST_BY_HAND)
+def test_what_is_written_by_hand_is_short(name):
+    assert by_hand(TOP / name) <= MOST_BY_HAND[name]
+
+
+def test_all_that_is_written_by_hand():
+    listed = subprocess.run(["git", "-C", TOP, "ls-files", "*.md"], capture_output=True, text=True, check=True).stdout.split()
+    assert sum(by_hand(TOP / name) for name in listed) <= MOST_OF_ALL
