@@ -465,11 +465,8 @@ BLOCKS = {
         "OK DUMP a 2 4": is_frame_after(2),
         "TUG a 0 -2147483648": is_dialogue(LOADED),
         "ljserve run": runs(),
-    },
-    "docs/SCHEDULES.md": {
         "bin/ljserve replay": runs(),
         "A 1 OK LOAD c": is_printed_by("bin/ljserve replay examples/two_users.schedule"),
-        "A 1 OK LOAD a": is_printed_by("bin/ljserve replay examples/side_by_side.schedule"),
         "user NAME": FORM,
     },
     "docs/SERVER.md": {

@@ -4,6 +4,8 @@ import re
 import subprocess
 import sys
 from importlib.machinery import SourceFileLoader
+from pathlib import Path
+from typing import Any, List
 
 import pytest
 from blocks import TOP
@@ -11,11 +13,13 @@ from blocks import TOP
 sys.path.insert(0, str(TOP / "bin"))
 
 
-def script(name):
+def script(name: str) -> Any:
     """A command of bin/ as a module."""
-    spec = importlib.util.spec_from_loader(name, SourceFileLoader(name, str(TOP / "bin" / name)))
+    loader = SourceFileLoader(name, str(TOP / "bin" / name))
+    spec = importlib.util.spec_from_loader(name, loader)
+    assert spec is not None
     module = importlib.util.module_from_spec(spec)
-    spec.loader.exec_module(module)
+    loader.exec_module(module)
     return module
 
 
@@ -23,31 +27,31 @@ documents = script("documents")
 MADE = re.compile(r"<!-- made by (\S+): begin (.*?) -->\n.*?<!-- made by \1: end \2 -->\n", re.S)
 WITH_PARTS = sorted(path for path in (TOP / "docs").glob("*.md") if documents.PART.search(path.read_text()))
 # The most bytes of a document that are written by hand.
-MOST_BY_HAND = {"docs/PROOFS.md": 8192, "docs/ARCHITECTURE.md": 8192, "docs/FILES.md": 1024}
-MOST_OF_ALL = 336_500
+MOST_BY_HAND = {"docs/PROOFS.md": 8192, "docs/ARCHITECTURE.md": 8192, "docs/PROTOCOL.md": 26_000, "docs/FILES.md": 1024}
+MOST_OF_ALL = 330_000
 
 
-def by_hand(path):
+def by_hand(path: Path) -> int:
     return len(MADE.sub("", path.read_text()).encode())
 
 
-def rows(text):
+def rows(text: str) -> List[List[str]]:
     """The rows of a table without its head, each as its cells."""
     return [line.strip("|").strip().split(" | ") for line in text.splitlines()[2:]]
 
 
-@pytest.mark.parametrize("path", WITH_PARTS, ids=lambda path: path.name)
-def test_each_part_is_what_the_sources_give(path):
+@pytest.mark.parametrize("path", WITH_PARTS, ids=[path.name for path in WITH_PARTS])
+def test_each_part_is_what_the_sources_give(path: Path) -> None:
     text = path.read_text()
     assert documents.made_anew(text) == text, "run bin/documents"
 
 
-@pytest.mark.parametrize("path", WITH_PARTS, ids=lambda path: path.name)
-def test_each_mark_has_its_other_one(path):
+@pytest.mark.parametrize("path", WITH_PARTS, ids=[path.name for path in WITH_PARTS])
+def test_each_mark_has_its_other_one(path: Path) -> None:
     assert path.read_text().count("<!-- made by") == 2 * len(MADE.findall(path.read_text()))
 
 
-def test_a_part_that_is_not_that_is_told(monkeypatch, tmp_path, capsys):
+def test_a_part_that_is_not_that_is_told(monkeypatch: pytest.MonkeyPatch, tmp_path: Path, capsys: pytest.CaptureFixture[str]) -> None:
     (tmp_path / "docs").mkdir()
     begin, end = (f"<!-- made by bin/documents: {word} contract crates/lj_quota/src/lib.rt may_branch -->\n" for word in ("begin", "end"))
     (tmp_path / "docs" / "A.md").write_text(f"# A\n\n{begin}{end}")
@@ -59,7 +63,7 @@ def test_a_part_that_is_not_that_is_told(monkeypatch, tmp_path, capsys):
     assert (tmp_path / "docs" / "A.md").read_text() == f"# A\n\n{begin}\ncrates/lj_quota/src/lib.rt may_branch\n\n{end}"
 
 
-def test_each_promise_has_its_row():
+def test_each_promise_has_its_row() -> None:
     lines = [line for path in TOP.glob("crates/*/src/**/*.rt") for line in path.read_text().splitlines() if "/// Promise: " in line]
     found = rows(documents.promises())
     assert len(found) == len(lines) > 60
@@ -68,21 +72,21 @@ def test_each_promise_has_its_row():
     ]
 
 
-def test_each_file_of_definitions_has_its_row():
+def test_each_file_of_definitions_has_its_row() -> None:
     files = {f"`{path.parts[-3]}/specs/{path.stem}`" for path in TOP.glob("crates/*/specs/*.antt") if path.stem != "Lib"}
     found = rows(documents.definitions())
     assert {name for name, _ in found} == files and len(found) == len(files)
     assert all(text for _, text in found)
 
 
-def test_each_crate_stands_on_those_below():
+def test_each_crate_stands_on_those_below() -> None:
     found = {name.strip("`"): below for name, _, below in rows(documents.crates())}
     assert set(found) == {path.parent.name for path in TOP.glob("crates/*/src")}
     assert (found["lj_fixed"], found["lj_tile"]) == ("-", "`lj_table`")
     assert found["lj_serve"] == "`lj_queue`, `lj_visit`, `lj_world`"
 
 
-def test_limits_are_numbers():
+def test_limits_are_numbers() -> None:
     """Of some of them, by arithmetic: those that are sums, and powers of two and of ten."""
     found = {name: value for _, value, name in rows(documents.limits())}
     constants = [line for path in TOP.glob("crates/*/src/**/*.rt") for line in path.read_text().splitlines()]
@@ -92,7 +96,17 @@ def test_limits_are_numbers():
     assert found["`lj_ring::scales::MAX_EDGE`"] == f"{10**15:,}"
 
 
-def test_each_wrong_body_is_listed():
+def test_each_refusal_has_its_row() -> None:
+    """The numbers and names are those of the definitions."""
+    text = "".join((TOP / "crates" / "lj_session" / "specs" / f"{name}.antt").read_text() for name in ("Refusals", "Faults"))
+    numbers = dict(re.findall(r"^(?:refusal|xyz)_number \(?(?:kind\.)?(\w+).* = (\d+)$", text, re.M))
+    names = dict(re.findall(r'^(?:refusal|xyz)_name \(?(?:kind\.)?(\w+).* = codes "(\w+)"$', text, re.M))
+    assert [(f"{int(number):02}", name) for number, name, _ in rows(documents.refusals())] == sorted(
+        (f"{int(numbers[each]):02}", names[each]) for each in names
+    )
+
+
+def test_each_wrong_body_is_listed() -> None:
     done = subprocess.run([TOP / "bin" / "wrong_bodies"], capture_output=True, text=True, timeout=120, check=True)
     for kind, cell in (("must-fail", 1), ("planted", 2)):
         told = [
@@ -103,10 +117,10 @@ def test_each_wrong_body_is_listed():
 
 
 @pytest.mark.parametrize("name", MOST_BY_HAND)
-def test_what_is_written_by_hand_is_short(name):
+def test_what_is_written_by_hand_is_short(name: str) -> None:
     assert by_hand(TOP / name) <= MOST_BY_HAND[name]
 
 
-def test_all_that_is_written_by_hand():
+def test_all_that_is_written_by_hand() -> None:
     listed = subprocess.run(["git", "-C", TOP, "ls-files", "*.md"], capture_output=True, text=True, check=True).stdout.split()
     assert sum(by_hand(TOP / name) for name in listed) <= MOST_OF_ALL
