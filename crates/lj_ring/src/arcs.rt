@@ -24,6 +24,8 @@ pub struct Arcs {
 impl Arcs {
     /// The arcs of some places, at least one: along each axis from the least image of their coordinates from the first
     /// one's to the greatest.
+    ///
+    /// Promise: the arcs hold each of the places, along each axis.
     pub fn of(places: &[Place]) -> Arcs
         requires { 1 ≤ length places.now }
         ensures value { result ≡ arcs.arcs_of places.now }
@@ -53,6 +55,8 @@ impl Arcs {
 }
 
 /// The gap between two arcs, in ring units, the shorter way round: 0 where they meet, and at most 2^31.
+///
+/// Promise: the gap of two arcs is at most the size of the image of any two coordinates on them.
 #[inline]
 pub fn gap(a: &Arc, b: &Arc) -> u32
     ensures value { result ≡ arcs.gap a.now b.now }

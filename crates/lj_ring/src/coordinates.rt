@@ -15,6 +15,8 @@ pub struct Place {
 }
 
 /// The least image of `to - from`, in ring units: the difference round the ring that is nearest to 0.
+///
+/// Promise: the result is the difference of the two that is nearest to 0 round the ring.
 #[inline]
 pub fn image(to: u32, from: u32) -> i32
     ensures value { result ≡ ring.image to from }
@@ -34,6 +36,8 @@ fn square(image: i32) -> u64
 }
 
 /// The squared distance of two places, in square ring units, at most 3 * 2^62.
+///
+/// Promise: the result is the sum of the squares of the three images.
 #[inline]
 pub fn dist2(a: &Place, b: &Place) -> u64
     ensures value { result ≡ ring.distance a.now b.now }
@@ -45,6 +49,8 @@ pub fn dist2(a: &Place, b: &Place) -> u64
 }
 
 /// The coordinate of a position in nano: `floor(position * 2^32 / edge)` round the ring.
+///
+/// Promise: the result is floor(position * 2^32 / edge) round the ring.
 pub fn place_of(position: Nano, edge: &Edge) -> u32
     ensures { result ≡ places.place_of edge.now position }
 {
@@ -55,6 +61,8 @@ pub fn place_of(position: Nano, edge: &Edge) -> u32
 }
 
 /// The coordinate of a place in millionths of a file unit: `floor(place * edge / (2^32 * 1000))`.
+///
+/// Promise: the result is floor(place * edge / (2^32 * 1000)).
 pub fn micro_of(place: u32, edge: &Edge) -> u64
     ensures { result ≡ places.micro_of edge.now place }
 {

@@ -163,6 +163,8 @@ impl Mix {
     ///
     /// # Errors
     /// The first class that does not fit, with the first of edge, sigma, step factor and weight that does not.
+    ///
+    /// Promise: the result is the mixture, or the first fault of the first class that has one.
     pub fn new(classes: [(Nano, u64, u64); 3], edge: Nano) -> Result<Mix, MixFault>
         ensures { (first unlike second : ℤ × ℕ × ℕ) → classes ≡ first ∷ unlike ∷ second ∷ [] →
             result ≡ mixture_of edge first unlike second }
@@ -194,6 +196,8 @@ impl Mix {
     }
 
     /// The class of two atoms by their species, in either order.
+    ///
+    /// Promise: the class of two atoms is that of their species, in either order.
     #[inline]
     pub fn class(&self, one: Species, other: Species) -> &Class
         ensures value { result.now ≡ class_of self.now one other }
@@ -208,6 +212,8 @@ impl Mix {
 
     /// The least squared distance out of reach of all pairs, in square ring units: that of the class of the greatest
     /// sigma. No pair that interacts lies half the box apart.
+    ///
+    /// Promise: some pair can interact exactly below this squared distance.
     #[inline]
     pub fn reach(&self) -> u64
         ensures value { (s : ℕ) → can_interact self.now s ≡ nat_lt s result }

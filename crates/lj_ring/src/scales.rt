@@ -145,6 +145,8 @@ impl Model for Scale {
 impl Scale {
     /// The scale of an edge and a sigma in nano, and a step factor `h` in units of 2^-32, 1 to 2^24.
     /// The edge is tested first, then sigma, then the step factor.
+    ///
+    /// Promise: the result is the scale, or the first fault of edge, sigma and step factor.
     pub fn new(edge: Nano, sigma: Nano, h: u64) -> Result<Scale, ScaleFault>
         ensures { result ≡ scale_of edge sigma h }
     {
@@ -186,6 +188,8 @@ impl Scale {
 
     /// The least squared distance out of reach, in square ring units: from it on no pair interacts, and each does below
     /// it.
+    ///
+    /// Promise: a pair is within the cutoff exactly below this squared distance.
     #[inline]
     pub fn reach(&self) -> u64
         ensures value { (s : ℕ) → is_in_cutoff self.now s ≡ nat_lt s result }
@@ -196,6 +200,8 @@ impl Scale {
 
     /// The bins of eight pairs whose images have these lengths along the axes, in ring units, and [`BINS`] of those that do
     /// not interact.
+    ///
+    /// Promise: each bin is that of its pair's squared distance, and 800 out of reach.
     #[inline(always)]
     pub fn bins(&self, x: u32x8, y: u32x8, z: u32x8) -> u32x8
         ensures value { (k : ℕ) → k < 8 → slice_index result k

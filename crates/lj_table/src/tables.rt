@@ -46,6 +46,8 @@ impl Table {
     }
 
     /// The push of a pair at squared distance `s` (square ring units), in units of 2^-24; 0 out of reach.
+    ///
+    /// Promise: the result is the entry of the pair's bin, and 0 out of reach.
     #[inline]
     pub fn push(&self, s: u64, scale: &Scale) -> i64
         ensures value { result ≡ push_at scale.now s }
@@ -56,6 +58,8 @@ impl Table {
 
     /// The sizes of the pushes of eight bins, in units of 2^-24, and 0 of bin [`BINS`]. Up to bin [`LAST_APART`] a push
     /// drives two atoms apart, and from the next on together.
+    ///
+    /// Promise: each number is the size of its bin's entry, whose sign the bin tells.
     #[inline(always)]
     pub fn push_sizes(&self, bins: u32x8) -> u64x8
         requires { (k : ℕ) → k < 8 → slice_index bins k ≤ BINS }
@@ -70,6 +74,8 @@ impl Table {
 
     /// The energy of a pair at squared distance `s` (square ring units) by its weight, in units of 2^-24 ε and toward
     /// zero; 0 out of reach.
+    ///
+    /// Promise: the result is the entry of the pair's bin by the weight, toward zero, and 0 out of reach.
     #[inline]
     pub fn energy(&self, s: u64, scale: &Scale, weight: Weight) -> i64
         ensures value { result ≡ weighted_energy weight (energy_at scale.now s) }

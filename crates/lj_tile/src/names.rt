@@ -35,6 +35,8 @@ impl Model for Name {
 
 impl Name {
     /// The name that `word` is, if it is one.
+    ///
+    /// Promise: the result is the name that the word is, if it is one.
     pub fn parse(word: &[u8]) -> Option<Name>
         ensures { result ≡ name_of word.now }
     {

@@ -45,6 +45,8 @@ impl Push {
 
 /// The push of the atom at `there` on the atom at `here`, which is the opposite of the push of the atom at `here` on the
 /// atom at `there`. Most pairs are out of reach: they end at the table's 0.
+///
+/// Promise: the result is the push of the definition, and the push the other way is its opposite.
 #[inline]
 pub fn pair_push(table: &Table, scale: &Scale, here: &Place, there: &Place) -> Push
     ensures value { result ≡ pushes.push scale.now here.now there.now }

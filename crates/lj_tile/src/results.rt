@@ -124,6 +124,8 @@ impl Done {
 }
 
 /// Computes a task. The result is of that very task.
+///
+/// Promise: the result is of that very task.
 pub fn compute(task: Task, table: &Table) -> Done
     ensures { result ≡ task }
 {
@@ -133,6 +135,8 @@ pub fn compute(task: Task, table: &Table) -> Done
 }
 
 /// Computes a task in the room of an older result. The result is of that very task.
+///
+/// Promise: the result is of that very task.
 pub fn compute_in(task: &Task, table: &Table, room: &mut Done)
     ensures { room.new ≡ task.now }
 {
