@@ -1,11 +1,11 @@
--- Which pushes drive apart, and which together.
+-- Which pushes drive apart, and which together, and which energies are positive.
 use Rattle.std.proofs.Common.{ℕ, ◌*◌, ◌^◌, ◌<◌, ◌≤◌, ◌≡◌, ℤ, pos, neg_ℤ, unsigned_abs, Bool, true, false, List, slice_index, refl, ap, ◌∙◌, arith}
 use Rattle.std.proofs.lemmas.Bool.{ltb-true, ltb-false}
 use Rattle.std.specs.Prelude.{if◌then◌else◌, nat_lt}
 use Rattle.std.proofs.lemmas.Nat.{mul-le}
 use Rattle.lj_ring.specs.declared.scales.TheConstants.{BINS}
 use Rattle.lj_ring.specs.Scale.{entry}
-use Rattle.lj_table.specs.Entries.{push_entry, centre, cell, HasSizes}
+use Rattle.lj_table.specs.Entries.{push_entry, energy_entry, centre, cell, HasSizes}
 use Rattle.lj_table.proofs.Quotients.{quotient_over, quotient_under, abs_neg}
 use Rattle.lj_table.proofs.Sizes.{cube_is}
 
@@ -36,6 +36,27 @@ unfolding push_entry
 entry_together k h =
     same_under _ _ (quotient_under (24 * 2 ^ 56) (2 ^ 25) (centre k ^ 3) (centre k ^ 7) (cube_together (centre k) (omega arith)))
 
+-- 2^24 lies between the cubes of 255 and 257
+cube_positive : (n : ℕ) → n ≤ 255 → n ^ 3 ≤ 2 ^ 24
+cube_positive n h =
+    let most : n * n * n ≤ 255 * 255 * 255 = mul-le (n * n) n (255 * 255) 255 (mul-le n n 255 255 h h) h in
+    rw (cube_is n) (omega (arith, most))
+
+cube_negative : (n : ℕ) → 257 ≤ n → 2 ^ 24 < n ^ 3
+cube_negative n h =
+    let least : 257 * 257 * 257 ≤ n * n * n = mul-le (257 * 257) 257 (n * n) n (mul-le 257 257 n n h h) h in
+    rw (cube_is n) (omega (arith, least))
+
+entry_positive : (k : ℕ) → k ≤ 127 → energy_entry k ≡ pos (unsigned_abs (energy_entry k))
+unfolding energy_entry
+entry_positive k h =
+    same_over _ _ (quotient_over (2 ^ 50) (2 ^ 24) (centre k ^ 3) (centre k ^ 6) (cube_positive (centre k) (omega arith)))
+
+entry_negative : (k : ℕ) → 127 < k → energy_entry k ≡ neg_ℤ (pos (unsigned_abs (energy_entry k)))
+unfolding energy_entry
+entry_negative k h =
+    same_under _ _ (quotient_under (2 ^ 50) (2 ^ 24) (centre k ^ 3) (centre k ^ 6) (cube_negative (centre k) (omega arith)))
+
 apart_if : (t : Bool) (z : ℤ) → z ≡ pos (unsigned_abs z)
     → (if t then z else pos 0) ≡ pos (unsigned_abs (if t then z else pos 0))
 apart_if true z e = e
@@ -53,15 +74,22 @@ cell_apart k h = apart_if (nat_lt k BINS) (push_entry (entry k)) (entry_apart (e
 pub cell_together : (k : ℕ) → 160 < k → cell push_entry k ≡ neg_ℤ (pos (unsigned_abs (cell push_entry k)))
 cell_together k h = together_if (nat_lt k BINS) (push_entry (entry k)) (entry_together (entry k) (omega arith))
 
+-- a cell up to the last bin of positive energies is its size, and from the next on the opposite of its size
+pub cell_positive : (k : ℕ) → k ≤ 127 → cell energy_entry k ≡ pos (unsigned_abs (cell energy_entry k))
+cell_positive k h = apart_if (nat_lt k BINS) (energy_entry (entry k)) (entry_positive (entry k) (omega arith))
+
+pub cell_negative : (k : ℕ) → 127 < k → cell energy_entry k ≡ neg_ℤ (pos (unsigned_abs (cell energy_entry k)))
+cell_negative k h = together_if (nat_lt k BINS) (energy_entry (entry k)) (entry_negative (entry k) (omega arith))
+
 -- the cells of the sizes, from those of the bins within reach and the last one
 size_if : (t : Bool) (z : ℤ) (n : ℕ) → (t ≡ true → n ≡ unsigned_abs z) → (t ≡ false → n ≡ 0)
     → n ≡ unsigned_abs (if t then z else pos 0)
 size_if true z n near far = near refl
 size_if false z n near far = far refl
 
-pub sizes_whole : (cells : List ℕ) → slice_index cells 800 ≡ 0
-    → ((j : ℕ) → j < 800 → slice_index cells j ≡ unsigned_abs (push_entry (entry j))) → HasSizes cells
-sizes_whole cells last below k most =
-    size_if (nat_lt k BINS) (push_entry (entry k)) (slice_index cells k)
+pub sizes_whole : (entry_of : ℕ → ℤ) (cells : List ℕ) → slice_index cells 800 ≡ 0
+    → ((j : ℕ) → j < 800 → slice_index cells j ≡ unsigned_abs (entry_of (entry j))) → HasSizes entry_of cells
+sizes_whole entry_of cells last below k most =
+    size_if (nat_lt k BINS) (entry_of (entry k)) (slice_index cells k)
     (λ near. below k (omega (arith, ltb-true k 800 near)))
     (λ far. let e : k ≡ 800 = omega (arith, ltb-false k 800 far) in ap (slice_index cells) e ∙ last)

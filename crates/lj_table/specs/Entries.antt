@@ -44,6 +44,6 @@ HasEntries entry_of cells = (k : ℕ) → k < BINS → slice_index_or cells k (p
 abbrev pub AreSmall : List ℤ → Type 0
 AreSmall cells = (k : ℕ) → k < BINS → unsigned_abs (slice_index_or cells k (pos 0)) < 2 ^ 37
 
--- the cells of a table are the sizes of the pushes of the bins, and 0 of the bin out of reach
-abbrev pub HasSizes : List ℕ → Type 0
-HasSizes cells = (k : ℕ) → k ≤ BINS → slice_index cells k ≡ unsigned_abs (cell push_entry k)
+-- the cells of a table are the sizes of the entries of the bins, and 0 of the bin out of reach
+abbrev pub HasSizes : (ℕ → ℤ) → List ℕ → Type 0
+HasSizes entry_of cells = (k : ℕ) → k ≤ BINS → slice_index cells k ≡ unsigned_abs (cell entry_of k)

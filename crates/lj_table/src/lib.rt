@@ -4,4 +4,4 @@
 mod table_entries;
 mod tables;
 
-pub use tables::{LAST_APART, Table};
+pub use tables::{LAST_APART, LAST_POSITIVE, Table};

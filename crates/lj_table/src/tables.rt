@@ -10,6 +10,9 @@ use std::simd::prelude::*;
 /// The last bin whose push drives two atoms apart: from the next on they are drawn together.
 pub const LAST_APART: u32 = 160;
 
+/// The last bin whose energy is positive: from the next on it is negative.
+pub const LAST_POSITIVE: u32 = 127;
+
 /// The bins within reach, and one for all pairs out of reach.
 const CELLS: usize = BINS + 1;
 
@@ -20,11 +23,14 @@ pub struct Table {
     energies: [i64; BINS],
     /// The sizes of the pushes, and 0 of bin [`BINS`].
     push_sizes: [u64; CELLS],
+    /// The sizes of the energies, and 0 of bin [`BINS`].
+    energy_sizes: [u64; CELLS],
     ghost push_entries: { HasEntries push_entry pushes },
     ghost energy_entries: { HasEntries energy_entry energies },
     ghost small_pushes: { AreSmall pushes },
     ghost small_energies: { AreSmall energies },
-    ghost sizes: { HasSizes push_sizes },
+    ghost sizes_of_pushes: { HasSizes push_entry push_sizes },
+    ghost sizes_of_energies: { HasSizes energy_entry energy_sizes },
 }
 
 impl Table {
@@ -33,15 +39,18 @@ impl Table {
         let mut pushes = [0; BINS];
         let mut energies = [0; BINS];
         let mut push_sizes = [0; CELLS];
+        let mut energy_sizes = [0; CELLS];
         for k in 0..BINS as u16 {
             pushes[usize::from(k)] = table_entries::push_entry(k.max(MIN_BIN));
             energies[usize::from(k)] = table_entries::energy_entry(k.max(MIN_BIN));
             push_sizes[usize::from(k)] = pushes[usize::from(k)].unsigned_abs();
+            energy_sizes[usize::from(k)] = energies[usize::from(k)].unsigned_abs();
         }
         Table {
             pushes,
             energies,
             push_sizes,
+            energy_sizes,
         }
     }
 
@@ -82,6 +91,20 @@ impl Table {
         ensures size { unsigned_abs result < 2 ^ 45 }
     {
         weighted(looked_up(&self.energies, s, scale), weight)
+    }
+
+    /// The sizes of the energies of eight bins, in units of 2^-24 ε, and 0 of bin [`BINS`]. Up to bin [`LAST_POSITIVE`] an
+    /// energy is positive, and from the next on negative.
+    #[inline(always)]
+    pub fn energy_sizes(&self, bins: u32x8) -> u64x8
+        requires { (k : ℕ) → k < 8 → slice_index bins k ≤ BINS }
+        ensures size { (k : ℕ) → k < 8 → slice_index result k < 2 ^ 37 }
+        ensures positive { (k : ℕ) → k < 8 → slice_index bins k ≤ LAST_POSITIVE
+            → cell energy_entry (slice_index bins k) ≡ pos (slice_index result k) }
+        ensures negative { (k : ℕ) → k < 8 → LAST_POSITIVE < slice_index bins k
+            → cell energy_entry (slice_index bins k) ≡ neg_ℤ (pos (slice_index result k)) }
+    {
+        each_of(&self.energy_sizes, bins)
     }
 }
 

@@ -7,11 +7,14 @@ abbrev pub invariant-loop-k : goal.invariant-loop-k
 invariant-loop-k l = record {
   push_cells : length l.pushes ≡ 800;
   energy_cells : length l.energies ≡ 800;
-  size_cells : length l.push_sizes ≡ 801;
+  push_size_cells : length l.push_sizes ≡ 801;
+  energy_size_cells : length l.energy_sizes ≡ 801;
   pushes : (j : ℕ) → j < l.k → slice_index_or l.pushes j (pos 0) ≡ push_entry (entry j);
   energies : (j : ℕ) → j < l.k → slice_index_or l.energies j (pos 0) ≡ energy_entry (entry j);
   small_pushes : (j : ℕ) → j < l.k → unsigned_abs (slice_index_or l.pushes j (pos 0)) < 2 ^ 37;
   small_energies : (j : ℕ) → j < l.k → unsigned_abs (slice_index_or l.energies j (pos 0)) < 2 ^ 37;
-  sizes : (j : ℕ) → j < l.k → slice_index l.push_sizes j ≡ unsigned_abs (push_entry (entry j));
-  last : slice_index l.push_sizes 800 ≡ 0;
+  push_sizes : (j : ℕ) → j < l.k → slice_index l.push_sizes j ≡ unsigned_abs (push_entry (entry j));
+  energy_sizes : (j : ℕ) → j < l.k → slice_index l.energy_sizes j ≡ unsigned_abs (energy_entry (entry j));
+  last_push : slice_index l.push_sizes 800 ≡ 0;
+  last_energy : slice_index l.energy_sizes 800 ≡ 0;
 }
