@@ -1,4 +1,4 @@
--- The push of a pair in a lane, by the size of its entry and the length of its image.
+-- The push and the energy of a pair in a lane, by the size of its entry and the length of its image.
 use Rattle.std.proofs.Common.{ℕ, zero, suc, ◌+◌, ◌-◌, ◌*◌, ◌/◌, ◌%◌, ◌^◌, ◌<◌, ◌≤◌, ◌≡◌, ℤ, pos, negsuc, neg_ℤ, ◌*ℤ◌}
 use Rattle.std.proofs.Common.{int_div, unsigned_abs, Bool, true, false, nat_lt, leb, ltb, if◌then◌else◌, slice_index, refl, sym, ap, ◌∙◌, w32, arith}
 use Rattle.std.proofs.Math.IntN.{zero-*ℤ, *ℤ-zero, *ℤ_comm, pos-*ℤ-pos, negsuc-*ℤ-negsuc}
@@ -12,10 +12,11 @@ use Rattle.lj_ring.specs.declared.scales.TheConstants.{BINS}
 use Rattle.lj_ring.specs.Bins.{near_bin}
 use Rattle.lj_ring.specs.Ring.{image, distance, ring_residue, ring_difference}
 use Rattle.lj_ring.specs.Scale.{Scale, bin, entry}
-use Rattle.lj_table.specs.Entries.{push_entry, push_at, cell}
+use Rattle.lj_table.specs.Entries.{push_at, cell, table_value, weighted_energy}
 use Rattle.lj_table.proofs.Quotients.{mul_neg, div_neg}
 use Rattle.lj_tile.specs.declared.lanes.Eight.{Eight}
 use Rattle.lj_tile.specs.Lanes.{IsPush, signed_push}
+use Rattle.lj_tile.specs.Energies.{signed_number}
 use Rattle.lj_tile.specs.Pushes.{push, push_along}
 
 -- a product of less than 2^61 by the products of the halves of the one factor
@@ -43,10 +44,6 @@ along_by_halves f d p q =
     omega arith ∙ ap (λ m. m * d) (let e : 2 ^ 32 * (f / 2 ^ 32) + f % 2 ^ 32 ≡ f = omega arith in e) in
     joined (f / 2 ^ 32 * d) (f % 2 ^ 32 * d) (omega (arith, upper)) (omega (arith, lower))
     ∙ ap (λ m. m / 2 ^ 56 % 2 ^ 32) whole
-
--- a number by its size, below zero or not
-abbrev pub signed_number : Bool → ℕ → ℤ
-signed_number below n = if below then neg_ℤ (pos n) else pos n
 
 neg_mul : (f m : ℕ) → neg_ℤ (pos f) *ℤ pos m ≡ neg_ℤ (pos (f * m))
 neg_mul f m = *ℤ_comm (neg_ℤ (pos f)) (pos m) ∙ mul_neg m f ∙ ap (λ n. neg_ℤ (pos n)) (mul_comm m f)
@@ -115,19 +112,29 @@ axis_is u together size a b d length strength factor along result e entry_is apa
     (axis u together size (ring_difference a b) e (omega arith) entry_is)
 
 -- the sign of an entry by its bin
-pub entry_signed : (test : Bool) (k size : ℕ) (e : ℤ) → ltb 160 k ≡ test → (k ≤ 160 → e ≡ pos size)
-    → (160 < k → e ≡ neg_ℤ (pos size)) → e ≡ signed_number test size
-entry_signed true k size e t apart together = together (ltb-true 160 k t)
-entry_signed false k size e t apart together = apart (ltb-false 160 k t)
+pub entry_signed : (last : ℕ) (test : Bool) (k size : ℕ) (e : ℤ) → ltb last k ≡ test → (k ≤ last → e ≡ pos size)
+    → (last < k → e ≡ neg_ℤ (pos size)) → e ≡ signed_number test size
+entry_signed last true k size e t above below = below (ltb-true last k t)
+entry_signed last false k size e t above below = above (ltb-false last k t)
 
-cell_of : (test : Bool) (k : ℕ) → nat_lt k BINS ≡ test
-    → cell push_entry (if test then k else BINS) ≡ (if test then push_entry (entry k) else pos 0)
-cell_of true k t = ap (λ (b : Bool). if b then push_entry (entry k) else pos 0) t
-cell_of false k t = refl
+cell_of : (entry_of : ℕ → ℤ) (test : Bool) (k : ℕ) → nat_lt k BINS ≡ test
+    → cell entry_of (if test then k else BINS) ≡ (if test then entry_of (entry k) else pos 0)
+cell_of entry_of true k t = ap (λ (b : Bool). if b then entry_of (entry k) else pos 0) t
+cell_of entry_of false k t = refl
 
 -- the cell of the bin of a pair is its entry
-pub near_cell : (u : Scale) (s : ℕ) → cell push_entry (near_bin u s) ≡ push_at u s
-near_cell u s = cell_of (nat_lt (bin u s) BINS) (bin u s) refl
+pub near_cell : (entry_of : ℕ → ℤ) (u : Scale) (s : ℕ) → cell entry_of (near_bin u s) ≡ table_value entry_of u s
+near_cell entry_of u s = cell_of entry_of (nat_lt (bin u s) BINS) (bin u s) refl
+
+-- the length of an image from that of a difference
+pub length_is : (n d a b : ℕ) → n ≡ unsigned_abs (cast_signed w32 d) → d ≡ ring_difference a b → n ≡ unsigned_abs (image a b)
+length_is n d a b e apart = e ∙ ap (λ m. unsigned_abs (cast_signed w32 m)) apart
+
+-- an energy by its weight is the weighted size with the same sign
+pub weighted_signed : (below : Bool) (n weight : ℕ)
+    → signed_number below (n * weight / 256) ≡ weighted_energy weight (signed_number below n)
+weighted_signed true n weight = sym (ap (λ z. int_div z (pos 256)) (neg_mul n weight) ∙ div_neg (n * weight) 256)
+weighted_signed false n weight = sym (ap (λ z. int_div z (pos 256)) (pos-*ℤ-pos n weight))
 
 -- a push by its three parts
 pub lane_push : (u : Scale) (p q : Place) (v : Eight) (k : ℕ)

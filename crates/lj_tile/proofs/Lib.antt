@@ -14,3 +14,5 @@ pub mod PairSums
 pub mod LaneLemmas
 pub mod LanePushes
 pub mod RowSums
+pub mod EnergySums
+pub mod RowSets

@@ -6,13 +6,16 @@ use Rattle.std.proofs.lemmas.List.{get_or-replicate}
 use Rattle.std.proofs.lemmas.Bool.{cases_eq, cases_lt, cases_Bool}
 use Rattle.std.proofs.lemmas.Bool.Decides.{nat_tests}
 use Rattle.lj_ring.specs.Ring.{sum_below, ring_sum, distance, IsOnRing}
-use Rattle.lj_ring.specs.Scale.{Scale, is_in_cutoff}
+use Rattle.lj_ring.specs.Scale.{Scale, is_in_cutoff, bin, entry}
+use Rattle.lj_ring.specs.declared.mixes.Class.{Class}
+use Rattle.std.specs.Prelude.{if◌then◌else◌}
 use Rattle.lj_ring.specs.Mix.{class_of}
 use Rattle.lj_ring.proofs.MixLemmas.{class_symmetric}
 use Rattle.lj_ring.specs.declared.coordinates.Place.{Place}
-use Rattle.lj_table.specs.Entries.{push_at}
+use Rattle.lj_table.specs.Entries.{push_at, energy_at, energy_entry}
+use Rattle.lj_table.proofs.Quotients.{weighted_none}
 use Rattle.lj_tile.specs.declared.pairs.Push.{Push}
-use Rattle.lj_tile.specs.Pushes.{push, no_push, sum_of_pushes}
+use Rattle.lj_tile.specs.Pushes.{push, no_push, sum_of_pushes, energy}
 use Rattle.lj_tile.specs.Tiles.{place_at, chosen_push, push_sum}
 use Rattle.lj_tile.specs.Block.{Block}
 use Rattle.lj_tile.specs.Species.{species_at}
@@ -148,9 +151,17 @@ rows_silent w t sums rows silent s within = rows s within ∙ second_silent w s 
 pub rows_start : (w : Task) → length w.b.places ≤ 64 → AreRows w 0 (replicate 64 no_push)
 rows_start w few s within = get_or-replicate 64 s no_push no_push (omega (arith, within, few))
 
+-- a pair out of reach has no energy
+far_energy : (class : Class) (p q : Place) → is_in_cutoff class.scale (distance p q) ≡ false → energy class p q ≡ pos 0
+far_energy class p q far =
+    let u : Scale = class.scale in
+    let none : energy_at u (distance p q) ≡ pos 0 =
+    ap (λ (b : Bool). if b then energy_entry (entry (bin u (distance p q))) else pos 0) far in
+    rw none (weighted_none class.weight)
+
 -- a pair that is not in order is looked at from its other side, or not at all
 pub not_in_order : (w : Task) (t s : ℕ) → are_in_order w t s ≡ false → IsSilent w t s
-not_in_order w t s e = record { there = rw e refl; back = rw e refl }
+not_in_order w t s e = record { there = rw e refl; back = rw e refl; energy = rw e refl }
 
 -- a pair out of reach is silent
 pub far_silent : (w : Task) (t s : ℕ) → IsOnRing (place_at w.a.places t) → IsOnRing (place_at w.b.places s)
@@ -164,7 +175,11 @@ far_silent w t s here there far =
     let one : push u p q ≡ no_push = sym (nothing_is u p q none) in
     let other : push u q p ≡ no_push = nothing_back u p q here there none in
     elim (cases_Bool (are_in_order w t s)) [
-      | inl ordered ↦ record { there = rw (ordered, one) refl; back = rw (ordered, other) refl }
+      | inl ordered ↦ record {
+        there = rw (ordered, one) refl;
+        back = rw (ordered, other) refl;
+        energy = rw ordered (far_energy (class_in w t s) p q far);
+      }
       | inr not ↦ not_in_order w t s not
     ]
 

@@ -30,10 +30,10 @@ abbrev pub pairs_to : ℕ → ℕ → ℕ → List ℕ
 pairs_to t set n = map (λ s. 64 * t + s) (members set n)
 
 -- the pair of places t and s is of these places
-pair_first : (t s : ℕ) → s < 64 → first_of (64 * t + s) ≡ t
+pub pair_first : (t s : ℕ) → s < 64 → first_of (64 * t + s) ≡ t
 pair_first t s h = omega arith
 
-pair_second : (t s : ℕ) → s < 64 → second_of (64 * t + s) ≡ s
+pub pair_second : (t s : ℕ) → s < 64 → second_of (64 * t + s) ≡ s
 pair_second t s h = omega arith
 
 chosen : (n t : ℕ) → n ≡ t → (n == t) ≡ true
@@ -43,19 +43,19 @@ not_chosen : (n t : ℕ) → n ≢ t → (n == t) ≡ false
 not_chosen n t e = grind (arith, nat_tests)
 
 -- one member more
-pairs_more : (t set n : ℕ) → bit_at set n ≡ 1 → pairs_to t set (suc n) ≡ pairs_to t set n ++ (64 * t + n) ∷ []
+pub pairs_more : (t set n : ℕ) → bit_at set n ≡ 1 → pairs_to t set (suc n) ≡ pairs_to t set n ++ (64 * t + n) ∷ []
 unfolding members
 pairs_more t set n one =
     let set_n : is_in set n ≡ true = rw one refl in
     rw set_n (map-append (λ s. 64 * t + s) (members set n) (n ∷ []))
 
-pairs_same : (t set n : ℕ) → bit_at set n ≡ 0 → pairs_to t set (suc n) ≡ pairs_to t set n
+pub pairs_same : (t set n : ℕ) → bit_at set n ≡ 0 → pairs_to t set (suc n) ≡ pairs_to t set n
 unfolding members
 pairs_same t set n none =
     let not : is_in set n ≡ false = rw none refl in
     rw not refl
 
-pairs_zero : (t set : ℕ) → pairs_to t set 0 ≡ []
+pub pairs_zero : (t set : ℕ) → pairs_to t set 0 ≡ []
 unfolding members
 pairs_zero t set = refl
 
@@ -198,7 +198,7 @@ two_more f g ps qs ps_after qs_after fs gs old mid new row one other whole =
     mods new mid old row fa ga fp gq fs gs p q r = omega (arith, p, q, r)
 
 -- no bit of a set of places stands behind the last place
-none_behind : (set n : ℕ) → ((s : ℕ) → bit_at set s ≡ 1 → s < n) → (s : ℕ) → n ≤ s → s < 64 → bit_at set s ≡ 0
+pub none_behind : (set n : ℕ) → ((s : ℕ) → bit_at set s ≡ 1 → s < n) → (s : ℕ) → n ≤ s → s < 64 → bit_at set s ≡ 0
 none_behind set n within s h k =
     elim (cases_eq (bit_at set s) 1) [
       | inl one ↦ absurd (omega (arith, h, within s one))
@@ -375,7 +375,7 @@ is_before t n h = grind (arith, nat_tests)
 not_before : (t n : ℕ) → n ≤ t → nat_lt t n ≡ false
 not_before t n h = grind (arith, nat_tests)
 
-is_not_in : (set n : ℕ) → bit_at set n ≡ 0 → is_in set n ≡ false
+pub is_not_in : (set n : ℕ) → bit_at set n ≡ 0 → is_in set n ≡ false
 is_not_in set n none = rw none refl
 
 -- before the first row of a set nothing has come
@@ -484,7 +484,7 @@ pub data IsOfOne (one other t : ℕ) (silent : Type 0) : Type 0 where
 abbrev pub IsSilentRow : Task → ℕ → Type 0
 IsSilentRow w t = (s : ℕ) → s < length w.b.places → IsSilent w t s
 
-is_in_set : (set n : ℕ) → bit_at set n ≡ 1 → is_in set n ≡ true
+pub is_in_set : (set n : ℕ) → bit_at set n ≡ 1 → is_in set n ≡ true
 is_in_set set n one = rw one refl
 
 own_none : (w : Task) (t n : ℕ) → sum_of_pushes (sum_on_first w t n) no_push ≡ sum_on_first w t n

@@ -1,25 +1,21 @@
 -- The places of a block that may interact with an atom, split by their species.
-use Rattle.std.proofs.Common.{ℕ, zero, suc, ◌+◌, ◌-◌, ◌%◌, ◌^◌, ◌<◌, ◌≤◌, ◌≡◌, ◌&&◌, Bool, true, false, nat_lt, nat_le, min, pos, length, List, bit_and, w64, refl, sym, ap, ◌∙◌, inl, inr, ℤ, ◌+ℤ◌, arith}
+use Rattle.std.proofs.Common.{ℕ, ◌+◌, ◌-◌, ◌%◌, ◌^◌, ◌<◌, ◌≤◌, ◌≡◌, ◌&&◌, Bool, true, false, nat_lt, nat_le, min, length, List, bit_and, w64, refl, sym, ap, ◌∙◌, inl, inr, arith}
 use Rattle.std.specs.Int.{bit_at, bit_not}
 use Rattle.std.proofs.lemmas.Nat.Bits.{bit_at_and, bit_at_not, bit_at-lt, bit_at_ones, bit_at_ones_above}
 use Rattle.std.proofs.lemmas.Bool.{cases_lt}
 use Rattle.std.proofs.lemmas.Bool.Decides.{nat_tests}
-use Rattle.std.proofs.Math.IntN.{+ℤ_idr, +ℤ_idl}
-use Rattle.std.proofs.lemmas.Int.{ints}
 use Rattle.lj_ring.specs.declared.coordinates.Place.{Place}
-use Rattle.lj_ring.specs.declared.mixes.Class.{Class}
 use Rattle.lj_ring.specs.declared.mixes.Species.{Species}
 use Rattle.lj_ring.specs.declared.mixes.Species.TheVariants.{First, Second}
 use Rattle.lj_ring.specs.Mix.{class_of}
-use Rattle.lj_ring.specs.Ring.{ring_sum, int_sum_below}
+use Rattle.lj_ring.specs.Ring.{ring_sum}
 use Rattle.lj_ring.specs.Scale.{Scale}
 use Rattle.lj_tile.specs.declared.pairs.Push.{Push}
-use Rattle.lj_tile.specs.Pushes.{push, no_push, sum_of_pushes, energy}
+use Rattle.lj_tile.specs.Pushes.{push, no_push, sum_of_pushes}
 use Rattle.lj_tile.specs.Species.{is_in, species_at}
-use Rattle.lj_tile.specs.Tiles.{place_at, chosen_push, chosen_energy}
+use Rattle.lj_tile.specs.Tiles.{place_at, chosen_push}
 use Rattle.lj_tile.specs.Task.{Task, are_in_order, class_in}
 use Rattle.lj_tile.specs.Rows.{push_of, push_back, sum_on_first, pushes_in, push_in, IsSilent, AreRows, ArePushed}
-use Rattle.lj_tile.specs.Rows.{energy_of, energy_row, energies_in, energy_in}
 use Rattle.lj_tile.proofs.Opposites.{same_push}
 use Rattle.lj_tile.proofs.RowLemmas.{sum_both, second_more, second_silent}
 
@@ -189,67 +185,6 @@ row_added w t firsts seconds old mid new split rows one other s within =
     by_order w t s species ordered e =
         rw ordered (ap (λ u. push u (place_at w.b.places s) (place_at w.a.places t)) (sym (by_class w t s species e)))
 
--- the class of an atom of a species and of place s of the second block
-abbrev pub class_with : Task → ℕ → Species → Class
-class_with w s species = class_of w.mix species (species_at w.b.seconds s)
-
--- which of the two sets a place of the first block is in
-abbrev pub ColumnSplit : Task → ℕ → ℕ → ℕ → ℕ → Type 0
-ColumnSplit w s firsts seconds t = IsSplit firsts seconds w.a.seconds t (are_in_order w t s) (energy_of w s t ≡ pos 0)
-
-by_species : (w : Task) (s t : ℕ) (species : Species) → species_at w.a.seconds t ≡ species
-    → class_in w t s ≡ class_with w s species
-by_species w s t species e = ap (class_with w s) e
-
-first_energy : (k l : Class) (p q : Place) (x y ordered : Bool) (all : Class)
-    → x ≡ true → y ≡ false → ordered ≡ true → all ≡ k
-    → chosen_energy k x p q +ℤ chosen_energy l y p q ≡ chosen_energy all ordered p q
-first_energy k l p q x y ordered all e f g h = rw (e, f, g, h) (+ℤ_idr (energy k p q))
-
-second_energy : (k l : Class) (p q : Place) (x y ordered : Bool) (all : Class)
-    → x ≡ false → y ≡ true → ordered ≡ true → all ≡ l
-    → chosen_energy k x p q +ℤ chosen_energy l y p q ≡ chosen_energy all ordered p q
-second_energy k l p q x y ordered all e f g h = rw (e, f, g, h) (+ℤ_idl (energy l p q))
-
-no_energy : (k l : Class) (p q : Place) (x y : Bool) (whole : ℤ) → x ≡ false → y ≡ false → whole ≡ pos 0
-    → chosen_energy k x p q +ℤ chosen_energy l y p q ≡ whole
-no_energy k l p q x y whole e f g = rw (e, f, g) refl
-
-split_energy : (w : Task) (s firsts seconds t : ℕ) → ColumnSplit w s firsts seconds t
-    → energy_in (class_with w s First) firsts (place_at w.b.places s) w.a.places t
-    +ℤ energy_in (class_with w s Second) seconds (place_at w.b.places s) w.a.places t ≡ energy_of w s t
-split_energy w s firsts seconds t split =
-    elim split [
-      | in_none e f silent ↦ no_energy (class_with w s First) (class_with w s Second) (place_at w.a.places t) (place_at w.b.places s) _ _
-          (energy_of w s t) e f silent
-      | in_firsts e f ordered species ↦
-          first_energy (class_with w s First) (class_with w s Second) (place_at w.a.places t) (place_at w.b.places s) _ _
-          (are_in_order w t s) (class_in w t s) e f ordered (by_species w s t First species)
-      | in_seconds e f ordered species ↦
-          second_energy (class_with w s First) (class_with w s Second) (place_at w.a.places t) (place_at w.b.places s) _ _
-          (are_in_order w t s) (class_in w t s) e f ordered (by_species w s t Second species)
-    ]
-
-int_sum_both : (n : ℕ) (f g h : ℕ → ℤ) → ((k : ℕ) → k < n → f k +ℤ g k ≡ h k)
-    → int_sum_below n f +ℤ int_sum_below n g ≡ int_sum_below n h
-int_sum_both zero f g h same = refl
-int_sum_both (suc n) f g h same =
-    let before = int_sum_both n f g h (λ k l. same k (omega arith)) in
-    let last = same n (omega arith) in
-    exchanged (int_sum_below n f) (f n) (int_sum_below n g) (g n) (int_sum_below n h) (h n) before last
-  where
-    exchanged : (a b c d x y : ℤ) → a +ℤ c ≡ x → b +ℤ d ≡ y → (a +ℤ b) +ℤ (c +ℤ d) ≡ x +ℤ y
-    exchanged a b c d x y p q = omega (arith, ints, p, q)
-
--- the energies of place s of the second block with the places of both sets are those of the row
-pub column_sum : (w : Task) (s firsts seconds : ℕ)
-    → ((t : ℕ) → t < length w.a.places → ColumnSplit w s firsts seconds t)
-    → energies_in (class_with w s First) firsts (place_at w.b.places s) w.a.places (length w.a.places)
-    +ℤ energies_in (class_with w s Second) seconds (place_at w.b.places s) w.a.places (length w.a.places)
-    ≡ energy_row w s
-column_sum w s firsts seconds split =
-    int_sum_both (length w.a.places) _ _ (energy_of w s) (λ t h. split_energy w s firsts seconds t (split t h))
-
 -- so are they where the row's parts are known by equations
 pub row_total : (w : Task) (t : ℕ) (u v : Scale) (firsts seconds : ℕ) (here : Place) (places : List Place) (p q r : Push)
     → u ≡ scale_with w t First → v ≡ scale_with w t Second → here ≡ place_at w.a.places t → places ≡ w.b.places
@@ -267,13 +202,6 @@ pub rows_total : (w : Task) (t : ℕ) (u v : Scale) (firsts seconds : ℕ) (here
 rows_total w t u v firsts seconds here places old mid new u_is v_is here_is places_is one other rows split =
     row_added w t firsts seconds old mid new split rows (rw (u_is, here_is, places_is) at one)
     (rw (v_is, here_is, places_is) at other)
-
-pub column_total : (w : Task) (s : ℕ) (k l : Class) (firsts seconds : ℕ) (there : Place) (places : List Place) (p q : ℤ)
-    → k ≡ class_with w s First → l ≡ class_with w s Second → there ≡ place_at w.b.places s → places ≡ w.a.places
-    → p ≡ energies_in k firsts there places (length places) → q ≡ energies_in l seconds there places (length places)
-    → ((t : ℕ) → t < length w.a.places → ColumnSplit w s firsts seconds t) → p +ℤ q ≡ energy_row w s
-column_total w s k l firsts seconds there places p q k_is l_is there_is places_is p_is q_is split =
-    rw (p_is, q_is, k_is, l_is, there_is, places_is) (column_sum w s firsts seconds split)
 
 -- the lowest bits of a number
 pub ones_are : (n count k : ℕ) → n ≡ 2 ^ count - 1 → is_in n k ≡ nat_lt k count

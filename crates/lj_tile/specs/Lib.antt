@@ -13,3 +13,4 @@ pub mod Grains
 pub mod Near
 pub mod Worked
 pub mod Limits
+pub mod Energies

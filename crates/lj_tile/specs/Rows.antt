@@ -1,5 +1,5 @@
 -- The sums of a task's pairs of atoms i < j, i in the first block and j in the second, row by row of the first.
-use Rattle.std.specs.Prelude.{ℕ, ◌≡◌, ◌<◌, ◌≤◌, Bool, ℤ, List, length, slice_index_or, if◌then◌else◌}
+use Rattle.std.specs.Prelude.{ℕ, ◌≡◌, ◌<◌, ◌≤◌, Bool, ℤ, pos, List, length, slice_index_or, if◌then◌else◌}
 use Rattle.lj_ring.specs.Ring.{ring_sum, int_sum_below}
 use Rattle.lj_ring.specs.declared.mixes.Class.{Class}
 use Rattle.lj_ring.specs.declared.coordinates.Place.{Place}
@@ -34,10 +34,15 @@ sum_on_second w s n = record {
   z = ring_sum n (λ t. (push_back w t s).z);
 }
 
--- places t and s do not push each other
+-- the energy that place t of the first block and place s of the second add
+abbrev pub energy_of : Task → ℕ → ℕ → ℤ
+energy_of w t s = chosen_energy (class_in w t s) (are_in_order w t s) (place_at w.a.places t) (place_at w.b.places s)
+
+-- places t and s do not push each other, and add no energy
 pub record IsSilent (w : Task) (t s : ℕ) : Type 0 where
   pub there : push_of w t s ≡ no_push
   pub back : push_back w t s ≡ no_push
+  pub energy : energy_of w t s ≡ pos 0
 
 -- the sums of the second block's places have the pushes of the first t places of the first
 abbrev pub AreRows : Task → ℕ → List Push → Type 0
@@ -67,18 +72,14 @@ pub record ArePushed (u : Scale) (set : ℕ) (here : Place) (places : List Place
   pub ahead : (s : ℕ) → s < length places → n ≤ s
       → slice_index_or new s no_push ≡ slice_index_or old s no_push
 
--- the energy that place t of the first block and place s of the second add
-abbrev pub energy_of : Task → ℕ → ℕ → ℤ
-energy_of w s t = chosen_energy (class_in w t s) (are_in_order w t s) (place_at w.a.places t) (place_at w.b.places s)
-
--- the energy of place s of the second block with the earlier atoms of the first
+-- the energy of place t of the first block with the later atoms of the second
 abbrev pub energy_row : Task → ℕ → ℤ
-energy_row w s = int_sum_below (length w.a.places) (energy_of w s)
+energy_row w t = int_sum_below (length w.b.places) (energy_of w t)
 
--- the energy of an atom at `there` with place t of a block, where the place is in a set
+-- the energy of an atom `here` with place s of a block, where the place is in a set
 abbrev pub energy_in : Class → ℕ → Place → List Place → ℕ → ℤ
-energy_in class set there places t = chosen_energy class (is_in set t) (place_at places t) there
+energy_in class set here places s = chosen_energy class (is_in set s) here (place_at places s)
 
 -- the sum of those of the first n places
 abbrev pub energies_in : Class → ℕ → Place → List Place → ℕ → ℤ
-energies_in class set there places n = int_sum_below n (energy_in class set there places)
+energies_in class set here places n = int_sum_below n (energy_in class set here places)

@@ -1,13 +1,14 @@
-//! The pushes of eight pairs at a time, in lanes.
-ghost use Rattle.std.specs.Prelude.{◌≡◌, ◌≤◌, ◌<◌, ◌+◌, ◌-◌, ◌*◌, ◌/◌, ◌%◌, ◌^◌, ℕ, min, nat_lt, unsigned_abs, slice_index};
+//! The pushes and the energies of eight pairs at a time, in lanes.
+ghost use Rattle.std.specs.Prelude.{◌≡◌, ◌≤◌, ◌<◌, ◌+◌, ◌-◌, ◌*◌, ◌/◌, ◌%◌, ◌^◌, ℕ, min, nat_lt, unsigned_abs, slice_index, slice_index_or, pos};
 ghost use Rattle.std.specs.Int.{cast_signed, w32};
 ghost use Rattle.lj_ring.specs.declared.coordinates.Place.{Place};
 ghost use Rattle.lj_ring.specs.Ring.{ring_difference};
-ghost use Rattle.lj_tile.specs.Pushes.{push};
+ghost use Rattle.lj_tile.specs.Pushes.{push, energy};
 ghost use Rattle.lj_tile.specs.Lanes.{AreApartBy, IsPush, signed_push};
+ghost use Rattle.lj_tile.specs.Energies.{signed_number};
 
-use lj_ring::Scale;
-use lj_table::{LAST_APART, Table};
+use lj_ring::{Class, Scale, Weight};
+use lj_table::{LAST_APART, LAST_POSITIVE, Table};
 use std::simd::prelude::*;
 
 /// Half the ring: differences from it on are images below 0.
@@ -36,6 +37,55 @@ pub(crate) fn pushes(images: &Eight, scale: &Scale, table: &Table) -> Eight
         y: signed(along(factors, y), images.y, bins),
         z: signed(along(factors, z), images.z, bins),
     }
+}
+
+/// The energies of eight pairs by the weight of their class, each toward zero, of which `images` has the differences of
+/// places on the ring.
+#[inline(always)]
+pub(crate) fn energies(images: &Eight, class: &Class, table: &Table) -> [i64; 8]
+    ensures value { (k : ℕ) (p q : Place) → k < 8 → AreApartBy images.now k p q
+        → slice_index_or result k (pos 0) ≡ energy class.now p q }
+    ensures size { (k : ℕ) → k < 8 → unsigned_abs (slice_index_or result k (pos 0)) < 2 ^ 45 }
+{
+    let bins = class
+        .scale
+        .bins(lengths(images.x), lengths(images.y), lengths(images.z));
+    with_signs(weighted(table.energy_sizes(bins), class.weight), bins)
+}
+
+/// Sizes of energies by a weight in 256ths, rounded down.
+#[inline(always)]
+fn weighted(sizes: u64x8, weight: Weight) -> u64x8
+    requires { (k : ℕ) → k < 8 → slice_index sizes k < 2 ^ 37 }
+    ensures value { (k : ℕ) → k < 8 → slice_index result k ≡ slice_index sizes k * weight / 256 }
+    ensures size { (k : ℕ) → k < 8 → slice_index result k < 2 ^ 45 }
+{
+    in_wholes(strengthened(sizes, weight.parts()))
+}
+
+/// The energies of these sizes, which are negative in the bins behind [`LAST_POSITIVE`].
+#[inline(always)]
+fn with_signs(sizes: u64x8, bins: u32x8) -> [i64; 8]
+    requires { (k : ℕ) → k < 8 → slice_index sizes k < 2 ^ 45 }
+    ensures { (k : ℕ) → k < 8 → slice_index_or result k (pos 0)
+        ≡ signed_number (nat_lt LAST_POSITIVE (slice_index bins k)) (slice_index sizes k) }
+{
+    let (sizes, bins) = (sizes.to_array(), bins.to_array());
+    let mut energies = [0; 8];
+    for k in 0..8 {
+        energies[k] = with_sign(sizes[k], bins[k] > LAST_POSITIVE);
+    }
+    energies
+}
+
+/// The number of this size, negative or not.
+#[inline(always)]
+fn with_sign(size: u64, negative: bool) -> i64
+    requires { size < 2 ^ 45 }
+    ensures { result ≡ signed_number negative size }
+{
+    let size = size as i64;
+    if negative { -size } else { size }
 }
 
 /// The lengths of images.
@@ -153,6 +203,14 @@ fn lowered(v: u64x8) -> u64x8
     ensures { (k : ℕ) → k < 8 → slice_index result k ≡ slice_index v k / 2 ^ 24 }
 {
     v >> u64x8::splat(24)
+}
+
+/// Numbers of 256ths as whole numbers, rounded down.
+#[inline(always)]
+fn in_wholes(v: u64x8) -> u64x8
+    ensures { (k : ℕ) → k < 8 → slice_index result k ≡ slice_index v k / 2 ^ 8 }
+{
+    v >> u64x8::splat(8)
 }
 
 #[inline(always)]

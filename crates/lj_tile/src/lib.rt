@@ -2,6 +2,7 @@
 #![tactic(auto)]
 
 mod blocks;
+mod energies;
 mod lanes;
 mod names;
 mod near;

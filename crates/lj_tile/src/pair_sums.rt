@@ -143,7 +143,7 @@ fn add(pair: u16, push: Push, sums: &mut ForceSums)
 
 /// The place of a pair in the first block.
 #[inline(always)]
-fn first_of(pair: u16) -> usize
+pub(crate) fn first_of(pair: u16) -> usize
     ensures { result ≡ pairs_of.first_of pair }
 {
     usize::from(pair) / BLOCK
@@ -151,7 +151,7 @@ fn first_of(pair: u16) -> usize
 
 /// The place of a pair in the second block.
 #[inline(always)]
-fn second_of(pair: u16) -> usize
+pub(crate) fn second_of(pair: u16) -> usize
     ensures { result ≡ pairs_of.second_of pair }
 {
     usize::from(pair) % BLOCK
@@ -159,7 +159,7 @@ fn second_of(pair: u16) -> usize
 
 /// How far the places of eight pairs of a list, from `at` on, are apart on the ring.
 #[inline(always)]
-fn apart(pairs: &NearPairs, at: usize, first: &[Place], second: &[Place]) -> Eight
+pub(crate) fn apart(pairs: &NearPairs, at: usize, first: &[Place], second: &[Place]) -> Eight
     requires within { at + 8 ≤ length pairs.now }
     requires few { at + 8 < FULL + BLOCK }
     requires pairs { ArePairs first.now second.now pairs.now }

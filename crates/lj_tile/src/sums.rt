@@ -1,27 +1,29 @@
 //! The sums of a task: of pushes and of energies.
-ghost use Rattle.std.specs.Prelude.{◌≡◌, ◌≤◌, ◌<◌, ◌+◌, ◌*◌, ◌^◌, ◌&&◌, ◌++◌, ℕ, length, slice_index_or};
+ghost use Rattle.std.specs.Prelude.{◌≡◌, ◌≤◌, ◌<◌, ◌+◌, ◌*◌, ◌^◌, ◌&&◌, ◌++◌, ◌+ℤ◌, ℕ, length, slice_index_or};
 ghost use Rattle.std.specs.Prelude.{unsigned_abs, nat_lt, take, replicate};
 ghost use Rattle.std.specs.Int.{bit_at};
 ghost use Rattle.lj_ring.specs.Ring.{IsOnRing};
-ghost use Rattle.lj_ring.specs.Mix.{can_interact};
+ghost use Rattle.lj_ring.specs.Mix.{can_interact, class_of};
 ghost use Rattle.lj_tile.specs.Pushes.{no_push, sum_of_pushes};
 ghost use Rattle.lj_tile.specs.Species as species;
 ghost use Rattle.lj_tile.specs.Species.{is_in};
 ghost use Rattle.lj_tile.specs.Tiles.{place_at};
 ghost use Rattle.lj_tile.specs.Near.{HasColumns};
 ghost use Rattle.lj_tile.specs.Task.{task_force, task_second, task_energy, are_in_order};
-ghost use Rattle.lj_tile.specs.Rows.{sum_on_first, sum_on_second, energies_in, energy_row, IsSilent};
+ghost use Rattle.lj_tile.specs.Rows.{sum_on_first, sum_on_second, energy_row, IsSilent};
 ghost use Rattle.lj_tile.specs.Pairs.{row_pairs, scale_between, ArePairs, AreOnRing, AreRowsOf, HaveRow, HaveRows, HaveTotals, IsPushOnRing};
+ghost use Rattle.lj_tile.specs.Energies.{list_energy, lists_energy, rows_energy};
 ghost use Rattle.lj_ring.specs.declared.mixes.Species.TheVariants as variants;
 ghost use Rattle.lj_tile.specs.declared.near_pairs.TheConstants.{FULL};
 
 use crate::blocks::BLOCK;
+use crate::energies::{energy_of_all, energy_of_most};
 use crate::near::Columns;
 use crate::near_pairs::{FULL, NearPairs};
 use crate::pair_sums::{add_all, work_off};
 use crate::pairs::Push;
 use crate::tasks::Task;
-use lj_ring::{Class, Place, Scale, Species, dist2};
+use lj_ring::{Class, Place, Scale, Species};
 use lj_table::Table;
 
 /// The sums of the pushes on the places of the first block of a task, and on those of the second.
@@ -349,19 +351,6 @@ fn add_pairs(
     }
 }
 
-/// The species of the atom at place `t` of a block.
-#[inline]
-fn species_at(seconds: u64, t: usize) -> Species
-    requires { t < BLOCK }
-    ensures { result ≡ species.species_at seconds t }
-{
-    if (seconds >> t) % 2 == 1 {
-        Species::Second
-    } else {
-        Species::First
-    }
-}
-
 /// The lowest bits, so many of them.
 #[inline]
 fn lowest_bits(count: usize) -> u64
@@ -387,70 +376,151 @@ fn later(t: usize, task: &Task) -> u64
     all & !lowest_bits(t + 1)
 }
 
-/// The places of the first block with an earlier atom than place `s` of the second, bit by bit.
-#[inline]
-fn earlier(s: usize, task: &Task) -> u64
-    requires { s < length task.now.b.places }
-    ensures { (t : ℕ) → is_in result t ≡ (nat_lt t (length task.now.a.places) && are_in_order task.now t s) }
-{
-    if task.name().bi < task.name().bj {
-        return lowest_bits(task.first().places().len());
-    }
-    lowest_bits(s)
-}
-
-/// The sum of the energies of the task's pairs.
+/// The sum of the energies of the task's pairs. The pairs of each class are kept in a list until there are many of them.
 pub(crate) fn energy_sum(task: &Task, table: &Table) -> i64
     ensures { result ≡ task_energy task.now }
 {
-    let places = task.first().places();
-    read_each(places);
-    let columns = Columns::new(places, task.mix());
-    let mut sum = 0;
-    for s in 0..task.second().places().len() {
-        sum += energy_before(s, task, &columns, table);
-    }
-    sum
+    let (first, second) = (task.first().places(), task.second().places());
+    read_each(first);
+    read_each(second);
+    let columns = Columns::new(second, task.mix());
+    let rows = near_rows(task, &columns);
+    let seconds = task.first().seconds();
+    let mut like = NearPairs::new();
+    let mut unlike = NearPairs::new();
+    let mut others = NearPairs::new();
+    let mut sum = energy_of_rows(
+        rows & !seconds,
+        Species::First,
+        task,
+        &columns,
+        table,
+        &mut like,
+        &mut unlike,
+    );
+    sum += energy_of_rows(
+        rows & seconds,
+        Species::Second,
+        task,
+        &columns,
+        table,
+        &mut unlike,
+        &mut others,
+    );
+    let mix = task.mix();
+    let like_class = mix.class(Species::First, Species::First);
+    sum += energy_of_all(&like, first, second, like_class, table);
+    let unlike_class = mix.class(Species::First, Species::Second);
+    sum += energy_of_all(&unlike, first, second, unlike_class, table);
+    let others_class = mix.class(Species::Second, Species::Second);
+    sum + energy_of_all(&others, first, second, others_class, table)
 }
 
-/// The sum of the energies of place `s` of the second block with the earlier atoms of the first. It looks closely only at
-/// those places of the first block that may interact with it.
-#[inline]
-fn energy_before(s: usize, task: &Task, columns: &Columns, table: &Table) -> i64
-    requires within { s < length task.now.b.places }
-    requires columns { HasColumns (can_interact task.now.mix) columns.now task.now.a.places }
-    requires on_ring { (t : ℕ) → t < length task.now.a.places → IsOnRing (place_at task.now.a.places t) }
-    ensures value { result ≡ energy_row task.now s }
-    ensures size { unsigned_abs result ≤ BLOCK * 2 ^ 46 }
-{
-    let there = task.second().places()[s];
-    read(there);
-    let near = columns.near(&there) & earlier(s, task);
-    let own = species_at(task.second().seconds(), s);
-    let (places, seconds) = (task.first().places(), task.first().seconds());
-    let first_class = task.mix().class(Species::First, own);
-    let of_firsts = energy_with(near & !seconds, &there, places, first_class, table);
-    let second_class = task.mix().class(Species::Second, own);
-    of_firsts + energy_with(near & seconds, &there, places, second_class, table)
-}
-
-/// The sum of the energies of the atom at `there` with those of `places` whose bit is set.
-#[inline]
-fn energy_with(set: u64, there: &Place, places: &[Place], class: &Class, table: &Table) -> i64
-    requires few { length places.now ≤ BLOCK }
-    requires within { (t : ℕ) → bit_at set t ≡ 1 → t < length places.now }
-    ensures value { result ≡ energies_in class.now set there.now places.now (length places.now) }
-    ensures size { unsigned_abs result ≤ BLOCK * 2 ^ 45 }
+/// The sum of the energies of rows of a set, whose atoms are of one species. Those of the last pairs are left in two
+/// lists, of pairs with atoms of the first species and with atoms of the second.
+fn energy_of_rows(
+    rows: u64,
+    own: Species,
+    task: &Task,
+    columns: &Columns,
+    table: &Table,
+    of_firsts: &mut NearPairs,
+    of_seconds: &mut NearPairs,
+) -> i64
+    requires columns { HasColumns (can_interact task.now.mix) columns.now task.now.b.places }
+    requires first { AreOnRing task.now.a.places }
+    requires second { AreOnRing task.now.b.places }
+    requires rows { AreRowsOf task.now own rows }
+    requires few_firsts { length of_firsts.old < FULL }
+    requires few_seconds { length of_seconds.old < FULL }
+    requires firsts { ArePairs task.now.a.places task.now.b.places of_firsts.old }
+    requires seconds { ArePairs task.now.a.places task.now.b.places of_seconds.old }
+    ensures few_firsts { length of_firsts.new < FULL }
+    ensures few_seconds { length of_seconds.new < FULL }
+    ensures firsts { ArePairs task.now.a.places task.now.b.places of_firsts.new }
+    ensures seconds { ArePairs task.now.a.places task.now.b.places of_seconds.new }
+    ensures value { let like = class_of task.now.mix own variants.First in let unlike = class_of task.now.mix own variants.Second in
+        result +ℤ lists_energy task.now like unlike of_firsts.new of_seconds.new
+        ≡ lists_energy task.now like unlike of_firsts.old of_seconds.old +ℤ rows_energy task.now rows BLOCK }
+    ensures size { unsigned_abs result ≤ BLOCK * 2 ^ 53 }
 {
     let mut t = 0;
-    let mut rest = set;
+    let mut rest = rows;
     let mut sum = 0;
     while rest != 0 {
         let skipped = rest.trailing_zeros();
         t += skipped as usize;
-        sum += table.energy(dist2(&places[t], there), &class.scale, class.weight);
+        sum += energy_of_row(t, own, task, columns, table, of_firsts, of_seconds);
         rest = rest >> skipped >> 1;
         t += 1;
     }
     sum
+}
+
+/// The sum of the energies of place `t` of the first block with later atoms of the second, but for those of the last
+/// pairs. It looks closely only at those places of the second block that may interact with it.
+#[inline(always)]
+fn energy_of_row(
+    t: usize,
+    own: Species,
+    task: &Task,
+    columns: &Columns,
+    table: &Table,
+    of_firsts: &mut NearPairs,
+    of_seconds: &mut NearPairs,
+) -> i64
+    requires columns { HasColumns (can_interact task.now.mix) columns.now task.now.b.places }
+    requires first { AreOnRing task.now.a.places }
+    requires second { AreOnRing task.now.b.places }
+    requires row { t < length task.now.a.places }
+    requires own { own ≡ species.species_at task.now.a.seconds t }
+    requires few_firsts { length of_firsts.old < FULL }
+    requires few_seconds { length of_seconds.old < FULL }
+    requires firsts { ArePairs task.now.a.places task.now.b.places of_firsts.old }
+    requires seconds { ArePairs task.now.a.places task.now.b.places of_seconds.old }
+    ensures few_firsts { length of_firsts.new < FULL }
+    ensures few_seconds { length of_seconds.new < FULL }
+    ensures firsts { ArePairs task.now.a.places task.now.b.places of_firsts.new }
+    ensures seconds { ArePairs task.now.a.places task.now.b.places of_seconds.new }
+    ensures value { let like = class_of task.now.mix own variants.First in let unlike = class_of task.now.mix own variants.Second in
+        result +ℤ lists_energy task.now like unlike of_firsts.new of_seconds.new
+        ≡ lists_energy task.now like unlike of_firsts.old of_seconds.old +ℤ energy_row task.now t }
+    ensures size { unsigned_abs result ≤ 2 ^ 53 }
+{
+    let here = &task.first().places()[t];
+    let near = columns.near(here) & later(t, task);
+    let seconds = task.second().seconds();
+    let like = task.mix().class(own, Species::First);
+    let of_like = energy_of_pairs(t, near & !seconds, task, like, table, of_firsts);
+    let unlike = task.mix().class(own, Species::Second);
+    of_like + energy_of_pairs(t, near & seconds, task, unlike, table, of_seconds)
+}
+
+/// Adds the pairs of place `t` of the first block with a set of places of the second to a list, and gives the energies of
+/// its pairs where it becomes full.
+#[inline(always)]
+fn energy_of_pairs(
+    t: usize,
+    set: u64,
+    task: &Task,
+    class: &Class,
+    table: &Table,
+    pairs: &mut NearPairs,
+) -> i64
+    requires row { t < length task.now.a.places }
+    requires set { (s : ℕ) → bit_at set s ≡ 1 → s < length task.now.b.places }
+    requires few { length pairs.old < FULL }
+    requires pairs { ArePairs task.now.a.places task.now.b.places pairs.old }
+    ensures few { length pairs.new < FULL }
+    ensures pairs { ArePairs task.now.a.places task.now.b.places pairs.new }
+    ensures value { result +ℤ list_energy class.now task.now.a.places task.now.b.places pairs.new
+        ≡ list_energy class.now task.now.a.places task.now.b.places (pairs.old ++ row_pairs t set) }
+    ensures size { unsigned_abs result ≤ 2 ^ 52 }
+{
+    let (first, second) = (task.first().places(), task.second().places());
+    pairs.append(t, set);
+    if pairs.len() < FULL {
+        return 0;
+    }
+    energy_of_most(pairs, first, second, class, table)
 }

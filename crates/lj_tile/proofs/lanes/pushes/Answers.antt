@@ -1,15 +1,12 @@
-use Rattle.std.proofs.Common.{ℕ, ◌<◌, ◌≡◌, ltb, slice_index, unsigned_abs, refl, sym, ap, ◌∙◌, w32}
-use Rattle.std.specs.Int.{cast_signed}
+use Rattle.std.proofs.Common.{ℕ, ◌<◌, ◌≡◌, ltb, slice_index, refl, sym, ap, ◌∙◌}
 use Rattle.lj_ring.specs.declared.coordinates.Place.{Place}
 use Rattle.lj_ring.specs.Bins.{near_bin}
-use Rattle.lj_ring.specs.Ring.{distance, image, ring_difference}
+use Rattle.lj_ring.specs.Ring.{distance}
 use Rattle.lj_table.specs.Entries.{push_entry, push_at, cell}
 use Rattle.lj_tile.specs.Lanes.{AreApartBy}
-use Rattle.lj_tile.proofs.LanePushes.{signed_number, axis_is, entry_signed, near_cell, lane_push}
+use Rattle.lj_tile.specs.Energies.{signed_number}
+use Rattle.lj_tile.proofs.LanePushes.{length_is, axis_is, entry_signed, near_cell, lane_push}
 use Rattle.lj_tile.proofs.lanes.pushes.Goals as goal
-
-length_is : (n d a b : ℕ) → n ≡ unsigned_abs (cast_signed w32 d) → d ≡ ring_difference a b → n ≡ unsigned_abs (image a b)
-length_is n d a b e apart = e ∙ ap (λ m. unsigned_abs (cast_signed w32 m)) apart
 
 squares : (c : goal.After-signed-3) (k : ℕ) (p q : Place) → k < 8 → AreApartBy c.args.images.now k p q
     → slice_index c.bins-bins.result k ≡ near_bin c.args.scale.now (distance p q)
@@ -24,9 +21,9 @@ sign : (c : goal.After-signed-3) (k : ℕ) (p q : Place) → k < 8 → AreApartB
     ≡ signed_number (ltb 160 (slice_index c.bins-bins.result k)) (slice_index c.push_sizes.result k)
 sign c k p q l apart =
     let e : cell push_entry (slice_index c.bins-bins.result k) ≡ push_at c.args.scale.now (distance p q) =
-    ap (cell push_entry) (squares c k p q l apart) ∙ near_cell c.args.scale.now (distance p q) in
+    ap (cell push_entry) (squares c k p q l apart) ∙ near_cell push_entry c.args.scale.now (distance p q) in
     sym e
-    ∙ entry_signed (ltb 160 (slice_index c.bins-bins.result k)) (slice_index c.bins-bins.result k)
+    ∙ entry_signed 160 (ltb 160 (slice_index c.bins-bins.result k)) (slice_index c.bins-bins.result k)
     (slice_index c.push_sizes.result k) (cell push_entry (slice_index c.bins-bins.result k)) refl
     (c.push_sizes.ensures.apart k l) (c.push_sizes.ensures.together k l)
 

@@ -1,36 +1,87 @@
-use Rattle.std.proofs.Common.{◌≡◌, ◌<◌, ◌*◌, ◌^◌, ◌∙◌, ap, length, arith}
-use Rattle.lj_ring.specs.Ring.{int_sum_below}
+use Rattle.std.proofs.Common.{◌≡◌, ◌<◌, ◌-◌, ℕ, length, bit_and, ap, ◌∙◌, arith}
+use Rattle.lj_ring.specs.declared.mixes.Class.{Class}
+use Rattle.lj_ring.specs.declared.mixes.Species.{Species}
+use Rattle.lj_ring.specs.declared.mixes.Species.TheVariants.{First, Second}
+use Rattle.lj_ring.specs.Mix.{Mix, class_of}
+use Rattle.lj_ring.proofs.MixLemmas.{class_symmetric}
 use Rattle.lj_tile.specs.Block.{Block}
-use Rattle.lj_tile.specs.Rows.{energy_row}
-use Rattle.lj_tile.proofs.SumLemmas.{energy_all, sum_fits, sum_is, sum_size, int_sum_more}
+use Rattle.lj_tile.proofs.RowSums.{IsOfOne, IsSilentRow}
+use Rattle.lj_tile.proofs.RowSets.{first_rows, second_rows, of_either}
+use Rattle.lj_tile.proofs.EnergySums.{task_sum, both_rows, two_added, three_added, four_added, five_added}
 use Rattle.lj_tile.proofs.sums.energy_sum.Goals as goal
 
-few : (c : goal.After-energy_before-sum) → c.loop-s.s < 64
-few c = omega (arith, ap length c.places-s-end.ensures.value, c.places-s-end.ensures.most, c.loop-s-test.true)
+pub energy_of_rows-sum-requires-clause-rows : goal.energy_of_rows-sum-requires-clause-rows
+energy_of_rows-sum-requires-clause-rows c =
+    first_rows c.args.task.now c.near_rows-rows.result c.seconds-seconds.result (omega arith) c.first.ensures.sound.most_first
+    (c.seconds-seconds.ensures ∙ ap (λ (block : Block). block.seconds) c.first-2.ensures.value) c.near_rows-rows.ensures.within
+
+pub energy_of_rows-sum-requires-2-clause-rows : goal.energy_of_rows-sum-requires-2-clause-rows
+energy_of_rows-sum-requires-2-clause-rows c =
+    second_rows c.args.task.now c.near_rows-rows.result c.seconds-seconds.result
+    (c.seconds-seconds.ensures ∙ ap (λ (block : Block). block.seconds) c.first-2.ensures.value) c.near_rows-rows.ensures.within
+
+firsts_are : (c : goal.After-energy_of_all) → c.places-first.result.now ≡ c.args.task.now.a.places
+firsts_are c = c.places-first.ensures.value ∙ ap (λ (block : Block). block.places) c.first.ensures.value
+
+seconds_are : (c : goal.After-energy_of_all) → c.places-second.result.now ≡ c.args.task.now.b.places
+seconds_are c = c.places-second.ensures.value ∙ ap (λ (block : Block). block.places) c.second.ensures.value
+
+class_is : (mix other : Mix) (class : Class) (own of : Species) → class ≡ class_of mix own of → mix ≡ other
+    → class ≡ class_of other own of
+class_is mix other class own of e f = e ∙ ap (λ m. class_of m own of) f
+
+either : (c : goal.After-energy_of_all) (t : ℕ) → t < length c.args.task.now.a.places
+    → IsOfOne (bit_and c.near_rows-rows.result (18446744073709551615 - c.seconds-seconds.result))
+    (bit_and c.near_rows-rows.result c.seconds-seconds.result) t (IsSilentRow c.args.task.now t)
+either c t within =
+    of_either c.args.task.now c.near_rows-rows.result c.seconds-seconds.result t (omega arith)
+    (omega (arith, within, c.first.ensures.sound.most_first)) (c.near_rows-rows.ensures.far t within)
 
 pub overflow_add-sum : goal.overflow_add-sum
 overflow_add-sum c =
-    sum_fits _ c.energy_before-sum.result c.loop-s.s (64 * 2 ^ 46)
-    c.loop-s.invariant.size c.energy_before-sum.ensures.size (few c) (omega arith)
+    (two_added c.energy_of_rows-sum.result c.energy_of_rows-sum-2.result c.energy_of_rows-sum.ensures.size
+    c.energy_of_rows-sum-2.ensures.size).fits
 
-pub loop-s-preserved : goal.loop-s-preserved
-loop-s-preserved c =
-    rw (sum_is _ c.energy_before-sum.result c.loop-s.s (64 * 2 ^ 46)
-    c.loop-s.invariant.size c.energy_before-sum.ensures.size (few c) (omega arith))
-    record {
-      value = int_sum_more (energy_row c.args.task.now)
-          c.loop-s.s _ c.energy_before-sum.result c.loop-s.invariant.value c.energy_before-sum.ensures.value;
-      size = sum_size _ c.energy_before-sum.result c.loop-s.s (64 * 2 ^ 46)
-          c.loop-s.invariant.size c.energy_before-sum.ensures.size;
-    }
+pub overflow_add-sum-2 : goal.overflow_add-sum-2
+overflow_add-sum-2 c =
+    (three_added c.energy_of_rows-sum.result c.energy_of_rows-sum-2.result c.energy_of_all-sum.result
+    c.energy_of_rows-sum.ensures.size c.energy_of_rows-sum-2.ensures.size c.energy_of_all-sum.ensures.size).fits
+
+pub overflow_add-sum-3 : goal.overflow_add-sum-3
+overflow_add-sum-3 c =
+    (four_added c.energy_of_rows-sum.result c.energy_of_rows-sum-2.result c.energy_of_all-sum.result c.energy_of_all-sum-2.result
+    c.energy_of_rows-sum.ensures.size c.energy_of_rows-sum-2.ensures.size c.energy_of_all-sum.ensures.size
+    c.energy_of_all-sum-2.ensures.size).fits
+
+pub overflow_add-result : goal.overflow_add-result
+overflow_add-result c =
+    (five_added c.energy_of_rows-sum.result c.energy_of_rows-sum-2.result c.energy_of_all-sum.result c.energy_of_all-sum-2.result
+    c.energy_of_all.result c.energy_of_rows-sum.ensures.size c.energy_of_rows-sum-2.ensures.size c.energy_of_all-sum.ensures.size
+    c.energy_of_all-sum-2.ensures.size c.energy_of_all.ensures.size).fits
 
 pub returns : goal.returns
 returns c =
-    let all : c.loop-s.s ≡ length c.args.task.now.b.places = omega (
-      arith,
-      ap length c.places-s-end.ensures.value,
-      ap (λ (block : Block). length block.places) c.second.ensures.value,
-    ) in
-    c.loop-s.invariant.value
-    ∙ ap (λ n. int_sum_below n (energy_row c.args.task.now)) all
-    ∙ energy_all c.args.task.now
+    let w = c.args.task.now in
+    let set : ℕ = c.seconds-seconds.result in
+    let rows : ℕ = c.near_rows-rows.result in
+    let its = c.seconds-seconds.ensures ∙ ap (λ (block : Block). block.seconds) c.first-2.ensures.value in
+    let like = class_is c.mix-mix.result.now w.mix c.class-like_class.result.now First First c.class-like_class.ensures.value c.mix-mix.ensures in
+    let unlike = class_is c.mix-mix.result.now w.mix c.class-unlike_class.result.now First Second c.class-unlike_class.ensures.value c.mix-mix.ensures in
+    let others = class_is c.mix-mix.result.now w.mix c.class-others_class.result.now Second Second c.class-others_class.ensures.value c.mix-mix.ensures in
+    let turned : class_of w.mix Second First ≡ class_of w.mix First Second = class_symmetric w.mix Second First in
+    (five_added c.energy_of_rows-sum.result c.energy_of_rows-sum-2.result c.energy_of_all-sum.result c.energy_of_all-sum-2.result
+    c.energy_of_all.result c.energy_of_rows-sum.ensures.size c.energy_of_rows-sum-2.ensures.size c.energy_of_all-sum.ensures.size
+    c.energy_of_all-sum-2.ensures.size c.energy_of_all.ensures.size).value
+    ∙ task_sum w (class_of w.mix First First) (class_of w.mix First Second) (class_of w.mix Second Second)
+    (bit_and rows (18446744073709551615 - set)) (bit_and rows set) c.energy_of_rows-sum.new.of_firsts
+    c.energy_of_rows-sum.new.of_seconds c.energy_of_rows-sum-2.new.of_firsts c.energy_of_rows-sum-2.new.of_seconds
+    c.energy_of_rows-sum.result c.energy_of_rows-sum-2.result c.energy_of_all-sum.result c.energy_of_all-sum-2.result
+    c.energy_of_all.result
+    (rw (c.new-like.ensures, c.new-unlike.ensures) at c.energy_of_rows-sum.ensures.value)
+    (rw (turned, c.new-others.ensures) at c.energy_of_rows-sum-2.ensures.value)
+    (rw (like, firsts_are c, seconds_are c) at c.energy_of_all-sum.ensures.value)
+    (rw (unlike, firsts_are c, seconds_are c) at c.energy_of_all-sum-2.ensures.value)
+    (rw (others, firsts_are c, seconds_are c) at c.energy_of_all.ensures.value)
+    (both_rows w (bit_and rows (18446744073709551615 - set)) (bit_and rows set) c.first.ensures.sound.most_first
+    (first_rows w rows set (omega arith) c.first.ensures.sound.most_first its c.near_rows-rows.ensures.within).within
+    (second_rows w rows set its c.near_rows-rows.ensures.within).within (either c))

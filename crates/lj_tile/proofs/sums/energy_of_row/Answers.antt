@@ -1,0 +1,89 @@
+use Rattle.std.proofs.Common.{◌≡◌, ◌≤◌, ◌<◌, ◌-◌, ◌^◌, ℕ, length, List, bit_and, unsigned_abs, w64, ap, subst, ◌∙◌, arith}
+use Rattle.std.specs.Int.{bit_at}
+use Rattle.std.proofs.lemmas.Int.{fits_signed_from_abs, to_z-of_z}
+use Rattle.lj_ring.specs.declared.coordinates.Place.{Place}
+use Rattle.lj_ring.specs.declared.mixes.Class.{Class}
+use Rattle.lj_ring.specs.declared.mixes.Species.{Species}
+use Rattle.lj_ring.specs.declared.mixes.Species.TheVariants.{First, Second}
+use Rattle.lj_ring.specs.Mix.{Mix, class_of, can_interact}
+use Rattle.lj_ring.proofs.MixLemmas.{cannot_interact}
+use Rattle.lj_tile.specs.Block.{Block}
+use Rattle.lj_tile.specs.Species.{species_at}
+use Rattle.lj_tile.specs.Tiles.{place_at}
+use Rattle.lj_tile.specs.Task.{are_in_order}
+use Rattle.lj_tile.specs.Rows.{IsSilent}
+use Rattle.lj_tile.proofs.RowLemmas.{not_in_order, far_silent}
+use Rattle.lj_tile.proofs.Splits.{IsSplit, RowSplit, split_of, part_within}
+use Rattle.lj_tile.proofs.SumLemmas.{sum_is}
+use Rattle.lj_tile.proofs.EnergySums.{row_energy_added}
+use Rattle.lj_tile.proofs.sums.energy_of_row.Goals as goal
+
+pub energy_of_pairs-of_like-requires-clause-set : goal.energy_of_pairs-of_like-requires-clause-set
+energy_of_pairs-of_like-requires-clause-set c s set =
+    part_within c.near.result c.later.result _ s (length c.args.task.now.b.places) _ (c.later.ensures s) set
+
+pub energy_of_pairs-requires-clause-set : goal.energy_of_pairs-requires-clause-set
+energy_of_pairs-requires-clause-set c s set =
+    part_within c.near.result c.later.result _ s (length c.args.task.now.b.places) _ (c.later.ensures s) set
+
+here_is : (c : goal.After-energy_of_pairs) → place_at c.places.result.now c.args.t ≡ place_at c.args.task.now.a.places c.args.t
+here_is c =
+    ap (λ (places : List Place). place_at places c.args.t)
+    (c.places.ensures.value ∙ ap (λ (block : Block). block.places) c.first.ensures.value)
+
+seconds_is : (c : goal.After-energy_of_pairs) → c.seconds-seconds.result ≡ c.args.task.now.b.seconds
+seconds_is c = c.seconds-seconds.ensures ∙ ap (λ (block : Block). block.seconds) c.second.ensures.value
+
+-- a place whose bit is not set is silent
+silent : (c : goal.After-energy_of_pairs) (s : ℕ) → s < length c.args.task.now.b.places → bit_at c.near.result s ≡ 0
+    → IsSilent c.args.task.now c.args.t s
+silent c s within none =
+    let w = c.args.task.now in
+    far_silent w c.args.t s (c.requires.first c.args.t c.requires.row) (c.requires.second s within)
+    (cannot_interact w.mix (species_at w.a.seconds c.args.t) (species_at w.b.seconds s) _
+    (rw (here_is c) at (c.near.ensures (can_interact w.mix) w.b.places c.requires.columns s within none)))
+
+firsts : (c : goal.After-energy_of_pairs) → ℕ
+firsts c = bit_and (bit_and c.near.result c.later.result) (18446744073709551615 - c.seconds-seconds.result)
+
+seconds : (c : goal.After-energy_of_pairs) → ℕ
+seconds c = bit_and (bit_and c.near.result c.later.result) c.seconds-seconds.result
+
+split : (c : goal.After-energy_of_pairs) (s : ℕ) → s < length c.args.task.now.b.places
+    → RowSplit c.args.task.now c.args.t (firsts c) (seconds c) s
+unfolding firsts seconds
+split c s within =
+    let w = c.args.task.now in
+    subst
+    (λ (here : ℕ). IsSplit (bit_and (bit_and c.near.result c.later.result) (18446744073709551615 - c.seconds-seconds.result))
+    (bit_and (bit_and c.near.result c.later.result) c.seconds-seconds.result) here s (are_in_order w c.args.t s)
+    (IsSilent w c.args.t s))
+    (seconds_is c)
+    (split_of c.near.result c.later.result c.seconds-seconds.result s (length w.b.places) (are_in_order w c.args.t s)
+    (IsSilent w c.args.t s) (omega arith) (omega (arith, within, c.second.ensures.sound.most_second)) within
+    (c.later.ensures s) (silent c s within) (not_in_order w c.args.t s))
+
+class_is : (mix other : Mix) (class : Class) (own of : Species) → class ≡ class_of mix own of → mix ≡ other
+    → class ≡ class_of other own of
+class_is mix other class own of e f = e ∙ ap (λ m. class_of m own of) f
+
+pub returns-clause-value : goal.returns-clause-value
+unfolding firsts seconds
+returns-clause-value c =
+    let w = c.args.task.now in
+    let like = class_is c.mix.result.now w.mix c.class-like.result.now c.args.own First c.class-like.ensures.value c.mix.ensures in
+    let unlike = class_is c.mix-2.result.now w.mix c.class-unlike.result.now c.args.own Second c.class-unlike.ensures.value c.mix-2.ensures in
+    let size : unsigned_abs c.energy_of_pairs-of_like.result ≤ 2 ^ 52 = c.energy_of_pairs-of_like.ensures.size in
+    rw (
+      to_z-of_z w64 c.energy_of_pairs-of_like.result (fits_signed_from_abs w64 _ (omega (arith, size))),
+      sum_is c.energy_of_pairs-of_like.result c.energy_of_pairs.result 1 (2 ^ 52)
+          (omega (arith, size)) c.energy_of_pairs.ensures.size (omega arith) (omega arith),
+      c.requires.own,
+    )
+    (row_energy_added w c.args.t (firsts c) (seconds c) c.args.of_firsts.now c.args.of_seconds.now
+    c.energy_of_pairs-of_like.new.pairs c.energy_of_pairs.new.pairs c.energy_of_pairs-of_like.result c.energy_of_pairs.result
+    c.second.ensures.sound.most_second
+    (λ s set. part_within c.near.result c.later.result _ s (length w.b.places) _ (c.later.ensures s) set)
+    (λ s set. part_within c.near.result c.later.result _ s (length w.b.places) _ (c.later.ensures s) set)
+    (split c) (rw (like, c.requires.own) at c.energy_of_pairs-of_like.ensures.value)
+    (rw (unlike, c.requires.own) at c.energy_of_pairs.ensures.value))
