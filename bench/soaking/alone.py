@@ -6,7 +6,7 @@ from typing import Dict, List
 
 from shared.loads import tiles_of_step
 from shared.program import Quota, run_words
-from shared.tally import shown
+from shared.texts import shown
 from soaking.words import PATIENCE, SESSIONS, Fault, first_words, reply_end
 
 # A step of 130 atoms has so many tiles.

@@ -6,7 +6,7 @@ import time
 from typing import Optional
 
 from shared.sockets import connected, reset
-from shared.tally import shown
+from shared.texts import shown
 from soaking.words import PATIENCE, Fault, reply_end
 
 

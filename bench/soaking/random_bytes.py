@@ -9,7 +9,7 @@ import time
 from multiprocessing.connection import Connection as Pipe
 
 from shared.program import NO_MEMORY, USUAL, Ended, end_of, status_of
-from shared.tally import shown
+from shared.texts import shown
 from soaking.account import Account, documented
 from soaking.alone import Alone
 from soaking.processes import started, tell_faults

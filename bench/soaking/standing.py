@@ -2,7 +2,7 @@
 from typing import List, Optional
 
 from shared.program import Quota
-from shared.tally import shown
+from shared.texts import shown
 from soaking.alone import Alone, Tiles
 from soaking.plans import Plan
 from soaking.words import Fault, first_words, reply_end

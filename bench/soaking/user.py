@@ -9,7 +9,7 @@ from multiprocessing.connection import Connection as Pipe
 from typing import Dict, List, Optional, Sequence, Tuple
 
 from shared.serving import DENIED
-from shared.tally import shown
+from shared.texts import shown
 from soaking.connection import Connection
 from soaking.plans import Plan
 from soaking.speaker import Speaker

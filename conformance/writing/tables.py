@@ -10,7 +10,7 @@ TOP = pathlib.Path(__file__).resolve().parents[2]
 sys.path.append(str(TOP / "tests"))
 
 from dialogue_tables import NOT_READ_ON, TABLES  # noqa: E402
-from dialogues import Dialogue, Ending  # noqa: E402
+from dialogue_tables.dialogues import Dialogue, Ending  # noqa: E402
 
 DIMER = "2\ndimer\nAr 0 0 0\nAr 1.5 0 0\n"
 SALT = "2\nmix\nNa 0 0 0\nCl 1.5 0 0\n"

@@ -1,4 +1,4 @@
-"""Tables of dialogues, for tests/program."""
+"""Tables of dialogues, which are played over a run and to servers."""
 from dialogue_tables import branches, frames, limits, lines, loads, mixed_faults, mixed_lines, mixtures, refusals
 from dialogue_tables import side_by_side, sizes, words_of_numbers, worked
 

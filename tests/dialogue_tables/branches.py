@@ -3,7 +3,7 @@ from typing import Iterable, Iterator, Tuple
 
 from dialogue_tables.frames import SIZES
 from dialogue_tables.in_boxes import DROP, Item, dialogue, load, loaded
-from dialogues import LOAD
+from dialogue_tables.dialogues import LOAD
 
 # What is saved comes back, as often as it is asked for; the potential is that of two atoms at rest, 1.5 sigma apart.
 SAVED = (

@@ -9,7 +9,8 @@ from typing import Callable, Iterator, List, Optional, Sequence, Union
 from dialogue_tables.frames import FAULTS, SIZES, faults, numbered
 from dialogue_tables.in_boxes import DROP, ROW, Item, load, load_in, loaded, show
 from dialogue_tables.mixtures import load_mix, mixed
-from dialogues import LOAD, Quota
+from dialogue_tables.dialogues import LOAD
+from shared.program import Quota
 
 NO_MEMORY = "ERR 90 MEMORY\n"
 

@@ -1,8 +1,9 @@
 """LOADs of texts, and what SHOW and DUMP tell of their atoms, from the billionths that their words say."""
 from typing import Iterable, Iterator, Sequence, Tuple
 
-from dialogues import USUAL, Dialogue, Quota
-from plain_steps import RING, on_ring
+from dialogue_tables.dialogues import Dialogue
+from reference import RING, units_of
+from shared.program import USUAL, Quota
 
 # What is sent, and the reply to it.
 Item = Tuple[str, str]
@@ -43,7 +44,7 @@ def loaded(atoms: int, session: str = "a") -> str:
 
 
 def place_of(box: Box, billionths: int) -> int:
-    return on_ring(billionths, box[1]) % RING
+    return units_of(box[1], billionths) % RING
 
 
 def show(box: Box, atoms: Sequence[Atom], number: int, step: int = 0) -> Item:

@@ -1,8 +1,8 @@
 """Lines, bodies and streams at their limits."""
 from typing import Tuple
 
-from dialogues import Dialogue, Ending
-from schedules import Part
+from dialogue_tables.dialogues import Dialogue, Ending
+from schedule_tables.runs import Part
 
 # Streams that end well.
 GO_ON = (

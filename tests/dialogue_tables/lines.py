@@ -1,5 +1,5 @@
 """Lines of commands: what is wrong with one, and how many bytes of body follow it."""
-from dialogues import Dialogue, Ending
+from dialogue_tables.dialogues import Dialogue, Ending
 from shared.loads import DIMER
 
 # Lines that are refused; the connection goes on after them.

@@ -1,5 +1,5 @@
 """LOADs: bodies of any form, the first fault of one, and the order of refusals."""
-from dialogues import LOAD, Dialogue
+from dialogue_tables.dialogues import LOAD, Dialogue
 
 # Words of a second LOAD, and its refusal.
 REFUSED_WORDS = (

@@ -3,8 +3,9 @@ from itertools import combinations, product
 from typing import Dict, Iterator, Tuple
 
 from dialogue_tables.in_boxes import Item, dialogue
-from dialogue_tables.mixtures import MIX, USUAL_CLASSES, load_mix, mixed
-from dialogues import Quota
+from dialogue_tables.mixtures import USUAL_CLASSES, load_mix, mixed
+from schedule_tables.runs import MIX
+from shared.program import Quota
 
 # A refusal, and the words and lines of a command that are put in place of good ones.
 Fault = Tuple[str, Dict[str, str]]

@@ -2,8 +2,9 @@
 from typing import Iterator
 
 from dialogue_tables.lines import of_line, without_count
-from dialogue_tables.mixtures import MIX, load_mix, mixed
-from dialogues import Dialogue
+from dialogue_tables.dialogues import Dialogue
+from dialogue_tables.mixtures import load_mix, mixed
+from schedule_tables.runs import MIX
 
 LINE = load_mix(MIX).split("\n")[0]
 *FRONT, COUNT = LINE.split()

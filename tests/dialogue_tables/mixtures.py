@@ -6,8 +6,8 @@ from typing import Iterator, Sequence, Tuple
 from dialogue_tables.branches import of_words
 from dialogue_tables.in_boxes import Item, dialogue
 from dialogue_tables.worked import MOTION_AND_WHAT_IS_SAVED
-from dialogues import Dialogue
-from schedules import MIX
+from dialogue_tables.dialogues import Dialogue
+from schedule_tables.runs import MIX
 
 USUAL = "1 131072 256"
 USUAL_CLASSES = (USUAL, USUAL, USUAL)

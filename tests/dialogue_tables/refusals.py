@@ -1,5 +1,6 @@
 """Refusals, each of which leaves the user as it was."""
-from dialogues import LOAD, Dialogue, Quota
+from dialogue_tables.dialogues import LOAD, Dialogue
+from shared.program import Quota
 
 # A user whose sessions and saved simulations fill the quota, and which has room for one atom more.
 FULL: Quota = (2, 5, 1)

@@ -3,8 +3,10 @@ from dataclasses import dataclass
 from typing import Iterator, Tuple
 
 from dialogue_tables.worked import LOAD_B
-from dialogues import LOAD, Dialogue, Ending, Quota
-from schedules import CHAIN, MIX
+from dialogue_tables.dialogues import LOAD, Dialogue, Ending
+from schedule_tables.runs import MIX
+from shared.loads import CHAIN
+from shared.program import Quota
 
 # Two atoms after two steps, and what is saved at the start.
 BEGIN = LOAD + LOAD_B + "BRANCH a k\nSTART a 2\nSTART b 1\n"

@@ -4,7 +4,7 @@ The atoms stand on a lattice of 16 times 16 times 16, all of them out of reach o
 """
 from typing import Iterator, Tuple
 
-from dialogues import Dialogue
+from dialogue_tables.dialogues import Dialogue
 
 BLOCK = 64
 # In the box of edge 256, and in units of 2^-32 of it.

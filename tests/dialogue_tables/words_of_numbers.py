@@ -2,7 +2,7 @@
 from typing import Iterator, Tuple, Union
 
 from dialogue_tables.in_boxes import DROP, FINE, WIDE, Item, at_rest, dialogue, load, load_in, loaded
-from plain_steps import RING, on_ring
+from reference import RING, units_of
 
 BAD = "33 XYZ_NUMBER line 3"
 OUT = "34 XYZ_RANGE line 3"
@@ -56,7 +56,7 @@ def edges() -> Iterator[Item]:
         if isinstance(read, int) and 10**6 <= read <= MOST:
             tenth = f"{read // 10**10}.{read // 10 % 10**9:09}"
             yield load(ONE_ATOM, words=f"{word} {tenth} 1"), loaded(1)
-            yield "SHOW a 0\n", f"OK SHOW a 0 0 {on_ring(500_000, read) % RING} 0 0\n"
+            yield "SHOW a 0\n", f"OK SHOW a 0 0 {units_of(read, 500_000) % RING} 0 0\n"
             yield DROP
         else:
             yield load(ONE_ATOM, words=f"{word} 1 1"), "ERR 36 EDGE\n"
@@ -66,7 +66,7 @@ def sigmas() -> Iterator[Item]:
     """Each word as a sigma, in boxes of several edges."""
     for word, read in DECIMALS:
         for edge in (4, 36, 1_000, 1_000_000):
-            units = on_ring(read, edge * 10**9) if isinstance(read, int) else 0
+            units = units_of(edge * 10**9, read) if isinstance(read, int) else 0
             fits = 65_536 <= units and 5 * units < RING
             yield load(ONE_ATOM, words=f"{edge} {word} 1"), loaded(1) if fits else "ERR 37 SIGMA\n"
             yield DROP if fits else ("DROP a\n", "ERR 10 NO_SESSION\n")

@@ -1,5 +1,6 @@
 """Worked dialogues: motion and measures, saved simulations, quotas, and how a connection ends."""
-from dialogues import LOAD, Dialogue, Ending, Quota
+from dialogue_tables.dialogues import LOAD, Dialogue, Ending
+from shared.program import Quota
 
 ONE_BRANCH: Quota = (8, 16384, 1)
 ONE_SESSION: Quota = (1, 16384, 16)

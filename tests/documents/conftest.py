@@ -57,5 +57,5 @@ def folder(tmp_path):
     """Such a folder. The program is not built for it, so LJSERVE has to name one."""
     program = os.environ.get("LJSERVE")
     if not program or not os.access(program, os.X_OK):
-        pytest.fail("set LJSERVE to the built program, as tests/client does")
+        pytest.fail("set LJSERVE to the built program")
     return Folder(tmp_path, program)

@@ -5,6 +5,7 @@ import subprocess
 import tempfile
 import time
 from contextlib import contextmanager
+from dataclasses import dataclass
 from typing import Any, Callable, Iterator, List, Optional, Sequence, Tuple, Union
 
 TOP = os.path.dirname(os.path.dirname(os.path.dirname(os.path.abspath(__file__))))
@@ -51,16 +52,34 @@ def run_words(quota: Quota) -> List[str]:
     return ["run", "--sessions", sessions, "--atoms", atoms, "--branches", branches]
 
 
-def run(program: str, words: Sequence[Union[str, bytes]], data: bytes = b"", **streams: Any) -> Ended:
-    """How a run of the program over this input ends."""
-    streams = {"stdout": subprocess.PIPE, "stderr": subprocess.PIPE, **streams}
-    if "stdin" not in streams:
-        streams["input"] = data
-    try:
-        done = subprocess.run([program, *words], timeout=SECONDS, **streams)
-    except subprocess.TimeoutExpired:
-        return "no end", b"", b""
-    return done.returncode, done.stdout or b"", done.stderr or b""
+@dataclass(frozen=True)
+class Program:
+    """A built program."""
+
+    path: str
+
+    def run(self, words: Sequence[Union[str, bytes]], data: bytes = b"", **streams: Any) -> Ended:
+        """How a run over this input ends."""
+        streams = {"stdout": subprocess.PIPE, "stderr": subprocess.PIPE, **streams}
+        if "stdin" not in streams:
+            streams["input"] = data
+        try:
+            done = subprocess.run([self.path, *words], timeout=SECONDS, **streams)
+        except subprocess.TimeoutExpired:
+            return "no end", b"", b""
+        return done.returncode, done.stdout or b"", done.stderr or b""
+
+    def replay_of(self, schedule: bytes, **streams: Any) -> Ended:
+        """How a replay of a schedule of these bytes ends."""
+        with file_of(schedule) as path:
+            return self.run(["replay", path], **streams)
+
+    def replies_alone(self, data: bytes, quota: Quota = USUAL) -> bytes:
+        """What `run` replies to these bytes, for a user of this quota."""
+        status, out, err = self.run(run_words(quota), data)
+        if (status, err) != (0, b""):
+            raise AssertionError(f"a run alone ends with {status}, {err!r}")
+        return out
 
 
 def end_of(child: "subprocess.Popen[bytes]", data: Optional[bytes] = None, seconds: float = SECONDS) -> Ended:

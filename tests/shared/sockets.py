@@ -12,7 +12,8 @@ IP_BIND_ADDRESS_NO_PORT = 24
 def free_port() -> int:
     with socket.socket() as taken:
         taken.bind(("127.0.0.1", 0))
-        return taken.getsockname()[1]
+        port: int = taken.getsockname()[1]
+        return port
 
 
 def is_listened_on(port: int) -> bool:

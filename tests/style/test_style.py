@@ -26,16 +26,22 @@ SEARCHED = {
     "conformance/random": "conformance tests",
     "docs/api": "clients/python",
     "examples": "clients/python",
-    "tests": "clients/python conformance",
+    ".": "tests",
+    "tests": "conformance",
     "tests/bench": "bench tests",
+    "tests/client": "tests",
     "tests/documents": "clients/python clients/python/tests",
+    "tests/faults": "tests conformance",
     "tests/gate": "bin",
+    "tests/protocol": "tests conformance",
+    "tests/replay": "tests conformance",
+    "tests/server": "tests conformance",
     "tools": "clients/python",
 }
 # Files by whose names others of their folder would find another module than they do when they run.
 ALONE = ("bench/shared/__init__.py", "conformance/random")
 # Folders whose tests have no types yet.
-WITHOUT_TYPES = ("tests", "tests/documents")
+WITHOUT_TYPES = ("tests/documents",)
 
 
 def is_python(path: pathlib.Path) -> bool:

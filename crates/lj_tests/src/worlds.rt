@@ -1,5 +1,5 @@
-//! Worlds: events of connections and workers that are none. Schedules of many users are replayed by `tests/program`, with
-//! each growth refused in turn, too.
+//! Worlds: events of connections and workers that are none. Schedules of many users are replayed by `tests/replay`, and by
+//! `tests/faults` with each growth refused in turn.
 
 use crate::users::{USERS, name, token, users};
 use arrayvec::ArrayString;

@@ -1,0 +1,34 @@
+"""What all tests share: the program that they try, which LJSERVE names, or else the built one; and the options of pytest."""
+import os
+import platform
+import sys
+from pathlib import Path
+from typing import List
+
+import pytest
+from shared.program import program_at
+
+TOP = Path(__file__).resolve().parent
+CLIENT, DOCUMENTS = TOP / "clients" / "python" / "tests", TOP / "tests" / "documents"
+
+
+def pytest_addoption(parser: pytest.Parser) -> None:
+    parser.addoption("--connections", type=int, default=10_000, help="how many short connections are made in turn (10,000)")
+
+
+def pytest_report_header() -> str:
+    return f"Python {platform.python_version()}: {sys.executable}"
+
+
+@pytest.hookimpl(tryfirst=True)  # type: ignore[misc]
+def pytest_sessionstart(session: pytest.Session) -> None:
+    """The program is there before processes of pytest-xdist begin, so that they don't build it side by side."""
+    if not session.config.option.collectonly:
+        os.environ["LJSERVE"] = program_at(os.environ.get("LJSERVE"))
+
+
+def pytest_collection_modifyitems(items: List[pytest.Item]) -> None:
+    """A file of the client or of the documents is tried in one process, since its tests share what takes long to make."""
+    for item in items:
+        if item.path.is_relative_to(CLIENT) or item.path.is_relative_to(DOCUMENTS):
+            item.add_marker(pytest.mark.xdist_group(item.path.name))

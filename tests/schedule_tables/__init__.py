@@ -1,0 +1,1 @@
+"""Schedules, with what a replay of each prints."""

@@ -1,0 +1,18 @@
+"""Processes that are to end."""
+import subprocess
+from typing import Tuple, Union
+
+from shared.program import SECONDS
+
+
+def finished(child: "subprocess.Popen[bytes]") -> Tuple[Union[int, str], bytes]:
+    """The exit status, and what was written to standard error. A child that goes on is killed."""
+    status: Union[int, str]
+    try:
+        status = child.wait(SECONDS)
+    except subprocess.TimeoutExpired:
+        child.kill()
+        child.wait()
+        status = "no end"
+    assert child.stderr
+    return status, child.stderr.read()
