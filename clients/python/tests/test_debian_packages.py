@@ -149,16 +149,18 @@ def settings_of(path: Any) -> List[Any]:
     return [line for line in lines if line[1]]
 
 
-def test_the_service_is_that_of_a_release_but_for_what_debian_has() -> None:
-    ours, theirs = (settings_of(TOP / "packaging" / path) for path in ("ljserve.service", "debian/ljserve.service"))
-    other = {("Service", "ExecStart"), ("Service", "EnvironmentFile"), ("Service", "DynamicUser"), ("Service", "User")}
+@pytest.mark.parametrize("unit, of_debian", [("ljserve", "ljserve"), ("ljserve-keep", "ljserve.ljserve-keep")])
+def test_the_services_are_those_of_a_release_but_for_what_debian_has(unit: Any, of_debian: Any) -> None:
+    ours, theirs = (settings_of(TOP / "packaging" / f"{path}.service") for path in (unit, f"debian/{of_debian}"))
+    other = {("Service", name) for name in ("ExecStart", "ExecStartPre", "ExecReload", "EnvironmentFile", "DynamicUser", "User")}
     other |= {("Unit", "Documentation"), ("Unit", "ConditionFileNotEmpty")}
     assert [line for line in ours if line[:2] not in other] == [line for line in theirs if line[:2] not in other]
     defaults = (TOP / "packaging" / "debian" / "ljserve.default").read_text()
     begun = dict((line[:2], line[2]) for line in theirs)["Service", "ExecStart"]
     for name, value in re.findall(r"^(\w+)=(.*)$", defaults, re.M):
         begun = begun.replace(f"${{{name}}}", value)
-    assert begun == dict((line[:2], line[2]) for line in ours)["Service", "ExecStart"].replace("/opt/ljserve/", "/usr/")
+    ours_begun = dict((line[:2], line[2]) for line in ours)["Service", "ExecStart"]
+    assert begun == ours_begun.replace("/opt/ljserve/tools/", "/usr/bin/ljserve-").replace("/opt/ljserve/", "/usr/")
 
 
 @pytest.fixture
