@@ -29,13 +29,13 @@ TOOLS = [path.name for path in (TOP / "tools").iterdir() if path.is_file() and o
 SERVER, CLIENT = f"ljserve_{VERSION}_amd64.deb", f"python3-ljclient_{VERSION}_all.deb"
 # The other program is begun in this one's place, so that the packages are made in half the time.
 STAND_IN = '#!/bin/sh\nexec "$(dirname "$(readlink -f "$0")")/ljserve-v2" "$@"\n'
-# It notes with what words it was called, in the place of systemd, which does not run there. The service that keeps is disabled.
+# It notes with what words it was called, in the place of systemd, which does not run there. The service without `keep` is disabled.
 SYSTEMCTL = """\
 #!/bin/sh
 echo "$*" >>/var/log/systemctl
 case "$*" in
-    *is-enabled*-keep*) echo disabled ;;
-    *is-enabled*) echo enabled ;;
+    *is-enabled*-keep*) echo enabled ;;
+    *is-enabled*) echo disabled ;;
     *is-active*) exit 3 ;;
 esac
 """
@@ -131,7 +131,7 @@ def test_the_files(packages: Any) -> None:
     assert "/usr/share/man/man1/ljclient.1.gz" in client
     assert not [path for path in [*server, *client] if re.search("/tests/|__pycache__|examples/users$", path)]
     units = {re.sub("^/usr", "", path) for path in server if path.endswith(".service") and "/doc/" not in path}
-    assert units == {f"/lib/systemd/system/{name}.service" for name in ["ljserve", *(["ljserve-keep"] if "keep" in TOOLS else [])]}
+    assert units == {f"/lib/systemd/system/{name}.service" for name in ("ljserve", "ljserve-keep")}
 
 
 def test_what_they_need(packages: Any) -> None:
@@ -259,8 +259,7 @@ def test_install_run_upgrade_remove_and_purge(packages: Any, root: Any, tmp_path
     assert root.run(*words, given="LIST\nBYE\n").splitlines()[0] == "OK LIST 1"
     assert service.process.poll() is None
     service.end()
-    if "keep" in TOOLS:
-        check_keeping(root)
+    check_keeping(root)
     check_removal(root, token)
     check_purge(root)
     install(root, upgraded[0])
@@ -280,7 +279,7 @@ def check_keeping(root: Any) -> None:
 def check_installation(root: Any, packages: Any) -> Any:
     """Holds what is there after the first installation. Returns the token of the user."""
     install(root, packages / CLIENT, packages / SERVER)
-    assert asked(root) == [("start", "ljserve.service")]
+    assert asked(root) == [("start", "ljserve-keep.service")]
     token = token_in(root)
     assert token not in (EXAMPLES / "users").read_text()
     assert root.run("ljserve", "--version").splitlines()[0] == f"ljserve {VERSION}"
@@ -310,7 +309,7 @@ def check_removal(root: Any, token: Any) -> None:
     """Holds that a removal ends the service, and keeps what is the user's."""
     root.put("var/lib/ljserve/kept", "what a service keeps")
     root.run("dpkg", "--remove", "ljserve")
-    assert ("stop", "ljserve.service") in asked(root)
+    assert ("stop", "ljserve-keep.service") in asked(root)
     for path in ("usr/bin/ljserve", "usr/bin/ljserve-users", "usr/libexec/ljserve-v2", "usr/share/ljserve"):
         assert not (root.path / path).exists()
     assert token in (root.path / "etc/ljserve/users").read_text()
