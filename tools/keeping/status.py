@@ -68,13 +68,13 @@ def tell_status(path: pathlib.Path) -> int:
         cause = error.strerror if isinstance(error, OSError) else "it has no status"
         print(f"keep: cannot read {path}: {cause}", file=sys.stderr)
         return 1
-    for line in lines_of(known, runs):
+    for line in lines_of(path, known, runs):
         print(line)
     return int(not runs or any(each["state"] == "stopped" for each in known["users"].values()))
 
 
-def lines_of(known: Known, runs: bool) -> Iterator[str]:
-    """What is told of a status."""
+def lines_of(path: pathlib.Path, known: Known, runs: bool) -> Iterator[str]:
+    """What is told of the status of a folder."""
     since = time.strftime("%Y-%m-%d %H:%M:%S", time.localtime(float(str(known["since"]))))
     yield f"runs since {since}, process {known['process']}" if runs else f"does not run: {known['end'] or 'it was killed'}"
     server: Optional[object] = known["server"] if runs else None
@@ -84,4 +84,9 @@ def lines_of(known: Known, runs: bool) -> Iterator[str]:
     users = known["users"]
     assert isinstance(users, dict)
     for name, each in users.items():
-        yield f"{name:<16} {each['state']}" + (f": {each['why']}" if each["why"] else f", {each['bytes']} bytes")
+        yield f"{name:<16} {each['state']}" + (f": {each['why']}" if each["why"] else f", {size_of(path / f'{name}.journal')} bytes")
+
+
+def size_of(journal: pathlib.Path) -> int:
+    """How many bytes a journal has now: the status is written when something happens to users or servers, and not with each."""
+    return journal.stat().st_size if journal.exists() else 0

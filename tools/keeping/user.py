@@ -244,8 +244,7 @@ class User:
     def known(self) -> Dict[str, object]:
         """What the status has of it."""
         state = "stopped" if self.stopped else "ready" if self.is_ready else "waits for its replay"
-        sessions, size = len(self.script.sessions), self.journal.size
-        return {"state": state, "sessions": sessions, "bytes": size, "why": self.stopped or None}
+        return {"state": state, "why": self.stopped or None}
 
     def is_busy(self) -> bool:
         """Whether its journal is being written."""

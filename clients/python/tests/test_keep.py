@@ -36,6 +36,15 @@ def test_a_user_goes_on_when_the_server_was_killed(tmp_path: pathlib.Path) -> No
         assert [each["why"] for each in keeper.events("server ended")] == ["it was ended by signal 9"]
 
 
+def test_the_status_tells_how_long_journals_are_now(tmp_path):
+    with Keeper(tmp_path) as keeper:
+        until(keeper.is_ready)
+        with keeper.connected() as user:
+            dimer(user).advance(2)
+            size = (keeper.folder / "ann.journal").stat().st_size
+            assert size > 100 and f"ann              ready, {size} bytes\n" in keeper.status()[1]
+
+
 @pytest.mark.parametrize("sync", SYNCS)
 def test_what_was_told_is_there_when_front_and_server_were_killed(tmp_path: pathlib.Path, sync: Any) -> None:
     with Keeper(tmp_path, "--sync", sync) as keeper:
