@@ -1,9 +1,11 @@
 """HAProxy with the config of packaging/haproxy before three servers, whose files `tools/shards` has written."""
 import contextlib
+import json
 import os
 import re
 import select
 import shutil
+import signal
 import socket
 import ssl
 import subprocess
@@ -56,15 +58,15 @@ def consecutive_ports() -> Any:
 
 
 class Farm:
-    """Three servers of 20 users each, and HAProxy before them with times that are shorter."""
+    """Three servers, over which users of some quotas are spread, and HAProxy before them with times that may be shorter."""
 
-    def __init__(self, folder: Any) -> None:
+    def __init__(self, folder, quotas, shorter):
         self.folder = folder / "shards"
         self.first = consecutive_ports()
         self.plain, self.tls, self.metrics = range(self.first + SERVERS, self.first + SERVERS + FRONTS)
-        names = [f"user{number}" for number in range(20 * SERVERS)]
-        (folder / "users").write_text("".join(f"{name} {token(name)} 8 16384 16\n" for name in names))
-        tool = [sys.executable, str(TOP / "tools" / "shards")]
+        lines = ["{} {} {} {} {}\n".format(name, token(name), *quota) for name, quota in quotas.items()]
+        (folder / "users").write_text("".join(lines))
+        tool = [sys.executable, TOP / "tools" / "shards"]
         subprocess.run([*tool, "users", str(SERVERS), "--port", str(self.first)], cwd=folder, check=True, stdout=subprocess.DEVNULL)
         subprocess.run([*tool, "--certificate", "localhost"], cwd=folder, check=True, stdout=subprocess.DEVNULL)
         self.at = {number: self.users_of(number) for number in range(1, SERVERS + 1)}
@@ -72,7 +74,7 @@ class Farm:
         for number in self.at:
             self.begin(number)
         self.log = folder / "log"
-        self.front = self.balancer(folder)
+        self.front = self.balancer(folder, shorter)
 
     def users_of(self, number: Any) -> List[Any]:
         return [line.split()[0] for line in (self.folder / f"users{number}").read_text().splitlines()]
@@ -80,18 +82,43 @@ class Farm:
     def port(self, number: Any) -> Any:
         return self.first + number - 1
 
-    def begin(self, number: Any) -> None:
+    def words(self, number):
+        """Those that a unit begins a server with."""
+        return dict(line.split("=") for line in (self.folder / f"server{number}.env").read_text().splitlines())
+
+    def begin(self, number):
         """Begins a server by its words, as the unit does."""
-        words = dict(line.split("=") for line in (self.folder / f"server{number}.env").read_text().splitlines())
-        options = [word for name in words for word in (f"--{name.lower()}", words[name])]
-        self.children[number] = subprocess.Popen([PROGRAM, "serve", *options], stdin=subprocess.DEVNULL, stdout=subprocess.DEVNULL)
+        options = [word for name, value in self.words(number).items() for word in (f"--{name.lower()}", value)]
+        self.begin_by(number, [PROGRAM, "serve", *options])
+
+    def begin_by(self, number, command):
+        self.children[number] = subprocess.Popen(command, stdin=subprocess.DEVNULL, stdout=subprocess.DEVNULL)
         until(lambda: is_there(self.port(number)))
 
-    def balancer(self, folder: Any) -> Any:
+    @contextlib.contextmanager
+    def kept(self, number, folder):
+        """Has tools/keep own a server in the place of what is there, as the unit of a kept one does. The value is its folder."""
+        (command,) = re.findall("^ExecStart=(.*)$", (CONFIG / "ljserve-keep@.service").read_text(), re.M)
+        words = {**self.words(number), "STATE_DIRECTORY": folder / "kept", "RUNTIME_DIRECTORY": folder}
+        shutil.copy(words["USERS"], folder / "users")
+        command = command.replace("/opt/ljserve/bin/ljserve", PROGRAM).replace("/opt/ljserve", str(TOP))
+        self.end_child(number)
+        self.begin_by(number, re.sub(r"\$\{(\w+)\}", lambda name: str(words[name[1]]), command).split())
+        try:
+            yield folder / "kept"
+        finally:
+            self.end_child(number)
+            self.begin(number)
+
+    def end_child(self, number):
+        self.children[number].kill()
+        self.children[number].wait(SECONDS)
+
+    def balancer(self, folder, shorter):
         text = (CONFIG / "haproxy.cfg").read_text()
-        for usual, shorter in SHORTER.items():
+        for usual, time_in_place in shorter.items():
             assert usual in text
-            text = text.replace(usual, shorter)
+            text = text.replace(usual, time_in_place)
         if os.geteuid() != 0:
             text = re.sub(r"\n    (user|group) haproxy", "", text)
         (folder / "haproxy.cfg").write_text(text)
@@ -133,10 +160,16 @@ class Farm:
         rows = re.findall(rf'^haproxy_server_{metric}{{proxy="server(\d)",server="server\d"}} (\d+)', text, re.M)
         return {int(number): int(count) for number, count in rows}
 
-    def end(self) -> None:
-        for child in (self.front, *self.children.values()):
-            child.kill()
-            child.wait(SECONDS)
+    def is_let_in(self, name, source):
+        with self.connected(source=source) as stream:
+            stream.sendall(hello(name) + b"BYE\n")
+            return read_all(stream) == f"OK HELLO {name}\nOK BYE\n".encode()
+
+    def end(self):
+        for number in self.children:
+            self.end_child(number)
+        self.front.kill()
+        self.front.wait(SECONDS)
 
 
 def until(holds: Any) -> None:
@@ -167,8 +200,9 @@ def read_all(stream: Any) -> bytes:
 
 
 @pytest.fixture(scope="module")
-def farm(tmp_path_factory: pytest.TempPathFactory) -> Iterator[Any]:
-    begun = Farm(tmp_path_factory.mktemp("farm"))
+def farm(tmp_path_factory):
+    """Three servers of 20 users each."""
+    begun = Farm(tmp_path_factory.mktemp("farm"), {f"user{number}": USUAL for number in range(20 * SERVERS)}, SHORTER)
     yield begun
     begun.end()
 
@@ -343,8 +377,7 @@ def test_a_server_that_is_killed(farm: Any) -> None:
     stream, replies = farm.joined(there, source="127.0.10.1")
     lost, _ = farm.joined(here, source="127.0.10.1")
     with stream, replies, lost:
-        farm.children[1].kill()
-        farm.children[1].wait(SECONDS)
+        farm.end_child(1)
         assert read_all(lost) == b""
         with farm.connected(source="127.0.10.1") as again:
             again.sendall(hello(here))
@@ -352,13 +385,21 @@ def test_a_server_that_is_killed(farm: Any) -> None:
         stream.sendall(b"LIST\n")
         assert replies.readline() == b"OK LIST 0\n"
         farm.begin(1)
+        until(lambda: farm.is_let_in(here, "127.0.10.1"))
 
-        def is_let_in() -> bool:
-            with farm.connected(source="127.0.10.1") as again:
-                again.sendall(hello(here) + b"BYE\n")
-                return read_all(again) == f"OK HELLO {here}\nOK BYE\n".encode()
 
-        until(is_let_in)
+def test_a_kept_server_that_is_killed(farm, tmp_path):
+    """Its user goes on over the same connection, with what it had."""
+    name = farm.at[2][14]
+    with farm.kept(2, tmp_path) as folder:
+        until(lambda: farm.is_let_in(name, "127.0.13.1"))
+        stream, replies = farm.joined(name, tls=True, source="127.0.13.1")
+        with stream, replies:
+            stream.sendall(LOADED + b"ADVANCE a 1\n")
+            assert [replies.readline() for _ in range(2)] == [b"OK LOAD a 0 2\n", b"OK ADVANCE a 1\n"]
+            os.kill(json.loads((folder / "status.json").read_text())["server"], signal.SIGKILL)
+            stream.sendall(b"ADVANCE a 1\nSHOW a 0\n")
+            assert [replies.readline() for _ in range(2)] == [b"OK ADVANCE a 2\n", b"OK SHOW a 2 0 1774 0 0\n"]
 
 
 def test_an_address_that_guesses_is_shut_out(farm: Any) -> None:

@@ -135,7 +135,7 @@ def test_a_word_that_says_neither(tmp_path: pathlib.Path, source: Any) -> None:
     assert [path.name for path in tmp_path.rglob("*")] == ["bin", "ljserve"]
 
 
-@pytest.mark.parametrize("unit", ["ljserve.service", "ljserve-keep.service", "haproxy/ljserve@.service"])
+@pytest.mark.parametrize("unit", ["ljserve.service", "ljserve-keep.service", "haproxy/ljserve@.service", "haproxy/ljserve-keep@.service"])
 def test_the_units_begin_it(unit: Any) -> None:
     begun = r"^ExecStart=(?:/opt/ljserve/tools/keep .* -- )?(\S+)"
     assert re.findall(begun, (TOP / "packaging" / unit).read_text(), re.M) == ["/opt/ljserve/bin/ljserve"]
