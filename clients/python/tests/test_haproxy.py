@@ -12,7 +12,7 @@ import subprocess
 import sys
 import time
 import urllib.request
-from typing import Any, Dict, Iterator, List, Tuple
+from concurrent.futures import ThreadPoolExecutor
 
 import pytest
 
@@ -20,7 +20,7 @@ from ljclient import connect
 from support import DIMER, PROGRAM, SECONDS, TOP, free_port
 
 sys.path.append(str(TOP / "conformance"))
-from playing import USUAL, stored, told_by  # noqa: E402
+from playing import FOLDED, USUAL, difference, stored  # noqa: E402
 
 CONFIG = TOP / "packaging" / "haproxy"
 LOADED = f"LOAD a 256 1 131072 rest 28\n{DIMER}".encode()
@@ -413,11 +413,11 @@ def test_an_address_that_guesses_is_shut_out(farm: Any) -> None:
     farm.joined(farm.at[2][13], source="127.0.11.2")[0].close()
 
 
-def exchanged(stream: Any, sent: Any, count: Any) -> bytes:
-    """What is told over TLS to all that is sent, up to so many bytes or to the end. Neither direction waits for the other."""
+def exchanged(stream, sent, count):
+    """What is told over TLS to all that is sent, up to so many lines or to the end. Neither direction waits for the other."""
     stream.setblocking(False)
     left, told = memoryview(sent), bytearray()
-    while left or len(told) < count:
+    while left or count > 0:
         try:
             while left:
                 left = left[stream.send(left[:16384]) :]
@@ -428,26 +428,35 @@ def exchanged(stream: Any, sent: Any, count: Any) -> bytes:
         with contextlib.suppress(ssl.SSLWantReadError):
             while piece := stream.recv(1 << 16):
                 told += piece
+                count -= piece.count(b"\n")
             return bytes(told)
-        if left or len(told) < count:
-            assert any(select.select([stream], [stream] if left else [], [], SECONDS)), bytes(told[-200:])
+        if left or count > 0:
+            assert any(select.select([stream], [stream] if left else [], [], 10 * SECONDS)), bytes(told[-200:])
+    stream.settimeout(SECONDS)
+    stream.unwrap().close()  # raises if anything more is told
     return bytes(told)
 
 
-def test_the_streams_of_conformance_over_tls(farm: Any) -> None:
-    """Those of the usual quota. Each is told what `ljserve run` tells, which another test holds against the stored replies."""
-    streams = [stream for stream in stored() if stream.quota == USUAL and stream.name != "ends/sessions_side_by_side_01"]
-    assert len(streams) > 100
-    users = [(number, name) for number in farm.at for name in farm.at[number][14:18]]
-    for place, stream in enumerate(streams):
-        number, name = users[place % len(users)]
-        expected, ended = told_by([PROGRAM, "run"], stream, 4 * SECONDS)
-        expected = f"OK HELLO {name}\n".encode() + expected
-        with farm.connected(tls=True, source="127.0.12.1") as connection:
-            assert not ended and exchanged(connection, hello(name) + stream.sent, len(expected)) == expected, stream.name
-        with connect("127.0.0.1", farm.port(number), name, token(name), timeout=4 * SECONDS) as user:
-            for row in user.sessions():
-                user.ask(f"DROP {row.name}")
+def found_over_tls(farm, name, stream):
+    """What a user is told otherwise to a stream than it should be."""
+    lines = stream.replies.count(b"\n") + sum(int(folded[1]) - 1 for folded in FOLDED.finditer(stream.replies))
+    with farm.connected(tls=True) as connection:
+        greeting, _, told = exchanged(connection, hello(name) + stream.sent, 1 + lines).partition(b"\n")
+    assert greeting == f"OK HELLO {name}".encode(), stream.name
+    return difference(stream, told)
+
+
+def test_the_streams_of_conformance_over_tls(tmp_path: Any) -> None:
+    """All at the same time, each by a user of its quota, through HAProxy with the times of its config."""
+    streams = {f"user{number}": stream for number, stream in enumerate(stored())}
+    assert len(streams) > 130
+    farm = Farm(tmp_path, {name: stream.quota for name, stream in streams.items()}, {})
+    try:
+        with ThreadPoolExecutor(len(streams)) as threads:
+            found = [*threads.map(found_over_tls, [farm] * len(streams), streams, streams.values())]
+    finally:
+        farm.end()
+    assert [each for each in found if each] == []
 
 
 def test_metrics_and_no_other_page(farm: Any) -> None:
