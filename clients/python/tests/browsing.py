@@ -8,7 +8,7 @@ import subprocess
 import tempfile
 import time
 import urllib.request
-from typing import Any, Dict, List
+from typing import Any, Callable, Dict, List, Tuple
 
 from support import SECONDS, present
 from web_sockets import WebSocket
@@ -109,6 +109,17 @@ class Browser:
     def mouse(self, what: Any, x: Any, y: Any) -> None:
         held = int(what != "mouseReleased")
         self.ask("Input.dispatchMouseEvent", type=what, x=x, y=y, button="left", buttons=held, clickCount=1)
+
+    def take(self, point: Callable[[Dict[str, float]], Tuple[float, float]]) -> Tuple[float, float]:
+        """Presses at a point of the box until an atom is held there: the page may have moved since its rectangle was told."""
+        end = time.monotonic() + SECONDS
+        while True:
+            x, y = point(self.value("document.getElementById('box').getBoundingClientRect().toJSON()"))
+            self.mouse("mousePressed", x, y)
+            if self.value("document.getElementById('box').classList.contains('holding')"):
+                return x, y
+            self.mouse("mouseReleased", x, y)
+            assert time.monotonic() < end, "no atom is held"
 
     def type(self, text: Any) -> None:
         """Types letters into what has the focus. A tab goes to the next field, and a carriage return is Enter."""

@@ -15,6 +15,7 @@ import urllib.request
 from concurrent.futures import ThreadPoolExecutor
 
 import pytest
+from typing import Any, Dict, List, Tuple
 
 from ljclient import connect
 from support import DIMER, PROGRAM, SECONDS, TOP, free_port
@@ -60,13 +61,13 @@ def consecutive_ports() -> Any:
 class Farm:
     """Three servers, over which users of some quotas are spread, and HAProxy before them with times that may be shorter."""
 
-    def __init__(self, folder, quotas, shorter):
+    def __init__(self, folder: Any, quotas: Any, shorter: Any) -> None:
         self.folder = folder / "shards"
         self.first = consecutive_ports()
         self.plain, self.tls, self.metrics = range(self.first + SERVERS, self.first + SERVERS + FRONTS)
         lines = ["{} {} {} {} {}\n".format(name, token(name), *quota) for name, quota in quotas.items()]
         (folder / "users").write_text("".join(lines))
-        tool = [sys.executable, TOP / "tools" / "shards"]
+        tool = [sys.executable, str(TOP / "tools" / "shards")]
         subprocess.run([*tool, "users", str(SERVERS), "--port", str(self.first)], cwd=folder, check=True, stdout=subprocess.DEVNULL)
         subprocess.run([*tool, "--certificate", "localhost"], cwd=folder, check=True, stdout=subprocess.DEVNULL)
         self.at = {number: self.users_of(number) for number in range(1, SERVERS + 1)}
@@ -82,21 +83,21 @@ class Farm:
     def port(self, number: Any) -> Any:
         return self.first + number - 1
 
-    def words(self, number):
+    def words(self, number: Any) -> Any:
         """Those that a unit begins a server with."""
         return dict(line.split("=") for line in (self.folder / f"server{number}.env").read_text().splitlines())
 
-    def begin(self, number):
+    def begin(self, number: Any) -> None:
         """Begins a server by its words, as the unit does."""
         options = [word for name, value in self.words(number).items() for word in (f"--{name.lower()}", value)]
         self.begin_by(number, [PROGRAM, "serve", *options])
 
-    def begin_by(self, number, command):
+    def begin_by(self, number: Any, command: Any) -> Any:
         self.children[number] = subprocess.Popen(command, stdin=subprocess.DEVNULL, stdout=subprocess.DEVNULL)
         until(lambda: is_there(self.port(number)))
 
     @contextlib.contextmanager
-    def kept(self, number, folder):
+    def kept(self, number: Any, folder: Any) -> Any:
         """Has tools/keep own a server in the place of what is there, as the unit of a kept one does. The value is its folder."""
         (command,) = re.findall("^ExecStart=(.*)$", (CONFIG / "ljserve-keep@.service").read_text(), re.M)
         words = {**self.words(number), "STATE_DIRECTORY": folder / "kept", "RUNTIME_DIRECTORY": folder}
@@ -110,11 +111,11 @@ class Farm:
             self.end_child(number)
             self.begin(number)
 
-    def end_child(self, number):
+    def end_child(self, number: Any) -> Any:
         self.children[number].kill()
         self.children[number].wait(SECONDS)
 
-    def balancer(self, folder, shorter):
+    def balancer(self, folder: Any, shorter: Any) -> Any:
         text = (CONFIG / "haproxy.cfg").read_text()
         for usual, time_in_place in shorter.items():
             assert usual in text
@@ -160,12 +161,12 @@ class Farm:
         rows = re.findall(rf'^haproxy_server_{metric}{{proxy="server(\d)",server="server\d"}} (\d+)', text, re.M)
         return {int(number): int(count) for number, count in rows}
 
-    def is_let_in(self, name, source):
+    def is_let_in(self, name: Any, source: Any) -> Any:
         with self.connected(source=source) as stream:
             stream.sendall(hello(name) + b"BYE\n")
             return read_all(stream) == f"OK HELLO {name}\nOK BYE\n".encode()
 
-    def end(self):
+    def end(self) -> Any:
         for number in self.children:
             self.end_child(number)
         self.front.kill()
@@ -200,7 +201,7 @@ def read_all(stream: Any) -> bytes:
 
 
 @pytest.fixture(scope="module")
-def farm(tmp_path_factory):
+def farm(tmp_path_factory: Any) -> Any:
     """Three servers of 20 users each."""
     begun = Farm(tmp_path_factory.mktemp("farm"), {f"user{number}": USUAL for number in range(20 * SERVERS)}, SHORTER)
     yield begun
@@ -226,11 +227,7 @@ def test_each_user_lands_at_its_own_server(farm: Any, tls: Any) -> None:
 
 @pytest.mark.parametrize(
     "sent",
-    [
-        b"HELLO {0} {1}\nLIST\nBYE\n",
-        b" \tHELLO\t{0} \t {1} \nLIST\nBYE\n",
-        b"HELLO {0} {1}\r\nLIST\r\nBYE\r\n",
-    ],
+    [b"HELLO {0} {1}\nLIST\nBYE\n", b" \tHELLO\t{0} \t {1} \nLIST\nBYE\n", b"HELLO {0} {1}\r\nLIST\r\nBYE\r\n"],
     ids=["with commands behind", "blanks", "CR LF"],
 )
 @pytest.mark.parametrize("size", [1, 7, 4096])
@@ -388,7 +385,7 @@ def test_a_server_that_is_killed(farm: Any) -> None:
         until(lambda: farm.is_let_in(here, "127.0.10.1"))
 
 
-def test_a_kept_server_that_is_killed(farm, tmp_path):
+def test_a_kept_server_that_is_killed(farm: Any, tmp_path: Any) -> None:
     """Its user goes on over the same connection, with what it had."""
     name = farm.at[2][14]
     with farm.kept(2, tmp_path) as folder:
@@ -413,7 +410,7 @@ def test_an_address_that_guesses_is_shut_out(farm: Any) -> None:
     farm.joined(farm.at[2][13], source="127.0.11.2")[0].close()
 
 
-def exchanged(stream, sent, count):
+def exchanged(stream: Any, sent: Any, count: Any) -> Any:
     """What is told over TLS to all that is sent, up to so many lines or to the end. Neither direction waits for the other."""
     stream.setblocking(False)
     left, told = memoryview(sent), bytearray()
@@ -437,7 +434,7 @@ def exchanged(stream, sent, count):
     return bytes(told)
 
 
-def found_over_tls(farm, name, stream):
+def found_over_tls(farm: Any, name: Any, stream: Any) -> Any:
     """What a user is told otherwise to a stream than it should be."""
     lines = stream.replies.count(b"\n") + sum(int(folded[1]) - 1 for folded in FOLDED.finditer(stream.replies))
     with farm.connected(tls=True) as connection:

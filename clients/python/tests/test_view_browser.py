@@ -96,9 +96,7 @@ class InABrowser(unittest.TestCase):
         untugged = self.browser.text("kinetic")
         slab = "document.getElementById('depth')"
         self.browser.value(f"{slab}.value = 0; {slab}.dispatchEvent(new Event('input'))")
-        box = self.browser.value("document.getElementById('box').getBoundingClientRect().toJSON()")
-        left, bottom = box["x"] + 3, box["y"] + box["height"] - 3
-        self.browser.mouse("mousePressed", left, bottom)
+        left, bottom = self.browser.take(lambda box: (box["x"] + 3, box["y"] + box["height"] - 3))
         self.browser.mouse("mouseMoved", left + 60, bottom - 40)
         self.picture("tug")
         self.browser.mouse("mouseReleased", left + 200, bottom - 40)

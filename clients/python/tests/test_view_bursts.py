@@ -112,8 +112,7 @@ def test_a_tug_is_no_burst(opened: Any) -> None:
     """By 10 sigma per unit of time one of two atoms is given 50 epsilon, which is 25 an atom."""
     page = opened(APART, "--h", 131072)
     box = page.value("document.getElementById('box').getBoundingClientRect().toJSON()")
-    x, y = box["x"] + box["width"] / 2, box["y"] + box["height"] / 2
-    page.mouse("mousePressed", x, y)
+    x, y = page.take(lambda shown: (shown["x"] + shown["width"] / 2, shown["y"] + shown["height"] / 2))
     page.mouse("mouseMoved", x, y + box["height"] / 2.5)
     page.mouse("mouseReleased", x, y + box["height"] / 2.5)
     page.wait_for("document.getElementById('message').textContent.includes('by 10 σ')")

@@ -81,9 +81,7 @@ class Shown:
 
     def pull(self, right: Any) -> None:
         """Pulls the atom in the middle of the box by so many pixels."""
-        box = self.browser.value("document.getElementById('box').getBoundingClientRect().toJSON()")
-        x, y = box["x"] + box["width"] / 2, box["y"] + box["height"] / 2
-        self.browser.mouse("mousePressed", x, y)
+        x, y = self.browser.take(lambda box: (box["x"] + box["width"] / 2, box["y"] + box["height"] / 2))
         self.browser.mouse("mouseMoved", x + right, y)
         self.browser.mouse("mouseReleased", x + right, y)
 
