@@ -38,6 +38,7 @@ SEARCHED = {
     "tests/server": "tests conformance",
     "tools": "clients/python",
 }
+OF_TESTS = "tests clients/python conformance"  # those of the other folders of tests/
 # Files by whose names others of their folder would find another module than they do when they run.
 ALONE = ("bench/shared/__init__.py", "conformance/random")
 # Folders whose tests have no types yet.
@@ -112,7 +113,8 @@ def test_mypy_finds_nothing(group: str) -> None:
         pytest.skip("numpy is not installed, whose types are needed")
     cache = pathlib.Path(os.environ.get("XDG_CACHE_HOME") or "~/.cache").expanduser() / "ljserve-mypy"
     cache.mkdir(parents=True, exist_ok=True)
-    searched = os.pathsep.join(str(TOP / folder) for folder in SEARCHED.get(group, "").split())
+    folders = SEARCHED.get(group, OF_TESTS if group.startswith("tests/") else "").split()
+    searched = os.pathsep.join(str(TOP / folder) for folder in folders)
     words = ["--strict", "--follow-imports=silent", "--no-error-summary", "--cache-dir", str(cache)]
     words += [] if group in ALONE else ["--scripts-are-modules"]
     with (cache / "lock").open("w") as lock:
