@@ -1,4 +1,5 @@
-use Rattle.std.proofs.Common.{◌≡◌, ◌+◌, false, length, Ok, refl, sym, ap, subst, ◌∙◌}
+use Rattle.std.proofs.Common.{◌≡◌, ◌+◌, false, length, Result, Ok, Err, refl, sym, ap, subst, ◌∙◌, rules}
+use Rattle.std.specs.Result.{OnErr}
 use Rattle.lj_xyz.specs.Lines.{lines_of}
 use Rattle.lj_xyz.specs.Reading.{reading, Fails}
 use Rattle.lj_quota.specs.declared.Over.TheVariants.{Atoms}
@@ -131,3 +132,12 @@ pub returns-clause-performs : goal.returns-clause-performs
 returns-clause-performs c =
     let p = goal.at.returns-clause-performs c in
     rw c.loaded.ensures (was_loaded p.In_ok-insert (was_read p.In_ok-opening))
+
+-- what holds at all holds if there is an error
+if_refused : {T E P : Type 0} (r : Result T E) → P → OnErr r P
+if_refused (Ok value) holds = record {}
+if_refused (Err error) holds = holds
+
+pub returns-in_err-insert-clause-unchanged : goal.returns-in_err-insert-clause-unchanged
+returns-in_err-insert-clause-unchanged c =
+    if_refused c.from_residual-in_err-insert.result (search (rules, c.in_err-insert.ensures.err, c.self.view_is))
