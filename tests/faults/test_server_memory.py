@@ -1,4 +1,5 @@
 """Servers of which each allocation is refused in turn."""
+from concurrent.futures import ThreadPoolExecutor
 from typing import Dict, Set, Tuple
 
 from shared import shims
@@ -12,6 +13,9 @@ from shared.words import hello, user, welcome
 # Allocations of a server over each kind of pool, from the first to one after those until a user has had its commands answered.
 # The queue has 1,089 boxes for tasks and 8,321 for results, of which some are refused.
 ALLOCATIONS = {"lock": [*range(1, 166)], "queue": [*range(1, 80), *range(80, 9_440, 130), *range(9_440, 10_000)]}
+
+# How many servers are tried side by side.
+AT_ONCE = 4
 
 # What a connection is told, and what the server ends with.
 Told = Tuple[bytes, Ended]
@@ -30,13 +34,14 @@ def test_each_allocation_of_a_server_is_refused(serve: Servers, pool: str, refus
     """To the server, to a connection and to its commands."""
     wanted: Set[Told] = {(told, (0, b"served 1 connections, %d tiles\n" % tiles, b"")) for told, tiles in SPARED.items()}
     wanted.add((b"", NO_MEMORY))
-    seen: Set[Told] = set()
-    for number in ALLOCATIONS[pool]:
-        told = told_without_memory(serve, shims.variables(refuse_memory, REFUSED=number))
-        assert told in wanted, f"allocation {number}: {shown(told)}"
-        seen.add(told)
-        serve.end()
-    assert seen == wanted
+
+    def told_without(number: int) -> Told:
+        return told_without_memory(serve, shims.variables(refuse_memory, REFUSED=number))
+
+    with ThreadPoolExecutor(AT_ONCE) as threads:
+        seen = dict(zip(ALLOCATIONS[pool], threads.map(told_without, ALLOCATIONS[pool])))
+    assert {number: shown(told) for number, told in seen.items() if told not in wanted} == {}
+    assert {*seen.values()} == wanted
 
 
 def told_without_memory(serve: Servers, variables: Dict[str, str]) -> Told:

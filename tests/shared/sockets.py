@@ -1,19 +1,38 @@
 """Ports of 127.0.0.1, and connections to them. Needs Linux: who listens is read from /proc."""
+import os
+import secrets
 import socket
 import struct
-from typing import Optional
+from contextlib import suppress
+from itertools import cycle
+from typing import Iterator, Optional
 
 from shared.program import SECONDS
 
 # Linux's number of an option that not each Python names: a bound address takes no port before it is connected.
 IP_BIND_ADDRESS_NO_PORT = 24
 
+# Ports below those that Linux gives to connections, of which each process of pytest-xdist has a share.
+FIRST_PORT, SHARE, SHARES = 10_000, 1_400, 16
+
+
+def ports() -> Iterator[int]:
+    """The ports of this process, from one by chance on, over and over."""
+    share = int(os.environ.get("PYTEST_XDIST_WORKER", "gw0")[2:]) % SHARES
+    first, at = FIRST_PORT + share * SHARE, secrets.randbelow(SHARE)
+    return cycle([*range(first + at, first + SHARE), *range(first, first + at)])
+
+
+PORTS = ports()
+
 
 def free_port() -> int:
-    with socket.socket() as taken:
-        taken.bind(("127.0.0.1", 0))
-        port: int = taken.getsockname()[1]
-        return port
+    """A port that is free, and that no other process of pytest-xdist takes before it is listened on."""
+    while True:
+        port = next(PORTS)
+        with suppress(OSError), socket.socket() as taken:
+            taken.bind(("127.0.0.1", port))
+            return port
 
 
 def is_listened_on(port: int) -> bool:
