@@ -1,19 +1,15 @@
 #!/usr/bin/env python3
 """Liquid argon as Rahman had it in 1964, 864 atoms at 94.4 K: pair correlations and diffusion, beside his figures and LAMMPS."""
-from __future__ import annotations
-
-import argparse
 import tempfile
-from typing import Any, Tuple
 
-import numpy
+import numpy.typing
 from ase.build import bulk
 from MDAnalysis import Universe
 from MDAnalysis.analysis import msd, rdf
 from shared import TOP, options_of, pyplot, save_figure, units, user_of
 
 
-def analysis(way: Any) -> Tuple[Any, Any, Any, Any, float]:
+def analysis(way: Universe) -> "tuple[numpy.typing.NDArray[numpy.float64], ...]":
     """r in angstrom and g(r), times in ps, mean squared displacements, and diffusion in 10^-5 cm²/s by slope from 2 to 10 ps."""
     pairs = rdf.InterRDF(way.atoms, way.atoms, nbins=105, range=(2.5, 13), exclusion_block=(1, 1)).run(step=5).results
     squares = msd.EinsteinMSD(way, fft=False).run().results.timeseries[:201]
@@ -21,8 +17,8 @@ def analysis(way: Any) -> Tuple[Any, Any, Any, Any, float]:
     return pairs.bins, pairs.rdf, times, squares, 10 * numpy.polyfit(times[20:101], squares[20:101], 1)[0] / 6
 
 
-def main(options: argparse.Namespace) -> None:
-    with user_of(options) as user, tempfile.TemporaryDirectory() as folder:
+def main() -> None:
+    with user_of(options := options_of(None, __doc__, 25_000, 5000)) as user, tempfile.TemporaryDirectory() as folder:
         argon = user.load("argon", bulk("Ar", cubic=True, a=10.229 * 3.4 / 6) * 6, dt=2, order="space", **units.ARGON)
         argon.equilibrate(94.4, min(10_000, options.steps), seed=4)
         temperature = numpy.mean([row.temperature for row in argon.thermo(every=50, rows=51)])
@@ -41,4 +37,4 @@ def main(options: argparse.Namespace) -> None:
 
 
 if __name__ == "__main__":
-    main(options_of(None, __doc__, 25_000, 5000))
+    main()

@@ -83,7 +83,8 @@ class Keeper:
 
     def server(self) -> int:
         """The process of the server, as soon as there is one."""
-        return until(lambda: int(self.known()["server"] or 0))
+        process: int = until(lambda: int(self.known()["server"] or 0))
+        return process
 
     def is_ready(self) -> bool:
         """Whether there is a server, and each user that is not stopped may come in at once."""
@@ -95,7 +96,8 @@ class Keeper:
         """Kills the server, waits until another one is there, and returns that."""
         before = self.server()
         os.kill(before, signal.SIGKILL)
-        return until(lambda: (now := int(self.known()["server"] or 0)) != before and now)
+        process: int = until(lambda: (now := int(self.known()["server"] or 0)) != before and now)
+        return process
 
     def kill(self) -> None:
         """Kills the front, and waits until the server is gone with it."""

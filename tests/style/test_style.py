@@ -18,6 +18,7 @@ TOP = pathlib.Path(__file__).resolve().parents[2]
 SECONDS = 600
 # Where modules are searched by which the scripts of a folder stand.
 SEARCHED = {
+    ".": "tests",
     "bench": "tests clients/python conformance tools",
     "bench/book": "bench tests",
     "bench/lammps": "bench tests clients/python",
