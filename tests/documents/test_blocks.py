@@ -228,11 +228,13 @@ def first_server(block, folder):
     """The unit begins a server of the users that were made."""
     done_as_root(block, folder)
     users = folder.path / "etc" / "ljserve" / "users"
-    unit = (folder.path / "etc" / "systemd" / "system" / "ljserve.service").read_text()
-    (command,) = re.findall(r"^ExecStart=/opt/ljserve/bin/(.*)$", unit, re.M)
+    unit = (folder.path / "etc" / "systemd" / "system" / "ljserve-keep.service").read_text()
+    (command,) = re.findall(r"^ExecStart=(.*)$", unit, re.M)
+    command = command.replace("/opt/ljserve", str(folder.path)).replace("${RUNTIME_DIRECTORY}/users", str(users))
     hello, told = first_user(users)
-    with begun(f"bin/{command}".replace("${CREDENTIALS_DIRECTORY}/users", str(users)), folder) as connection:
-        assert is_told(connection, hello) == told
+    with begun(command.replace("${STATE_DIRECTORY}", str(folder.path / "kept")), folder) as connection:
+        assert is_told(connection, f"{hello}LIST\n") == f"{told}OK LIST 0\n"
+    assert len([*(folder.path / "kept").glob("student*.journal")]) == 20
     assert (users.stat().st_mode & 0o777, len(re.findall(r"^student\d+ ", users.read_text(), re.M))) == (0o600, 20)
 
 
@@ -479,11 +481,11 @@ BLOCKS = {
         "$ nc": dialogue_of_a_connection,
         "apt-get install python3": first_server,
         "apt-get install haproxy": servers_behind_haproxy,
-        "tools/keep 0.0.0.0": "clients/python/tests/test_keep.py runs it, at ports that are free",
+        "tools/keep 127.0.0.1": "clients/python/tests/test_keep.py runs it, at ports that are free",
         "3 open": "clients/python/tests/test_watch.py compares such lines, whose times and addresses differ",
         "tools/watch --metrics": "clients/python/tests/test_watch_metrics.py runs it, at ports that are free",
-        "sudo apt": "clients/python/tests/test_debian_packages.py installs both, in a root of its own",
-        "sudo cat": "clients/python/tests/test_debian_packages.py reads the token there, and lets the prompt read it",
+        "apt install ./": "clients/python/tests/test_debian_packages.py installs both, in a root of its own",
+        "cat /etc/ljserve/users": "clients/python/tests/test_debian_packages.py reads the token there, and lets the prompt read it",
     },
     "bench/README.md": {
         "bench/soak serve": TAKES_HOURS,
