@@ -224,13 +224,17 @@ def first_user(path):
     return f"HELLO {name} {token}\n", f"OK HELLO {name}\n"
 
 
+def command_of(folder, unit):
+    """What a unit begins that was installed."""
+    (command,) = re.findall(r"^ExecStart=(.*)$", (folder.path / "etc" / "systemd" / "system" / unit).read_text(), re.M)
+    return command.replace("/opt/ljserve", str(folder.path))
+
+
 def first_server(block, folder):
     """The unit begins a server of the users that were made."""
     done_as_root(block, folder)
     users = folder.path / "etc" / "ljserve" / "users"
-    unit = (folder.path / "etc" / "systemd" / "system" / "ljserve-keep.service").read_text()
-    (command,) = re.findall(r"^ExecStart=(.*)$", unit, re.M)
-    command = command.replace("/opt/ljserve", str(folder.path)).replace("${RUNTIME_DIRECTORY}/users", str(users))
+    command = command_of(folder, "ljserve-keep.service").replace("${RUNTIME_DIRECTORY}/users", str(users))
     hello, told = first_user(users)
     with begun(command.replace("${STATE_DIRECTORY}", str(folder.path / "kept")), folder) as connection:
         assert is_told(connection, f"{hello}LIST\n") == f"{told}OK LIST 0\n"
@@ -245,14 +249,12 @@ def servers_behind_haproxy(block, folder):
     done_as_root(block, folder)
     shards = folder.path / "etc" / "ljserve" / "shards"
     assert [len((shards / f"users{number}").read_text().splitlines()) for number in (1, 2, 3)] == [50, 50, 50]
-    unit = (folder.path / "etc" / "systemd" / "system" / "ljserve@.service").read_text()
-    (command,) = re.findall(r"^ExecStart=/opt/ljserve/bin/(.*)$", unit, re.M)
     hello, told = first_user(shards / "users2")
     env = dict(line.split("=") for line in (shards / "server2.env").read_text().splitlines())
-    command = command.replace("${CREDENTIALS_DIRECTORY}/users", env["USERS"]).replace("${LISTEN}", "127.0.0.1:4000")
-    command = re.sub(r"\$\{(\w+)\}", lambda name: env[name[1]], command)
-    with begun(f"bin/{command}", folder) as connection:
-        assert is_told(connection, hello) == told
+    env |= {"LISTEN": "127.0.0.1:4000", "STATE_DIRECTORY": str(folder.path / "kept")}
+    command = command_of(folder, "ljserve-keep@.service").replace("${RUNTIME_DIRECTORY}/users", env["USERS"])
+    with begun(re.sub(r"\$\{(\w+)\}", lambda name: env[name[1]], command), folder) as connection:
+        assert is_told(connection, f"{hello}LIST\n") == f"{told}OK LIST 0\n"
     haproxy = shutil.which("haproxy", path=f"{os.environ['PATH']}:/usr/sbin")
     if haproxy is None:
         pytest.skip("haproxy is not installed")
