@@ -3,6 +3,7 @@ import os
 import pathlib
 import subprocess
 import sys
+from typing import Any
 
 import pytest
 
@@ -36,24 +37,24 @@ class Folder:
         file.write_text(text)
         file.chmod(0o755)
 
-    def printed(self, words, given="", client=True):
+    def printed(self, words: Any, given: str = "", client: bool = True) -> Any:
         """What a command prints that ends with status 0."""
         environment = {**self.environment, "PYTHONPATH": "clients/python"} if client else self.environment
         done = subprocess.run(words, cwd=self.path, env=environment, input=given, capture_output=True, text=True, timeout=SECONDS)
         assert done.returncode == 0, done
         return done.stdout
 
-    def shell(self, commands, given="", client=True):
+    def shell(self, commands: Any, given: str = "", client: bool = True) -> Any:
         return self.printed(["sh", "-ec", commands], given, client)
 
-    def python(self, text):
+    def python(self, text: Any) -> Any:
         """The lines that Python code prints as a file."""
         self.put("block.py", text)
         return self.printed([sys.executable, "block.py"]).splitlines()
 
 
 @pytest.fixture
-def folder(tmp_path):
+def folder(tmp_path: pathlib.Path) -> Any:
     """Such a folder. The program is not built for it, so LJSERVE has to name one."""
     program = os.environ.get("LJSERVE")
     if not program or not os.access(program, os.X_OK):

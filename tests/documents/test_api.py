@@ -1,9 +1,11 @@
 """The reference of the Python client: that it is made without a warning, has each public name, and leaves room in the README."""
 import os
+import pathlib
 import re
 import shutil
 import subprocess
 import sys
+from typing import Any, List
 
 import pytest
 from blocks import TOP
@@ -18,13 +20,13 @@ SECONDS = 300
 SESSION = "clients/python/ljclient/session.py"
 
 
-def made(folder, make=TOP / "docs" / "api" / "make"):
+def made(folder: Any, make: Any = TOP / "docs" / "api" / "make") -> Any:
     environment = {**os.environ, "PYTHONDONTWRITEBYTECODE": "1"}
     return subprocess.run([sys.executable, make, folder], env=environment, capture_output=True, text=True, timeout=SECONDS)
 
 
 @pytest.fixture(scope="module")
-def page(tmp_path_factory):
+def page(tmp_path_factory: pytest.TempPathFactory) -> Any:
     """The text of a page of the reference."""
     folder = tmp_path_factory.mktemp("api")
     done = made(folder)
@@ -32,24 +34,24 @@ def page(tmp_path_factory):
     return lambda name: (folder / f"{name}.html").read_text()
 
 
-def names_in(text):
+def names_in(text: Any) -> Any:
     """The names that a page describes."""
     return re.findall(r'<dt class="sig [^>]* id="ljclient\.([\w.]+)">', text)
 
 
-def described(text, name):
+def described(text: Any, name: Any) -> Any:
     """The text that a page has of a name, without marks."""
     return re.sub(r"<[^>]+>", "", text.split(f'id="ljclient.{name}">')[1].split('<dt class="sig')[0])
 
 
-def test_each_public_name_is_there(page):
+def test_each_public_name_is_there(page: Any) -> None:
     wanted = {name for name in ljclient.__all__ if name not in ("refusals", "units")}
     shown = names_in(page("package"))
     assert wanted == {name for name in shown if "." not in name}
     assert len(shown) == len(set(shown))
 
 
-def test_each_method_of_users_and_sessions_is_there(page):
+def test_each_method_of_users_and_sessions_is_there(page: Any) -> None:
     shown = set(names_in(page("package")))
     users = "advance ask ask_all close closed load load_mix load_saved session sessions".split()
     sessions = """
@@ -60,15 +62,15 @@ def test_each_method_of_users_and_sessions_is_there(page):
     assert not any(name.split(".")[-1].startswith("_") or name == "User.ask_commands" for name in shown)
 
 
-def test_each_refusal_is_told(page):
+def test_each_refusal_is_told(page: Any) -> None:
     text = page("modules")
-    classes = [value for value in vars(refusals).values() if isinstance(value, type) and value is not ljclient.Refused]
+    classes: List[Any] = [value for value in vars(refusals).values() if isinstance(value, type) and value is not ljclient.Refused]
     assert len(classes) == len(ljclient.Refused.by_number)
     for each in classes:
         assert f"ERR {each.number:02} {each.name}: {each.meaning}." in described(text, f"refusals.{each.__name__}")
 
 
-def test_modules_that_say_what_is_public_are_there(page):
+def test_modules_that_say_what_is_public_are_there(page: Any) -> None:
     titles = re.findall(r"<h2>(ljclient[\w.]*)", page("modules"))
     assert {"ljclient.prompt", "ljclient.refusals", "ljclient.units", "ljclient.view"} <= set(titles)
     shown = names_in(page("modules"))
@@ -76,7 +78,7 @@ def test_modules_that_say_what_is_public_are_there(page):
     assert all(f"units.{name}" not in shown for name in vars(units) if name.startswith("checked"))
 
 
-def test_how_docstrings_are_shown(page):
+def test_how_docstrings_are_shown(page: Any) -> None:
     """Tables are lists of definitions, what is indented is code, and what stands in backquotes leads to what it names."""
     text = page("package")
     load = text.split('id="ljclient.User.load">')[1].split('id="ljclient.User.load_mix"')[0]
@@ -95,7 +97,7 @@ def test_how_docstrings_are_shown(page):
     ],
     ids=["link", "table", "mark"],
 )
-def test_a_warning_is_an_error(tmp_path, path, text, spoilt, told):
+def test_a_warning_is_an_error(tmp_path: pathlib.Path, path: Any, text: Any, spoilt: Any, told: Any) -> None:
     for folder in ("docs/api", "docs/pictures", "clients/python/ljclient"):
         shutil.copytree(TOP / folder, tmp_path / folder)
     before = (tmp_path / path).read_text()
@@ -105,7 +107,7 @@ def test_a_warning_is_an_error(tmp_path, path, text, spoilt, told):
     assert done.returncode != 0 and told in done.stderr
 
 
-def test_the_readme_is_a_tutorial():
+def test_the_readme_is_a_tutorial() -> None:
     """It has room for what a beginner needs, and what else there is stands in the reference."""
     text = (TOP / "clients" / "python" / "README.md").read_bytes()
     assert len(text) <= 8000
@@ -113,6 +115,6 @@ def test_the_readme_is_a_tutorial():
     assert pages == set(re.findall(r"docs/api/(\w+\.md)\)", text.decode()))
 
 
-def test_nothing_that_is_made_is_in_the_repository():
+def test_nothing_that_is_made_is_in_the_repository() -> None:
     names = {path.name for path in (TOP / "docs" / "api").iterdir() if path.name != "__pycache__"}
     assert {path.rpartition(".")[2] for path in names} == {"md", "rst", "py", "make"}

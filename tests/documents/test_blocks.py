@@ -12,11 +12,12 @@ import shutil
 import socket
 import subprocess
 import time
+from typing import Any, Iterator, List, Tuple
 
 import pytest
 from blocks import TOP, all_blocks
 from ljclient import connect, units
-from support import EXAMPLES, SECONDS, TOKEN, Server, free_port
+from support import EXAMPLES, SECONDS, TOKEN, Server, free_port, present
 from terminals import PROMPT, Terminal, environment
 
 LOADED = "LOAD a 256 1 131072 rest 28\n2\ndimer\nAr 0 0 0\nAr 1.5 0 0\n"
@@ -24,15 +25,15 @@ USERS = (EXAMPLES / "users").read_text()
 CODE = re.compile(r"`([^`]+)`")
 
 
-def contents(document):
+def contents(document: str) -> str:
     return (TOP / document).read_text()
 
 
-def replies(folder, commands):
+def replies(folder: Any, commands: Any) -> Any:
     return folder.shell("bin/ljserve", commands).splitlines()
 
 
-def at_port(text, port):
+def at_port(text: Any, port: Any) -> Any:
     """The text with the port of a server on this machine in place of that of the documents."""
     return re.sub(r'127\.0\.0\.1(:|", )400\d', rf"127.0.0.1\g<1>{port}", text)
 
@@ -40,10 +41,10 @@ def at_port(text, port):
 # Checks that several blocks have.
 
 
-def runs(but=None):
+def runs(but: Any = None) -> Any:
     """Holds that the lines of a block end with status 0, but for those that begin with words that are named with a reason."""
 
-    def check(block, folder):
+    def check(block: Any, folder: Any) -> None:
         left_out = but or {}
         lines = block.text.splitlines()
         assert all(any(line.startswith(word) for line in lines) for word in left_out)
@@ -52,33 +53,33 @@ def runs(but=None):
     return check
 
 
-def prints(*wanted):
-    def check(block, folder):
+def prints(*wanted: Any) -> Any:
+    def check(block: Any, folder: Any) -> None:
         assert folder.python(block.text) == list(wanted)
 
     return check
 
 
-def is_printed_by(command):
-    def check(block, folder):
+def is_printed_by(command: Any) -> Any:
+    def check(block: Any, folder: Any) -> None:
         assert folder.shell(command) == block.text
 
     return check
 
 
-def stands_in(path):
+def stands_in(path: Any) -> Any:
     """Holds that a file has these lines, however far they are indented there."""
 
-    def lines_of(text):
+    def lines_of(text: Any) -> str:
         return "\n".join(line.strip() for line in text.splitlines())
 
-    def check(block, _):
+    def check(block: Any, _: Any) -> None:
         assert lines_of(block.text) in lines_of(contents(path))
 
     return check
 
 
-def parted(text):
+def parted(text: Any) -> Tuple[str, str]:
     """The commands of a dialogue, and the replies that stand below each."""
     commands, told = [], []
     lines = iter(text.splitlines(keepends=True))
@@ -92,10 +93,10 @@ def parted(text):
     return "".join(commands), "".join(told)
 
 
-def is_dialogue(before=""):
+def is_dialogue(before: str = "") -> Any:
     """Holds that the program replies as a dialogue shows, after other commands."""
 
-    def check(block, folder):
+    def check(block: Any, folder: Any) -> None:
         commands, told = parted(block.text)
         assert commands and told
         assert folder.shell("bin/ljserve", before + commands).endswith(told)
@@ -103,10 +104,10 @@ def is_dialogue(before=""):
     return check
 
 
-def is_frame_after(steps):
+def is_frame_after(steps: Any) -> Any:
     """Holds that DUMP shows this frame after so many steps of the two atoms."""
 
-    def check(block, folder):
+    def check(block: Any, folder: Any) -> None:
         assert folder.shell("bin/ljserve", f"{LOADED}ADVANCE a {steps}\nDUMP a\n").endswith(block.text)
 
     return check
@@ -115,13 +116,13 @@ def is_frame_after(steps):
 # README.md
 
 
-def stored_run(block, folder):
+def stored_run(block: Any, folder: Any) -> None:
     runs({"bin/try": NEEDS_KIT, "bin/test": NEEDS_KIT})(block, folder)
     (command,) = [line for line in block.text.splitlines() if line.startswith("bin/ljserve")]
     assert folder.shell(command) == (EXAMPLES / "dimer.replies").read_text()
 
 
-def lines_of_protocol(block, folder):
+def lines_of_protocol(block: Any, folder: Any) -> None:
     """The replies are those of the table below the block, whose commands are those of the block without the body."""
     rows = re.findall(r"^\| `(.*?)` \| `(.*?)` \|", contents("README.md").split(block.text)[1].split("\n## ")[0], re.M)
     commands, told = zip(*rows)
@@ -133,7 +134,7 @@ def lines_of_protocol(block, folder):
 # docs/
 
 
-def first_dialogue(block, folder):
+def first_dialogue(block: Any, folder: Any) -> None:
     """The replies are those of the table below, behind that of DUMP the four lines that are shown at its end."""
     below = contents("docs/PROTOCOL.md").split(block.text)[1]
     table, frame = below.split("The four lines behind `OK DUMP a 1 4`:\n\n```\n")
@@ -142,38 +143,38 @@ def first_dialogue(block, folder):
     assert replies(folder, block.text) == told
 
 
-def commands_of_a_checkpoint(block, folder):
-    told = re.search(r"The replies are `(.*?)`, `(.*?)` and `(.*?)`", contents(block.document)).groups()
+def commands_of_a_checkpoint(block: Any, folder: Any) -> None:
+    told = present(re.search(r"The replies are `(.*?)`, `(.*?)` and `(.*?)`", contents(block.document))).groups()
     assert replies(folder, block.text) == list(told)
 
 
-def recorded_run(block, folder):
+def recorded_run(block: Any, folder: Any) -> None:
     assert folder.python(block.text) == ["True"]
 
 
-def played_record(block, folder):
+def played_record(block: Any, folder: Any) -> None:
     """The record is that of the block above."""
     text = contents(block.document)
     (script,) = [each.text for each in all_blocks() if each.document == block.document and "record=" in each.text]
     folder.python(script)
     *_, verdict = folder.shell(block.text).splitlines()
-    said = re.search(r"`(all \d+ replies are the same)`", text)[1]
+    said = present(re.search(r"`(all \d+ replies are the same)`", text))[1]
     (command,) = re.findall(r"`(sed .*? sha256sum)`", text)
     assert verdict == f"argon.lj: {said}; SHA-256 {folder.shell(command).split()[0]}"
 
 
-def file_of_a_record(block, folder):
+def file_of_a_record(block: Any, folder: Any) -> None:
     folder.put("run.lj", block.text)
     assert ": all 4 replies are the same; SHA-256 " in folder.shell("python3 -m ljclient verify --quiet run.lj")
 
 
-def own_file(block, folder):
+def own_file(block: Any, folder: Any) -> None:
     told = folder.shell(block.text).splitlines()
     assert told[:2] == ["OK LOAD a 0 256", "OK ADVANCE a 100"]
     assert f"`{told[2]}`" in contents("docs/api/examples.md")
 
 
-def connected(port, child):
+def connected(port: Any, child: Any) -> Any:
     """A connection to a server, once it listens."""
     end = time.monotonic() + SECONDS
     while child.poll() is None and time.monotonic() < end:
@@ -184,7 +185,7 @@ def connected(port, child):
 
 
 @contextlib.contextmanager
-def begun(command, folder):
+def begun(command: Any, folder: Any) -> Iterator[Any]:
     """A connection to the server that a command of a document begins, at a port that is free."""
     port = free_port()
     words = ["sh", "-c", "exec " + at_port(command, port)]
@@ -196,7 +197,7 @@ def begun(command, folder):
         child.wait()
 
 
-def is_told(connection, commands):
+def is_told(connection: Any, commands: Any) -> Any:
     """What a server replies to commands up to the end of the connection."""
     with connection:
         connection.sendall(commands.encode())
@@ -204,12 +205,12 @@ def is_told(connection, commands):
         return connection.makefile().read()
 
 
-def serves(block, folder):
+def serves(block: Any, folder: Any) -> None:
     with begun(block.text, folder) as connection:
         assert is_told(connection, "HELLO alice aliceExampleToken000000000000001\nLIST\n") == "OK HELLO alice\nOK LIST 0\n"
 
 
-def done_as_root(block, folder):
+def done_as_root(block: Any, folder: Any) -> Any:
     """Runs the lines of a block that change no machine, with a folder in place of the machine's."""
     left_out = ("apt-get", "tar", "systemctl")
     for each in ("etc/systemd/system", "etc/default", "etc/ljserve"):
@@ -218,19 +219,19 @@ def done_as_root(block, folder):
     return folder.shell("\n".join(lines).replace("/etc/", f"{folder.path}/etc/").replace("/opt/ljserve", str(folder.path)))
 
 
-def first_user(path):
+def first_user(path: Any) -> Tuple[str, str]:
     """The HELLO of the first user of a file."""
-    name, token = re.search(r"^(\w+) (\w{32}) ", path.read_text(), re.M).groups()
+    name, token = present(re.search(r"^(\w+) (\w{32}) ", path.read_text(), re.M)).groups()
     return f"HELLO {name} {token}\n", f"OK HELLO {name}\n"
 
 
-def command_of(folder, unit):
+def command_of(folder: Any, unit: str) -> str:
     """What a unit begins that was installed."""
     (command,) = re.findall(r"^ExecStart=(.*)$", (folder.path / "etc" / "systemd" / "system" / unit).read_text(), re.M)
-    return command.replace("/opt/ljserve", str(folder.path))
+    return str(command).replace("/opt/ljserve", str(folder.path))
 
 
-def first_server(block, folder):
+def first_server(block: Any, folder: Any) -> None:
     """The unit begins a server of the users that were made."""
     done_as_root(block, folder)
     users = folder.path / "etc" / "ljserve" / "users"
@@ -242,7 +243,7 @@ def first_server(block, folder):
     assert (users.stat().st_mode & 0o777, len(re.findall(r"^student\d+ ", users.read_text(), re.M))) == (0o600, 20)
 
 
-def servers_behind_haproxy(block, folder):
+def servers_behind_haproxy(block: Any, folder: Any) -> None:
     """Each server has its users and the words of its unit, and HAProxy takes the config that its defaults name."""
     if shutil.which("openssl") is None:
         pytest.skip("openssl is not installed")
@@ -253,7 +254,7 @@ def servers_behind_haproxy(block, folder):
     env = dict(line.split("=") for line in (shards / "server2.env").read_text().splitlines())
     env |= {"LISTEN": "127.0.0.1:4000", "STATE_DIRECTORY": str(folder.path / "kept")}
     command = command_of(folder, "ljserve-keep@.service").replace("${RUNTIME_DIRECTORY}/users", env["USERS"])
-    with begun(re.sub(r"\$\{(\w+)\}", lambda name: env[name[1]], command), folder) as connection:
+    with begun(re.sub(r"\$\{(\w+)\}", lambda name: str(env[name[1]]), command), folder) as connection:
         assert is_told(connection, f"{hello}LIST\n") == f"{told}OK LIST 0\n"
     haproxy = shutil.which("haproxy", path=f"{os.environ['PATH']}:/usr/sbin")
     if haproxy is None:
@@ -263,7 +264,7 @@ def servers_behind_haproxy(block, folder):
     assert told == "Configuration file is valid\n"
 
 
-def dialogue_of_a_connection(block, _):
+def dialogue_of_a_connection(block: Any, _: Any) -> None:
     first, text = block.text.split("\n", 1)
     commands, told = parted(text)
     assert first == "$ nc 127.0.0.1 4000"
@@ -271,27 +272,27 @@ def dialogue_of_a_connection(block, _):
         assert is_told(socket.create_connection(("127.0.0.1", server.port), SECONDS), commands) == told
 
 
-def small_client(block, folder):
+def small_client(block: Any, folder: Any) -> None:
     with Server(lines=USERS) as server:
         assert folder.shell(at_port(block.text, server.port)).splitlines()[:2] == ["256", "step 1000"]
 
 
-def prompt_of_a_server(block, folder):
+def prompt_of_a_server(block: Any, folder: Any) -> None:
     with Server(lines=USERS) as server:
         assert folder.shell(at_port(block.text, server.port), "LIST\n") == "OK LIST 0\n"
 
 
-def before_the_lesson(block, folder):
+def before_the_lesson(block: Any, folder: Any) -> None:
     *made, served = block.text.splitlines()
     told = folder.shell("\n".join(made))
     assert "22 users" in told
     assert (folder.path / "slips.txt").read_text().count("192.0.2.10:4000") >= 22
-    name, token = re.search(r"^(student\d+) (\S+)", (folder.path / "users").read_text(), re.M).groups()
+    name, token = present(re.search(r"^(student\d+) (\S+)", (folder.path / "users").read_text(), re.M)).groups()
     with begun(served, folder) as connection:
         assert is_told(connection, f"HELLO {name} {token}\n") == f"OK HELLO {name}\n"
 
 
-def lesson_at_the_prompt(block, folder):
+def lesson_at_the_prompt(block: Any, folder: Any) -> None:
     """The lines are a file that is read at the prompt. REVERSE exchanges the two frames, so the step is one less."""
     (folder.path / "lesson.txt").write_text(block.text.replace("examples/", f"{EXAMPLES}/"))
     words = {**environment(), "PYTHONPATH": str(TOP / "clients" / "python")}
@@ -302,7 +303,7 @@ def lesson_at_the_prompt(block, folder):
     assert told.count("\nOK SHOW argon 1000 ") == 10
 
 
-def after_the_lesson(block, folder):
+def after_the_lesson(block: Any, folder: Any) -> None:
     with Server(users=("student01",)) as server:
         with connect("127.0.0.1", server.port, "student01", TOKEN) as user:
             user.load("argon", EXAMPLES / "argon_256.xyz", edge=21.04, dt=2, **units.ARGON)
@@ -313,50 +314,50 @@ def after_the_lesson(block, folder):
 # clients/python/README.md and docs/api/
 
 
-def path_of_the_client(block, folder):
+def path_of_the_client(block: Any, folder: Any) -> None:
     assert folder.shell(block.text, "import ljclient\nprint(ljclient.run().sessions())\n", client=False) == "[]\n"
 
 
-def five_minutes(block, folder):
+def five_minutes(block: Any, folder: Any) -> None:
     measured, away, back = folder.python(block.text)
     assert f"{float(measured.split()[0]):.6f}" == "2.000109"
     assert float(away) > 1000
     assert back == "0.0"
 
 
-def server_that_keeps(block, folder):
+def server_that_keeps(block: Any, folder: Any) -> None:
     with Server(lines=USERS) as server:
         told = folder.python(at_port(block.text, server.port))
     assert told == ["[Row(name='argon', step=100, atoms=256, branches=1)]", "100"]
 
 
-def on_the_way(block, folder):
+def on_the_way(block: Any, folder: Any) -> None:
     *rows, steps = folder.python(block.text)
     assert [row.split()[0] for row in rows] == ["0", "100", "200"]
     assert steps == "[200, 210, 220, 230, 240] 5"
     assert (folder.path / "argon_way.xyz").read_text().count("step=") == 5
 
 
-def driver_of_ase(block, folder):
+def driver_of_ase(block: Any, folder: Any) -> None:
     *rows, back = folder.python(block.text)
     assert [row.split()[0] for row in rows] == ["0", "500", "1000", "1500", "2000"]
     assert back == "True"
 
 
-def two_species(block, folder):
+def two_species(block: Any, folder: Any) -> None:
     *told, energy = folder.python(block.text)
     assert "\n".join(["```", *told, "```"]) in contents(block.document)
     assert float(energy) < -1
 
 
-def many_runs(block, folder):
+def many_runs(block: Any, folder: Any) -> None:
     """At first one atom alone moves, by its tug along x."""
     noted = [ast.literal_eval(line) for line in folder.python(block.text)]
     assert [(len(each), each[0]) for each in noted] == [(3, 1000000**2)] * 8
     assert len({each[-1] for each in noted}) == 8
 
 
-def prompt_at_a_terminal(block, folder):
+def prompt_at_a_terminal(block: Any, folder: Any) -> None:
     """Each line is typed, and what is shown below it is as in the document."""
     with contextlib.closing(Terminal(PROMPT, {**environment(), "PYTHONPATH": str(TOP / "clients" / "python")})) as terminal:
         terminal.until("ljserve> ")
@@ -367,7 +368,7 @@ def prompt_at_a_terminal(block, folder):
             assert terminal.until("ljserve> ") == f"{told}ljserve> "
 
 
-def prompt_in_a_pipe(block, folder):
+def prompt_in_a_pipe(block: Any, folder: Any) -> None:
     told = folder.shell(block.text).splitlines()
     assert told[:2] == ["OK LOAD a 0 256", "OK ADVANCE a 100"]
     assert f"`{told[2]}`" in contents("docs/api/examples.md")
@@ -376,12 +377,12 @@ def prompt_in_a_pipe(block, folder):
 # conformance/README.md
 
 
-def streams_of_a_port(block, folder):
+def streams_of_a_port(block: Any, folder: Any) -> None:
     folder.put("my_port", '#!/bin/sh\nshift 2\nexec bin/ljserve run "$@"\n')
     assert folder.shell(block.text.splitlines()[1]).endswith(" streams agree, 0 differ\n")
 
 
-def first_difference(block, folder):
+def first_difference(block: Any, folder: Any) -> None:
     """The lines below the block are told of a port that has no ADVANCE."""
     folder.put("my_port", "#!/bin/sh\nbin/ljserve run \"$@\" | sed 's/^OK ADVANCE.*/ERR 06 COMMAND/'\n")
     told = folder.shell(f"{block.text.strip()} || true")
@@ -389,7 +390,7 @@ def first_difference(block, folder):
     assert set(wanted.splitlines()) < set(told.splitlines())
 
 
-def reference(block, folder):
+def reference(block: Any, folder: Any) -> None:
     assert folder.shell(block.text.splitlines()[0]) == (EXAMPLES / "dimer.replies").read_text()
 
 
@@ -513,7 +514,7 @@ BLOCKS = {
 NAMED = [(document, word) for document, words in BLOCKS.items() for word in words]
 
 
-def found(block):
+def found(block: Any) -> List[Any]:
     """What is said of a block: for each name that it has, the check or the reason."""
     return [said for word, said in BLOCKS.get(block.document, {}).items() if block.is_named(word)]
 
@@ -522,12 +523,12 @@ RUN = [block for block in all_blocks() if any(map(callable, found(block)))]
 
 
 @pytest.mark.parametrize("block", RUN, ids=str)
-def test_block(block, folder):
+def test_block(block: Any, folder: Any) -> None:
     (check,) = found(block)
     check(block, folder)
 
 
-def test_the_comparison_that_is_silent(folder):
+def test_the_comparison_that_is_silent(folder: Any) -> None:
     """Both files are among the examples, since a release has no crates."""
     (command,) = re.findall(r"`(bin/ljserve < \S+ \| cmp - \S+)` is silent", contents("README.md"))
     assert folder.shell(command) == ""
@@ -536,10 +537,10 @@ def test_the_comparison_that_is_silent(folder):
 
 
 @pytest.mark.parametrize("block", all_blocks(), ids=str)
-def test_it_is_run_or_named_with_a_reason(block):
+def test_it_is_run_or_named_with_a_reason(block: Any) -> None:
     assert len(found(block)) == 1
 
 
 @pytest.mark.parametrize("document, word", NAMED)
-def test_a_name_is_that_of_one_block(document, word):
+def test_a_name_is_that_of_one_block(document: Any, word: Any) -> None:
     assert sum(block.document == document and block.is_named(word) for block in all_blocks()) == 1

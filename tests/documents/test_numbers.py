@@ -1,6 +1,7 @@
 """The numbers that the README works out, by arithmetic of its own, and those that it takes from docs/ACCURACY.md."""
 import re
 from fractions import Fraction
+from typing import Any
 
 from blocks import TOP
 
@@ -9,13 +10,13 @@ SIGMA = 2**24  # of the two atoms, in ring units
 H = 131072
 
 
-def force(square):
+def force(square: Any) -> Any:
     """The Lennard-Jones force over the distance, at a squared distance in squares of sigma."""
     u = 1 / Fraction(square)
     return 24 * (2 * u**7 - u**4)
 
 
-def test_the_pair_that_is_worked_out():
+def test_the_pair_that_is_worked_out() -> None:
     worked = re.findall(r"in? bin (\d+).*?`(\d+) \* ([\d.]+) / 2\^(\d+)` is (\d+)", README.replace("is where bin", "in bin"))
     assert [int(bin) for bin, *_ in worked] == [288, 287]
     distances = [Fraction(3, 2), Fraction(3 * SIGMA // 2 - 2 * 589, SIGMA)]
@@ -28,7 +29,7 @@ def test_the_pair_that_is_worked_out():
     assert "by 593 both times" in README
 
 
-def test_the_energies_are_those_of_accuracy():
+def test_the_energies_are_those_of_accuracy() -> None:
     measured = (TOP / "docs" / "ACCURACY.md").read_text()
     rows = re.findall(r"^\| (\d+) \| ([\d.]+) \| ([\d.]+ fs) \| ([\d.]+)(?: epsilon per atom)? \| (.*?) \|$", README, re.M)
     assert len(rows) == 4

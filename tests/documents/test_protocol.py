@@ -6,10 +6,11 @@ import subprocess
 import sys
 import threading
 from fractions import Fraction
+from typing import Any
 
 import pytest
 from blocks import TOP
-from support import PROGRAM, SECONDS, TOKEN, Server
+from support import PROGRAM, SECONDS, TOKEN, Server, present
 
 sys.path.insert(0, str(TOP / "conformance"))
 import reference  # noqa: E402
@@ -19,17 +20,17 @@ PAIRS = 4096 * 4095 // 2
 LEAST, GREATEST = min(reference.ENERGIES), max(reference.ENERGIES)
 
 
-def section(title):
+def section(title: Any) -> Any:
     return PROTOCOL.split(f"\n## {title}\n")[1].split("\n## ")[0]
 
 
-def rows(title, cells):
+def rows(title: Any, cells: Any) -> Any:
     """The rows of a table with so many cells, without its head."""
     found = [line.strip("| ").split(" | ") for line in section(title).splitlines() if line.startswith("| ")]
     return [row for row in found if len(row) == cells][1:]
 
 
-def value(text):
+def value(text: Any) -> Any:
     """A number such as `3 * 2^74`."""
     assert re.fullmatch(r"[-\d *^]+", text)
     return eval(text.replace("^", "**"))
@@ -38,18 +39,18 @@ def value(text):
 RANGES = {name: (value(least), value(most), int(bits)) for name, _, least, most, bits in rows("Numbers of replies", 5)}
 
 
-def quotient(formula, **numbers):
+def quotient(formula: Any, **numbers: Any) -> Any:
     """What a formula of the document gives for these numbers, as a fraction."""
     powers = formula.replace("^", "**").replace("²", "**2").replace("³", "**3")
     return eval(powers, {name: Fraction(number) for name, number in numbers.items()})
 
 
-def weighted(energy):
+def weighted(energy: Any) -> Any:
     return reference.int_div(energy * 65536, 256)
 
 
 @pytest.mark.parametrize("least, most, bits", RANGES.values(), ids=RANGES)
-def test_the_bits_hold_the_range_and_are_no_more(least, most, bits):
+def test_the_bits_hold_the_range_and_are_no_more(least: Any, most: Any, bits: Any) -> None:
     needed = most.bit_length() if least >= 0 else 1 + max((-least - 1).bit_length(), most.bit_length())
     assert bits == needed
 
@@ -66,23 +67,23 @@ def test_the_bits_hold_the_range_and_are_no_more(least, most, bits):
         ("number of lines", 1 + 2, 4096 + 2),
     ],
 )
-def test_a_range_is_that_of_the_reference(name, least, most):
+def test_a_range_is_that_of_the_reference(name: Any, least: Any, most: Any) -> None:
     assert RANGES[name][:2] == (least, most)
 
 
-def test_the_last_line_of_a_body():
+def test_the_last_line_of_a_body() -> None:
     lines = reference.lines_of(b"\n" * 2**20)
     with pytest.raises(reference.Refused, match=f"^30 XYZ_COUNT line {RANGES['line L of a body'][1]}$"):
         reference.frame_at(lines, 0, [])
 
 
-def test_the_greatest_coordinate():
+def test_the_greatest_coordinate() -> None:
     """That of the last place in the greatest box, an edge of 10^15 billionths."""
     micro = (reference.RING - 1) * 10**15 // (reference.RING * 1000)
     assert f"`{micro // 10**6}.{micro % 10**6:06}`" in section("Numbers of replies")
 
 
-def test_two_atoms_pass_64_bits():
+def test_two_atoms_pass_64_bits() -> None:
     """The reference measures what the block shows, which the program is asked for too."""
     sim = reference.Simulation([(2**31,) * 3, (25165824 + 2**31, 2**31, 2**31)], [(0, 0, 0), (25165824, 0, 0)])
     atoms = reference.Composition([reference.Class(2**24, 131072, 256)], [0, 0])
@@ -92,7 +93,7 @@ def test_two_atoms_pass_64_bits():
     assert int(measured.split()[-2]) == 2 * 3 * 2**62 > 2**64
 
 
-def test_the_longest_line():
+def test_the_longest_line() -> None:
     """Each number is written with the most bytes that its range allows, a name and a symbol with 16."""
     most = {name: max(map(str, numbers[:2]), key=len) for name, numbers in RANGES.items()}
     name, step, atoms, momentum = "n" * 16, most["step, target"], most["number of atoms"], most["momentum, for each axis"]
@@ -109,7 +110,7 @@ def test_the_longest_line():
     assert f"more than {longest} bytes before its LF" in section("For writers of clients")
 
 
-def test_the_formulas_of_a_step():
+def test_the_formulas_of_a_step() -> None:
     codes = re.findall(r"`([^`]+)`", section("A step in half a page"))
     (pushes,) = [code[4:] for code in codes if code.startswith("W = ")]
     (energies,) = [code[4:] for code in codes if code.startswith("V = ")]
@@ -123,13 +124,14 @@ def test_the_formulas_of_a_step():
     for q, place in [(1500000000, 25165824), (-1, 2**32 - 1), (256 * 10**9, 0)]:
         assert math.floor(quotient("q * 2^32 / E", q=q, E=256 * 10**9)) % 2**32 == place
         assert reference.units_of(256 * 10**9, q) % reference.RING == place
-    greatest = max(map(abs, reference.PUSHES)) * 2**24 * 2**31
+    greatest = max(abs(push) for push in reference.PUSHES) * 2**24 * 2**31
     assert f"up to {greatest.bit_length()} bits" in section("A step in half a page")
 
 
-def test_the_pair_that_is_worked_by_hand():
+def test_the_pair_that_is_worked_by_hand() -> None:
     atoms = reference.Composition([reference.Class(2**24, 2**17, 256)], [0, 0])
-    sim = reference.Simulation(*[[(0, 0, 0), (25165824, 0, 0)]] * 2)
+    frame = [(0, 0, 0), (25165824, 0, 0)]
+    sim = reference.Simulation(list(frame), list(frame))
     worked = rows("A step in half a page", 8)
     assert len(worked) == 2
     for step, zero, one, image, k, entry, push, following in worked:
@@ -154,21 +156,27 @@ def test_the_pair_that_is_worked_by_hand():
         ("HELLO ann TOKEN", ""),
     ],
 )
-def test_the_first_line_of_a_connection(sent, reply):
+def test_the_first_line_of_a_connection(sent: Any, reply: Any) -> None:
     with Server() as server, socket.create_connection(("127.0.0.1", server.port), SECONDS) as connection:
         connection.sendall(sent.replace("TOKEN", TOKEN).encode())
         connection.shutdown(socket.SHUT_WR)
         assert connection.makefile().read() == reply
 
 
-def test_a_client_that_writes_without_reading():
+def test_a_client_that_writes_without_reading() -> None:
     """It cannot write all, however long it waits, since the replies fill every buffer on the way. Once they are read all come."""
     commands = b"LIST\n" * 200_000
     with subprocess.Popen([PROGRAM, "run"], stdin=subprocess.PIPE, stdout=subprocess.PIPE) as child:
-        writer = threading.Thread(target=lambda: (child.stdin.write(commands), child.stdin.close()))
+        source, sink = present(child.stdin), present(child.stdout)
+
+        def write() -> None:
+            source.write(commands)
+            source.close()
+
+        writer = threading.Thread(target=write)
         writer.start()
         writer.join(0.5)
         assert writer.is_alive()
-        assert child.stdout.read() == b"OK LIST 0\n" * 200_000
+        assert sink.read() == b"OK LIST 0\n" * 200_000
         writer.join(SECONDS)
         assert not writer.is_alive()

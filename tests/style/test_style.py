@@ -18,7 +18,6 @@ TOP = pathlib.Path(__file__).resolve().parents[2]
 SECONDS = 600
 # Where modules are searched by which the scripts of a folder stand.
 SEARCHED = {
-    ".": "tests",
     "bench": "tests clients/python conformance tools",
     "bench/book": "bench tests",
     "bench/lammps": "bench tests clients/python",
@@ -31,7 +30,7 @@ SEARCHED = {
     "tests": "conformance",
     "tests/bench": "bench tests",
     "tests/client": "tests",
-    "tests/documents": "clients/python clients/python/tests",
+    "tests/documents": "clients/python clients/python/tests conformance tests",
     "tests/faults": "tests conformance",
     "tests/gate": "bin",
     "tests/protocol": "tests conformance",
@@ -42,8 +41,6 @@ SEARCHED = {
 OF_TESTS = "tests clients/python conformance"  # those of the other folders of tests/
 # Files by whose names others of their folder would find another module than they do when they run.
 ALONE = ("bench/shared/__init__.py", "conformance/random")
-# Folders whose tests have no types yet.
-WITHOUT_TYPES = ("tests/documents",)
 
 
 def is_python(path: pathlib.Path) -> bool:
@@ -74,7 +71,7 @@ def groups() -> Dict[str, List[str]]:
     found: Dict[str, List[str]] = defaultdict(list)
     for path in FILES:
         found[group_of(path)].append(path)
-    return {group: paths for group, paths in found.items() if group not in WITHOUT_TYPES}
+    return found
 
 
 FILES = python_files()

@@ -36,7 +36,7 @@ def test_a_user_goes_on_when_the_server_was_killed(tmp_path: pathlib.Path) -> No
         assert [each["why"] for each in keeper.events("server ended")] == ["it was ended by signal 9"]
 
 
-def test_the_status_tells_how_long_journals_are_now(tmp_path):
+def test_the_status_tells_how_long_journals_are_now(tmp_path: pathlib.Path) -> None:
     with Keeper(tmp_path) as keeper:
         until(keeper.is_ready)
         with keeper.connected() as user:
