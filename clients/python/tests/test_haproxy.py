@@ -147,11 +147,17 @@ class Farm:
         return self.context().wrap_socket(stream, server_hostname="localhost") if tls else stream
 
     def joined(self, name: Any, **words: Any) -> Tuple[Any, Any]:
-        """A connection of a user who was let in, with what reads its replies."""
-        stream = self.connected(**words)
-        stream.sendall(hello(name))
-        replies = stream.makefile("rb")
-        assert replies.readline() == f"OK HELLO {name}\n".encode()
+        """A connection of a user who was let in, with what reads its replies. One whose line came too late is made once more."""
+        end = time.monotonic() + SECONDS
+        while True:
+            stream = self.connected(**words)
+            stream.sendall(hello(name))
+            replies = stream.makefile("rb")
+            told = replies.readline()
+            if told or time.monotonic() > end:
+                break
+            stream.close()
+        assert told == f"OK HELLO {name}\n".encode()
         return stream, replies
 
     def values(self, metric: str = "sessions_total") -> Dict[Any, Any]:
