@@ -467,7 +467,6 @@ BLOCKS = {
         "2\nstep 1": is_frame_after(1),
         "LOADMIX m": is_dialogue(),
         "START a 2": is_dialogue(LOADED + LOADED.replace("LOAD a", "LOAD b")),
-        "OK DUMP a 2 4": is_frame_after(2),
         "TUG a 0 -2147483648": is_dialogue(LOADED),
         "ljserve run": runs(),
         "bin/ljserve replay": runs(),
