@@ -475,11 +475,9 @@ BLOCKS = {
     },
     "docs/SERVER.md": {
         "bin/ljserve serve": serves,
-        "served 1 connections": "tests/server compares what a server prints at its end",
         "examples/session": small_client,
         "python3 -m ljclient 127.0.0.1": prompt_of_a_server,
         "NAME TOKEN": FORM,
-        "HELLO NAME TOKEN": FORM,
         "$ nc": dialogue_of_a_connection,
         "apt-get install python3": first_server,
         "apt-get install haproxy": servers_behind_haproxy,
