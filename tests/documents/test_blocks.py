@@ -415,7 +415,6 @@ BLOCKS = {
         "rt check": NEEDS_KIT,
         "rt try": NEEDS_KIT,
         "bin/release": NEEDS_KIT,
-        "lj_tile: ": "the subject of a commit",
     },
     "docs/ARCHITECTURE.md": {"                      lock: Hall": DRAWING},
     "docs/api/ase.md": {"ReversibleVerlet(": driver_of_ase},
