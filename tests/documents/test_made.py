@@ -28,7 +28,7 @@ MADE = re.compile(r"<!-- made by (\S+): begin (.*?) -->\n.*?<!-- made by \1: end
 WITH_PARTS = sorted(path for path in (TOP / "docs").glob("*.md") if documents.PART.search(path.read_text()))
 # The most bytes of a document that are written by hand.
 MOST_BY_HAND = {"docs/PROOFS.md": 8000, "docs/ARCHITECTURE.md": 8000, "docs/PROTOCOL.md": 26_000, "docs/FILES.md": 1024}
-MOST_OF_ALL = 171_000
+MOST_OF_ALL = 150_000
 
 
 def by_hand(path: Path) -> int:
