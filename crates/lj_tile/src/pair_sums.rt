@@ -116,7 +116,8 @@ fn add_eight(
 {
     let eight = pushes(&apart(pairs, at, first, second), scale, table);
     let (x, y, z) = (eight.x.to_array(), eight.y.to_array(), eight.z.to_array());
-    let _near = scale.strength();
+    // Of a scale that is read it is known that no pair that interacts lies half the box apart: opposite pushes are exact.
+    let _strength = scale.strength();
     for k in 0..8 {
         let push = Push {
             x: x[k],

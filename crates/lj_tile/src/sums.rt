@@ -272,22 +272,22 @@ fn add_row(
 {
     let near = columns.near(&task.first().places()[t]) & later(t, task);
     let seconds = task.second().seconds();
-    let like = task.mix().class(own, Species::First);
+    let with_first = task.mix().class(own, Species::First);
     add_pairs(
         t,
         near & !seconds,
         task,
-        &like.scale,
+        &with_first.scale,
         table,
         of_firsts,
         sums,
     );
-    let unlike = task.mix().class(own, Species::Second);
+    let with_second = task.mix().class(own, Species::Second);
     add_some_pairs(
         t,
         near & seconds,
         task,
-        &unlike.scale,
+        &with_second.scale,
         table,
         of_seconds,
         sums,
@@ -439,9 +439,10 @@ fn energy_of_rows(
     ensures few_seconds { length of_seconds.new < FULL }
     ensures firsts { ArePairs task.now.a.places task.now.b.places of_firsts.new }
     ensures seconds { ArePairs task.now.a.places task.now.b.places of_seconds.new }
-    ensures value { let like = class_of task.now.mix own variants.First in let unlike = class_of task.now.mix own variants.Second in
-        result +ℤ lists_energy task.now like unlike of_firsts.new of_seconds.new
-        ≡ lists_energy task.now like unlike of_firsts.old of_seconds.old +ℤ rows_energy task.now rows BLOCK }
+    ensures value { let with_first = class_of task.now.mix own variants.First in
+        let with_second = class_of task.now.mix own variants.Second in
+        result +ℤ lists_energy task.now with_first with_second of_firsts.new of_seconds.new
+        ≡ lists_energy task.now with_first with_second of_firsts.old of_seconds.old +ℤ rows_energy task.now rows BLOCK }
     ensures size { unsigned_abs result ≤ BLOCK * 2 ^ 53 }
 {
     let mut t = 0;
@@ -482,18 +483,19 @@ fn energy_of_row(
     ensures few_seconds { length of_seconds.new < FULL }
     ensures firsts { ArePairs task.now.a.places task.now.b.places of_firsts.new }
     ensures seconds { ArePairs task.now.a.places task.now.b.places of_seconds.new }
-    ensures value { let like = class_of task.now.mix own variants.First in let unlike = class_of task.now.mix own variants.Second in
-        result +ℤ lists_energy task.now like unlike of_firsts.new of_seconds.new
-        ≡ lists_energy task.now like unlike of_firsts.old of_seconds.old +ℤ energy_row task.now t }
+    ensures value { let with_first = class_of task.now.mix own variants.First in
+        let with_second = class_of task.now.mix own variants.Second in
+        result +ℤ lists_energy task.now with_first with_second of_firsts.new of_seconds.new
+        ≡ lists_energy task.now with_first with_second of_firsts.old of_seconds.old +ℤ energy_row task.now t }
     ensures size { unsigned_abs result ≤ 2 ^ 53 }
 {
     let here = &task.first().places()[t];
     let near = columns.near(here) & later(t, task);
     let seconds = task.second().seconds();
-    let like = task.mix().class(own, Species::First);
-    let of_like = energy_of_pairs(t, near & !seconds, task, like, table, of_firsts);
-    let unlike = task.mix().class(own, Species::Second);
-    of_like + energy_of_pairs(t, near & seconds, task, unlike, table, of_seconds)
+    let with_first = task.mix().class(own, Species::First);
+    let of_first = energy_of_pairs(t, near & !seconds, task, with_first, table, of_firsts);
+    let with_second = task.mix().class(own, Species::Second);
+    of_first + energy_of_pairs(t, near & seconds, task, with_second, table, of_seconds)
 }
 
 /// Adds the pairs of place `t` of the first block with a set of places of the second to a list, and gives the energies of

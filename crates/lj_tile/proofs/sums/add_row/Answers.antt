@@ -69,10 +69,10 @@ pub returns-clause-sums : goal.returns-clause-sums
 unfolding firsts seconds
 returns-clause-sums c =
     let w = c.args.task.now in
-    let like = scale_is c.mix.result.now w.mix c.class-like.result.now c.args.own First c.class-like.ensures.value c.mix.ensures in
-    let unlike = scale_is c.mix-2.result.now w.mix c.class-unlike.result.now c.args.own Second c.class-unlike.ensures.value c.mix-2.ensures in
+    let with_first = scale_is c.mix.result.now w.mix c.class-with_first.result.now c.args.own First c.class-with_first.ensures.value c.mix.ensures in
+    let with_second = scale_is c.mix-2.result.now w.mix c.class-with_second.result.now c.args.own Second c.class-with_second.ensures.value c.mix-2.ensures in
     rw c.requires.own
     (row_added w c.args.t (firsts c) (seconds c) c.args.of_firsts.now c.args.of_seconds.now c.add_pairs.new.pairs
     c.add_some_pairs.new.pairs c.args.sums.now c.add_pairs.new.sums c.add_some_pairs.new.sums
     c.second.ensures.sound.most_second (λ s set. part_within c.near.result c.later.result _ s (length w.b.places) _ (c.later.ensures s) set) (λ s set. part_within c.near.result c.later.result _ s (length w.b.places) _ (c.later.ensures s) set)
-    (split c) (rw (like, c.requires.own) at c.add_pairs.ensures.totals) (rw (unlike, c.requires.own) at c.add_some_pairs.ensures.totals))
+    (split c) (rw (with_first, c.requires.own) at c.add_pairs.ensures.totals) (rw (with_second, c.requires.own) at c.add_some_pairs.ensures.totals))

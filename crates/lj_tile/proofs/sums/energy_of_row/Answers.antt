@@ -18,8 +18,8 @@ use Rattle.lj_tile.proofs.SumLemmas.{sum_is}
 use Rattle.lj_tile.proofs.EnergySums.{row_energy_added}
 use Rattle.lj_tile.proofs.sums.energy_of_row.Goals as goal
 
-pub energy_of_pairs-of_like-requires-clause-set : goal.energy_of_pairs-of_like-requires-clause-set
-energy_of_pairs-of_like-requires-clause-set c s set =
+pub energy_of_pairs-of_first-requires-clause-set : goal.energy_of_pairs-of_first-requires-clause-set
+energy_of_pairs-of_first-requires-clause-set c s set =
     part_within c.near.result c.later.result _ s (length c.args.task.now.b.places) _ (c.later.ensures s) set
 
 pub energy_of_pairs-requires-clause-set : goal.energy_of_pairs-requires-clause-set
@@ -71,19 +71,19 @@ pub returns-clause-value : goal.returns-clause-value
 unfolding firsts seconds
 returns-clause-value c =
     let w = c.args.task.now in
-    let like = class_is c.mix.result.now w.mix c.class-like.result.now c.args.own First c.class-like.ensures.value c.mix.ensures in
-    let unlike = class_is c.mix-2.result.now w.mix c.class-unlike.result.now c.args.own Second c.class-unlike.ensures.value c.mix-2.ensures in
-    let size : unsigned_abs c.energy_of_pairs-of_like.result ≤ 2 ^ 52 = c.energy_of_pairs-of_like.ensures.size in
+    let with_first = class_is c.mix.result.now w.mix c.class-with_first.result.now c.args.own First c.class-with_first.ensures.value c.mix.ensures in
+    let with_second = class_is c.mix-2.result.now w.mix c.class-with_second.result.now c.args.own Second c.class-with_second.ensures.value c.mix-2.ensures in
+    let size : unsigned_abs c.energy_of_pairs-of_first.result ≤ 2 ^ 52 = c.energy_of_pairs-of_first.ensures.size in
     rw (
-      to_z-of_z w64 c.energy_of_pairs-of_like.result (fits_signed_from_abs w64 _ (omega (arith, size))),
-      sum_is c.energy_of_pairs-of_like.result c.energy_of_pairs.result 1 (2 ^ 52)
+      to_z-of_z w64 c.energy_of_pairs-of_first.result (fits_signed_from_abs w64 _ (omega (arith, size))),
+      sum_is c.energy_of_pairs-of_first.result c.energy_of_pairs.result 1 (2 ^ 52)
           (omega (arith, size)) c.energy_of_pairs.ensures.size (omega arith) (omega arith),
       c.requires.own,
     )
     (row_energy_added w c.args.t (firsts c) (seconds c) c.args.of_firsts.now c.args.of_seconds.now
-    c.energy_of_pairs-of_like.new.pairs c.energy_of_pairs.new.pairs c.energy_of_pairs-of_like.result c.energy_of_pairs.result
+    c.energy_of_pairs-of_first.new.pairs c.energy_of_pairs.new.pairs c.energy_of_pairs-of_first.result c.energy_of_pairs.result
     c.second.ensures.sound.most_second
     (λ s set. part_within c.near.result c.later.result _ s (length w.b.places) _ (c.later.ensures s) set)
     (λ s set. part_within c.near.result c.later.result _ s (length w.b.places) _ (c.later.ensures s) set)
-    (split c) (rw (like, c.requires.own) at c.energy_of_pairs-of_like.ensures.value)
-    (rw (unlike, c.requires.own) at c.energy_of_pairs.ensures.value))
+    (split c) (rw (with_first, c.requires.own) at c.energy_of_pairs-of_first.ensures.value)
+    (rw (with_second, c.requires.own) at c.energy_of_pairs.ensures.value))

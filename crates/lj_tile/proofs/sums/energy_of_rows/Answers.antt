@@ -53,8 +53,8 @@ loop-rest-smaller c =
 pub loop-rest-preserved : goal.loop-rest-preserved
 loop-rest-preserved c =
     let w = c.args.task.now in
-    let like = class_of w.mix c.args.own First in
-    let unlike = class_of w.mix c.args.own Second in
+    let with_first = class_of w.mix c.args.own First in
+    let with_second = class_of w.mix c.args.own Second in
     let found = next_set c.args.rows c.loop-rest.t c.loop-rest.rest c.ranges.rows.fits c.loop-rest.auto.rest-fits.fits
     (omega (arith, c.loop-rest-test.true)) c.loop-rest.invariant.bits in
     let next : ℕ = c.loop-rest.t + trailing_zeros w64 c.loop-rest.rest in
@@ -69,11 +69,11 @@ loop-rest-preserved c =
       seconds = c.energy_of_row-sum.ensures.seconds;
       value =
           rows_energy_next w c.args.rows next _ c.energy_of_row-sum.result
-          (lists_energy w like unlike c.args.of_firsts.now c.args.of_seconds.now)
-          (lists_energy w like unlike c.loop-rest.of_firsts c.loop-rest.of_seconds)
-          (lists_energy w like unlike c.energy_of_row-sum.new.of_firsts c.energy_of_row-sum.new.of_seconds) found.set
+          (lists_energy w with_first with_second c.args.of_firsts.now c.args.of_seconds.now)
+          (lists_energy w with_first with_second c.loop-rest.of_firsts c.loop-rest.of_seconds)
+          (lists_energy w with_first with_second c.energy_of_row-sum.new.of_firsts c.energy_of_row-sum.new.of_seconds) found.set
           (c.loop-rest.invariant.value
-          ∙ ap (λ z. lists_energy w like unlike c.args.of_firsts.now c.args.of_seconds.now +ℤ z)
+          ∙ ap (λ z. lists_energy w with_first with_second c.args.of_firsts.now c.args.of_seconds.now +ℤ z)
           (rows_energy_past w c.args.rows c.loop-rest.t next (omega arith) found.before)) c.energy_of_row-sum.ensures.value;
       size = sum_size _ c.energy_of_row-sum.result next (2 ^ 53) before c.energy_of_row-sum.ensures.size;
     }
@@ -81,9 +81,9 @@ loop-rest-preserved c =
 pub returns-clause-value : goal.returns-clause-value
 returns-clause-value c =
     let w = c.args.task.now in
-    let like = class_of w.mix c.args.own First in
-    let unlike = class_of w.mix c.args.own Second in
+    let with_first = class_of w.mix c.args.own First in
+    let with_second = class_of w.mix c.args.own Second in
     c.loop-rest.invariant.value
-    ∙ ap (λ z. lists_energy w like unlike c.args.of_firsts.now c.args.of_seconds.now +ℤ z)
+    ∙ ap (λ z. lists_energy w with_first with_second c.args.of_firsts.now c.args.of_seconds.now +ℤ z)
     (rows_energy_past w c.args.rows c.loop-rest.t 64 c.loop-rest.invariant.within (λ k least less.
     from_empty c.args.rows c.loop-rest.t c.loop-rest.rest c.loop-rest.invariant.bits c.loop-rest-test.false k least))
