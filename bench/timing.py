@@ -52,6 +52,11 @@ class Host(NamedTuple):
 def add_words(parser: argparse.ArgumentParser, rounds: int) -> None:
     """The options of a measurement that has so many rounds where none are said."""
     parser.add_argument("--rounds", metavar="N", type=at_least_one, default=rounds, help=f"how many rounds: {rounds}")
+    add_file(parser)
+
+
+def add_file(parser: argparse.ArgumentParser) -> None:
+    """The option of a measurement that keeps its figures."""
     parser.add_argument("--json", metavar="FILE", help="a file for the figures, with the command and the machine")
 
 

@@ -6,13 +6,14 @@ import statistics
 import tempfile
 import time
 from concurrent.futures import ThreadPoolExecutor
-from typing import Iterator, List, Sequence
+from typing import Dict, Iterator, List, Mapping, Sequence
 
 from keep_trials.keeper import TOKEN, USUAL, Keeper, until
 from serving import processor_seconds
 from shared.loads import LOAD, LOADED
 from shared.program import end_of
 from shared.serving import begun, options_of, user_line
+from timing import Findings
 
 USERS = 62
 SECONDS_OF_A_LESSON = 10
@@ -49,9 +50,9 @@ class Talk:
         self._stream.close()
 
 
-def cost(program: str, syncs: Sequence[str], folder: pathlib.Path, commands: int) -> Iterator[str]:
+def cost(found: Findings, program: str, syncs: Sequence[str], folder: pathlib.Path, commands: int) -> Iterator[str]:
     """The lines that are printed."""
-    yield f"without the tool: {of_server(program, commands)}"
+    yield kept(found, "without the tool", of_server(program, commands))
     for sync in syncs:
         with tempfile.TemporaryDirectory(dir=folder) as top:
             names = [f"user{number}" for number in range(USERS)]
@@ -59,7 +60,7 @@ def cost(program: str, syncs: Sequence[str], folder: pathlib.Path, commands: int
                 until(keeper.is_ready)
                 talk = Talk(keeper.raw(names[0]), names[0])
                 before = processor_seconds(keeper.child)
-                yield f"--sync {sync}: {of_talk(talk, commands)}"
+                yield kept(found, f"--sync {sync}", of_talk(talk, commands))
                 spent = (processor_seconds(keeper.child) - before) / commands / len(COMMANDS)
                 yield f"--sync {sync}: processor time of the front {spent * 1e6:.0f} us a command"
                 talk.ask(b"DROP a\n", b"OK DROP a\n")
@@ -67,7 +68,14 @@ def cost(program: str, syncs: Sequence[str], folder: pathlib.Path, commands: int
                 yield f"--sync {sync}: {of_lesson(keeper, names)}"
 
 
-def of_server(program: str, commands: int) -> str:
+def kept(found: Findings, way: str, medians: Mapping[str, float]) -> str:
+    """Keeps what commands take one at a time, and tells it."""
+    for name, median in medians.items():
+        found.add(f"{way}, {name}", "us", median)
+    return f"{way}: one at a time " + ", ".join(f"{name} {median:.0f} us" for name, median in medians.items())
+
+
+def of_server(program: str, commands: int) -> Dict[str, float]:
     """The same commands at a server by itself."""
     child, port = begun(program, user_line("user0", TOKEN, USUAL), options_of(2, 1, None))
     with contextlib.closing(socket.create_connection(("127.0.0.1", port))) as stream:
@@ -80,9 +88,9 @@ def of_server(program: str, commands: int) -> str:
     return told
 
 
-def of_talk(talk: Talk, commands: int) -> str:
-    medians = {name: statistics.median(talk.time_of(item) for _ in range(commands)) for name, item in COMMANDS.items()}
-    return "one at a time " + ", ".join(f"{name} {median:.0f} us" for name, median in medians.items())
+def of_talk(talk: Talk, commands: int) -> Dict[str, float]:
+    """The median of each command, in microseconds."""
+    return {name: statistics.median(talk.time_of(item) for _ in range(commands)) for name, item in COMMANDS.items()}
 
 
 def times_of_a_lesson(talk: Talk, begin: float) -> List[float]:

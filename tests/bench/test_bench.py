@@ -20,16 +20,19 @@ import timing  # noqa: E402
 SECONDS = 120
 FILES = [path for path in sorted([*BENCH.iterdir(), *(BENCH / "book").iterdir(), *(BENCH / "lammps").iterdir()]) if path.is_file()]
 SCRIPTS = [path for path in FILES if path.suffix in ("", ".py") and os.access(path, os.X_OK)]
-TOLD_WITH_ROUNDS = (
+KEPT_AS_JSON = (
     "client",
+    "keep",
     "lammps/step",
     "lines",
+    "memory",
     "order",
     "prompt",
     "ratio",
     "reader",
     "scale",
     "server",
+    "shards",
     "species",
     "start",
     "tiles",
@@ -51,7 +54,7 @@ def test_help_says_what_is_measured(script: pathlib.Path) -> None:
     about = (ast.get_docstring(ast.parse(script.read_text(encoding="utf-8"))) or "").split("\n")[0]
     done = ended(script, "--help")
     assert (done.returncode, done.stderr) == (0, "") and about in done.stdout and done.stdout.startswith("usage: ")
-    assert ("--json" in done.stdout) == (named(script) in TOLD_WITH_ROUNDS)
+    assert ("--json" in done.stdout) == (named(script) in KEPT_AS_JSON)
 
 
 @pytest.mark.parametrize("script", SCRIPTS, ids=named)
