@@ -416,7 +416,7 @@ BLOCKS = {
         "rt try": NEEDS_KIT,
         "bin/release": NEEDS_KIT,
     },
-    "docs/ARCHITECTURE.md": {"                      lock: Hall": DRAWING},
+    "docs/ARCHITECTURE.md": {"                      lock: DirectoryState": DRAWING},
     "docs/api/ase.md": {"ReversibleVerlet(": driver_of_ase},
     "docs/api/ensemble.md": {"partial(begin": many_runs},
     "docs/api/examples.md": {"(examples/load": own_file},

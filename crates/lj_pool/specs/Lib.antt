@@ -12,5 +12,5 @@ pub mod Served
 pub mod Accounts
 pub mod LockEnd
 pub mod Waking
-pub mod Desks
+pub mod PoolStates
 pub mod Limits

@@ -1,15 +1,15 @@
--- When the bells are rung at which ends wait for results.
+-- When ends that wait for results are woken.
 use Rattle.std.specs.Prelude.{◌%◌, ℕ, List, slice_index_or, slice_set}
-use Rattle.lj_pool.specs.declared.waking.TheConstants.{BELLS}
+use Rattle.lj_pool.specs.declared.waking.TheConstants.{WAIT_QUEUES}
 
--- the bell of a user
-abbrev pub bell_of : ℕ → ℕ
-bell_of user = user % BELLS
+-- the wait queue of a user
+abbrev pub wait_queue_of : ℕ → ℕ
+wait_queue_of user = user % WAIT_QUEUES
 
--- after how many more results of the user its bell is rung; 0 where nobody waits for it
+-- after how many more results of the user its wait queue is woken; 0 where none waits in it
 abbrev pub due_at : List ℕ → ℕ → ℕ
-due_at due user = slice_index_or due (bell_of user) 0
+due_at due user = slice_index_or due (wait_queue_of user) 0
 
--- another such number for the bell of the user, and every other bell as it was
+-- another such number for the wait queue of the user, and every other one as it was
 abbrev pub with_due : List ℕ → ℕ → ℕ → List ℕ
-with_due due user results = slice_set due (bell_of user) results
+with_due due user results = slice_set due (wait_queue_of user) results

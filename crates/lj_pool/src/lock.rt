@@ -1,7 +1,7 @@
 //! A pool behind a lock, whose workers run in threads of their own.
-mod desk;
 mod lock_end;
 mod lock_pool;
+mod pool_state;
 mod working;
 
 pub use lock_end::LockEnd;

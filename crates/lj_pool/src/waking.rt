@@ -1,56 +1,58 @@
 //! Whom a pool wakes: ends that wait for results, and workers that wait for tasks.
 ghost use Rattle.std.specs.Prelude.{◌≡◌, ◌+◌, ◌-◌, ◌<◌, ◌^◌, ◌↔◌, cond, max, min, nat_eq, nat_lt, replicate, IsTrue};
-ghost use Rattle.lj_pool.specs.Waking.{bell_of, due_at, with_due};
+ghost use Rattle.lj_pool.specs.Waking.{wait_queue_of, due_at, with_due};
 
 use std::marker::Model;
 use std::mem;
 
-/// The number of bells at which ends wait for results. Users whose numbers are equal modulo this share one.
-pub const BELLS: usize = 64;
+/// The number of queues in which ends wait for results. Users whose numbers are equal modulo this share one.
+pub const WAIT_QUEUES: usize = 64;
 
-/// An end that waits is told once so many results of its user were given, or all that it is owed.
+/// An end that waits is woken once so many results of its user were given, or all that it is owed.
 pub const RESULTS_AT_ONCE: usize = 16;
 
-/// So many tasks are posted before workers that wait are told of them, unless an end finds no result.
+/// So many tasks are posted before workers that wait are woken for them, unless an end finds no result.
 pub const TASKS_AT_ONCE: usize = 16;
 
-/// The bell of a user.
-pub fn bell_of(user: u8) -> usize
-    ensures value { result ≡ bell_of user }
-    ensures within { result < BELLS }
+/// The wait queue of a user.
+pub fn wait_queue_of(user: u8) -> usize
+    ensures value { result ≡ wait_queue_of user }
+    ensures within { result < WAIT_QUEUES }
 {
-    usize::from(user) % BELLS
+    usize::from(user) % WAIT_QUEUES
 }
 
-/// After how many more results each bell is rung; 0 where nobody waits at it.
+/// After how many more results the ends of each wait queue are woken; 0 where none waits in it.
 #[derive(Drop)]
-pub struct Bells {
-    due: [usize; BELLS],
+pub struct WaitQueues {
+    due: [usize; WAIT_QUEUES],
 }
 
-impl Model for Bells {
+impl Model for WaitQueues {
     ghost use Rattle.std.specs.Prelude.{ℕ, List};
 
     ghost Value = { List ℕ };
 
-    ghost view = { λ bells. bells.due };
+    ghost view = { λ wait_queues. wait_queues.due };
 }
 
-impl Bells {
+impl WaitQueues {
     /// Nobody waits.
-    pub fn new() -> Bells
-        ensures { result ≡ replicate BELLS 0 }
+    pub fn new() -> WaitQueues
+        ensures { result ≡ replicate WAIT_QUEUES 0 }
     {
-        Bells { due: [0; BELLS] }
+        WaitQueues {
+            due: [0; WAIT_QUEUES],
+        }
     }
 
-    /// Notes that an end waits at the user's bell, to which so many results are owed. It is rung once all of them were
-    /// given, or the first 16; where another waits at it too, at the next result.
+    /// Notes that an end waits in the user's queue, to which so many results are owed. It is woken once all of them were
+    /// given, or the first 16; where another waits in it too, at the next result.
     pub fn note_waiting(&mut self, user: u8, owed: usize)
         ensures { let old = due_at self.old user in
             self.new ≡ with_due self.old user (cond (nat_eq old 0) (max (min owed RESULTS_AT_ONCE) 1) 1) }
     {
-        let due = &mut self.due[bell_of(user)];
+        let due = &mut self.due[wait_queue_of(user)];
         *due = if *due == 0 {
             owed.min(RESULTS_AT_ONCE).max(1)
         } else {
@@ -58,38 +60,38 @@ impl Bells {
         };
     }
 
-    /// Counts a result that the user was given. Whether its bell is to be rung now.
+    /// Counts a result that the user was given. Whether the ends that wait for it are to be woken now.
     pub fn note_given(&mut self, user: u8) -> bool
-        ensures rung { IsTrue result ↔ (due_at self.old user ≡ 1) }
+        ensures wakes { IsTrue result ↔ (due_at self.old user ≡ 1) }
         ensures due { self.new ≡ with_due self.old user (due_at self.old user - 1) }
     {
-        let due = &mut self.due[bell_of(user)];
-        let rung = *due == 1;
+        let due = &mut self.due[wait_queue_of(user)];
+        let wakes = *due == 1;
         *due = due.saturating_sub(1);
-        rung
+        wakes
     }
 }
 
-/// How many tasks were posted of which the workers were not told yet.
+/// How many tasks were posted since workers were last woken for some.
 #[derive(Drop)]
-pub struct Untold {
+pub struct UnsignalledPosts {
     tasks: usize,
 }
 
-impl Model for Untold {
+impl Model for UnsignalledPosts {
     ghost use Rattle.std.specs.Prelude.{ℕ};
 
     ghost Value = { ℕ };
 
-    ghost view = { λ untold. untold.tasks };
+    ghost view = { λ unsignalled. unsignalled.tasks };
 }
 
-impl Untold {
+impl UnsignalledPosts {
     /// None.
-    pub fn new() -> Untold
+    pub fn new() -> UnsignalledPosts
         ensures { result ≡ 0 }
     {
-        Untold { tasks: 0 }
+        UnsignalledPosts { tasks: 0 }
     }
 
     /// Counts one more, up to `usize::MAX`.
@@ -99,7 +101,7 @@ impl Untold {
         self.tasks = self.tasks.saturating_add(1);
     }
 
-    /// Of how many the workers are to be told now: of all, if they are at least so many, else of none.
+    /// Takes the number of posts that no worker was woken for, if it has reached `least`; else 0.
     pub fn take_due(&mut self, least: usize) -> usize
         ensures value { result ≡ cond (nat_lt self.old least) 0 self.old }
         ensures left { self.old ≡ self.new + result }

@@ -2,6 +2,6 @@ pub mod OpenTask
 pub mod Balance
 pub mod PoolPass
 pub mod ResultList
-pub mod Halls
+pub mod Mailboxes
 pub mod Settling
 pub mod Limits

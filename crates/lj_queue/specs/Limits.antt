@@ -2,7 +2,7 @@
 use Rattle.std.specs.Prelude.{◌≡◌, refl}
 use Rattle.lj_book.specs.declared.entries.TheConstants.{MAX_ENTRIES}
 use Rattle.lj_pool.specs.declared.pool.TheConstants.{MAX_OWED}
-use Rattle.lj_queue.specs.declared.hall.TheConstants.{USERS}
+use Rattle.lj_queue.specs.declared.mailboxes.TheConstants.{USERS}
 use Rattle.lj_queue.specs.declared.result_list.TheConstants.{MAX_RESULTS}
 use Rattle.lj_queue.specs.declared.queue_pool.TheConstants.{CONNECTIONS, MAX_OPEN_TASKS}
 

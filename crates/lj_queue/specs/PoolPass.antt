@@ -50,7 +50,7 @@ pub record IsCounted (table : TableId) (pass : Pass OpenTask Hand) (pushed poppe
   pub all_popped : popped ≡ length (view pass).popped
 
 -- What is left of the first pass once so many were cut off, each with one part.
-pub record IsRest (table : TableId) (passes : ℕ) (pass : Pass OpenTask Hand) : Type 0 where
+pub record IsRootPass (table : TableId) (passes : ℕ) (pass : Pass OpenTask Hand) : Type 0 where
   pub is_of : IsOf table pass
   pub most : passes < 2 ^ 64
   pub rest : view pass ≡ hand_of (all_parts - passes) [] []

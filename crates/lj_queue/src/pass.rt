@@ -13,13 +13,13 @@ use std::sync::Wait;
 use std::sync::ledger::Ledger;
 
 /// Which pool a pass is of, and how many passes that pool has.
-pub trait Room: Ledger {
+pub trait PoolIdentity: Ledger {
     ghost table: { TableId };
 
     ghost passes: { ℕ };
 }
 
-impl Room for Brand {
+impl PoolIdentity for Brand {
     ghost use Rattle.std.specs.Prelude.{[]};
     ghost use Rattle.lj_queue.specs.PoolPass.{no_table};
 
@@ -30,7 +30,7 @@ impl Room for Brand {
 
 /// A pass of the queue that counts what it pushes and pops, up to 2^64 - 1 tasks each.
 #[derive(Drop)]
-pub(crate) struct CountedPass<L: Room> {
+pub(crate) struct CountedPass<L: PoolIdentity> {
     pass: TaskPass,
     number: usize,
     pushed: u64,
@@ -38,7 +38,7 @@ pub(crate) struct CountedPass<L: Room> {
     of: PhantomData<L>,
 }
 
-impl<L: Room> Model for CountedPass<L> {
+impl<L: PoolIdentity> Model for CountedPass<L> {
     ghost use Rattle.lj_queue.specs.PoolPass.{IsCounted, PoolPass, pass_of};
 
     ghost Value = { PoolPass };
@@ -48,7 +48,7 @@ impl<L: Room> Model for CountedPass<L> {
     ghost invariant = { λ p. IsCounted L.table p.pass p.pushed p.popped };
 }
 
-impl<L: Room> CountedPass<L> {
+impl<L: PoolIdentity> CountedPass<L> {
     /// A pass that has pushed and popped nothing.
     pub(crate) fn new(pass: TaskPass, number: usize) -> CountedPass<L>
         requires { IsCounted L.table pass 0 0 }
@@ -100,18 +100,18 @@ impl<L: Room> CountedPass<L> {
 
 /// Where the results of one thread lie: the one that it looks at, and those that it has in hand.
 #[derive(Drop)]
-pub(crate) struct Rooms {
+pub(crate) struct ResultSlots {
     pub(crate) last: Box<Done>,
     pub(crate) hand: ResultList,
 }
 
-impl Rooms {
-    /// Rooms of no results.
+impl ResultSlots {
+    /// Slots of no results.
     ///
     /// # Errors
     /// Out of memory.
-    pub(crate) fn new(alloc: Global) -> Result<Rooms, AllocError> {
-        Ok(Rooms {
+    pub(crate) fn new(alloc: Global) -> Result<ResultSlots, AllocError> {
+        Ok(ResultSlots {
             last: Box::new(alloc, Done::blank())?,
             hand: ResultList::new(alloc, 0)?,
         })
@@ -120,12 +120,12 @@ impl Rooms {
 
 /// What one thread at a time may push and pop by. It counts up to 2^64 - 1 tasks each, and has room for results.
 #[derive(Drop)]
-pub struct PoolPass<L: Room> {
+pub struct PoolPass<L: PoolIdentity> {
     counted: CountedPass<L>,
-    rooms: Rooms,
+    slots: ResultSlots,
 }
 
-impl<L: Room> Model for PoolPass<L> {
+impl<L: PoolIdentity> Model for PoolPass<L> {
     ghost use Rattle.lj_queue.specs.PoolPass.{PoolPass};
 
     ghost Value = { PoolPass };
@@ -133,12 +133,12 @@ impl<L: Room> Model for PoolPass<L> {
     ghost view = { λ p. p.counted };
 }
 
-impl<L: Room> PoolPass<L> {
-    /// The pass that counts so, with these rooms.
-    pub(crate) fn new(counted: CountedPass<L>, rooms: Rooms) -> PoolPass<L>
+impl<L: PoolIdentity> PoolPass<L> {
+    /// The pass that counts so, with these slots.
+    pub(crate) fn new(counted: CountedPass<L>, slots: ResultSlots) -> PoolPass<L>
         ensures { result ≡ counted }
     {
-        PoolPass { counted, rooms }
+        PoolPass { counted, slots }
     }
 
     /// Its number: which of its pool's passes it is, from 0.
@@ -162,11 +162,11 @@ impl<L: Room> PoolPass<L> {
         self.counted.popped
     }
 
-    /// What it counts by, and its rooms.
-    pub(crate) fn into_parts(self) -> (CountedPass<L>, Rooms)
+    /// What it counts by, and its slots.
+    pub(crate) fn into_parts(self) -> (CountedPass<L>, ResultSlots)
         ensures { result.0 ≡ self }
     {
-        (self.counted, self.rooms)
+        (self.counted, self.slots)
     }
 
     /// The pass of the queue.

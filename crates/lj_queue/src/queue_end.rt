@@ -4,9 +4,9 @@ ghost use Rattle.lj_pool.specs.declared.pool.NotPosted.TheVariants.{Closed};
 ghost use Rattle.lj_pool.specs.Seen.{IsHandedOut, IsPosted, SameOwed, StaysClosed, nothing_seen};
 ghost use Rattle.lj_queue.specs.PoolPass.{with_push, open_task_of};
 
-use crate::pass::{CountedPass, PoolPass, Room, Rooms};
+use crate::pass::{CountedPass, PoolIdentity, PoolPass, ResultSlots};
 use crate::queue_pool::QueuePool;
-use lj_pool::{Account, MAX_OWED, NotPosted, Pool, TASKS_AT_ONCE, Untold};
+use lj_pool::{Account, MAX_OWED, NotPosted, Pool, TASKS_AT_ONCE, UnsignalledPosts};
 use lj_tile::{Done, Task};
 use std::marker::Model;
 use std::sync::Wait;
@@ -16,20 +16,20 @@ use std::sync::Wait;
 ///
 /// Promise: it is a `Pool`, for every number of workers, so what is served over it is the same dialogue.
 #[derive(Drop)]
-pub struct QueueEnd<'p, L: Room, R: Wait> {
+pub struct QueueEnd<'p, L: PoolIdentity, R: Wait> {
     rt: &'p R,
     pool: &'p QueuePool<L>,
     account: Account,
     counted: CountedPass<L>,
     /// The result that was handed out last, and those that are handed out next.
-    rooms: Rooms,
+    slots: ResultSlots,
     number: u64,
     user: u8,
-    untold: Untold,
-    ghost whose: { rooms.hand.user ≡ user },
+    unsignalled: UnsignalledPosts,
+    ghost whose: { slots.hand.user ≡ user },
 }
 
-impl<'p, L: Room, R: Wait> Model for QueueEnd<'p, L, R> {
+impl<'p, L: PoolIdentity, R: Wait> Model for QueueEnd<'p, L, R> {
     ghost use Rattle.lj_queue.specs.PoolPass.{QueueEnd};
 
     ghost Value = { QueueEnd };
@@ -39,12 +39,12 @@ impl<'p, L: Room, R: Wait> Model for QueueEnd<'p, L, R> {
       pass = end.counted;
       number = end.number;
       user = end.user;
-      last = end.rooms.last.value;
-      hand = end.rooms.hand.results;
+      last = end.slots.last.value;
+      hand = end.slots.hand.results;
     } };
 }
 
-impl<'p, L: Room, R: Wait> QueueEnd<'p, L, R> {
+impl<'p, L: PoolIdentity, R: Wait> QueueEnd<'p, L, R> {
     /// An end of this number, to which nothing is owed.
     pub(crate) fn new(
         rt: &'p R,
@@ -59,17 +59,17 @@ impl<'p, L: Room, R: Wait> QueueEnd<'p, L, R> {
         ensures user { result.user ≡ user }
         ensures empty_handed { result.hand ≡ [] }
     {
-        let (counted, mut rooms) = pass.into_parts();
-        rooms.hand.clear_for(user);
+        let (counted, mut slots) = pass.into_parts();
+        slots.hand.clear_for(user);
         QueueEnd {
             rt,
             pool,
             account: Account::new(),
             counted,
-            rooms,
+            slots,
             number,
             user,
-            untold: Untold::new(),
+            unsignalled: UnsignalledPosts::new(),
         }
     }
 
@@ -77,13 +77,13 @@ impl<'p, L: Room, R: Wait> QueueEnd<'p, L, R> {
     pub fn finish(self) -> PoolPass<L>
         ensures { result ≡ self.entry.pass }
     {
-        let mut untold = self.untold;
-        self.pool.tell(self.rt, untold.take_due(1));
-        PoolPass::new(self.counted, self.rooms)
+        let mut unsignalled = self.unsignalled;
+        self.pool.wake_workers(self.rt, unsignalled.take_due(1));
+        PoolPass::new(self.counted, self.slots)
     }
 }
 
-impl<'p, L: Room, R: Wait> Pool for QueueEnd<'p, L, R> {
+impl<'p, L: PoolIdentity, R: Wait> Pool for QueueEnd<'p, L, R> {
     ghost use Rattle.lj_pool.specs.declared.pool.TheConstants.{MAX_OWED};
 
     ghost seen = { λ end. end.seen };
@@ -114,7 +114,7 @@ impl<'p, L: Room, R: Wait> Pool for QueueEnd<'p, L, R> {
             .post(self.rt, &mut self.counted, end, user, task, wait);
         self.account.note_post(task, posted);
         if posted.is_ok() {
-            self.untold.note_posted();
+            self.unsignalled.note_posted();
             self.tell(TASKS_AT_ONCE);
         }
         posted
@@ -132,7 +132,7 @@ impl<'p, L: Room, R: Wait> Pool for QueueEnd<'p, L, R> {
         ensures closed { result ≡ false → self.new.seen.closed ≡ true }
         ensures stays_closed { StaysClosed self.old.seen self.new.seen }
     {
-        if self.is_shut() {
+        if self.is_closed() {
             self.account.close();
             return false;
         }
@@ -142,7 +142,7 @@ impl<'p, L: Room, R: Wait> Pool for QueueEnd<'p, L, R> {
                 self.rt,
                 self.user,
                 self.account.owed(),
-                &mut self.rooms.hand,
+                &mut self.slots.hand,
             );
         }
         let fetched = self.hand_out();
@@ -164,7 +164,7 @@ impl<'p, L: Room, R: Wait> Pool for QueueEnd<'p, L, R> {
         ensures unchanged { result ≡ false → SameOwed self.old.seen self.new.seen }
         ensures stays_closed { StaysClosed self.old.seen self.new.seen }
     {
-        let polled = !self.is_shut() && self.look() && self.hand_out();
+        let polled = !self.is_closed() && self.look() && self.hand_out();
         if !polled {
             self.tell(1);
         }
@@ -172,7 +172,7 @@ impl<'p, L: Room, R: Wait> Pool for QueueEnd<'p, L, R> {
     }
 
     fn fetched(&self) -> &Done {
-        &self.rooms.last
+        &self.slots.last
     }
 
     fn owed(&self) -> usize {
@@ -188,18 +188,18 @@ impl<'p, L: Room, R: Wait> Pool for QueueEnd<'p, L, R> {
     }
 }
 
-impl<'p, L: Room, R: Wait> QueueEnd<'p, L, R> {
+impl<'p, L: PoolIdentity, R: Wait> QueueEnd<'p, L, R> {
     /// Whether the pool is closed. The end drops what it has in hand then.
-    fn is_shut(&mut self) -> bool
+    fn is_closed(&mut self) -> bool
         ensures dropped { result ≡ true → self.new.hand ≡ [] }
         ensures kept { result ≡ false → self.new.hand ≡ self.old.hand }
         ensures unchanged { self.new ≡ record self.old { hand = self.new.hand } }
     {
-        let is_shut = self.pool.is_shut();
-        if is_shut {
-            self.rooms.hand.clear_for(self.user);
+        let is_closed = self.pool.is_closed();
+        if is_closed {
+            self.slots.hand.clear_for(self.user);
         }
-        is_shut
+        is_closed
     }
 
     /// Takes in hand what results are there, if it has none. Whether it has some now.
@@ -209,7 +209,7 @@ impl<'p, L: Room, R: Wait> QueueEnd<'p, L, R> {
         ensures kept { 0 < length self.old.hand → self.new.hand ≡ self.old.hand }
         ensures unchanged { self.new ≡ record self.old { hand = self.new.hand } }
     {
-        !self.rooms.hand.is_empty() || self.pool.poll(self.rt, self.user, &mut self.rooms.hand)
+        !self.slots.hand.is_empty() || self.pool.poll(self.rt, self.user, &mut self.slots.hand)
     }
 
     /// Hands out the next result that it has in hand. False where it has none.
@@ -224,10 +224,10 @@ impl<'p, L: Room, R: Wait> QueueEnd<'p, L, R> {
         ensures user { self.new.user ≡ self.old.user }
         ensures open { self.new.seen.closed ≡ self.old.seen.closed }
     {
-        if !self.rooms.hand.pop(self.user, &mut self.rooms.last) {
+        if !self.slots.hand.pop(self.user, &mut self.slots.last) {
             return false;
         }
-        self.account.count(self.rooms.last.task());
+        self.account.count(self.slots.last.task());
         true
     }
 
@@ -235,6 +235,7 @@ impl<'p, L: Room, R: Wait> QueueEnd<'p, L, R> {
     fn tell(&mut self, least: usize)
         ensures { self.new ≡ self.old }
     {
-        self.pool.tell(self.rt, self.untold.take_due(least));
+        self.pool
+            .wake_workers(self.rt, self.unsignalled.take_due(least));
     }
 }

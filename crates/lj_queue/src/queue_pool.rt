@@ -4,17 +4,17 @@ ghost use Rattle.std.specs.List.{All};
 ghost use Rattle.lj_pool.specs.Seen.{nothing_seen};
 ghost use Rattle.lj_pool.specs.declared.pool.NotPosted.TheVariants.{Closed};
 ghost use Rattle.lj_queue.specs.ResultList.{empty_list};
-ghost use Rattle.lj_queue.specs.PoolPass.{IsRest, with_push, with_pop, open_task_of, untouched_pass};
+ghost use Rattle.lj_queue.specs.PoolPass.{IsRootPass, with_push, with_pop, open_task_of, untouched_pass};
 
-use crate::hall::Hall;
+use crate::mailboxes::Mailboxes;
 use crate::open_task::OpenTask;
-use crate::pass::{CountedPass, PoolPass, Room};
+use crate::pass::{CountedPass, PoolIdentity, PoolPass};
 use crate::queue_end::QueueEnd;
-use crate::rest::{Rest, passes_of};
 use crate::result_list::ResultList;
+use crate::root_pass::{RootPass, passes_of};
 use crate::rule::{OpenTasks, TaskPass};
 use crossbeam_queue::ArrayQueue;
-use lj_pool::{BELLS, NotPosted, Share, bell_of, shares_of};
+use lj_pool::{NotPosted, Share, WAIT_QUEUES, shares_of, wait_queue_of};
 use lj_tile::{Done, Task};
 use std::alloc::{AllocError, Global};
 use std::array;
@@ -41,7 +41,7 @@ pub struct QueueBlank {
 }
 
 impl Model for QueueBlank {
-    ghost use Rattle.lj_queue.specs.PoolPass.{IsRest, QueueBlank};
+    ghost use Rattle.lj_queue.specs.PoolPass.{IsRootPass, QueueBlank};
     ghost use Rattle.lj_queue.specs.declared.queue_pool.TheConstants.{MAX_OPEN_TASKS};
     ghost use Rattle.std.specs.Prelude.{◌≡◌};
     ghost use Rattle.crossbeam_queue.specs.Passes.{ruled_capacity};
@@ -50,7 +50,7 @@ impl Model for QueueBlank {
 
     ghost view = { λ b. record { name = b.ledger.name; parts = b.ledger.parts; table = b.queue.table.shared.table_id } };
 
-    ghost invariant = { λ b. IsRest b.queue.table.shared.table_id 0 b.first × (ruled_capacity b.queue ≡ MAX_OPEN_TASKS) };
+    ghost invariant = { λ b. IsRootPass b.queue.table.shared.table_id 0 b.first × (ruled_capacity b.queue ≡ MAX_OPEN_TASKS) };
 }
 
 impl QueueBlank {
@@ -73,31 +73,31 @@ impl QueueBlank {
 /// Open tasks in a queue, and results in lists of their users behind a lock. Its ends post tasks and fetch results, each
 /// from a thread of its own, and workers compute them (`work_queue`). The lock is never held while a task is computed.
 #[derive(Drop)]
-pub struct QueuePool<L: Room> {
+pub struct QueuePool<L: PoolIdentity> {
     pub(crate) queue: OpenTasks,
     /// The boxes of no ticket. With those of tickets they are as many as may be open, and one for each pass.
     spare: ArrayQueue<Box<Task>>,
     /// Those of them that were put by last, which the processors' caches may still hold.
     warm: ArrayQueue<Box<Task>>,
     /// What the passes were cut from.
-    pub(crate) rest: Mutex<Rest<L>>,
-    hall: Mutex<Hall<L>>,
+    pub(crate) root_pass: Mutex<RootPass<L>>,
+    mailboxes: Mutex<Mailboxes<L>>,
     /// A task was posted. Workers wait for it.
-    posted: Condvar,
+    not_empty: Condvar,
     /// A task was taken while posters waited.
-    room: Condvar,
-    /// Results were kept, at each bell to the users who share it. Their ends wait for it.
-    given: [Condvar; BELLS],
+    not_full: Condvar,
+    /// Results were kept, for each wait queue to the users who share it. Their ends wait for it.
+    results_ready: [Condvar; WAIT_QUEUES],
     /// How many workers wait for a task.
     idle: AtomicUsize,
     /// How many ends wait for room.
-    crowded: AtomicUsize,
-    /// Whether the pool is closed, as the hall says too.
-    shut: AtomicBool,
+    waiting_posters: AtomicUsize,
+    /// Whether the pool is closed, as the mailboxes say too.
+    closed: AtomicBool,
     ghost is_of: { queue.table.shared.table_id ≡ L.table },
 }
 
-impl<L: Room> QueuePool<L> {
+impl<L: PoolIdentity> QueuePool<L> {
     /// An empty pool, with its passes, of which the first 64 are for connections and the others for the workers, and a
     /// share for each worker.
     ///
@@ -132,19 +132,19 @@ impl<L: Room> QueuePool<L> {
         let warm = ArrayQueue::new(alloc, WARM_BOXES)?;
         let (results, all) = ledger.open::<L>();
         let shares = shares_of(alloc, all, workers)?;
-        let (passes, rest) = passes_of(alloc, &queue, first, count)?;
+        let (passes, root) = passes_of(alloc, &queue, first, count)?;
         let pool = QueuePool {
             queue,
             spare,
             warm,
-            rest: Mutex::new(rest),
-            hall: Mutex::new(Hall::new(alloc, results)?),
-            posted: Condvar::new(),
-            room: Condvar::new(),
-            given: array::from_fn(|_| Condvar::new()),
+            root_pass: Mutex::new(root),
+            mailboxes: Mutex::new(Mailboxes::new(alloc, results)?),
+            not_empty: Condvar::new(),
+            not_full: Condvar::new(),
+            results_ready: array::from_fn(|_| Condvar::new()),
             idle: AtomicUsize::new(0),
-            crowded: AtomicUsize::new(0),
-            shut: AtomicBool::new(false),
+            waiting_posters: AtomicUsize::new(0),
+            closed: AtomicBool::new(false),
         };
         Ok((pool, passes, shares))
     }
@@ -156,7 +156,7 @@ impl<L: Room> QueuePool<L> {
         ensures pass { result.pass ≡ pass }
         ensures user { result.user ≡ user }
     {
-        let entered = self.hall.lock(rt).enter(user);
+        let entered = self.mailboxes.lock(rt).enter(user);
         if entered.is_none() {
             self.close(rt);
         }
@@ -165,18 +165,18 @@ impl<L: Room> QueuePool<L> {
 
     /// Closes the pool: from now on no task is posted or taken and no result fetched.
     pub fn close<R: Wait>(&self, rt: &R) {
-        self.shut.store(true, Ordering::SeqCst);
-        self.hall.lock(rt).close();
-        self.posted.notify_all();
-        self.room.notify_all();
-        for bell in &self.given {
-            bell.notify_all();
+        self.closed.store(true, Ordering::SeqCst);
+        self.mailboxes.lock(rt).close();
+        self.not_empty.notify_all();
+        self.not_full.notify_all();
+        for queue in &self.results_ready {
+            queue.notify_all();
         }
     }
 
     /// Drops the user's results. Its present end is gone: what comes for that is dropped too.
     pub fn withdraw<R: Wait>(&self, rt: &R, user: u8) {
-        self.hall.lock(rt).withdraw(user);
+        self.mailboxes.lock(rt).withdraw(user);
     }
 
     /// Posts a task of an end for its user by a pass. With `wait` it waits while there is no room.
@@ -193,7 +193,7 @@ impl<L: Room> QueuePool<L> {
         ensures nothing { OnErr result (pass.new ≡ pass.old) }
         ensures full { wait ≡ true → IfErr result (λ why. why ≡ Closed) }
     {
-        if self.is_shut() {
+        if self.is_closed() {
             return Err(NotPosted::Closed);
         }
         if self.try_post(rt, pass, end, user, task) {
@@ -246,19 +246,19 @@ impl<L: Room> QueuePool<L> {
         ensures nothing { OnErr result (pass.new ≡ pass.old) }
         ensures closed { IfErr result (λ why. why ≡ Closed) }
     {
-        let mut hall = self.hall.lock(rt);
-        self.crowded.fetch_add(1, Ordering::SeqCst);
+        let mut mailboxes = self.mailboxes.lock(rt);
+        self.waiting_posters.fetch_add(1, Ordering::SeqCst);
         for _ in rt.forever() {
-            if hall.is_closed() {
-                self.crowded.fetch_sub(1, Ordering::SeqCst);
+            if mailboxes.is_closed() {
+                self.waiting_posters.fetch_sub(1, Ordering::SeqCst);
                 return Err(NotPosted::Closed);
             }
             if self.try_post(rt, pass, end, user, task) {
-                self.crowded.fetch_sub(1, Ordering::SeqCst);
+                self.waiting_posters.fetch_sub(1, Ordering::SeqCst);
                 return Ok(());
             }
-            self.posted.notify_all();
-            hall = self.room.wait(rt, hall);
+            self.not_empty.notify_all();
+            mailboxes = self.not_full.wait(rt, mailboxes);
         }
         unreachable!()
     }
@@ -278,16 +278,16 @@ impl<L: Room> QueuePool<L> {
         }
     }
 
-    /// Tells workers that wait that so many tasks were posted.
-    pub(crate) fn tell<R: Wait>(&self, rt: &R, tasks: usize) {
+    /// Wakes workers that wait, for so many tasks that were posted.
+    pub(crate) fn wake_workers<R: Wait>(&self, rt: &R, tasks: usize) {
         if tasks == 0 || self.idle.load(Ordering::SeqCst) == 0 {
             return;
         }
-        drop(self.hall.lock(rt));
+        drop(self.mailboxes.lock(rt));
         if tasks == 1 {
-            self.posted.notify_one();
+            self.not_empty.notify_one();
         } else {
-            self.posted.notify_all();
+            self.not_empty.notify_all();
         }
     }
 
@@ -296,16 +296,16 @@ impl<L: Room> QueuePool<L> {
         ensures popped { IfSome result (λ ticket. pass.new ≡ with_pop pass.old ticket) }
         ensures nothing { IfNone result (pass.new ≡ pass.old) }
     {
-        if self.is_shut() {
+        if self.is_closed() {
             return None;
         }
         let taken = match pass.pop(rt, &self.queue) {
             Some(ticket) => Some(ticket),
             None => self.take_later(rt, pass),
         };
-        if self.crowded.load(Ordering::SeqCst) > 0 {
-            drop(self.hall.lock(rt));
-            self.room.notify_all();
+        if self.waiting_posters.load(Ordering::SeqCst) > 0 {
+            drop(self.mailboxes.lock(rt));
+            self.not_full.notify_all();
         }
         taken
     }
@@ -315,10 +315,10 @@ impl<L: Room> QueuePool<L> {
         ensures popped { IfSome result (λ ticket. pass.new ≡ with_pop pass.old ticket) }
         ensures nothing { IfNone result (pass.new ≡ pass.old) }
     {
-        let mut hall = self.hall.lock(rt);
+        let mut mailboxes = self.mailboxes.lock(rt);
         self.idle.fetch_add(1, Ordering::SeqCst);
         for _ in rt.forever() {
-            if hall.is_closed() {
+            if mailboxes.is_closed() {
                 self.idle.fetch_sub(1, Ordering::SeqCst);
                 return None;
             }
@@ -327,12 +327,12 @@ impl<L: Room> QueuePool<L> {
                 self.idle.fetch_sub(1, Ordering::SeqCst);
                 return taken;
             }
-            hall = self.posted.wait(rt, hall);
+            mailboxes = self.not_empty.wait(rt, mailboxes);
         }
         unreachable!()
     }
 
-    /// Hands a ticket back by the pass that popped it, and tells a worker that waits.
+    /// Hands a ticket back by the pass that popped it, and wakes a worker that waits.
     ///
     /// # Errors
     /// The ticket, where there is no room for it.
@@ -347,7 +347,7 @@ impl<L: Room> QueuePool<L> {
         ensures refused { IfErr result (λ refused. refused ≡ ticket) }
     {
         pass.push(rt, &self.queue, ticket)?;
-        self.tell(rt, 1);
+        self.wake_workers(rt, 1);
         Ok(())
     }
 
@@ -365,17 +365,18 @@ impl<L: Room> QueuePool<L> {
         ensures never_falls { share.old ≤ share.new }
         ensures one_at_most { share.new ≤ share.old + 1 }
     {
-        let mut hall = self.hall.lock(rt);
-        let rings = hall.keep(end, user, done, share) && hall.bells.note_given(user);
-        drop(hall);
-        if rings {
-            self.given[bell_of(user)].notify_all();
+        let mut mailboxes = self.mailboxes.lock(rt);
+        let wakes = mailboxes.keep(end, user, done, share)
+            && mailboxes.wait_queues.note_given(user);
+        drop(mailboxes);
+        if wakes {
+            self.results_ready[wait_queue_of(user)].notify_all();
         }
     }
 
     /// Whether the pool is closed.
-    pub(crate) fn is_shut(&self) -> bool {
-        self.shut.load(Ordering::SeqCst)
+    pub(crate) fn is_closed(&self) -> bool {
+        self.closed.load(Ordering::SeqCst)
     }
 
     /// Fetches all results of the user that are there in exchange for an empty list, and waits for one. False where the
@@ -392,14 +393,14 @@ impl<L: Room> QueuePool<L> {
         ensures some { result ≡ true → 0 < length hand.new.results }
         ensures stays_empty { result ≡ false → hand.new ≡ hand.old }
     {
-        let mut hall = self.hall.lock(rt);
+        let mut mailboxes = self.mailboxes.lock(rt);
         for _ in rt.forever() {
-            let fetched = hall.hand_out(user, hand);
-            if fetched || hall.is_closed() {
+            let fetched = mailboxes.hand_out(user, hand);
+            if fetched || mailboxes.is_closed() {
                 return fetched;
             }
-            hall.bells.note_waiting(user, owed);
-            hall = self.given[bell_of(user)].wait(rt, hall);
+            mailboxes.wait_queues.note_waiting(user, owed);
+            mailboxes = self.results_ready[wait_queue_of(user)].wait(rt, mailboxes);
         }
         unreachable!()
     }
@@ -412,7 +413,7 @@ impl<L: Room> QueuePool<L> {
         ensures some { result ≡ true → 0 < length hand.new.results }
         ensures stays_empty { result ≡ false → hand.new ≡ hand.old }
     {
-        self.hall.lock(rt).hand_out(user, hand)
+        self.mailboxes.lock(rt).hand_out(user, hand)
     }
 
     /// How many results were given, which is what all parts of the ledger have together.
@@ -420,7 +421,7 @@ impl<L: Room> QueuePool<L> {
         requires { all.old.parts ≡ L.parts }
         ensures { result ≡ all.old.amount }
     {
-        self.hall.lock(rt).audited(all)
+        self.mailboxes.lock(rt).audited(all)
     }
 }
 

@@ -3,7 +3,7 @@ ghost use Rattle.std.specs.Prelude.{◌≡◌, ◌≤◌, ◌-◌, sum, vec_len,
 ghost use Rattle.lj_queue.specs.PoolPass.{PopsFor, with_push};
 
 use crate::open_task::OpenTask;
-use crate::pass::{CountedPass, PoolPass, Room};
+use crate::pass::{CountedPass, PoolIdentity, PoolPass};
 use crate::queue_pool::QueuePool;
 use lj_pool::{Gate, Share, merged};
 use lj_table::Table;
@@ -16,7 +16,7 @@ use std::sync::Wait;
 ///
 /// Promise: what the pass has popped is, task by task and as often, what it pushed again together with other tasks, at
 /// least one for each result that is credited.
-pub fn work_queue<L: Room, G: Gate, R: Wait>(
+pub fn work_queue<L: PoolIdentity, G: Gate, R: Wait>(
     rt: &R,
     pool: &QueuePool<L>,
     share: Share<L>,
@@ -29,23 +29,23 @@ pub fn work_queue<L: Room, G: Gate, R: Wait>(
     ensures of_its_own { PopsFor (result.0 - share) (G.sends_back gate.now) pass result.1 }
 {
     let mut share = share;
-    let (mut counted, mut rooms) = pass.into_parts();
+    let (mut counted, mut slots) = pass.into_parts();
     for _ in rt.forever() {
         let Some(ticket) = pool.take(rt, &mut counted) else {
             break;
         };
         if let Some(ticket) = kept(rt, pool, &mut counted, gate, ticket) {
             gate.between(ticket.task.name());
-            compute_in(&ticket.task, table, &mut rooms.last);
-            pool.give(rt, ticket.end, ticket.user, &mut rooms.last, &mut share);
+            compute_in(&ticket.task, table, &mut slots.last);
+            pool.give(rt, ticket.end, ticket.user, &mut slots.last, &mut share);
             pool.put_by(rt, ticket.task);
         }
     }
-    (share, PoolPass::new(counted, rooms))
+    (share, PoolPass::new(counted, slots))
 }
 
 /// The ticket, unless the gate sends its task back and there is room for it in the queue, where it is open again.
-fn kept<L: Room, G: Gate, R: Wait>(
+fn kept<L: PoolIdentity, G: Gate, R: Wait>(
     rt: &R,
     pool: &QueuePool<L>,
     pass: &mut CountedPass<L>,
@@ -65,7 +65,7 @@ fn kept<L: Room, G: Gate, R: Wait>(
 }
 
 /// How many results of all workers together were kept, which is how many the pool was given.
-pub fn gather<L: Room, R: Wait>(rt: &R, pool: &QueuePool<L>, shares: Vec<Share<L>>) -> u64
+pub fn gather<L: PoolIdentity, R: Wait>(rt: &R, pool: &QueuePool<L>, shares: Vec<Share<L>>) -> u64
     requires { vec_len shares ≡ L.parts }
     ensures { result ≡ sum shares.items }
 {

@@ -2,7 +2,7 @@
 ghost use Rattle.std.specs.Prelude.{◌≡◌, ◌+◌, vec_len};
 ghost use Rattle.lj_queue.specs.Settling.{pushes_of, pops_of, LeavesOf};
 
-use crate::pass::{PoolPass, Room};
+use crate::pass::{PoolIdentity, PoolPass};
 use crate::queue_pool::QueuePool;
 use crate::rule::{Cut, Total};
 use std::sync::Wait;
@@ -15,7 +15,7 @@ pub struct Settled {
     pub left: u64,
 }
 
-impl<L: Room> QueuePool<L> {
+impl<L: PoolIdentity> QueuePool<L> {
     /// Takes all passes of the pool back, and counts what they pushed and popped and what is left in the queue.
     ///
     /// Promise: what all passes pushed is, task by task and as often, what they popped together with what the queue
@@ -27,7 +27,7 @@ impl<L: Room> QueuePool<L> {
         ensures left { result.pushed ≡ result.popped + result.left }
         ensures same { LeavesOf passes.items result.left }
     {
-        let mut all = self.rest.into_inner().into_pass();
+        let mut all = self.root_pass.into_inner().into_pass();
         let mut settled = Settled {
             pushed: 0,
             popped: 0,

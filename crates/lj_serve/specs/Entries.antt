@@ -2,8 +2,8 @@
 use Rattle.std.specs.Prelude.{◌≡◌, ◌⊎◌, List, slice_get, IsSomeAnd}
 use Rattle.lj_session.specs.UserState.{Reached, UserState}
 use Rattle.lj_access.specs.Rows.{Row, Ticket, HasEntered, with_home, with_row_changed}
-use Rattle.lj_serve.specs.declared.serve.door.Entry.{Entry}
-use Rattle.lj_serve.specs.declared.serve.door.Entry.TheVariants.{Entered, Closed, Waits}
+use Rattle.lj_serve.specs.declared.serve.shared_directory.Entry.{Entry}
+use Rattle.lj_serve.specs.declared.serve.shared_directory.Entry.TheVariants.{Entered, Closed, Waits}
 
 -- a state that a ticket is given is one that commands reach
 abbrev pub IsReached : Entry → Type 0

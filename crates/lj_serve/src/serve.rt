@@ -1,15 +1,15 @@
 //! Many users served over TCP, one thread for each connection and one for each worker.
 mod clock;
 mod connection;
-mod door;
+mod connection_limit;
 mod first_line;
-mod hub;
-mod lock_hub;
-mod queue_hub;
-mod seats;
+mod lock_workers;
+mod queue_workers;
 mod server;
+mod shared_directory;
 mod visitor;
+mod worker_pool;
 
-pub use hub::Kept;
-pub use seats::MAX_OPEN_CONNECTIONS;
+pub use connection_limit::MAX_OPEN_CONNECTIONS;
 pub use server::serve_on;
+pub use worker_pool::Kept;

@@ -1,6 +1,6 @@
 //! The words of the command line.
 ghost use Rattle.std.specs.Prelude.{◌≡◌, ◌↔◌, codes, IfOk};
-ghost use Rattle.lj_serve.specs.declared.serve.hub.Kept.TheVariants.{Queue};
+ghost use Rattle.lj_serve.specs.declared.serve.worker_pool.Kept.TheVariants.{Queue};
 ghost use Rattle.clap.specs.Values.{kind_of};
 ghost use Rattle.clap.specs.declared.error.kind.ErrorKind.TheVariants.{InvalidValue};
 

@@ -5,11 +5,11 @@ ghost use Rattle.lj_pool.specs.declared.pool.NotPosted.TheVariants.{Closed};
 ghost use Rattle.lj_pool.specs.Seen.{nothing_seen};
 ghost use Rattle.lj_tile.specs.Blank.{blank_task};
 
-use crate::lock::desk::Desk;
 use crate::lock::lock_end::LockEnd;
+use crate::lock::pool_state::PoolState;
 use crate::pool::NotPosted;
 use crate::share::{Share, shares_of};
-use crate::waking::{BELLS, TASKS_AT_ONCE, bell_of};
+use crate::waking::{TASKS_AT_ONCE, WAIT_QUEUES, wait_queue_of};
 use lj_book::{Book, Counts, Key};
 use lj_tile::{Done, Task};
 use std::alloc::{AllocError, Global};
@@ -21,13 +21,13 @@ use std::sync::{Condvar, Mutex, MutexGuard, Wait};
 /// compute them (`work`). The lock is never held while a task is computed.
 #[derive(Drop)]
 pub struct LockPool<L: Ledger> {
-    desk: Mutex<Desk<L>>,
+    state: Mutex<PoolState<L>>,
     /// A task was posted. Workers wait for it.
-    posted: Condvar,
+    not_empty: Condvar,
     /// An entry left a full book. Ends that have a task to post wait for it.
-    room: Condvar,
-    /// Results were given, at each bell to the users who share it. Their ends wait for it.
-    given: [Condvar; BELLS],
+    not_full: Condvar,
+    /// Results were given, for each wait queue to the users who share it. Their ends wait for it.
+    results_ready: [Condvar; WAIT_QUEUES],
 }
 
 impl<L: Ledger> LockPool<L> {
@@ -50,10 +50,10 @@ impl<L: Ledger> LockPool<L> {
         let (results, all) = blank.open::<L>();
         let shares = shares_of(alloc, all, workers)?;
         let pool = LockPool {
-            desk: Mutex::new(Desk::new(book, results)),
-            posted: Condvar::new(),
-            room: Condvar::new(),
-            given: array::from_fn(|_| Condvar::new()),
+            state: Mutex::new(PoolState::new(book, results)),
+            not_empty: Condvar::new(),
+            not_full: Condvar::new(),
+            results_ready: array::from_fn(|_| Condvar::new()),
         };
         Ok((pool, shares))
     }
@@ -68,11 +68,11 @@ impl<L: Ledger> LockPool<L> {
 
     /// Closes the pool: from now on no task is posted or taken and no result fetched.
     pub fn close<R: Wait>(&self, rt: &R) {
-        self.desk.lock(rt).close();
-        self.posted.notify_all();
-        self.room.notify_all();
-        for bell in &self.given {
-            bell.notify_all();
+        self.state.lock(rt).close();
+        self.not_empty.notify_all();
+        self.not_full.notify_all();
+        for queue in &self.results_ready {
+            queue.notify_all();
         }
     }
 
@@ -83,41 +83,41 @@ impl<L: Ledger> LockPool<L> {
         ensures balance { result.posted ≡ result.fetched + result.withdrawn + result.entries }
         ensures given_posted { result.given ≤ result.posted }
     {
-        self.desk.lock(rt).counts()
+        self.state.lock(rt).counts()
     }
 
     /// Withdraws every entry of the user, also of tasks that are out.
     pub fn withdraw<R: Wait>(&self, rt: &R, user: u8) {
-        self.desk.lock(rt).withdraw(user);
-        self.room.notify_all();
+        self.state.lock(rt).withdraw(user);
+        self.not_full.notify_all();
     }
 
     /// Posts a copy of a task. With `wait` it waits while the book is full.
     pub(crate) fn post<R: Wait>(&self, rt: &R, task: &Task, wait: bool) -> Result<(), NotPosted>
         ensures full { wait ≡ true → IfErr result (λ why. why ≡ Closed) }
     {
-        let mut desk = self.desk.lock(rt);
+        let mut state = self.state.lock(rt);
         for _ in rt.forever() {
-            match desk.post(task) {
+            match state.post(task) {
                 Err(NotPosted::Full) if wait => {}
                 posted => {
-                    let tasks = desk.untold.take_due(TASKS_AT_ONCE);
-                    drop(desk);
-                    self.tell(tasks);
+                    let tasks = state.unsignalled.take_due(TASKS_AT_ONCE);
+                    drop(state);
+                    self.wake_workers(tasks);
                     return posted;
                 }
             }
-            desk = self.room.wait(rt, desk);
+            state = self.not_full.wait(rt, state);
         }
         unreachable!()
     }
 
-    /// Tells workers that wait of so many tasks.
-    fn tell(&self, tasks: usize) {
+    /// Wakes workers that wait, for so many tasks.
+    fn wake_workers(&self, tasks: usize) {
         match tasks {
             0 => {}
-            1 => self.posted.notify_one(),
-            _ => self.posted.notify_all(),
+            1 => self.not_empty.notify_one(),
+            _ => self.not_empty.notify_all(),
         }
     }
 
@@ -127,14 +127,14 @@ impl<L: Ledger> LockPool<L> {
         ensures whose { result ≡ true → room.new.name.label.user ≡ user }
         ensures same_room { result ≡ false → room.new ≡ room.old }
     {
-        let mut desk = self.desk.lock(rt);
+        let mut state = self.state.lock(rt);
         for _ in rt.forever() {
-            match self.fetch_from(desk, user, room) {
+            match self.fetch_from(state, user, room) {
                 Ok(fetched) => return fetched,
-                Err(kept) => desk = kept,
+                Err(kept) => state = kept,
             }
-            desk.bells.note_waiting(user, owed);
-            desk = self.given[bell_of(user)].wait(rt, desk);
+            state.wait_queues.note_waiting(user, owed);
+            state = self.results_ready[wait_queue_of(user)].wait(rt, state);
         }
         unreachable!()
     }
@@ -145,34 +145,34 @@ impl<L: Ledger> LockPool<L> {
         ensures whose { result ≡ true → room.new.name.label.user ≡ user }
         ensures same_room { result ≡ false → room.new ≡ room.old }
     {
-        let desk = self.desk.lock(rt);
-        self.fetch_from(desk, user, room).unwrap_or(false)
+        let state = self.state.lock(rt);
+        self.fetch_from(state, user, room).unwrap_or(false)
     }
 
-    /// Fetches a result of the user into a room, and lets go of the desk. False where the pool is closed.
+    /// Fetches a result of the user into a room, and unlocks the state. False where the pool is closed.
     ///
     /// # Errors
-    /// The desk, where there is none yet. Workers that wait are told then of the tasks that they were not told of.
+    /// The state, where there is none yet. Workers that wait are woken then for the tasks that none was woken for.
     fn fetch_from<'d>(
         &self,
-        desk: MutexGuard<'d, Desk<L>>,
+        state: MutexGuard<'d, PoolState<L>>,
         user: u8,
         room: &mut Done,
-    ) -> Result<bool, MutexGuard<'d, Desk<L>>>
+    ) -> Result<bool, MutexGuard<'d, PoolState<L>>>
         ensures whose { IfOk result (λ fetched. fetched ≡ true → room.new.name.label.user ≡ user) }
         ensures same_room { IfOk result (λ fetched. fetched ≡ false → room.new ≡ room.old) }
         ensures unchanged { OnErr result (room.new ≡ room.old) }
     {
-        let mut desk = desk;
-        let was_full = desk.is_full();
-        let fetched = desk.fetch(user, room);
-        if !fetched && !desk.is_closed() {
-            self.tell(desk.untold.take_due(1));
-            return Err(desk);
+        let mut state = state;
+        let was_full = state.is_full();
+        let fetched = state.fetch(user, room);
+        if !fetched && !state.is_closed() {
+            self.wake_workers(state.unsignalled.take_due(1));
+            return Err(state);
         }
-        drop(desk);
+        drop(state);
         if was_full {
-            self.room.notify_all();
+            self.not_full.notify_all();
         }
         Ok(fetched)
     }
@@ -192,12 +192,12 @@ impl<L: Ledger> LockPool<L> {
         ensures same_room { IfNone result (room.new ≡ room.old) }
     {
         let user = done.task().name().label.user;
-        let mut desk = self.desk.lock(rt);
-        let rings = desk.give(key, done, share) && desk.bells.note_given(user);
-        let taken = desk.take(room);
-        drop(desk);
-        if rings {
-            self.given[bell_of(user)].notify_all();
+        let mut state = self.state.lock(rt);
+        let wakes = state.give(key, done, share) && state.wait_queues.note_given(user);
+        let taken = state.take(room);
+        drop(state);
+        if wakes {
+            self.results_ready[wait_queue_of(user)].notify_all();
         }
         if taken.is_none() {
             return self.take(rt, room);
@@ -205,16 +205,16 @@ impl<L: Ledger> LockPool<L> {
         taken
     }
 
-    /// Hands the task in a room back, which is then open again, and tells workers that wait of it. Then takes an open task
+    /// Hands the task in a room back, which is then open again, and wakes workers that wait. Then takes an open task
     /// into the room, which may be the same, and waits for one. None where the pool is closed: the room stays as it is.
     pub(crate) fn hand_back<R: Wait>(&self, rt: &R, key: Key, room: &mut Task) -> Option<Key>
         ensures { IfNone result (room.new ≡ room.old) }
     {
-        let mut desk = self.desk.lock(rt);
-        desk.hand_back(key, room);
-        let tasks = desk.untold.take_due(1);
-        drop(desk);
-        self.tell(tasks);
+        let mut state = self.state.lock(rt);
+        state.hand_back(key, room);
+        let tasks = state.unsignalled.take_due(1);
+        drop(state);
+        self.wake_workers(tasks);
         self.take(rt, room)
     }
 
@@ -222,13 +222,13 @@ impl<L: Ledger> LockPool<L> {
     pub(crate) fn take<R: Wait>(&self, rt: &R, room: &mut Task) -> Option<Key>
         ensures { IfNone result (room.new ≡ room.old) }
     {
-        let mut desk = self.desk.lock(rt);
+        let mut state = self.state.lock(rt);
         for _ in rt.forever() {
-            let taken = desk.take(room);
-            if taken.is_some() || desk.is_closed() {
+            let taken = state.take(room);
+            if taken.is_some() || state.is_closed() {
                 return taken;
             }
-            desk = self.posted.wait(rt, desk);
+            state = self.not_empty.wait(rt, state);
         }
         unreachable!()
     }
@@ -238,6 +238,6 @@ impl<L: Ledger> LockPool<L> {
         requires { all.old.parts ≡ L.parts }
         ensures { result ≡ all.old.amount }
     {
-        self.desk.lock(rt).audited(all)
+        self.state.lock(rt).audited(all)
     }
 }

@@ -1,11 +1,11 @@
 //! A connection to a server, over its socket.
 
 use crate::serve::clock::{end_of, left_until};
-use crate::serve::door::Door;
+use crate::serve::connection_limit::ConnectionLimit;
 use crate::serve::first_line::{Deadline, Timed};
-use crate::serve::hub::Hub;
-use crate::serve::seats::Seats;
+use crate::serve::shared_directory::SharedDirectory;
 use crate::serve::visitor::Visitor;
+use crate::serve::worker_pool::WorkerPool;
 use lj_access::Directory;
 use lj_pool::Served;
 use lj_table::Table;
@@ -27,28 +27,28 @@ const MAX_LINGERING_READS: usize = 65_536;
 
 /// What the threads of a server share.
 #[derive(Drop)]
-pub struct Server<H> {
+pub struct Server<P> {
     pub alloc: Global,
-    pub door: Door,
-    pub hub: H,
-    pub seats: Seats,
+    pub directory: SharedDirectory,
+    pub pool: P,
+    pub limit: ConnectionLimit,
     pub table: Table,
 }
 
-impl<H: Hub> Server<H> {
+impl<P: WorkerPool> Server<P> {
     /// A server of the users of a directory over a pool, to which nobody is connected.
-    pub fn new(alloc: Global, directory: Directory, hub: H) -> Server<H> {
+    pub fn new(alloc: Global, directory: Directory, pool: P) -> Server<P> {
         Server {
             alloc,
-            door: Door::new(alloc, directory),
-            hub,
-            seats: Seats::new(),
+            directory: SharedDirectory::new(alloc, directory),
+            pool,
+            limit: ConnectionLimit::new(),
             table: Table::new(),
         }
     }
 
     /// Answers a connection until it ends.
-    pub fn attend<R: Wait + Log + Clock>(&self, rt: &R, number: u64, stream: &TcpStream) {
+    pub fn serve_connection<R: Wait + Log + Clock>(&self, rt: &R, number: u64, stream: &TcpStream) {
         let _ = stream.set_nodelay(true);
         match HeldWriting::new(self.alloc, Asked::writer(stream)) {
             Ok(mut writer) => self.answer(rt, number, stream, &mut writer),
@@ -73,8 +73,8 @@ impl<H: Hub> Server<H> {
             deadline: &deadline,
         }));
         let mut lines = LineReader::new(self.alloc, reader);
-        let mut visitor = Visitor::new(rt, &self.door, stream, &deadline, number);
-        let visited = self.hub.visit(&mut visitor, &mut lines, writer);
+        let mut visitor = Visitor::new(rt, &self.directory, stream, &deadline, number);
+        let visited = self.pool.visit(&mut visitor, &mut lines, writer);
         if !is_write_fault(visited) {
             let _ = writer.flush();
         }
@@ -83,8 +83,8 @@ impl<H: Hub> Server<H> {
 
     /// From now on no ticket enters, and no task is computed.
     pub fn close<R: Wait>(&self, rt: &R) {
-        self.hub.close(rt);
-        self.door.close(rt);
+        self.pool.close(rt);
+        self.directory.close(rt);
     }
 }
 

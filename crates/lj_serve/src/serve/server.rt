@@ -3,12 +3,12 @@ ghost use Rattle.std.specs.Prelude.{◌≡◌, ◌+◌, ◌≤◌, length};
 ghost use Rattle.lj_serve.specs.Named.{AreUsers};
 
 use crate::serve::connection::Server;
-use crate::serve::hub::{Hub, Kept};
-use crate::serve::lock_hub::LockHub;
-use crate::serve::queue_hub::QueueHub;
-use crate::serve::seats::MAX_OPEN_CONNECTIONS;
+use crate::serve::connection_limit::MAX_OPEN_CONNECTIONS;
+use crate::serve::lock_workers::LockWorkers;
+use crate::serve::queue_workers::QueueWorkers;
+use crate::serve::worker_pool::{Kept, WorkerPool};
 use lj_access::{Directory, User};
-use lj_queue::{CONNECTIONS, QueueBlank, Room};
+use lj_queue::{CONNECTIONS, PoolIdentity, QueueBlank};
 use lj_world::OutOfMemory;
 use log::{Log, info};
 use std::alloc::Global;
@@ -79,13 +79,13 @@ fn serve_by_lock<L: Ledger + Send + Sync, R: Threads + Wait + Clock + Log + Sync
     requires parts { blank.parts ≡ L.parts }
     requires one_each { blank.parts ≡ workers }
 {
-    let (hub, tools) = LockHub::<L>::new(alloc, blank, workers)?;
-    let server = Server::new(alloc, directory, hub);
-    let tools = run_workers(rt, &server, tools, listening)?;
-    server.hub.gather(rt, workers, tools)
+    let (pool, states) = LockWorkers::<L>::new(alloc, blank, workers)?;
+    let server = Server::new(alloc, directory, pool);
+    let states = run_workers(rt, &server, states, listening)?;
+    server.pool.gather(rt, workers, states)
 }
 
-fn serve_by_queue<L: Room + Send + Sync, R: Threads + Wait + Clock + Log + Sync>(
+fn serve_by_queue<L: PoolIdentity + Send + Sync, R: Threads + Wait + Clock + Log + Sync>(
     rt: &R,
     alloc: Global,
     blank: QueueBlank,
@@ -99,26 +99,26 @@ fn serve_by_queue<L: Room + Send + Sync, R: Threads + Wait + Clock + Log + Sync>
     requires table { blank.table ≡ L.table }
     requires passes { workers + CONNECTIONS ≡ L.passes }
 {
-    let (hub, tools) = QueueHub::<L>::new(alloc, blank, workers)?;
-    let server = Server::new(alloc, directory, hub);
-    let tools = run_workers(rt, &server, tools, listening)?;
-    server.hub.gather(rt, workers, tools)
+    let (pool, states) = QueueWorkers::<L>::new(alloc, blank, workers)?;
+    let server = Server::new(alloc, directory, pool);
+    let states = run_workers(rt, &server, states, listening)?;
+    server.pool.gather(rt, workers, states)
 }
 
-/// Answers connections while workers compute, and then closes the pool. Returns the workers' tools; if a worker has
-/// no thread, nothing is accepted, and some tools are lost.
-fn run_workers<'a, H: Hub + Sync, R: Threads + Wait + Clock + Log + Sync>(
+/// Answers connections while workers compute, and then closes the pool. Returns the workers' states; if a worker has
+/// no thread, nothing is accepted, and its state is lost.
+fn run_workers<'a, P: WorkerPool + Sync, R: Threads + Wait + Clock + Log + Sync>(
     rt: &'a R,
-    server: &'a Server<H>,
-    tools: Vec<H::Tools>,
+    server: &'a Server<P>,
+    states: Vec<P::WorkerState>,
     listening: Listening<'a>,
-) -> Result<Vec<H::Tools>, OutOfMemory> {
-    let count = tools.len();
+) -> Result<Vec<P::WorkerState>, OutOfMemory> {
+    let count = states.len();
     let mut threads = Vec::with_capacity(server.alloc, count)?;
     let mut done = Vec::with_capacity(server.alloc, count)?;
     Ok(thread::scope(thread::scope_env(), rt, move |scope| {
-        for tools in tools {
-            if let Ok(worker) = scope.spawn(move || server.hub.work(rt, tools, &server.table)) {
+        for state in states {
+            if let Ok(worker) = scope.spawn(move || server.pool.work(rt, state, &server.table)) {
                 let _ = threads.push(worker);
             }
         }
@@ -134,9 +134,9 @@ fn run_workers<'a, H: Hub + Sync, R: Threads + Wait + Clock + Log + Sync>(
 }
 
 /// Accepts so many connections, and returns when all of them have ended.
-fn answer_all<'a, H: Hub + Sync, R: Threads + Wait + Clock + Log + Sync>(
+fn answer_all<'a, P: WorkerPool + Sync, R: Threads + Wait + Clock + Log + Sync>(
     rt: &'a R,
-    server: &'a Server<H>,
+    server: &'a Server<P>,
     listening: Listening<'a>,
 ) {
     let Listening {
@@ -150,16 +150,16 @@ fn answer_all<'a, H: Hub + Sync, R: Threads + Wait + Clock + Log + Sync>(
                 thread::sleep(rt, Duration::from_millis(PAUSE_MILLIS));
                 continue;
             };
-            let Some(seat) = server.seats.take() else {
+            let Some(permit) = server.limit.permit() else {
                 info!(rt; "connection {number}: closed, since {MAX_OPEN_CONNECTIONS} others are open");
                 continue;
             };
             info!(rt; "connection {number}: from {from}");
-            let attended = scope.spawn(move || {
-                server.attend(rt, number, &stream);
-                drop(seat);
+            let served = scope.spawn(move || {
+                server.serve_connection(rt, number, &stream);
+                drop(permit);
             });
-            if attended.is_err() {
+            if served.is_err() {
                 info!(rt; "connection {number}: closed, since it has no thread");
             }
         }

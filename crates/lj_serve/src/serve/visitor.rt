@@ -1,9 +1,9 @@
-//! One visit at the door of a server.
+//! One visit to a server.
 ghost use Rattle.std.specs.Prelude.{◌≡◌, IfOk};
 ghost use Rattle.lj_session.specs.UserState.{Reached};
 
-use crate::serve::door::{Door, Entry};
 use crate::serve::first_line::Deadline;
+use crate::serve::shared_directory::{Entry, SharedDirectory};
 use lj_access::{Denied, Ticket};
 use lj_session::Name;
 use lj_visit::{Lent, Shut, Visited};
@@ -21,11 +21,11 @@ const LOOK_SECONDS: u64 = 1;
 /// How long such a look takes at the most, where the client has sent nothing.
 const LOOK_MILLIS: u64 = 1;
 
-/// A connection, and the door where it asks.
+/// A connection, and the directory that it asks.
 #[derive(Drop)]
 pub struct Visitor<'s, R> {
     pub rt: &'s R,
-    pub door: &'s Door,
+    pub directory: &'s SharedDirectory,
     pub stream: &'s TcpStream,
     pub deadline: &'s Deadline,
     pub number: u64,
@@ -36,14 +36,14 @@ impl<'s, R: Wait + Clock + Log> Visitor<'s, R> {
     /// A visitor who has not asked yet.
     pub fn new(
         rt: &'s R,
-        door: &'s Door,
+        directory: &'s SharedDirectory,
         stream: &'s TcpStream,
         deadline: &'s Deadline,
         number: u64,
     ) -> Self {
         Visitor {
             rt,
-            door,
+            directory,
             stream,
             deadline,
             number,
@@ -54,7 +54,9 @@ impl<'s, R: Wait + Clock + Log> Visitor<'s, R> {
     /// Asks for a ticket of the user with this name and this token. The first line is there then.
     pub fn hello(&mut self, name: &Name, token: &TokenWord) -> Result<Ticket, Denied> {
         self.deadline.lift(self.stream);
-        let asked = self.door.hello(self.rt, name.as_bytes(), token.as_bytes());
+        let asked = self
+            .directory
+            .hello(self.rt, name.as_bytes(), token.as_bytes());
         self.name = Some(name.copy());
         asked
     }
@@ -67,7 +69,7 @@ impl<'s, R: Wait + Clock + Log> Visitor<'s, R> {
         let mut ticket = ticket;
         for _ in self.rt.forever() {
             match self
-                .door
+                .directory
                 .wait(self.rt, &ticket, Duration::from_secs(LOOK_SECONDS))
             {
                 Entry::Entered(state) => return Ok(Lent { ticket, state }),
@@ -77,7 +79,7 @@ impl<'s, R: Wait + Clock + Log> Visitor<'s, R> {
             if held || is_there(self.stream) {
                 continue;
             }
-            match self.door.give_up(self.rt, ticket) {
+            match self.directory.give_up(self.rt, ticket) {
                 Ok(()) => return Err(Shut::Gone),
                 Err(back) => ticket = back,
             }
@@ -87,7 +89,7 @@ impl<'s, R: Wait + Clock + Log> Visitor<'s, R> {
 
     /// Brings a state home.
     pub fn leave(&self, lent: Lent) {
-        self.door.leave(self.rt, lent.ticket, lent.state);
+        self.directory.leave(self.rt, lent.ticket, lent.state);
     }
 
     /// Notes that the user was let in.

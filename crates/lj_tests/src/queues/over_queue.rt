@@ -7,7 +7,8 @@ use super::{next, put_back};
 use lj_book::Counts;
 use lj_pool::{Gate, Share};
 use lj_queue::{
-    CONNECTIONS, PoolPass, QueueBlank, QueueEnd, QueuePool, Room, Settled, gather, work_queue,
+    CONNECTIONS, PoolIdentity, PoolPass, QueueBlank, QueueEnd, QueuePool, Settled, gather,
+    work_queue,
 };
 use lj_table::Table;
 use std::alloc::{AllocError, AllocGlobal};
@@ -16,14 +17,14 @@ use std::sync::Mutex;
 
 /// A pool with a queue, with the passes and shares that nobody has.
 #[derive(Drop)]
-struct QueueStage<'p, L: Room, R> {
+struct QueueStage<'p, L: PoolIdentity, R> {
     rt: &'p R,
     pool: &'p QueuePool<L>,
     passes: Mutex<Vec<PoolPass<L>>>,
     shares: Mutex<Vec<Share<L>>>,
 }
 
-impl<'p, L: Room + Send + Sync, R: Host + Sync> Stage<R> for QueueStage<'p, L, R> {
+impl<'p, L: PoolIdentity + Send + Sync, R: Host + Sync> Stage<R> for QueueStage<'p, L, R> {
     type End = QueueEnd<'p, L, R>;
 
     fn end(&self, rt: &R, user: u8) -> QueueEnd<'p, L, R> {
@@ -73,7 +74,7 @@ pub struct OverQueue {
     pub settled: Settled,
 }
 
-fn play<L: Room + Send + Sync, R: Host + Sync>(
+fn play<L: PoolIdentity + Send + Sync, R: Host + Sync>(
     rt: &R,
     blank: QueueBlank,
     workers: u8,

@@ -10,7 +10,7 @@ absorb-requires-clause-rule g c = merges _ _ _ _ (some_part _ _ _ _ _ _ _ c.loop
 pub loop-pass-preserved : goal.loop-pass-preserved
 loop-pass-preserved g c =
     let step : into_iter_items c.loop-pass.pass-iterator ≡ c.in-Some.pass ∷ into_iter_items c.next.new.self = search rules in
-    takes_in g.L.Room.table g.L.Room.passes c.args.passes.items (into_iter_items c.loop-pass.pass-iterator)
+    takes_in g.L.PoolIdentity.table g.L.PoolIdentity.passes c.args.passes.items (into_iter_items c.loop-pass.pass-iterator)
     (into_iter_items c.next.new.self) c.in-Some.pass c.loop-pass.all c.absorb.new.pass c.into_pass.result
     c.loop-pass.settled.pushed c.loop-pass.settled.popped c.from.result c.from-in-loop-pass.result
     c.loop-pass.invariant step c.absorb.ensures.queue c.absorb.ensures.rule c.into_pass.ensures.pass

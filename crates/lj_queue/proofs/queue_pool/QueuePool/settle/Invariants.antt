@@ -4,5 +4,5 @@ use Rattle.lj_queue.proofs.queue_pool.QueuePool.settle.Given as goal
 
 abbrev pub invariant-loop-pass : goal.invariant-loop-pass
 invariant-loop-pass g l =
-    Gathers g.L.Room.table g.L.Room.passes l.fn.passes.items (into_iter_items l.pass-iterator) l.all
+    Gathers g.L.PoolIdentity.table g.L.PoolIdentity.passes l.fn.passes.items (into_iter_items l.pass-iterator) l.all
     l.settled.pushed l.settled.popped

@@ -1,10 +1,10 @@
 use Rattle.std.specs.Prelude.{◌≡◌, ◌+◌, sum, vec_len}
 use Rattle.std.specs.List.{sum_by}
-use Rattle.lj_serve.proofs.serve.queue_hub.QueueHub.gather.Given as goal
+use Rattle.lj_serve.proofs.serve.queue_workers.QueueWorkers.gather.Given as goal
 
 abbrev pub invariant-loop-share : goal.invariant-loop-share
 invariant-loop-share g l =
-    sum_by (λ tool. tool.0) l.tools.items + sum l.shares.items ≡ sum_by (λ tool. tool.0) l.fn.tools.items
+    sum_by (λ state. state.0) l.states.items + sum l.shares.items ≡ sum_by (λ state. state.0) l.fn.states.items
 
 abbrev pub decreases-loop-share : goal.decreases-loop-share
-decreases-loop-share g l = vec_len l.tools
+decreases-loop-share g l = vec_len l.states

@@ -1,7 +1,7 @@
 use Rattle.std.proofs.Common.{arith, ap}
 use Rattle.lj_queue.specs.declared.rule.Hand.{Hand}
 use Rattle.lj_queue.proofs.Moves.{forks}
-use Rattle.lj_queue.proofs.rest.passes_of.Goals as goal
+use Rattle.lj_queue.proofs.root_pass.passes_of.Goals as goal
 
 pub another-requires-clause-rule : goal.another-requires-clause-rule
 another-requires-clause-rule g c =

@@ -20,10 +20,10 @@ pub enum Kept {
     Queue,
 }
 
-/// A pool over whose ends connections are served, and for which workers compute, each with tools of its own.
-pub trait Hub: Drop {
-    /// What a worker counts its results by.
-    type Tools: Send + Drop;
+/// A pool over whose ends connections are served, and for which workers compute, each with a state of its own.
+pub trait WorkerPool: Drop {
+    /// What a worker counts its results by, and pops tasks with.
+    type WorkerState: Send + Drop;
 
     /// Answers a connection from its first line to its end, over an end of the pool.
     fn visit<'s, R: Wait + Clock + Log, S: Source, W: Sink>(
@@ -39,7 +39,7 @@ pub trait Hub: Drop {
             (record { contents = W.contents writer.new; faults = W.faults writer.new }) None None };
 
     /// Computes tasks until the pool is closed.
-    fn work<R: Wait>(&self, rt: &R, tools: Self::Tools, table: &Table) -> Self::Tools;
+    fn work<R: Wait>(&self, rt: &R, state: Self::WorkerState, table: &Table) -> Self::WorkerState;
 
     /// Closes the pool: from now on no task is computed.
     fn close<R: Wait>(&self, rt: &R);

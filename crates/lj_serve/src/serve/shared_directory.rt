@@ -1,4 +1,4 @@
-//! The door of a server, where tickets wait for the states of their users.
+//! The tickets of a server that wait for the states of their users.
 ghost use Rattle.std.specs.Prelude.{◌≡◌, [], ◌∷◌, ◌++◌, List, IfErr, OnErr, OnOk};
 ghost use Rattle.std.specs.List.{All};
 ghost use Rattle.std.specs.List.Sorted.{IsPermutation};
@@ -14,9 +14,9 @@ use std::rt::Clock;
 use std::sync::{Condvar, CondvarTimeouts, Mutex, Wait};
 use std::time::Duration;
 
-/// What lies under the lock of a door.
+/// What lies under the lock: the directory, the tickets that were given up, and whether no more enter.
 #[derive(Drop)]
-struct Hall {
+struct DirectoryState {
     directory: Directory,
     given_up: GivenUp,
     closed: bool,
@@ -24,10 +24,10 @@ struct Hall {
 
 /// A directory behind a lock. Each ticket waits until it may enter.
 #[derive(Drop)]
-pub struct Door {
-    hall: Mutex<Hall>,
-    /// A state came home, or the door was closed. Tickets wait for it.
-    moved: Condvar,
+pub struct SharedDirectory {
+    state: Mutex<DirectoryState>,
+    /// A state came home, or no more tickets enter. Tickets wait for it.
+    state_returned: Condvar,
 }
 
 /// What has become of a ticket that waited for a while.
@@ -41,7 +41,7 @@ pub enum Entry {
     Waits,
 }
 
-impl Hall {
+impl DirectoryState {
     // Keeps a ticket that was given up. It is passed over at once, if its turn has come.
     fn give_up(&mut self, ticket: Ticket) -> Result<(), Ticket>
         ensures back { IfErr result (λ back. back ≡ ticket) }
@@ -73,16 +73,16 @@ impl Hall {
     }
 }
 
-impl Door {
-    /// A door before a directory, at which nobody waits.
-    pub fn new(alloc: Global, directory: Directory) -> Door {
-        Door {
-            hall: Mutex::new(Hall {
+impl SharedDirectory {
+    /// A directory for which no ticket waits.
+    pub fn new(alloc: Global, directory: Directory) -> SharedDirectory {
+        SharedDirectory {
+            state: Mutex::new(DirectoryState {
                 directory,
                 given_up: GivenUp::new(alloc),
                 closed: false,
             }),
-            moved: Condvar::new(),
+            state_returned: Condvar::new(),
         }
     }
 
@@ -91,7 +91,7 @@ impl Door {
     /// # Errors
     /// No user has both, or all tickets of this user are granted.
     pub fn hello<R: Wait>(&self, rt: &R, name: &[u8], token: &[u8]) -> Result<Ticket, Denied> {
-        self.hall.lock(rt).directory.hello(name, token)
+        self.state.lock(rt).directory.hello(name, token)
     }
 
     /// Waits until the ticket may enter, for so long at the most.
@@ -99,19 +99,19 @@ impl Door {
         ensures { IsReached result }
     {
         let end = end_of(rt, patience);
-        let mut hall = self.hall.lock(rt);
+        let mut locked = self.state.lock(rt);
         for _ in rt.forever() {
-            if hall.closed {
+            if locked.closed {
                 return Entry::Closed;
             }
-            if let Some(state) = hall.directory.try_enter(ticket) {
+            if let Some(state) = locked.directory.try_enter(ticket) {
                 return Entry::Entered(state);
             }
             let left = left_until(rt, end);
             if left.is_zero() {
                 return Entry::Waits;
             }
-            hall = self.moved.wait_timeout(rt, hall, left).0;
+            locked = self.state_returned.wait_timeout(rt, locked, left).0;
         }
         unreachable!()
     }
@@ -123,20 +123,20 @@ impl Door {
     pub fn give_up<R: Wait>(&self, rt: &R, ticket: Ticket) -> Result<(), Ticket>
         ensures { IfErr result (λ back. back ≡ ticket) }
     {
-        self.hall.lock(rt).give_up(ticket)?;
-        self.moved.notify_all();
+        self.state.lock(rt).give_up(ticket)?;
+        self.state_returned.notify_all();
         Ok(())
     }
 
     /// Takes a state home from the ticket that it was lent to, so that the user's next ticket may enter.
     pub fn leave<R: Wait>(&self, rt: &R, ticket: Ticket, state: UserState) {
-        self.hall.lock(rt).leave(ticket, state);
-        self.moved.notify_all();
+        self.state.lock(rt).leave(ticket, state);
+        self.state_returned.notify_all();
     }
 
-    /// Closes the door: from now on no ticket enters.
+    /// Closes it: from now on no ticket enters.
     pub fn close<R: Wait>(&self, rt: &R) {
-        self.hall.lock(rt).closed = true;
-        self.moved.notify_all();
+        self.state.lock(rt).closed = true;
+        self.state_returned.notify_all();
     }
 }

@@ -1,38 +1,38 @@
 //! What the passes of a pool are cut from.
 ghost use Rattle.std.specs.Prelude.{◌≡◌, ◌+◌, ◌-◌, ◌<◌, ◌^◌, ℕ, [], vec_len, slice_index_or, IfOk};
-ghost use Rattle.lj_queue.specs.PoolPass.{IsOf, IsRest, IsCounted, untouched_pass};
+ghost use Rattle.lj_queue.specs.PoolPass.{IsOf, IsRootPass, IsCounted, untouched_pass};
 
-use crate::pass::{CountedPass, PoolPass, Room, Rooms};
+use crate::pass::{CountedPass, PoolIdentity, PoolPass, ResultSlots};
 use crate::rule::{Cut, OpenTasks, TaskPass};
 use std::alloc::{AllocError, Global};
 use std::marker::PhantomData;
 
 /// The pass that keeps the parts which no pass of the pool has.
 #[derive(Drop)]
-pub(crate) struct Rest<L: Room> {
+pub(crate) struct RootPass<L: PoolIdentity> {
     pass: TaskPass,
     of: PhantomData<L>,
-    ghost is_rest: { IsRest L.table L.passes pass },
+    ghost is_root: { IsRootPass L.table L.passes pass },
 }
 
-impl<L: Room> Rest<L> {
+impl<L: PoolIdentity> RootPass<L> {
     /// The pass that keeps those parts.
     pub(crate) fn into_pass(self) -> TaskPass
-        ensures { IsRest L.table L.passes result }
+        ensures { IsRootPass L.table L.passes result }
     {
         self.pass
     }
 }
 
 /// The passes of a pool, each with its number, and what is left of the first one.
-pub(crate) fn passes_of<L: Room>(
+pub(crate) fn passes_of<L: PoolIdentity>(
     alloc: Global,
     queue: &OpenTasks,
     first: TaskPass,
     count: usize,
-) -> Result<(Vec<PoolPass<L>>, Rest<L>), AllocError>
+) -> Result<(Vec<PoolPass<L>>, RootPass<L>), AllocError>
     requires table { queue.now.table.shared.table_id ≡ L.table }
-    requires first { IsRest L.table 0 first }
+    requires first { IsRootPass L.table 0 first }
     requires count { count ≡ L.passes }
     ensures count { IfOk result (λ made. vec_len made.0 ≡ L.passes) }
     ensures numbered { IfOk result
@@ -43,11 +43,11 @@ pub(crate) fn passes_of<L: Room>(
     let mut passes = Vec::with_capacity(alloc, count)?;
     for number in 0..count {
         let counted = CountedPass::new(queue.another::<Cut>(&mut first), number);
-        passes.push(PoolPass::new(counted, Rooms::new(alloc)?))?;
+        passes.push(PoolPass::new(counted, ResultSlots::new(alloc)?))?;
     }
     Ok((
         passes,
-        Rest {
+        RootPass {
             pass: first,
             of: PhantomData,
         },

@@ -2,22 +2,22 @@
 ghost use Rattle.std.specs.Prelude.{◌≡◌, ◌+◌, ◌-◌, ◌<◌, ◌^◌, ◌↔◌, [], None, Some, length, replicate, true, false, vec_len, IfNone, IfOk, IfSome, IsTrue};
 ghost use Rattle.std.specs.List.{All};
 ghost use Rattle.lj_queue.specs.ResultList.{empty_list, with_last};
-ghost use Rattle.lj_pool.specs.declared.waking.TheConstants.{BELLS};
-ghost use Rattle.lj_queue.specs.Halls.{bell_of, list_of, present_of, with_list};
+ghost use Rattle.lj_pool.specs.declared.waking.TheConstants.{WAIT_QUEUES};
+ghost use Rattle.lj_queue.specs.Mailboxes.{mailbox_of, list_of, present_of, with_list};
 
 use crate::result_list::{MAX_RESULTS, ResultList};
-use lj_pool::{Bells, Share};
+use lj_pool::{Share, WaitQueues};
 use lj_tile::Done;
 use std::alloc::{AllocError, Global};
 use std::mem;
 use std::sync::ledger::{self, Ledger};
 
-/// The number of users whose results are kept apart. Users whose numbers are equal modulo this share a list.
+/// The number of mailboxes. Users whose numbers are equal modulo this share one.
 pub const USERS: usize = 64;
 
-/// The place of a user.
-pub(crate) fn place_of(user: u8) -> usize
-    ensures value { result ≡ bell_of user }
+/// The mailbox of a user.
+pub(crate) fn mailbox_of(user: u8) -> usize
+    ensures value { result ≡ mailbox_of user }
     ensures within { result < USERS }
 {
     usize::from(user) % USERS
@@ -25,7 +25,7 @@ pub(crate) fn place_of(user: u8) -> usize
 
 /// Results for each user, which end of each is present, and the ledger's book of the results that were given.
 #[derive(Drop)]
-pub(crate) struct Hall<L: Ledger> {
+pub(crate) struct Mailboxes<L: Ledger> {
     lists: Vec<ResultList>,
     /// The number of each user's present end.
     present: [Option<u64>; USERS],
@@ -35,29 +35,29 @@ pub(crate) struct Hall<L: Ledger> {
     given: u64,
     results: ledger::Book<L>,
     /// Where ends wait for results.
-    pub(crate) bells: Bells,
+    pub(crate) wait_queues: WaitQueues,
     closed: bool,
     ghost counted: { given ≡ results.total },
     ghost lists_are: { vec_len lists ≡ 64 },
 }
 
-impl<L: Ledger> Hall<L> {
-    /// An open hall of no results, where no user has an end.
-    pub(crate) fn new(alloc: Global, results: ledger::Book<L>) -> Result<Hall<L>, AllocError>
+impl<L: Ledger> Mailboxes<L> {
+    /// Mailboxes of no results, open, where no user has an end.
+    pub(crate) fn new(alloc: Global, results: ledger::Book<L>) -> Result<Mailboxes<L>, AllocError>
         requires { results.total ≡ 0 }
-        ensures lists { IfOk result (λ hall. All (λ list. list.results ≡ []) hall.lists.items) }
-        ensures present { IfOk result (λ hall. hall.present ≡ replicate USERS None) }
-        ensures last { IfOk result (λ hall. hall.last ≡ 0) }
-        ensures bells { IfOk result (λ hall. hall.bells ≡ replicate BELLS 0) }
-        ensures open { IfOk result (λ hall. hall.closed ≡ false) }
+        ensures lists { IfOk result (λ mailboxes. All (λ list. list.results ≡ []) mailboxes.lists.items) }
+        ensures present { IfOk result (λ mailboxes. mailboxes.present ≡ replicate USERS None) }
+        ensures last { IfOk result (λ mailboxes. mailboxes.last ≡ 0) }
+        ensures wait_queues { IfOk result (λ mailboxes. mailboxes.wait_queues ≡ replicate WAIT_QUEUES 0) }
+        ensures open { IfOk result (λ mailboxes. mailboxes.closed ≡ false) }
     {
-        Ok(Hall {
+        Ok(Mailboxes {
             lists: empty_lists(alloc)?,
             present: [None; USERS],
             last: 0,
             given: 0,
             results,
-            bells: Bells::new(),
+            wait_queues: WaitQueues::new(),
             closed: false,
         })
     }
@@ -71,14 +71,14 @@ impl<L: Ledger> Hall<L> {
         ensures stays_last { IfNone result (self.new.last ≡ self.old.last) }
         ensures present { self.new.present ≡ with_list self.old.present user result }
         ensures lists { self.new.lists.items ≡ with_list self.old.lists.items user (empty_list user) }
-        ensures bells { self.new.bells ≡ self.old.bells }
+        ensures wait_queues { self.new.wait_queues ≡ self.old.wait_queues }
         ensures given { self.new.given ≡ self.old.given }
         ensures stays { self.new.closed ≡ self.old.closed }
     {
         let number = self.last.checked_add(1);
         self.last = self.last.saturating_add(1);
-        self.lists[place_of(user)].clear_for(user);
-        self.present[place_of(user)] = number;
+        self.lists[mailbox_of(user)].clear_for(user);
+        self.present[mailbox_of(user)] = number;
         number
     }
 
@@ -87,19 +87,19 @@ impl<L: Ledger> Hall<L> {
         ensures present { self.new.present ≡ with_list self.old.present user None }
         ensures lists { self.new.lists.items ≡ with_list self.old.lists.items user (empty_list user) }
         ensures last { self.new.last ≡ self.old.last }
-        ensures bells { self.new.bells ≡ self.old.bells }
+        ensures wait_queues { self.new.wait_queues ≡ self.old.wait_queues }
         ensures given { self.new.given ≡ self.old.given }
         ensures stays { self.new.closed ≡ self.old.closed }
     {
-        self.lists[place_of(user)].clear_for(user);
-        self.present[place_of(user)] = None;
+        self.lists[mailbox_of(user)].clear_for(user);
+        self.present[mailbox_of(user)] = None;
     }
 
     /// Whether this end is the user's present one.
     fn is_present(&self, end: u64, user: u8) -> bool
         ensures { IsTrue result ↔ (present_of self.now.present user ≡ Some end) }
     {
-        self.present[place_of(user)] == Some(end)
+        self.present[mailbox_of(user)] == Some(end)
     }
 
     /// Keeps a result of a task that an end posted for its user, where that end is present, the task is of the list's
@@ -126,17 +126,17 @@ impl<L: Ledger> Hall<L> {
         ensures not_credited { result ≡ false → share.new ≡ share.old }
         ensures present { self.new.present ≡ self.old.present }
         ensures last { self.new.last ≡ self.old.last }
-        ensures bells { self.new.bells ≡ self.old.bells }
+        ensures wait_queues { self.new.wait_queues ≡ self.old.wait_queues }
         ensures stays { self.new.closed ≡ self.old.closed }
     {
         let is_present = self.is_present(end, user);
-        let Hall {
+        let Mailboxes {
             lists,
             given,
             results,
             ..
         } = self;
-        let list = &mut lists[place_of(user)];
+        let list = &mut lists[mailbox_of(user)];
         if !is_present || !list.takes(done) || *given == u64::MAX {
             return false;
         }
@@ -161,14 +161,14 @@ impl<L: Ledger> Hall<L> {
         ensures closed { self.old.closed ≡ true → result ≡ false }
         ensures present { self.new.present ≡ self.old.present }
         ensures last { self.new.last ≡ self.old.last }
-        ensures bells { self.new.bells ≡ self.old.bells }
+        ensures wait_queues { self.new.wait_queues ≡ self.old.wait_queues }
         ensures given { self.new.given ≡ self.old.given }
         ensures stays { self.new.closed ≡ self.old.closed }
     {
         if self.closed {
             return false;
         }
-        let list = &mut self.lists[place_of(user)];
+        let list = &mut self.lists[mailbox_of(user)];
         if !list.has_some_of(user) {
             return false;
         }
@@ -182,7 +182,7 @@ impl<L: Ledger> Hall<L> {
         ensures lists { self.new.lists.items ≡ self.old.lists.items }
         ensures present { self.new.present ≡ self.old.present }
         ensures last { self.new.last ≡ self.old.last }
-        ensures bells { self.new.bells ≡ self.old.bells }
+        ensures wait_queues { self.new.wait_queues ≡ self.old.wait_queues }
         ensures given { self.new.given ≡ self.old.given }
     {
         self.closed = true;
@@ -203,7 +203,7 @@ impl<L: Ledger> Hall<L> {
         ensures lists { self.new.lists.items ≡ self.old.lists.items }
         ensures present { self.new.present ≡ self.old.present }
         ensures last { self.new.last ≡ self.old.last }
-        ensures bells { self.new.bells ≡ self.old.bells }
+        ensures wait_queues { self.new.wait_queues ≡ self.old.wait_queues }
         ensures given { self.new.given ≡ self.old.given }
         ensures stays { self.new.closed ≡ self.old.closed }
     {

@@ -4,12 +4,13 @@ ghost use Rattle.std.specs.List.{sum_by};
 ghost use Rattle.lj_visit.specs.Events.{Happens};
 ghost use Rattle.lj_visit.specs.Events.Event.{withdrawn};
 
-use crate::serve::hub::Hub;
 use crate::serve::visitor::Visitor;
+use crate::serve::worker_pool::WorkerPool;
 use lj_access::{Denied, Ticket};
 use lj_pool::Share;
 use lj_queue::{
-    CONNECTIONS, PoolPass, QueueBlank, QueueEnd, QueuePool, Room, Settled, gather, work_queue,
+    CONNECTIONS, PoolIdentity, PoolPass, QueueBlank, QueueEnd, QueuePool, Settled, gather,
+    work_queue,
 };
 use lj_session::Name;
 use lj_table::Table;
@@ -23,22 +24,22 @@ use std::sync::{Condvar, Mutex, Wait};
 
 /// A pool with a queue, whose passes the connections that are open and the workers have.
 #[derive(Drop)]
-pub struct QueueHub<L: Room> {
+pub struct QueueWorkers<L: PoolIdentity> {
     pool: QueuePool<L>,
     free: Mutex<Free<L>>,
     /// A pass was given back. Connections wait for it.
-    returned: Condvar,
+    pass_returned: Condvar,
 }
 
 /// The passes that nobody has, and room for the workers' shares.
 #[derive(Drop)]
-struct Free<L: Room> {
+struct Free<L: PoolIdentity> {
     passes: Vec<PoolPass<L>>,
     shares: Vec<Share<L>>,
 }
 
-impl<L: Room> QueueHub<L> {
-    /// An empty pool, with tools for each worker.
+impl<L: PoolIdentity> QueueWorkers<L> {
+    /// An empty pool, with the state of each worker.
     ///
     /// # Errors
     /// Out of memory.
@@ -46,7 +47,7 @@ impl<L: Room> QueueHub<L> {
         alloc: Global,
         blank: QueueBlank,
         workers: usize,
-    ) -> Result<(QueueHub<L>, Vec<(Share<L>, PoolPass<L>)>), AllocError>
+    ) -> Result<(QueueWorkers<L>, Vec<(Share<L>, PoolPass<L>)>), AllocError>
         requires name { blank.name ≡ L.name }
         requires parts { blank.parts ≡ L.parts }
         requires one_each { blank.parts ≡ workers }
@@ -54,19 +55,19 @@ impl<L: Room> QueueHub<L> {
         requires passes { workers + CONNECTIONS ≡ L.passes }
     {
         let (pool, mut passes, mut shares) = QueuePool::new(alloc, blank, workers)?;
-        let mut tools = Vec::with_capacity(alloc, workers)?;
+        let mut states = Vec::with_capacity(alloc, workers)?;
         while let Some(share) = shares.pop() {
             let Some(pass) = passes.pop() else {
                 break;
             };
-            tools.push((share, pass))?;
+            states.push((share, pass))?;
         }
-        let hub = QueueHub {
+        let made = QueueWorkers {
             pool,
             free: Mutex::new(Free { passes, shares }),
-            returned: Condvar::new(),
+            pass_returned: Condvar::new(),
         };
-        Ok((hub, tools))
+        Ok((made, states))
     }
 
     /// A pass for a connection. It waits for one, but there are as many as connections may be open.
@@ -76,40 +77,40 @@ impl<L: Room> QueueHub<L> {
             if let Some(pass) = free.passes.pop() {
                 return pass;
             }
-            free = self.returned.wait(rt, free);
+            free = self.pass_returned.wait(rt, free);
         }
         unreachable!()
     }
 
     /// Takes back a pass. There is room for it where it was before.
-    fn give_back<R: Wait>(&self, rt: &R, pass: PoolPass<L>) {
+    fn return_pass<R: Wait>(&self, rt: &R, pass: PoolPass<L>) {
         let _ = self.free.lock(rt).passes.push(pass);
-        self.returned.notify_one();
+        self.pass_returned.notify_one();
     }
 
     /// How many results the pool was given: the sum of the shares of all its workers. Notes what became of the tasks.
     ///
     /// # Errors
-    /// Out of memory if some tools are lost, since a worker had no thread.
+    /// Out of memory if the state of a worker is lost, since it had no thread.
     pub fn gather<R: Wait + Log>(
         self,
         rt: &R,
         workers: usize,
-        tools: Vec<(Share<L>, PoolPass<L>)>,
+        states: Vec<(Share<L>, PoolPass<L>)>,
     ) -> Result<u64, OutOfMemory>
         requires one_each { workers ≡ L.parts }
         requires passes { workers + CONNECTIONS ≡ L.passes }
-        ensures { IfOk result (λ total. total ≡ sum_by (λ tool. tool.0) tools.items) }
+        ensures { IfOk result (λ total. total ≡ sum_by (λ state. state.0) states.items) }
     {
-        let QueueHub { pool, free, .. } = self;
+        let QueueWorkers { pool, free, .. } = self;
         let Free {
             mut passes,
             mut shares,
         } = free.into_inner();
         // No share lies here: each is a worker's.
         shares.clear();
-        let mut tools = tools;
-        while let Some((share, pass)) = tools.pop() {
+        let mut states = states;
+        while let Some((share, pass)) = states.pop() {
             shares.push(share)?;
             passes.push(pass)?;
         }
@@ -129,12 +130,12 @@ impl<L: Room> QueueHub<L> {
 
 /// What a visit is lent over a pool with a queue.
 #[derive(Drop)]
-struct QueueBackend<'v, 's, L: Room, R> {
+struct QueueBackend<'v, 's, L: PoolIdentity, R> {
     visitor: &'v mut Visitor<'s, R>,
-    hub: &'s QueueHub<L>,
+    workers: &'s QueueWorkers<L>,
 }
 
-impl<'s, L: Room, R: Wait + Clock + Log> Backend for QueueBackend<'_, 's, L, R> {
+impl<'s, L: PoolIdentity, R: Wait + Clock + Log> Backend for QueueBackend<'_, 's, L, R> {
     type End = QueueEnd<'s, L, R>;
 
     ghost events = { λ _. None };
@@ -150,7 +151,7 @@ impl<'s, L: Room, R: Wait + Clock + Log> Backend for QueueBackend<'_, 's, L, R> 
     fn open(&mut self, user: u8) -> UserEnd<QueueEnd<'s, L, R>> {
         self.visitor.note_entry();
         let rt = self.visitor.rt;
-        let pool = self.hub.pool.end(rt, self.hub.take_pass(rt), user);
+        let pool = self.workers.pool.end(rt, self.workers.take_pass(rt), user);
         UserEnd { pool, user }
     }
 
@@ -158,8 +159,8 @@ impl<'s, L: Room, R: Wait + Clock + Log> Backend for QueueBackend<'_, 's, L, R> 
         ensures { Happens None None (withdrawn end.entry.user end.entry.pool.seen 0 ∷ []) }
     {
         let rt = self.visitor.rt;
-        self.hub.pool.withdraw(rt, end.user);
-        self.hub.give_back(rt, end.pool.finish());
+        self.workers.pool.withdraw(rt, end.user);
+        self.workers.return_pass(rt, end.pool.finish());
     }
 
     fn leave(&mut self, lent: Lent) {
@@ -167,13 +168,13 @@ impl<'s, L: Room, R: Wait + Clock + Log> Backend for QueueBackend<'_, 's, L, R> 
     }
 
     fn close(&mut self) {
-        self.hub.pool.close(self.visitor.rt);
-        self.visitor.door.close(self.visitor.rt);
+        self.workers.pool.close(self.visitor.rt);
+        self.visitor.directory.close(self.visitor.rt);
     }
 }
 
-impl<L: Room + Send> Hub for QueueHub<L> {
-    type Tools = (Share<L>, PoolPass<L>);
+impl<L: PoolIdentity + Send> WorkerPool for QueueWorkers<L> {
+    type WorkerState = (Share<L>, PoolPass<L>);
 
     fn visit<'s, R: Wait + Clock + Log, S: Source, W: Sink>(
         &'s self,
@@ -181,17 +182,20 @@ impl<L: Room + Send> Hub for QueueHub<L> {
         lines: &mut LineReader<S>,
         writer: &mut W,
     ) -> Visited {
-        let mut backend = QueueBackend { visitor, hub: self };
+        let mut backend = QueueBackend {
+            visitor,
+            workers: self,
+        };
         visit(&mut backend, lines, writer)
     }
 
     fn work<R: Wait>(
         &self,
         rt: &R,
-        tools: (Share<L>, PoolPass<L>),
+        state: (Share<L>, PoolPass<L>),
         table: &Table,
     ) -> (Share<L>, PoolPass<L>) {
-        let (share, pass) = tools;
+        let (share, pass) = state;
         work_queue(rt, &self.pool, share, pass, &(), table)
     }
 

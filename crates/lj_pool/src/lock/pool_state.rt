@@ -2,41 +2,41 @@
 ghost use Rattle.std.specs.Prelude.{◌≡◌, ◌+◌, ◌-◌, ◌≤◌, ◌<◌, ◌↔◌, ℕ, Some, None, true, false, IsOk, IsTrue, IfErr, IfNone, IfSome, OnErr, OnOk};
 ghost use Rattle.lj_book.specs.Book.{Out, entry_at, entry_count, Fetches, Gives, HandsBack, IsDoneAt, IsOpenAt, Posts, Takes, Withdraws};
 ghost use Rattle.lj_pool.specs.declared.pool.NotPosted.TheVariants.{Closed};
-ghost use Rattle.lj_pool.specs.Desks.{HasRoom};
+ghost use Rattle.lj_pool.specs.PoolStates.{HasRoom};
 
 use crate::pool::NotPosted;
 use crate::share::Share;
-use crate::waking::{Bells, Untold};
+use crate::waking::{UnsignalledPosts, WaitQueues};
 use lj_book::{Book, Counts, Key, MAX_ENTRIES};
 use lj_tile::{Done, Task};
 use std::sync::ledger::{self, Ledger};
 
 /// The book of a pool, and the ledger's book of the results that it was given.
 #[derive(Drop)]
-pub(crate) struct Desk<L: Ledger> {
+pub(crate) struct PoolState<L: Ledger> {
     book: Book,
     results: ledger::Book<L>,
     next: Key,
-    pub(crate) untold: Untold,
+    pub(crate) unsignalled: UnsignalledPosts,
     /// Where ends wait for results.
-    pub(crate) bells: Bells,
+    pub(crate) wait_queues: WaitQueues,
     closed: bool,
     ghost counted: { book.given ≡ results.total },
 }
 
-impl<L: Ledger> Desk<L> {
-    /// An open desk.
-    pub(crate) fn new(book: Book, results: ledger::Book<L>) -> Desk<L>
+impl<L: Ledger> PoolState<L> {
+    /// The state of an open pool.
+    pub(crate) fn new(book: Book, results: ledger::Book<L>) -> PoolState<L>
         requires { book.given ≡ results.total }
         ensures book { result.book ≡ book }
         ensures open { result.closed ≡ false }
     {
-        Desk {
+        PoolState {
             book,
             results,
             next: 0,
-            untold: Untold::new(),
-            bells: Bells::new(),
+            unsignalled: UnsignalledPosts::new(),
+            wait_queues: WaitQueues::new(),
             closed: false,
         }
     }
@@ -48,8 +48,8 @@ impl<L: Ledger> Desk<L> {
         ensures closed { IfErr result (λ why. (why ≡ Closed) ↔ (self.old.closed ≡ true)) }
         ensures unchanged { OnErr result (self.new.book ≡ self.old.book) }
         ensures stays { self.new.closed ≡ self.old.closed }
-        ensures bells { self.new.bells ≡ self.old.bells }
-        ensures untold { OnOk result (1 ≤ self.new.untold) }
+        ensures wait_queues { self.new.wait_queues ≡ self.old.wait_queues }
+        ensures unsignalled { OnOk result (1 ≤ self.new.unsignalled) }
     {
         if self.closed {
             return Err(NotPosted::Closed);
@@ -57,7 +57,7 @@ impl<L: Ledger> Desk<L> {
         if self.book.post_from(task).is_err() {
             return Err(NotPosted::Full);
         }
-        self.untold.note_posted();
+        self.unsignalled.note_posted();
         Ok(())
     }
 
@@ -69,7 +69,7 @@ impl<L: Ledger> Desk<L> {
         ensures same_room { IfNone result (room.new ≡ room.old) }
         ensures closed { self.old.closed ≡ true → result ≡ None }
         ensures stays { self.new.closed ≡ self.old.closed }
-        ensures bells { self.new.bells ≡ self.old.bells }
+        ensures wait_queues { self.new.wait_queues ≡ self.old.wait_queues }
     {
         if self.closed {
             return None;
@@ -87,9 +87,9 @@ impl<L: Ledger> Desk<L> {
         ensures unchanged { result ≡ false → self.new.book ≡ self.old.book }
         ensures not_credited { result ≡ false → share.new ≡ share.old }
         ensures stays { self.new.closed ≡ self.old.closed }
-        ensures bells { self.new.bells ≡ self.old.bells }
+        ensures wait_queues { self.new.wait_queues ≡ self.old.wait_queues }
     {
-        let Desk { book, results, .. } = self;
+        let PoolState { book, results, .. } = self;
         if book.give_from(key, done).is_err() {
             return false;
         }
@@ -103,16 +103,16 @@ impl<L: Ledger> Desk<L> {
     pub(crate) fn hand_back(&mut self, key: Key, task: &Task) -> bool
         ensures was_out { IsTrue result ↔ (entry_at self.old.book key ≡ Some (Out task.now)) }
         ensures hands_back { result ≡ true → HandsBack self.old.book self.new.book key task.now }
-        ensures untold { result ≡ true → 1 ≤ self.new.untold }
+        ensures unsignalled { result ≡ true → 1 ≤ self.new.unsignalled }
         ensures unchanged { result ≡ false → self.new.book ≡ self.old.book }
-        ensures not_told { result ≡ false → self.new.untold ≡ self.old.untold }
-        ensures bells { self.new.bells ≡ self.old.bells }
+        ensures not_told { result ≡ false → self.new.unsignalled ≡ self.old.unsignalled }
+        ensures wait_queues { self.new.wait_queues ≡ self.old.wait_queues }
         ensures stays { self.new.closed ≡ self.old.closed }
     {
         if self.book.hand_back(key, task).is_err() {
             return false;
         }
-        self.untold.note_posted();
+        self.unsignalled.note_posted();
         true
     }
 
@@ -125,7 +125,7 @@ impl<L: Ledger> Desk<L> {
         ensures same_room { result ≡ false → room.new ≡ room.old }
         ensures closed { self.old.closed ≡ true → result ≡ false }
         ensures stays { self.new.closed ≡ self.old.closed }
-        ensures bells { self.new.bells ≡ self.old.bells }
+        ensures wait_queues { self.new.wait_queues ≡ self.old.wait_queues }
     {
         if self.closed {
             return false;
@@ -137,7 +137,7 @@ impl<L: Ledger> Desk<L> {
     pub(crate) fn withdraw(&mut self, user: u8)
         ensures withdraws { Withdraws user self.old.book self.new.book }
         ensures stays { self.new.closed ≡ self.old.closed }
-        ensures bells { self.new.bells ≡ self.old.bells }
+        ensures wait_queues { self.new.wait_queues ≡ self.old.wait_queues }
     {
         self.book.withdraw(user);
     }
@@ -146,7 +146,7 @@ impl<L: Ledger> Desk<L> {
     pub(crate) fn close(&mut self)
         ensures closed { self.new.closed ≡ true }
         ensures unchanged { self.new.book ≡ self.old.book }
-        ensures bells { self.new.bells ≡ self.old.bells }
+        ensures wait_queues { self.new.wait_queues ≡ self.old.wait_queues }
     {
         self.closed = true;
     }
@@ -184,9 +184,9 @@ impl<L: Ledger> Desk<L> {
         ensures given { result ≡ self.old.book.given }
         ensures amount { result ≡ all.old.amount }
         ensures unchanged { self.new.book ≡ self.old.book }
-        ensures bells { self.new.bells ≡ self.old.bells }
+        ensures wait_queues { self.new.wait_queues ≡ self.old.wait_queues }
     {
-        let Desk { book, results, .. } = self;
+        let PoolState { book, results, .. } = self;
         results.audit(all);
         book.counts().given
     }

@@ -1,8 +1,8 @@
 use Rattle.std.proofs.Common.{◌≡◌, ℕ, List, get_or, slice_set, ap, ◌∙◌}
 use Rattle.std.proofs.lemmas.List.{set-get_or}
 use Rattle.lj_queue.specs.ResultList.{ResultList}
-use Rattle.lj_queue.proofs.hall.Hall.keep.Goals as goal
-use Rattle.lj_queue.proofs.hall.Hall.keep.Goals.{then-not-is_present-via-then-not-is_present, then-not-is_present-via-else-not-is_present+then-not-takes, then-not-is_present-via-else-not-is_present+else-not-takes+then-given}
+use Rattle.lj_queue.proofs.mailboxes.Mailboxes.keep.Goals as goal
+use Rattle.lj_queue.proofs.mailboxes.Mailboxes.keep.Goals.{then-not-is_present-via-then-not-is_present, then-not-is_present-via-else-not-is_present+then-not-takes, then-not-is_present-via-else-not-is_present+else-not-takes+then-given}
 
 -- a list of results written back as it was
 own_list : (lists : List ResultList) (i : ℕ) (list : ResultList) → list ≡ get_or lists i list → slice_set lists i list ≡ lists
@@ -14,9 +14,9 @@ returns-then-not-is_present-clause-dropped g c e =
     let read = c.index_mut-list.ensures.value in
     elim c.then-not-is_present.branch [
       | then-not-is_present-via-then-not-is_present w ↦
-          rw w.self-is (own_list lists c.place_of.result c.index_mut-list.result.now read)
+          rw w.self-is (own_list lists c.mailbox_of.result c.index_mut-list.result.now read)
       | then-not-is_present-via-else-not-is_present+then-not-takes w ↦
-          rw w.self-is (own_list lists c.place_of.result c.index_mut-list.result.now read)
+          rw w.self-is (own_list lists c.mailbox_of.result c.index_mut-list.result.now read)
       | then-not-is_present-via-else-not-is_present+else-not-takes+then-given w ↦
-          rw w.self-is (own_list lists c.place_of.result c.index_mut-list.result.now read)
+          rw w.self-is (own_list lists c.mailbox_of.result c.index_mut-list.result.now read)
     ]

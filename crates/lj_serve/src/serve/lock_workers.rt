@@ -3,8 +3,8 @@ ghost use Rattle.std.specs.Prelude.{◌≡◌, ◌∷◌, [], None, IfOk, sum};
 ghost use Rattle.lj_visit.specs.Events.{Happens};
 ghost use Rattle.lj_visit.specs.Events.Event.{withdrawn};
 
-use crate::serve::hub::Hub;
 use crate::serve::visitor::Visitor;
+use crate::serve::worker_pool::WorkerPool;
 use lj_access::{Denied, Ticket};
 use lj_book::Counts;
 use lj_pool::{LockEnd, LockPool, Share, gather, work};
@@ -21,12 +21,12 @@ use std::sync::ledger::{Blank, Ledger};
 
 /// A pool behind a lock.
 #[derive(Drop)]
-pub struct LockHub<L: Ledger> {
+pub struct LockWorkers<L: Ledger> {
     pool: LockPool<L>,
 }
 
-impl<L: Ledger> LockHub<L> {
-    /// An empty pool, with tools for each worker.
+impl<L: Ledger> LockWorkers<L> {
+    /// An empty pool, with the state of each worker.
     ///
     /// # Errors
     /// Out of memory.
@@ -34,13 +34,13 @@ impl<L: Ledger> LockHub<L> {
         alloc: Global,
         blank: Blank,
         workers: usize,
-    ) -> Result<(LockHub<L>, Vec<Share<L>>), AllocError>
+    ) -> Result<(LockWorkers<L>, Vec<Share<L>>), AllocError>
         requires name { blank.name ≡ L.name }
         requires parts { blank.parts ≡ L.parts }
         requires one_each { blank.parts ≡ workers }
     {
         let (pool, shares) = LockPool::new(alloc, blank, workers)?;
-        Ok((LockHub { pool }, shares))
+        Ok((LockWorkers { pool }, shares))
     }
 
     /// How many results the pool was given: the sum of the shares of all its workers. Notes what became of the tasks.
@@ -51,12 +51,12 @@ impl<L: Ledger> LockHub<L> {
         self,
         rt: &R,
         workers: usize,
-        tools: Vec<Share<L>>,
+        states: Vec<Share<L>>,
     ) -> Result<u64, OutOfMemory>
         requires { workers ≡ L.parts }
-        ensures { IfOk result (λ total. total ≡ sum tools.items) }
+        ensures { IfOk result (λ total. total ≡ sum states.items) }
     {
-        if tools.len() != workers {
+        if states.len() != workers {
             return Err(OutOfMemory);
         }
         let Counts {
@@ -66,7 +66,7 @@ impl<L: Ledger> LockHub<L> {
             ..
         } = self.pool.counts(rt);
         info!(rt; "the book: {posted} tasks posted, {fetched} fetched, {withdrawn} withdrawn");
-        Ok(gather(rt, &self.pool, tools))
+        Ok(gather(rt, &self.pool, states))
     }
 }
 
@@ -108,12 +108,12 @@ impl<'s, L: Ledger, R: Wait + Clock + Log> Backend for LockBackend<'_, 's, L, R>
 
     fn close(&mut self) {
         self.pool.close(self.visitor.rt);
-        self.visitor.door.close(self.visitor.rt);
+        self.visitor.directory.close(self.visitor.rt);
     }
 }
 
-impl<L: Ledger + Send> Hub for LockHub<L> {
-    type Tools = Share<L>;
+impl<L: Ledger + Send> WorkerPool for LockWorkers<L> {
+    type WorkerState = Share<L>;
 
     fn visit<'s, R: Wait + Clock + Log, S: Source, W: Sink>(
         &'s self,
@@ -128,8 +128,8 @@ impl<L: Ledger + Send> Hub for LockHub<L> {
         visit(&mut backend, lines, writer)
     }
 
-    fn work<R: Wait>(&self, rt: &R, tools: Share<L>, table: &Table) -> Share<L> {
-        work(rt, &self.pool, tools, &(), table)
+    fn work<R: Wait>(&self, rt: &R, state: Share<L>, table: &Table) -> Share<L> {
+        work(rt, &self.pool, state, &(), table)
     }
 
     fn close<R: Wait>(&self, rt: &R) {
