@@ -5,10 +5,10 @@ import math
 from dataclasses import dataclass, replace
 from typing import TYPE_CHECKING, Optional, Tuple
 
-from .going import UNBOUNDED
+from .stepping import UNBOUNDED
 from .measurement import Measurement
 from .mixture import Mixture
-from .renewal import Renewal
+from .resorting import Resorting
 from .replies import of_session
 from .thermo import Thermo
 from .units import Scale
@@ -74,7 +74,7 @@ class EnergyWatch:
             )
 
 
-class WatchedRoad:
+class WatchedHooks:
     """What a session meets as it goes on: its atoms are sorted where this is asked for, and its energy is measured.
 
     The energy of a step takes a measurement there and one a step later, as a row of `thermo` does. So it is the same forth and
@@ -87,12 +87,12 @@ class WatchedRoad:
         self._name = name
         self._left = steps
         self._pieces_are_given = piece is not None
-        self._renewal = Renewal(loader, name)
+        self._resorting = Resorting(loader, name)
         self._here: Optional[Measurement] = None
 
     def ready(self) -> int:
         """Makes the session ready to go on, and returns by how many steps it may until this is asked again."""
-        room = self._renewal.ready()
+        room = self._resorting.ready()
         known = self._loader.known(self._name)
         if not (known.watch.is_on and can_be_measured(known.scale)):
             return room
@@ -106,7 +106,7 @@ class WatchedRoad:
 
     def made(self, steps: int, step: int) -> int:
         """Counts steps that were made or begun, and returns the user's number of the server's step."""
-        number = self._renewal.made(steps, step)
+        number = self._resorting.made(steps, step)
         self._loader.known(self._name).watch.gone += steps
         self._left -= steps
         if self._here is not None:

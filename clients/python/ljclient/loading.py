@@ -7,7 +7,7 @@ import threading
 from typing import TYPE_CHECKING, Any, Dict, Iterable, Iterator, List, Optional, Sequence, Tuple, cast
 
 from . import checkpoint, files, units, xyz
-from .closeness import warn_of_close_atoms
+from .overlap import warn_of_close_atoms
 from .energy_watch import EnergyWatch, warn_of_large_steps
 from .errors import ClientError, NotRecorded
 from .interrupts import held

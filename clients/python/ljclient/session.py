@@ -4,10 +4,10 @@ from __future__ import annotations
 import dataclasses
 from typing import TYPE_CHECKING, Any, ContextManager, Iterator, List, NamedTuple, Optional, Sequence, Tuple, Union
 
-from . import arrays, ase_bridge, box, centred, checkpoint, files, frames, going, heating, progress as bars, reading, sampling
+from . import arrays, ase_bridge, box, centred, checkpoint, files, frames, stepping, heating, progress as bars, reading, sampling
 from . import equilibrating, pressure, saving, snapshots, trajectories
 from .elements import Replacements, with_symbols
-from .energy_watch import WatchedRoad
+from .energy_watch import WatchedHooks
 from .interrupts import held
 from .measurement import Measurement, known
 from .mixture import Mixture
@@ -57,7 +57,7 @@ class Session:
         self.lock: ContextManager[object] = user.lock
         self._user = user
         self._given = scale
-        self._pace = going.Pace()
+        self._pace = stepping.Pace()
         self._path = Path(self.name)
 
     def __repr__(self) -> str:
@@ -137,8 +137,8 @@ class Session:
         """
         total = count_of(n, "a number of steps")
         with bars.reporter(progress, self.name) as report, saving.saver(self, save, seconds, report) as tell:
-            course = going.Course(self.name, total, tell, WatchedRoad(self._user, self.name, total, piece))
-            return going.go([course], self._user.ask_all, self._pace, piece, self.lock)[0]
+            tracked = stepping.Progress(self.name, total, tell, WatchedHooks(self._user, self.name, total, piece))
+            return stepping.go([tracked], self._user.ask_all, self._pace, piece, self.lock)[0]
 
     @whole
     def start(self, n: int) -> int:
@@ -148,10 +148,10 @@ class Session:
         as it is then (`step`, `place`, `measure`, `branch`, ..) waits until it is there. That is one reply, which has the
         time limit of the connection, so a run that takes longer is for `advance`, which goes in pieces.
         """
-        total, most = count_of(n, "a number of steps"), going.MAX_STEPS
+        total, most = count_of(n, "a number of steps"), stepping.MAX_STEPS
         lines = [f"START {self.name} {min(most, total - made)}" for made in range(0, max(total, 1), most)]
         target = number_after(lines[-1], self._user.ask_all(lines)[-1].words, 2)
-        step = WatchedRoad(self._user, self.name, total).made(total, target)
+        step = WatchedHooks(self._user, self.name, total).made(total, target)
         self._user.known(self.name).is_started = True
         return step
 

@@ -5,7 +5,7 @@ import contextlib
 from typing import TYPE_CHECKING, Callable, Iterator, List, NamedTuple, Optional, Tuple
 
 from .errors import ClientError
-from .going import Ask
+from .stepping import Ask
 from .interrupts import held
 from .measurement import Measurement, known
 from .sampling import Progress, stops

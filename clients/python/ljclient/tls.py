@@ -6,7 +6,7 @@ import socket
 import ssl
 from typing import Optional
 
-from .ends import SocketEnds
+from .transport import SocketTransport
 from .errors import ClientError, ConnectionLost
 from .files import Path
 
@@ -30,9 +30,9 @@ class Trust:
         except OSError as error:
             raise ClientError(f"cannot read {self.ca}: {error.strerror or error}") from error
 
-    def ends(self, host: str, port: int, timeout: float) -> "TlsEnds":
+    def transport(self, host: str, port: int, timeout: float) -> "TlsTransport":
         """A connection to a server that is trusted. Raises `ConnectionLost`, which says what to do, if it is not."""
-        return TlsEnds(host, port, timeout, self)
+        return TlsTransport(host, port, timeout, self)
 
     def fault(self, error: OSError, host: str) -> str:
         """Why there is no connection, and what to do."""
@@ -59,7 +59,7 @@ class Trust:
         return f"its certificate is of another issuer than that in {self.ca}: ask its operator for the right file"
 
 
-class TlsEnds(SocketEnds):
+class TlsTransport(SocketTransport):
     """A TCP connection in TLS."""
 
     _socket: ssl.SSLSocket

@@ -9,13 +9,13 @@ import os
 from types import TracebackType
 from typing import Callable, Dict, Iterable, Iterator, List, Optional, Sequence, Set, Tuple, Type, Union
 
-from . import going, moving, progress as bars, units
+from . import stepping, migrate, progress as bars, units
 from .box import take_up
-from .ends import ChildEnds, Ends, SocketEnds
-from .energy_watch import EnergyWatch, WatchedRoad
+from .transport import ChildTransport, Transport, SocketTransport
+from .energy_watch import EnergyWatch, WatchedHooks
 from .errors import BadReply, CannotStart, ClientError, ConnectionLost, TimedOut
 from .files import Path
-from .finding import find_program, version_of
+from .locate import find_program, version_of
 from .interrupts import held
 from .loading import Loader
 from .names import checked_name, count_of
@@ -143,10 +143,10 @@ class User(Loader):
             raise ValueError(f"{len(totals)} numbers of steps for {len(sessions)} sessions")
         names = [session.name for session in sessions]
         counts = [count_of(total, "a number of steps") for total in totals]
-        roads = [WatchedRoad(self, name, count, piece) for name, count in zip(names, counts)]
+        hooks = [WatchedHooks(self, name, count, piece) for name, count in zip(names, counts)]
         with bars.reporters(progress, names) as reports:
-            courses = [going.Course(*parts) for parts in zip(names, counts, reports, roads)]
-            return going.go(courses, self.ask_all, going.Pace(), piece, self.lock)
+            tracked = [stepping.Progress(*parts) for parts in zip(names, counts, reports, hooks)]
+            return stepping.go(tracked, self.ask_all, stepping.Pace(), piece, self.lock)
 
     @whole
     def sessions(self) -> List[Row]:
@@ -308,15 +308,15 @@ class User(Loader):
         While steps may be owed to a session, which have to be waited for, it does so only if few commands are left.
         """
         rows = self.sessions()
-        needed = sum(moving.most_commands(row.atoms, row.branches) for row in rows)
+        needed = sum(migrate.most_commands(row.atoms, row.branches) for row in rows)
         known = [(row.name, self.known(row.name)) for row in rows]
         may_wait = commands < MAX_ITEMS // 10 or not any(each.is_started for _, each in known)
         if needed >= min(commands, MAX_ITEMS // 2) or not may_wait or not all(can_be_loaded(*each) for each in known):
             return
         notes = Notes()
         with held():
-            kept = [moving.kept_of(self, row.name) for row in rows]
-            wire = moving.program_with(lambda: notes.of(restart()), kept)
+            kept = [migrate.kept_of(self, row.name) for row in rows]
+            wire = migrate.program_with(lambda: notes.of(restart()), kept)
             if wire is None:
                 for each in kept:
                     each.put_back(self)
@@ -385,15 +385,15 @@ def connect(host: str, port: int, name: str, token: str, *, timeout: float = 60.
     token = without_blanks(token) if isinstance(token, str) else ""
     if not (token.isascii() and token.isalnum()):
         raise ValueError("a token is letters and digits")
-    open_ends = ends_opener(tls, ca)
-    return joined(lambda: open_ends(host, port, timeout), name, token, timeout)
+    open_transport = transport_opener(tls, ca)
+    return joined(lambda: open_transport(host, port, timeout), name, token, timeout)
 
 
-def joined(open_ends: Callable[[], Ends], name: str, token: str, timeout: float) -> User:
+def joined(open_transport: Callable[[], Transport], name: str, token: str, timeout: float) -> User:
     """A user who is let in over what is opened so, where each reply may take `timeout` seconds."""
 
     def open_wire() -> Wire:
-        wire = Wire(open_ends(), timeout)
+        wire = Wire(open_transport(), timeout)
         try:
             _greet(wire, name, token)
         except BaseException:
@@ -404,15 +404,15 @@ def joined(open_ends: Callable[[], Ends], name: str, token: str, timeout: float)
     return User(open_wire(), open_wire, name)
 
 
-def ends_opener(tls: bool, ca: Optional[Path]) -> Callable[[str, int, float], Ends]:
+def transport_opener(tls: bool, ca: Optional[Path]) -> Callable[[str, int, float], Transport]:
     """What opens a connection, encrypted or not."""
     if not tls:
         if ca is not None:
             raise ValueError("ca= is of a server's certificate: say tls=True too")
-        return SocketEnds
+        return SocketTransport
     from .tls import Trust
 
-    return Trust(ca).ends
+    return Trust(ca).transport
 
 
 def _greet(wire: Wire, name: str, token: str) -> None:
@@ -457,7 +457,7 @@ def run(
         words += [option, str(number)]
 
     def start() -> Wire:
-        wire = Wire(ChildEnds(words, env), timeout)
+        wire = Wire(ChildTransport(words, env), timeout)
         try:
             wire.ask("LIST")
         except (ConnectionLost, BadReply) as error:

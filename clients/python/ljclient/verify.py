@@ -10,7 +10,7 @@ from typing import Callable, Deque, Iterable, Iterator, List, Sequence
 
 from . import record
 from .errors import ClientError, Damaged, Refused
-from .finding import find_program, version_of
+from .locate import find_program, version_of
 from .prompt.starting import Parser, add_tls, check_tls, is_address, word_of_waiting
 from .record import Answer, Mark, shown
 from .record_file import Entry, RecordFile

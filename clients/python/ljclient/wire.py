@@ -14,7 +14,7 @@ from collections import deque
 from typing import Callable, Deque, Dict, Iterable, List, NamedTuple, Optional, Protocol, Sequence, Tuple, Union
 
 from .arrays import count_of_lines
-from .ends import Ends
+from .transport import Transport
 from .errors import BadReply, ClientError, Closed, ConnectionLost, Refused, TimedOut, not_answered, refusal_of, shown
 from .interrupts import held
 from .record import Answer
@@ -60,14 +60,14 @@ class Wire:
              awaited, and for how many seconds nothing was heard
     """
 
-    def __init__(self, ends: Ends, timeout: float):
+    def __init__(self, transport: Transport, timeout: float):
         self.timeout = timeout
         self.on_wait: Optional[Callable[[str, float], None]] = None
         self.asked = 0
         self.listener: Optional[Listener] = None
         # The bodies of commands that are under way, by the number of the command, for who hears of them.
         self._bodies: Dict[int, bytes] = {}
-        self._ends = ends
+        self._transport = transport
         self._outgoing = bytearray()
         self._lines: Deque[bytes] = deque()
         self._partial = b""
@@ -78,7 +78,7 @@ class Wire:
         self._torn = False
         self._closed = ""
         self._selector = selectors.DefaultSelector()
-        self._selector.register(ends.source(), selectors.EVENT_READ)
+        self._selector.register(transport.source(), selectors.EVENT_READ)
 
     @property
     def closed(self) -> bool:
@@ -170,7 +170,7 @@ class Wire:
             self._owed.clear()
             self._bodies.clear()
             self._selector.close()
-            self._ends.close()
+            self._transport.close()
 
     def _begin(self) -> None:
         if self._closed:
@@ -303,7 +303,7 @@ class Wire:
         """Sends and receives until so many lines are there."""
         self._gather(count)
         if len(self._lines) < count:
-            raise self._given_up(not_answered(ConnectionLost, self._ends.last_words() or self._at_end, self._owed[0]))
+            raise self._given_up(not_answered(ConnectionLost, self._transport.last_words() or self._at_end, self._owed[0]))
 
     def _gather(self, count: int) -> None:
         """Sends and receives until so many lines are there, or no more will come."""
@@ -338,7 +338,7 @@ class Wire:
 
     def _watch_sink(self, wanted: bool) -> None:
         """Lets the next wait end when bytes can be sent, or not."""
-        source, sink = self._ends.source(), self._ends.sink()
+        source, sink = self._transport.source(), self._transport.sink()
         if source == sink:
             events = selectors.EVENT_READ | (selectors.EVENT_WRITE if wanted else 0)
             if self._selector.get_key(source).events != events:
@@ -355,7 +355,7 @@ class Wire:
         with held():
             self._torn = True
             try:
-                sent = self._ends.write(bytes(self._outgoing[:PIECE]))
+                sent = self._transport.write(bytes(self._outgoing[:PIECE]))
                 del self._outgoing[:sent]
             except BlockingIOError:
                 sent = 0
@@ -370,7 +370,7 @@ class Wire:
         with held():
             self._torn = True
             try:
-                data = self._ends.read(PIECE)
+                data = self._transport.read(PIECE)
                 self._at_end = "" if data else "the other side has ended the connection"
             except BlockingIOError:
                 data = b""

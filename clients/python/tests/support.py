@@ -34,7 +34,7 @@ def present(thing: Optional[Thing]) -> Thing:
 
 def process_of(user: Any) -> int:
     """The number of the program that a user has for itself."""
-    pid: int = user._wire._ends.pid
+    pid: int = user._wire._transport.pid
     return pid
 
 

@@ -7,7 +7,7 @@ import warnings
 from typing import Any, Dict, Iterator, List
 
 from ljclient import Refused, refusals, run, xyz
-from ljclient.closeness import closest
+from ljclient.overlap import closest
 from support import DIMER, DIMER_SCALE, EXAMPLES, PROGRAM, dimer, listed, present
 
 STEP = "1\nbefore\nH 0.75 0 0\n1\nnow\nH 1 0 0\n"

@@ -165,7 +165,7 @@ def test_haproxy_names_the_client(tmp_path: pathlib.Path, word: Any) -> None:
         child = subprocess.Popen([str(HAPROXY), "-f", tmp_path / "config"], stdin=subprocess.DEVNULL, stderr=subprocess.DEVNULL)
         try:
             with await_user(port) as user:
-                source = "127.0.0.1:{}".format(user._wire._ends._socket.getsockname()[1])
+                source = "127.0.0.1:{}".format(user._wire._transport._socket.getsockname()[1])
                 assert dimer(user).advance(2) == 2
                 lines: Iterator[str] = iter(lambda: str(watcher.lines(1)[0]), "")
                 line = next(line for line in lines if line.startswith("TIME in ann "))

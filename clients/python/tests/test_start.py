@@ -7,7 +7,7 @@ import unittest
 from unittest import mock
 from typing import Any
 
-from ljclient import BadReply, CannotStart, TimedOut, finding, run
+from ljclient import BadReply, CannotStart, TimedOut, locate, run
 from support import PROGRAM, SECONDS, TOP, process_of
 
 
@@ -69,24 +69,24 @@ class Starts(unittest.TestCase):
 
     def test_where_the_program_is_looked_for(self) -> None:
         with mock.patch.dict(os.environ, {"LJSERVE": "/some/where"}):
-            self.assertEqual(finding.find_program(), "/some/where")
-        with mock.patch.dict(os.environ, {"LJSERVE": ""}), mock.patch.object(finding, "_build") as build:
-            self.assertEqual(finding.find_program(), str(TOP / "bin" / "ljserve"))
+            self.assertEqual(locate.find_program(), "/some/where")
+        with mock.patch.dict(os.environ, {"LJSERVE": ""}), mock.patch.object(locate, "_build") as build:
+            self.assertEqual(locate.find_program(), str(TOP / "bin" / "ljserve"))
             build.assert_called_once_with(TOP / "bin" / "ljserve")
         with mock.patch.dict(os.environ, {"LJSERVE": "", "PATH": str(self.folder)}):
-            of_no_wheel = mock.patch.object(finding, "_of_wheel", return_value=None)
-            with of_no_wheel, mock.patch.object(finding, "__file__", str(self.folder / "finding.py")):
+            of_no_wheel = mock.patch.object(locate, "_of_wheel", return_value=None)
+            with of_no_wheel, mock.patch.object(locate, "__file__", str(self.folder / "locate.py")):
                 with self.assertRaisesRegex(CannotStart, "there is no ljserve"):
-                    finding.find_program()
+                    locate.find_program()
                 path = self.program("")
-                self.assertEqual(finding.find_program(), str(path))
+                self.assertEqual(locate.find_program(), str(path))
 
     def test_a_build_that_fails(self) -> None:
         with self.assertRaisesRegex(CannotStart, "has ended with status 70"):
-            finding._build(self.program("exit 70\n"))
-        finding._build(self.program("exit 0\n"))
+            locate._build(self.program("exit 70\n"))
+        locate._build(self.program("exit 0\n"))
         with self.assertRaisesRegex(CannotStart, "cannot be started"):
-            finding._build(self.folder / "none")
+            locate._build(self.folder / "none")
 
 
 if __name__ == "__main__":

@@ -167,7 +167,7 @@ class Lines(unittest.TestCase):
 
     def test_a_user(self) -> None:
         with self.join() as user:
-            origin = "127.0.0.1:{}".format(user._wire._ends._socket.getsockname()[1])
+            origin = "127.0.0.1:{}".format(user._wire._transport._socket.getsockname()[1])
             self.assertEqual(self.watcher.lines(1), [f"TIME in ann {origin} since TIME 0 commands"])
             a = user.load("a", EXAMPLES / "argon_4000.xyz", edge=55, sigma=3.4, h=1000)
             self.assertEqual(len(a.dump().splitlines()), 4002)

@@ -30,7 +30,7 @@ with run() as user:
     a = user.load("a", {DIMER!r}, edge=256, sigma=1, h=131072)
     print(a.advance(2), a.place(0))
 """
-TELL = "import ljclient; print(ljclient.finding.find_program()); print(ljclient.__file__)"
+TELL = "import ljclient; print(ljclient.locate.find_program()); print(ljclient.__file__)"
 
 
 def made(folder: Any, programs: Any, **words: Any) -> Any:

@@ -9,7 +9,7 @@ import warnings
 from typing import Iterator, List, TextIO, Tuple
 
 from ..errors import ClientError, Refused
-from ..going import MAX_STEPS
+from ..stepping import MAX_STEPS
 from ..interrupts import held
 from ..progress import reporter
 from ..user import User

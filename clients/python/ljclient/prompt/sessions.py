@@ -3,7 +3,7 @@ from __future__ import annotations
 
 from typing import List
 
-from ..closeness import warn_of_close_atoms
+from ..overlap import warn_of_close_atoms
 from ..energy_watch import can_be_measured, warn_of_large_steps
 from ..measurement import Measurement
 from ..mixture import Mixture

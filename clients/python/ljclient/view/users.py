@@ -7,11 +7,11 @@ from dataclasses import dataclass
 from typing import List, Optional, Protocol
 
 from .. import ClientError, User
-from ..ends import Ends
+from ..transport import Transport
 from ..errors import TimedOut
 from ..files import Path
 from ..tokens import fault_of, without_blanks
-from ..user import ends_opener, joined
+from ..user import transport_opener, joined
 from .addresses import Address
 from .connection import PATIENCE, Connection, OpenUser
 from .talk import Talk
@@ -84,15 +84,15 @@ class Account:
         if self.token is None:
             raise NoToken(f"the token of {self.name} was not said")
         try:
-            return joined(self._ends, self.name, self.token, seconds)
+            return joined(self._transport, self.name, self.token, seconds)
         finally:
             self.is_reached = False
 
-    def _ends(self) -> Ends:
+    def _transport(self) -> Transport:
         """A connection to the server. Raises ClientError, which says what to do, if there is none or it is not trusted."""
-        ends = ends_opener(self.tls, self.ca)(*self.address, SECONDS_OF_A_CONNECTION)
+        transport = transport_opener(self.tls, self.ca)(*self.address, SECONDS_OF_A_CONNECTION)
         self.is_reached = True
-        return ends
+        return transport
 
     def take(self, token: object) -> Optional[str]:
         """Takes a token that was typed. Returns what is wrong with it, if it is none."""
@@ -109,7 +109,7 @@ class Account:
         """Raises ClientError if there is no server that is trusted, or if it denies the token. That another connection is open
         is no fault."""
         if self.token is None:
-            self._ends().close()
+            self._transport().close()
             return
         with contextlib.suppress(TimedOut):
             self.open(SECONDS_OF_A_TRY).close()

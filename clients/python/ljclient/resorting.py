@@ -3,15 +3,15 @@ from __future__ import annotations
 
 from typing import TYPE_CHECKING
 
-from .going import UNBOUNDED
+from .stepping import UNBOUNDED
 
 if TYPE_CHECKING:
     from .loading import Loader
 
-RENEWED_EACH = 250
+RESORTED_EACH = 250
 
 
-class Renewal:
+class Resorting:
     """Sorts the atoms of a session anew each 250 steps, if they are kept in the order of space, and counts its steps."""
 
     def __init__(self, loader: "Loader", name: str):
@@ -26,11 +26,11 @@ class Renewal:
         known = self._loader.known(self._name)
         if not known.is_sorted:
             return UNBOUNDED
-        if known.gone >= RENEWED_EACH:
+        if known.gone >= RESORTED_EACH:
             known.gone = 0
             if not self._loader.ask(f"LIST {self._name}").lines:
                 self._loader.resort(self._name)
-        return RENEWED_EACH - self._loader.known(self._name).gone
+        return RESORTED_EACH - self._loader.known(self._name).gone
 
     def made(self, steps: int, step: int) -> int:
         """Counts steps that were made or begun, and returns the user's number of the server's step."""

@@ -35,7 +35,7 @@ class Pace:
             self._seconds_per_step = max(seconds / steps, 1e-9)
 
 
-class Road(Protocol):
+class Hooks(Protocol):
     """What a session meets as it goes on."""
 
     def ready(self) -> int:
@@ -45,16 +45,16 @@ class Road(Protocol):
         """Hears of steps that were made, and returns the user's number of the server's step."""
 
 
-class Course:
+class Progress:
     """A session on its way, by so many steps in all."""
 
-    def __init__(self, name: str, total: int, report: Optional[Report], road: Road):
+    def __init__(self, name: str, total: int, report: Optional[Report], hooks: Hooks):
         self.name = name
         self.total = total
         self.done = 0
         self.step: Optional[int] = None
         self._report = report
-        self._road = road
+        self._hooks = hooks
         self._room = UNBOUNDED
 
     @property
@@ -63,14 +63,14 @@ class Course:
 
     def make_ready(self) -> None:
         if self.done < self.total:
-            self._room = self._road.ready()
+            self._room = self._hooks.ready()
 
     def next_piece(self, most: int) -> int:
         return min(self.total - self.done, self._room, most)
 
     def has_made(self, steps: int, step: int) -> None:
         self.done += steps
-        self.step = self._road.made(steps, step)
+        self.step = self._hooks.made(steps, step)
 
     def tell(self) -> None:
         """Tells who looks how far the session is."""
@@ -91,37 +91,37 @@ class Breaks:
             self._last = time.monotonic()
 
 
-def go(courses: Sequence[Course], ask: Ask, pace: Pace, piece: Optional[int], lock: ContextManager[object]) -> List[int]:
+def go(all_progress: Sequence[Progress], ask: Ask, pace: Pace, piece: Optional[int], lock: ContextManager[object]) -> List[int]:
     """Has sessions go on at the same time, in pieces of so many steps or at a pace, and answers where each has come to.
 
     Each piece is whole under the lock. Between two of them other threads may use the user.
     """
     if piece is not None and whole_of(piece, "a piece") < 1:
         raise ValueError(f"a piece is 1 step at least, not {piece}")
-    for course in courses:
-        course.tell()
+    for progress in all_progress:
+        progress.tell()
     breaks = Breaks()
-    while under_way := [course for course in courses if not course.is_over]:
+    while under_way := [progress for progress in all_progress if not progress.is_over]:
         with lock:
-            for course in under_way:
-                course.make_ready()
+            for progress in under_way:
+                progress.make_ready()
             start = time.monotonic()
             steps = go_by(under_way, ask, piece or pace.steps())
             pace.took(steps, time.monotonic() - start)
-        for course in under_way:
-            if course.total:
-                course.tell()
+        for progress in under_way:
+            if progress.total:
+                progress.tell()
         breaks.take()
-    return [cast(int, course.step) for course in courses]
+    return [cast(int, progress.step) for progress in all_progress]
 
 
-def go_by(courses: Sequence[Course], ask: Ask, most: int) -> int:
+def go_by(all_progress: Sequence[Progress], ask: Ask, most: int) -> int:
     """Has each session make its next steps, at most so many, and waits for all. Answers the greatest number of them."""
-    first, *others = courses
-    sizes = [course.next_piece(most) for course in courses]
+    first, *others = all_progress
+    sizes = [progress.next_piece(most) for progress in all_progress]
     starts = [f"START {other.name} {size}" for other, size in zip(others, sizes[1:])]
     waits = [f"ADVANCE {first.name} {sizes[0]}", *(f"ADVANCE {other.name} 0" for other in others)]
     replies = ask([*starts, *waits])[len(starts) :]
-    for course, size, line, reply in zip(courses, sizes, waits, replies):
-        course.has_made(size, number_after(line, reply.words, 2))
+    for progress, size, line, reply in zip(all_progress, sizes, waits, replies):
+        progress.has_made(size, number_after(line, reply.words, 2))
     return max(sizes)

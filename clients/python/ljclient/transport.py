@@ -13,7 +13,7 @@ PATIENCE = 5.0
 MAX_LAST_WORDS = 500
 
 
-class Ends(Protocol):
+class Transport(Protocol):
     """A stream that does not block: it can be asked for what is there, and given what there is room for."""
 
     def source(self) -> int:
@@ -35,7 +35,7 @@ class Ends(Protocol):
         """What is known of why the other side has ended, else nothing."""
 
 
-class SocketEnds:
+class SocketTransport:
     """A TCP connection."""
 
     def __init__(self, host: str, port: int, timeout: float):
@@ -72,7 +72,7 @@ class SocketEnds:
         return ""
 
 
-class ChildEnds:
+class ChildTransport:
     """A child process: its standard input and output.
 
     It stands in a process group of its own, so that an interrupt from the keyboard stops what waits for it and not the
@@ -95,8 +95,8 @@ class ChildEnds:
         except OSError as error:
             self._errors.close()
             raise CannotStart(f"cannot start {command[0]}: {error.strerror or error}") from error
-        self._ends = cast(Tuple[IO[bytes], IO[bytes]], (self._child.stdout, self._child.stdin))
-        for end in self._ends:
+        self._transport = cast(Tuple[IO[bytes], IO[bytes]], (self._child.stdout, self._child.stdin))
+        for end in self._transport:
             os.set_blocking(end.fileno(), False)
 
     @property
@@ -105,10 +105,10 @@ class ChildEnds:
         return self._child.pid
 
     def source(self) -> int:
-        return self._ends[0].fileno()
+        return self._transport[0].fileno()
 
     def sink(self) -> int:
-        return self._ends[1].fileno()
+        return self._transport[1].fileno()
 
     def read(self, size: int) -> bytes:
         return os.read(self.source(), size)
@@ -117,7 +117,7 @@ class ChildEnds:
         return os.write(self.sink(), data)
 
     def close(self) -> None:
-        for end in self._ends:
+        for end in self._transport:
             try:
                 end.close()
             except OSError:

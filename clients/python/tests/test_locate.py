@@ -6,7 +6,7 @@ from typing import Any, Tuple
 import pytest
 import sys
 
-from ljclient import CannotStart, finding
+from ljclient import CannotStart, locate
 
 
 def installed(folder: Any, noted: str = "../../bin/ljserve") -> Tuple[Any, str]:
@@ -35,26 +35,26 @@ def test_the_program_of_a_wheel_beside_the_client(tmp_path: pathlib.Path, nothin
     (tmp_path / "bin" / "ljserve").write_text("")
     (tmp_path / "crates.txt").write_text("")
     site, program = installed(tmp_path / "environment")
-    nothing_named.setattr(finding, "__file__", str(site / "ljclient" / "finding.py"))
-    assert finding.find_program() == program
+    nothing_named.setattr(locate, "__file__", str(site / "ljclient" / "locate.py"))
+    assert locate.find_program() == program
     nothing_named.setenv("LJSERVE", "/some/where")
-    assert finding.find_program() == "/some/where"
+    assert locate.find_program() == "/some/where"
 
 
 def test_the_program_of_a_wheel_elsewhere_comes_after_the_repository(tmp_path: pathlib.Path, nothing_named: Any) -> None:
     site, program = installed(tmp_path / "environment")
     nothing_named.syspath_prepend(site)
-    nothing_named.setattr(finding, "__file__", str(tmp_path / "client" / "finding.py"))
-    assert finding.find_program() == program
-    nothing_named.setattr(finding, "_of_repository", lambda package: "/the/repository")
-    assert finding.find_program() == "/the/repository"
+    nothing_named.setattr(locate, "__file__", str(tmp_path / "client" / "locate.py"))
+    assert locate.find_program() == program
+    nothing_named.setattr(locate, "_of_repository", lambda package: "/the/repository")
+    assert locate.find_program() == "/the/repository"
 
 
 @pytest.mark.parametrize("spoil", [lambda program: os.chmod(program, 0o644), os.unlink], ids=["not_to_be_run", "gone"])
 def test_a_wheel_whose_program_is(spoil: Any, tmp_path: pathlib.Path, nothing_named: Any) -> None:
     site, program = installed(tmp_path)
     spoil(program)
-    nothing_named.setattr(finding, "__file__", str(site / "ljclient" / "finding.py"))
+    nothing_named.setattr(locate, "__file__", str(site / "ljclient" / "locate.py"))
     nothing_named.setattr(sys, "path", [str(site), *(each for each in sys.path if "packages" not in each)])
     with pytest.raises(CannotStart, match="there is no ljserve: .* install the wheel ljserve .*PATH"):
-        finding.find_program()
+        locate.find_program()
