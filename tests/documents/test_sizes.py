@@ -10,7 +10,6 @@ MOST_KILOBYTES = {
     "docs/CLASS.md": 7,
     "docs/DECISIONS.md": 20,
     "docs/SERVER.md": 20,
-    "docs/SPEED.md": 6,
     "docs/WORDS.md": 4,
 }
 

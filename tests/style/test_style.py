@@ -30,7 +30,7 @@ SEARCHED = {
     "tests": "conformance",
     "tests/bench": "bench tests",
     "tests/client": "tests",
-    "tests/documents": "clients/python clients/python/tests conformance tests",
+    "tests/documents": "bin clients/python clients/python/tests conformance tests",
     "tests/faults": "tests conformance",
     "tests/gate": "bin",
     "tests/protocol": "tests conformance",

@@ -1,0 +1,183 @@
+"""The tables of docs/SPEED.md, made of what the scripts of bench/ have found: docs/speed/NAME.json, which bench/speeds keeps."""
+
+import json
+import shlex
+from typing import Any, Callable, Iterable, Iterator
+
+import sources
+from tables import table
+
+FOLDER = sources.TOP / "docs" / "speed"
+PROGRAMS = {"crates/ljserve/out/ljserve": "PROGRAM", "crates/ljserve/out/v3/ljserve": "PROGRAM_V3"}
+POOLS = ("queue", "lock")
+
+
+def shown(value: float) -> str:
+    """A number with three digits, or with those before its point."""
+    return f"{value:,.0f}" if value >= 99.95 else f"{value:#.3g}"
+
+
+def ratio(value: float) -> str:
+    return f"{value:.2f}"
+
+
+class Found:
+    """What a measurement has found, by the names of its figures."""
+
+    def __init__(self, name: str):
+        self.told: dict[str, Any] = json.loads((FOLDER / f"{name}.json").read_text(encoding="utf-8"))
+        self.figures: dict[str, float] = {each["name"]: each["value"] for each in self.told["figures"]}
+
+    def __getitem__(self, name: str) -> float:
+        return self.figures[name]
+
+    @property
+    def words(self) -> list[str]:
+        """The command without the file that it kept its figures in."""
+        words = [PROGRAMS.get(word, word) for word in shlex.split(self.told["command"])]
+        at = words.index("--json")
+        return words[:at] + words[at + 2 :]
+
+    @property
+    def moment(self) -> str:
+        """The day, and the load before it began and at its end."""
+        machine = self.told["machine"]
+        return f"{self.told['began'][:10]}, load {machine['load_before']:.1f} to {machine['load_after']:.1f}"
+
+    def under(self, *rows: str) -> str:
+        """A table with the command over it."""
+        return f"`{shlex.join(self.words)}` ({self.moment}):\n\n{table(*rows)}"
+
+
+# A step.
+
+
+def rows_of_steps(names: Iterable[str]) -> Iterator[str]:
+    for found in map(Found, names):
+        words = found.words[found.words.index("--") + 1 :]
+        ours, plain = (found[f"{name}, per step"] for name in ("program", "plain"))
+        yield f"`{' '.join(words[: words.index('--rounds')])}` | {shown(ours)} | {ratio(ours / plain)}"
+
+
+def steps(*names: str) -> str:
+    """A step beside that of the plain C twin, for several liquids."""
+    first = Found(names[0])
+    words = first.words[: first.words.index("--") + 1]
+    return f"`{shlex.join(words)} ..` ({first.moment}):\n\n" + table("Words | ms a step | To the twin", *rows_of_steps(names))
+
+
+def lammps(name: str) -> str:
+    found = Found(name)
+    ways = [each["name"] for each in found.told["figures"] if each["unit"] == "ms per step"]
+    rows = [f"{way} | {shown(found[way])} | {ratio(found[way] / found[ways[0]])} | {ratio(found[way] / found[ways[1]])}" for way in ways]
+    return found.under("Way | ms a step | To LAMMPS | To its package OPT", *rows)
+
+
+def order(name: str) -> str:
+    found = Found(name)
+    first = next(iter(found.figures.values()))
+    return found.under(
+        "Order | ms a step | To shuffled", *(f"{way} | {shown(ms)} | {ratio(ms / first)}" for way, ms in found.figures.items())
+    )
+
+
+# Text and the server.
+
+
+def lines(name: str) -> str:
+    found = Found(name)
+    ours, plain = (1e6 * found[name] for name in ("program", "plain C"))
+    return found.under(
+        "SHOWs a second | Of the plain C twin | Time to the twin's", f"{shown(ours)} | {shown(plain)} | {ratio(plain / ours)}"
+    )
+
+
+def reader(name: str) -> str:
+    found = Found(name)
+    return found.under("XYZ text | MB/s", f"bodies of 1 MiB | {shown(found['bodies read'])}")
+
+
+def scale(name: str) -> str:
+    found = Found(name)
+    crowds = {"1 x 4096": "one session of 4,096 atoms", "8 x 512": "8 users of 512 atoms", "60 x 128": "60 users of 128 atoms"}
+    rows = [
+        f"{text}, steps a second to those of four runs | "
+        + " | ".join(ratio(found[f"{crowd} atoms, {pool}, 4 workers"] / found[f"{crowd} atoms, four runs"]) for pool in POOLS)
+        for crowd, text in crowds.items()
+    ]
+    alone = [found["1 x 4096 atoms, one run"] / found[f"1 x 4096 atoms, {pool}, 1 workers"] for pool in POOLS]
+    spent = [found[f"1 x 4096 atoms, {pool}, 4 workers, processor time"] for pool in POOLS]
+    rows.append(f"one worker: time of a step of 4,096 atoms to `run`'s | {' | '.join(map(ratio, alone))}")
+    rows.append(f"4 workers: processor time of all threads to `run`'s | {' | '.join(map(ratio, spent))}")
+    return found.under("Measured | queue | lock", *rows)
+
+
+def server(name: str) -> str:
+    found = Found(name)
+    users, sessions = "8 users of 512 atoms", "8 sessions of one user, of 512 atoms"
+    step = [shown(found[f"4096 atoms, {pool}, 4 workers"]) for pool in POOLS]
+    rate = [shown(found[f"{pool}: {users}, at once, steps"]) for pool in POOLS]
+    gain = [ratio(found[f"{pool}: {sessions}, one after the other"] / found[f"{pool}: {sessions}, at once"]) for pool in POOLS]
+    rows = [
+        f"a step of 4,096 atoms, 4 workers, ms | {' | '.join(step)}",
+        f"{users}, steps a second | {' | '.join(rate)}",
+        f"8 sessions of a user at once, to one after the other | {' | '.join(gain)}",
+    ]
+    shows = [f"SHOWs a second, {size} at a time | - | {shown(found[f'SHOW, {size} at a time'])}" for size in (100, 1)]
+    return found.under("Measured | queue | lock", *rows, *shows, *beside_redis(found))
+
+
+def beside_redis(found: Found) -> Iterator[str]:
+    for size in (100, 1):
+        if f"GET by this script, {size} at a time" in found.figures:
+            part = found[f"SHOW, {size} at a time"] / found[f"GET by this script, {size} at a time"]
+            yield f"the same, to GET of Redis by the same script | - | {ratio(part)}"
+
+
+def figures(name: str) -> str:
+    """All that a measurement found, a row for each figure."""
+    found = Found(name)
+    rows = [f"{each['name']} | {shown(each['value'])} {each['unit']}" for each in found.told["figures"]]
+    return found.under("Measured | Figure", *rows)
+
+
+def keep(name: str) -> str:
+    """Commands one at a time, a row for each way."""
+    found = Found(name)
+    ways = list(dict.fromkeys(each.rpartition(", ")[0] for each in found.figures))
+    commands = list(dict.fromkeys(each.rpartition(", ")[2] for each in found.figures))
+    rows = [f"{way} | " + " | ".join(shown(found[f"{way}, {command}"]) for command in commands) for way in ways]
+    return found.under(f"us | {' | '.join(f'`{command}`' for command in commands)}", *rows)
+
+
+# The client.
+
+
+def client(name: str) -> str:
+    found = Found(name)
+
+    def cell(call: str, kind: str) -> str:
+        return " + ".join(shown(found[f"{call}, {kind} numpy, {side}"]) for side in ("client", "program"))
+
+    calls = ("places()", "dump()", "a frame of sample()", "dump() of order='space'", "a frame of sample() of order='space'")
+    rows = [f"`{call}` | {cell(call, 'with')} | {cell(call, 'without')}" for call in calls]
+    return found.under("ms of client and program for 4,096 atoms | With numpy | Without", *rows)
+
+
+KINDS: dict[str, Callable[..., str]] = {
+    "steps": steps,
+    "lammps": lammps,
+    "order": order,
+    "lines": lines,
+    "reader": reader,
+    "scale": scale,
+    "server": server,
+    "keep": keep,
+    "figures": figures,
+    "client": client,
+}
+
+
+def speed(kind: str, *names: str) -> str:
+    """What one measurement or some have found, as a table of this kind."""
+    return KINDS[kind](*names)
