@@ -27,7 +27,13 @@ documents = script("documents")
 MADE = re.compile(r"<!-- made by (\S+): begin (.*?) -->\n.*?<!-- made by \1: end \2 -->\n", re.S)
 WITH_PARTS = sorted(path for path in (TOP / "docs").glob("*.md") if documents.PART.search(path.read_text()))
 # The most bytes of a document that are written by hand.
-MOST_BY_HAND = {"docs/PROOFS.md": 8000, "docs/ARCHITECTURE.md": 8000, "docs/PROTOCOL.md": 26_000, "docs/FILES.md": 1024, "docs/SPEED.md": 4000}
+MOST_BY_HAND = {
+    "docs/PROOFS.md": 8000,
+    "docs/ARCHITECTURE.md": 8000,
+    "docs/PROTOCOL.md": 26_000,
+    "docs/FILES.md": 1024,
+    "docs/SPEED.md": 4000,
+}
 MOST_OF_ALL = 150_000
 
 
