@@ -18,7 +18,8 @@ def shown(value: float) -> str:
 
 
 def ratio(value: float) -> str:
-    return f"{value:.2f}"
+    """A ratio with two digits behind the point, or two that count."""
+    return f"{value:.2f}" if value >= 0.0995 else f"{value:#.2g}"
 
 
 class Found:

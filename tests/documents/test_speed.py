@@ -30,7 +30,7 @@ def folder(tmp_path: Path, monkeypatch: pytest.MonkeyPatch) -> Path:
 @pytest.mark.parametrize("name", NAMES)
 def test_each_measurement_is_told(name: str) -> None:
     marks = [line.split() for line in PAGE.splitlines() if line.startswith("<!-- made by bin/documents: begin speed ")]
-    assert [name for words in marks if name in words[6:-1]] == [name]
+    assert [name for words in marks if name in words[7:-1]] == [name]
 
 
 @pytest.mark.parametrize("name", NAMES)
