@@ -89,7 +89,7 @@ def lines(name: str) -> str:
     found = Found(name)
     ours, plain = (1e6 * found[name] for name in ("program", "plain C"))
     return found.under(
-        "SHOWs a second | Of the plain C twin | Time to the twin's", f"{shown(ours)} | {shown(plain)} | {ratio(plain / ours)}"
+        "SHOWs a second | The plain C twin's | Time to the twin's", f"{shown(ours)} | {shown(plain)} | {ratio(plain / ours)}"
     )
 
 
@@ -132,13 +132,13 @@ def beside_redis(found: Found) -> Iterator[str]:
     for size in (100, 1):
         if f"GET by this script, {size} at a time" in found.figures:
             part = found[f"SHOW, {size} at a time"] / found[f"GET by this script, {size} at a time"]
-            yield f"the same, to GET of Redis by the same script | - | {ratio(part)}"
+            yield f"SHOWs to GETs of Redis by the same script, {size} at a time | - | {ratio(part)}"
 
 
 def figures(name: str) -> str:
     """All that a measurement found, a row for each figure."""
     found = Found(name)
-    rows = [f"{each['name']} | {shown(each['value'])} {each['unit']}" for each in found.told["figures"]]
+    rows = [f"{each['name']} | {shown(each['value'])} {each['unit']}".rstrip() for each in found.told["figures"]]
     return found.under("Measured | Figure", *rows)
 
 
