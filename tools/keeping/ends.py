@@ -17,8 +17,8 @@ SECONDS_AFTER_END = 1.0
 MAX_BYTES_WAITING = MAX_BODY + MAX_LINE + 1
 
 
-class Door(Protocol):
-    """What lets clients in."""
+class Acceptor(Protocol):
+    """What accepts the connections of clients."""
 
     has_header: bool
 
@@ -41,13 +41,13 @@ class Door(Protocol):
 class Client(asyncio.Protocol):
     """The connection of a client, from its first line on."""
 
-    def __init__(self, door: Door):
-        self._door = door
+    def __init__(self, acceptor: Acceptor):
+        self._acceptor = acceptor
         self._transport: asyncio.Transport
         self._reader = ItemReader()
         self._next: Optional[Item] = None
         self._first = b""
-        self._has_header = door.has_header
+        self._has_header = acceptor.has_header
         self._is_over = self._is_lost = self._has_sent_all = False
         self._is_paused = False
         self.user: Optional[User] = None
@@ -60,9 +60,9 @@ class Client(asyncio.Protocol):
         assert isinstance(transport, asyncio.Transport)
         self._transport = transport
         prepare(transport.get_extra_info("socket"))
-        self.seen = self._door.new_connection(written(transport.get_extra_info("peername")))
+        self.seen = self._acceptor.new_connection(written(transport.get_extra_info("peername")))
         self._timer = asyncio.get_running_loop().call_later(SECONDS_FOR_HELLO, self.abort)
-        self._door.begins(self)
+        self._acceptor.begins(self)
 
     def data_received(self, data: bytes) -> None:
         if self._is_over:
@@ -90,7 +90,7 @@ class Client(asyncio.Protocol):
             return
         self._timer.cancel()
         self.seen.hear_client(line + b"\n")
-        self.user = self._door.user_of(line) if end else None
+        self.user = self._acceptor.user_of(line) if end else None
         if self.user is None:
             self.deny()
             return
@@ -128,7 +128,7 @@ class Client(asyncio.Protocol):
         self._next = None
         if self.user is not None:
             self.user.leave(self)
-        self._door.ends(self)
+        self._acceptor.ends(self)
 
     def pause_writing(self) -> None:
         self.is_full = True
@@ -162,7 +162,7 @@ class Client(asyncio.Protocol):
 
     def let_in(self) -> None:
         self.tell(b"OK HELLO %s\n" % self.user.name.encode() if self.user else b"")
-        self._door.is_let_in(self)
+        self._acceptor.is_let_in(self)
 
     def tell(self, replies: bytes) -> None:
         if not self._is_lost:

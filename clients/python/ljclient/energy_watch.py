@@ -5,11 +5,11 @@ import math
 from dataclasses import dataclass, replace
 from typing import TYPE_CHECKING, Optional, Tuple
 
-from .stepping import UNBOUNDED
 from .measurement import Measurement
 from .mixture import Mixture
-from .resorting import Resorting
 from .replies import of_session
+from .resorting import Resorting
+from .stepping import UNBOUNDED
 from .thermo import Thermo
 from .units import Scale
 from .warning import warn_caller

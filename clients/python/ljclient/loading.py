@@ -7,7 +7,6 @@ import threading
 from typing import TYPE_CHECKING, Any, Dict, Iterable, Iterator, List, Optional, Sequence, Tuple, cast
 
 from . import checkpoint, files, units, xyz
-from .overlap import warn_of_close_atoms
 from .energy_watch import EnergyWatch, warn_of_large_steps
 from .errors import ClientError, NotRecorded
 from .interrupts import held
@@ -15,6 +14,7 @@ from .mixture import Mixture, Pair, RawClass
 from .motion import Motion, motion_of
 from .names import checked_name
 from .order import Order, by_halves, is_in_space
+from .overlap import warn_of_close_atoms
 from .recording import Listener, Listeners, Record, Versions
 from .replies import number_after
 from .session import Row, Session

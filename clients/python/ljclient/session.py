@@ -4,8 +4,8 @@ from __future__ import annotations
 import dataclasses
 from typing import TYPE_CHECKING, Any, ContextManager, Iterator, List, NamedTuple, Optional, Sequence, Tuple, Union
 
-from . import arrays, ase_bridge, box, centred, checkpoint, files, frames, stepping, heating, progress as bars, reading, sampling
-from . import equilibrating, pressure, saving, snapshots, trajectories
+from . import arrays, ase_bridge, box, centred, checkpoint, equilibrating, files, frames, heating, pressure, progress as bars
+from . import reading, sampling, saving, snapshots, stepping, trajectories
 from .elements import Replacements, with_symbols
 from .energy_watch import WatchedHooks
 from .interrupts import held

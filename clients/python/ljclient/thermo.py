@@ -5,10 +5,10 @@ import contextlib
 from typing import TYPE_CHECKING, Callable, Iterator, List, NamedTuple, Optional, Tuple
 
 from .errors import ClientError
-from .stepping import Ask
 from .interrupts import held
 from .measurement import Measurement, known
 from .sampling import Progress, stops
+from .stepping import Ask
 
 if TYPE_CHECKING:
     from .session import Session

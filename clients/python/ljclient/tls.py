@@ -6,9 +6,9 @@ import socket
 import ssl
 from typing import Optional
 
-from .transport import SocketTransport
 from .errors import ClientError, ConnectionLost
 from .files import Path
+from .transport import SocketTransport
 
 HANDSHAKE_SECONDS = 15.0
 # Codes of OpenSSL: the certificate is of another name or address; nobody who is known has signed it.

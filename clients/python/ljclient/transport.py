@@ -95,8 +95,8 @@ class ChildTransport:
         except OSError as error:
             self._errors.close()
             raise CannotStart(f"cannot start {command[0]}: {error.strerror or error}") from error
-        self._transport = cast(Tuple[IO[bytes], IO[bytes]], (self._child.stdout, self._child.stdin))
-        for end in self._transport:
+        self._pipes = cast(Tuple[IO[bytes], IO[bytes]], (self._child.stdout, self._child.stdin))
+        for end in self._pipes:
             os.set_blocking(end.fileno(), False)
 
     @property
@@ -105,10 +105,10 @@ class ChildTransport:
         return self._child.pid
 
     def source(self) -> int:
-        return self._transport[0].fileno()
+        return self._pipes[0].fileno()
 
     def sink(self) -> int:
-        return self._transport[1].fileno()
+        return self._pipes[1].fileno()
 
     def read(self, size: int) -> bytes:
         return os.read(self.source(), size)
@@ -117,7 +117,7 @@ class ChildTransport:
         return os.write(self.sink(), data)
 
     def close(self) -> None:
-        for end in self._transport:
+        for end in self._pipes:
             try:
                 end.close()
             except OSError:

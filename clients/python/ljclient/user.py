@@ -9,15 +9,14 @@ import os
 from types import TracebackType
 from typing import Callable, Dict, Iterable, Iterator, List, Optional, Sequence, Set, Tuple, Type, Union
 
-from . import stepping, migrate, progress as bars, units
+from . import migrate, progress as bars, stepping, units
 from .box import take_up
-from .transport import ChildTransport, Transport, SocketTransport
 from .energy_watch import EnergyWatch, WatchedHooks
 from .errors import BadReply, CannotStart, ClientError, ConnectionLost, TimedOut
 from .files import Path
-from .locate import find_program, version_of
 from .interrupts import held
 from .loading import Loader
+from .locate import find_program, version_of
 from .names import checked_name, count_of
 from .order import Order
 from .record import Mark
@@ -28,6 +27,7 @@ from .session import Row, Session
 from .state import Command, can_be_loaded
 from .threads import whole
 from .tokens import without_blanks
+from .transport import ChildTransport, SocketTransport, Transport
 from .wire import Reply, Wire, checked_timeout
 
 MAX_ITEMS = 1_000_000

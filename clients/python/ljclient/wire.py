@@ -14,10 +14,10 @@ from collections import deque
 from typing import Callable, Deque, Dict, Iterable, List, NamedTuple, Optional, Protocol, Sequence, Tuple, Union
 
 from .arrays import count_of_lines
-from .transport import Transport
 from .errors import BadReply, ClientError, Closed, ConnectionLost, Refused, TimedOut, not_answered, refusal_of, shown
 from .interrupts import held
 from .record import Answer
+from .transport import Transport
 
 MAX_UNDER_WAY = 1024
 MAX_OUTGOING = 1 << 20
