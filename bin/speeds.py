@@ -39,15 +39,16 @@ class Found:
         at = words.index("--json")
         return words[:at] + words[at + 2 :]
 
-    @property
-    def moment(self) -> str:
-        """The day, and the load before it began and at its end."""
-        machine = self.told["machine"]
-        return f"{self.told['began'][:10]}, load {machine['load_before']:.1f} to {machine['load_after']:.1f}"
-
     def under(self, *rows: str) -> str:
         """A table with the command over it."""
-        return f"`{shlex.join(self.words)}` ({self.moment}):\n\n{table(*rows)}"
+        return f"`{shlex.join(self.words)}` ({moment(self)}):\n\n{table(*rows)}"
+
+
+def moment(*found: Found) -> str:
+    """The day, and the load before the first of these measurements began and at the end of the last one."""
+    told = sorted((each.told for each in found), key=lambda each: each["began"])
+    before, after = told[0]["machine"]["load_before"], told[-1]["machine"]["load_after"]
+    return f"{told[0]['began'][:10]}, load {before:.1f} to {after:.1f}"
 
 
 # A step.
@@ -62,9 +63,9 @@ def rows_of_steps(names: Iterable[str]) -> Iterator[str]:
 
 def steps(*names: str) -> str:
     """A step beside that of the plain C twin, for several liquids."""
-    first = Found(names[0])
-    words = first.words[: first.words.index("--") + 1]
-    return f"`{shlex.join(words)} ..` ({first.moment}):\n\n" + table("Words | ms a step | To the twin", *rows_of_steps(names))
+    found = list(map(Found, names))
+    words = found[0].words[: found[0].words.index("--") + 1]
+    return f"`{shlex.join(words)} ..` ({moment(*found)}):\n\n" + table("Words | ms a step | To the twin", *rows_of_steps(names))
 
 
 def lammps(name: str) -> str:
