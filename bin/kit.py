@@ -11,16 +11,16 @@ import shutil
 import subprocess
 import sys
 import threading
+from functools import partial
 from importlib.machinery import SourceFileLoader
-from importlib.util import module_from_spec, spec_from_loader
 from operator import attrgetter
 from pathlib import Path
 from queue import SimpleQueue
+from types import ModuleType
 from typing import Any, Callable, Dict, Iterable, List, Optional, Sequence, Set, Tuple
 
 TOP = Path(__file__).resolve().parent.parent
-# The name of a crate, what is done for it, and of an edit its number.
-Key = Tuple[Any, ...]
+Key = Tuple[Any, ...]  # the name of a crate, what is done for it, and of an edit its number
 # What a task waits for, its work in lines, its memory in bytes, and a call that gets what was given and how many jobs it may use.
 Task = Tuple[List[Key], int, float, Callable[[Dict[Key, Any], int], Any]]
 
@@ -28,13 +28,10 @@ Task = Tuple[List[Key], int, float, Callable[[Dict[Key, Any], int], Any]]
 LANES = ["processors()", "free()", "in_lanes(tasks)"]
 EDITS = ["edits_of(crate)", "checked(crate,texts,flags,kept)", "must_fail(crate,edit,flags,kept)", "seeded(crate,flags,start)"]
 CRATES = ["rtlib.guarded()", "rtlib.crates_below(top)", "rtlib.lock(crates)", "rtlib.Crate.below(self)", "rtlib.Crate.count(self,pattern)"]
+KEPT = ["rtlib.Crate.is_built(self)", "rtlib.Crate.has_kept(self)", "rtlib.Crate.build_rlib(self,flags,anew)"]
 ONE = ["share_work(is_alone)", "handles_of(root)", "Crate.compile(self,flags,to,tests)", "Crate.link(self,made,program)"]
-CALLED = {
-    "gate": ["main(words)", *LANES, *EDITS],
-    "build": [*LANES, "need(crate)", *CRATES, "rtlib.Crate.build_rlib(self,flags,anew)"],
-    "planted": ["edits_alone(names)", *EDITS],
-    "compile": ["processors()", *CRATES, *ONE],
-}
+CALLED = {"gate": ["main(words)", *LANES, *EDITS], "planted": ["edits_alone(names)", *EDITS]}
+CALLED |= {"build": [*LANES, "need(crate)", *CRATES, *KEPT, "rtlib.Crate.stamp(crate,made)"], "compile": ["processors()", *CRATES, *ONE]}
 
 
 def load(asker: str) -> Any:
@@ -43,11 +40,9 @@ def load(asker: str) -> Any:
     if found is None:
         print(f"{asker}: the Rattle toolchain (the command rt) is not on the PATH", file=sys.stderr)
         sys.exit(69)
-    loader = SourceFileLoader("rt", os.path.realpath(found))
-    spec = spec_from_loader("rt", loader)
-    assert spec is not None
-    kit = module_from_spec(spec)
-    loader.exec_module(kit)
+    kit = ModuleType("rt")
+    kit.__file__ = os.path.realpath(found)
+    SourceFileLoader("rt", kit.__file__).exec_module(kit)
     return kit
 
 
@@ -80,14 +75,12 @@ def usable(asker: str, instead: str) -> Optional[Any]:
 FILLS = ("seed", "edits", "sound", "again")  # the tasks that fill the processors which proofs and tests leave free
 NICENESS = 10  # how far a task stands back behind the first one, as `nice` counts it
 JOB_SHARE = 0.6  # what part of a check's memory each further job takes, as the kit has it
-# What is begun may have so much of the free memory by the kit's estimates, of which the checks of this repository take 35 to 65 of 100.
-MEMORY_SHARE = 1.3
+MEMORY_SHARE = 1.3  # what is begun may have so much of the free memory by the kit's estimates: checks here take 35 to 65 of 100 of these
 
 
 class Lanes:
-    """Tasks that run, and those that are left, in place of the kit's `in_lanes`: first those on the longest chain. The one on which most
-    others wait has half of the processors, or more where nothing else is ready. There are no more jobs than processors, since each beyond
-    that slows the others by what it takes of the memory's bandwidth."""
+    """Tasks that run and are left, in place of the kit's `in_lanes`: those on the longest chain first, of which the first has half of the
+    processors, or what nothing else could use. Jobs beyond the processors would slow the others by the memory's bandwidth."""
 
     def __init__(self, rt: Any, tasks: Dict[Key, Task]) -> None:
         # For each task the lines of the longest chain of those that wait for it, with its own. It comes after those that it waits for.
@@ -97,12 +90,10 @@ class Lanes:
             for below in tasks[key][0]:
                 self.behind[below] = max(self.behind[below], self.behind[key])
         self.left = sorted(tasks, key=lambda key: (key[1] in FILLS, -self.behind[key]))
-        # The jobs and the memory of each task that runs.
-        self.running: Dict[Key, Tuple[int, float]] = {}
+        self.running: Dict[Key, Tuple[int, float]] = {}  # the jobs and the memory of each task that runs
         self.given: Dict[Key, Any] = {}
         self.ended: "SimpleQueue[Tuple[Key, Any]]" = SimpleQueue()
-        self.processors: int = rt.processors()
-        self.memory: float = MEMORY_SHARE * rt.free()
+        self.processors, self.memory = int(rt.processors()), MEMORY_SHARE * rt.free()
 
     def run(self) -> Dict[Key, Any]:
         """What each task gave. Where one raises, that is raised once those that run have ended."""
@@ -159,9 +150,8 @@ class Lanes:
         self.ended.put((key, gives))
 
 
-# The kit checks a whole crate for each edit. Where each edit of a crate names functions by whose clauses it is refused, in lines
-# `only: PATH`, it is tried by a check of these alone and of what they call: where one of them is not proved, the crate is not. What is
-# proved before the edits, which they share, and after them, is of all these functions. What is not refused so is tried from nothing.
+# The kit checks a whole crate for each edit. Where each edit of a crate names functions by whose clauses it is refused (`only: PATH`), a
+# check of these and of what they call tries it, and one of all of them is shared and follows. What is not refused so is tried from nothing.
 FEW = 4  # edits of a crate are each tried from nothing, since to share something would cost them two checks more
 
 
@@ -204,26 +194,36 @@ def gate(words: Sequence[str]) -> int:
         return subprocess.run(["rt", "ci", *words]).returncode
     use_edits(rt)
     rt.in_lanes = lambda tasks: Lanes(rt, tasks).run()
-    status: int = rt.main(["ci", *words])
-    return status
+    return int(rt.main(["ci", *words]))
 
 
-def show(text: str) -> None:
-    """On a terminal this line takes the place of the last one that was shown."""
+def show(text: str) -> None:  # on a terminal, in the place of the line that was shown last
     if sys.stderr.isatty():
         print(f"\r\033[K{text}", end="", file=sys.stderr, flush=True)
 
 
-def building(crate: Any, total: int) -> Callable[[Dict[Key, Any], int], bool]:
-    """A task of the lanes: builds a library, once those below it are built."""
+class Libraries:
+    """The libraries of the program. Where no proof is kept, as in a new clone, their rlibs are made as for a verdict: from nothing, and of
+    statements alone, so that crates above read less. The kit leaves these without a stamp. A mark says of what they were made."""
 
-    def call(given: Dict[Key, Any], jobs: int) -> bool:
-        if not all(given[dep.name, "proof"] for dep in crate.below()):
+    def __init__(self, libraries: Sequence[Any]) -> None:
+        self.all, self.anew = libraries, set[str]()
+        self.of_statements = not any(crate.is_built() or crate.has_kept() for crate in libraries)
+
+    def task(self, crate: Any, given: Dict[Key, Any], jobs: int) -> bool:
+        """Builds a library, once those below it are built."""
+        below = {dep.name for dep in crate.below()}
+        if not all(given[name, "proof"] for name in below):
             return False
-        show(f"ljserve: {len(given)} of {total} libraries are proved; {crate.name} is next")
-        return not crate.build_rlib(["--jobs", str(jobs)], anew=False)
-
-    return call
+        show(f"ljserve: {len(given)} of {len(self.all)} libraries are proved; {crate.name} is next")
+        mark, made_of = Path(crate.folder, "out", "rlib", "statements"), crate.stamp()
+        if self.of_statements and mark.is_file() and mark.read_text() == made_of and self.anew.isdisjoint(below):
+            return True
+        self.anew.add(crate.name)
+        built = not crate.build_rlib(["--jobs", str(jobs)], self.of_statements)
+        if built and self.of_statements:
+            mark.write_text(made_of)
+        return built
 
 
 def build(log: str) -> int:
@@ -235,16 +235,16 @@ def build(log: str) -> int:
         return subprocess.run(["rt", "lib"], cwd=TOP / "crates" / "lj_serve").returncode
     rt.rtlib.guarded()
     crates = rt.rtlib.crates_below(os.getcwd())
-    names = {dep.name for crate in crates if crate.is_program for dep in crate.below()}
-    libraries, tasks = [crate for crate in crates if crate.name in names], dict[Key, Task]()
-    held = rt.rtlib.lock(libraries)
-    for crate in libraries:
-        task = building(crate, len(libraries))
-        tasks[crate.name, "proof"] = ([(dep.name, "proof") for dep in crate.below()], crate.count(rb"\n"), rt.need(crate), task)
+    libraries = Libraries([it for it in crates if any(it.name in {dep.name for dep in top.below()} for top in crates if top.is_program)])
+    held = rt.rtlib.lock(libraries.all)
+    rt.rtlib.Crate.cuts_libraries = libraries.of_statements
+    tasks: Dict[Key, Task] = {
+        (it.name, "proof"): ([(dep.name, "proof") for dep in it.below()], it.count(rb"\n"), rt.need(it), partial(libraries.task, it))
+        for it in libraries.all
+    }
     given = Lanes(rt, tasks).run()
     list(map(os.close, held))
     show("")
-    lost = sorted(name for (name, _), is_built in given.items() if not is_built)
-    if lost:
+    if lost := sorted(name for (name, _), is_built in given.items() if not is_built):
         print(f"build: not proved: {' '.join(lost)}", file=sys.stderr)
-    return 1 if lost else 0
+    return int(bool(lost))

@@ -153,6 +153,76 @@ def test_what_a_task_raises_is_raised() -> None:
         kit.Lanes(Kit, {("a", "proof"): ([], 1, 1.0, call), ("b", "proof"): ([("a", "proof")], 1, 1.0, call)}).run()
 
 
+class Library:
+    """What the libraries of the program ask the kit for: a crate that stands on others, and notes how it is built."""
+
+    def __init__(self, folder: pathlib.Path, name: str, *below: "Library"):
+        self.name, self.folder, self._below = name, str(folder / name), below
+        self.source, self.has_stamp, self.built = "as it was", False, list[bool]()
+
+    def below(self) -> Tuple["Library", ...]:
+        return self._below
+
+    def stamp(self) -> str:
+        return self.source + "".join(library.stamp() for library in self._below)
+
+    def is_built(self) -> bool:
+        return self.has_stamp
+
+    def has_kept(self) -> bool:
+        return False
+
+    def build_rlib(self, flags: List[str], anew: bool) -> int:
+        self.built.append(anew)
+        (pathlib.Path(self.folder) / "out" / "rlib").mkdir(parents=True, exist_ok=True)
+        return 1 if self.source == "refused" else 0
+
+
+@pytest.fixture
+def libraries(tmp_path: pathlib.Path) -> List[Library]:
+    low = Library(tmp_path, "low")
+    middle = Library(tmp_path, "middle", low)
+    return [low, middle, Library(tmp_path, "high", low, middle), Library(tmp_path, "beside")]
+
+
+def build(libraries: List[Library]) -> Dict[str, Tuple[bool, List[bool]]]:
+    """Whether each library is there, and for each time that it was built whether it was from nothing."""
+    made, given = kit.Libraries(libraries), dict[kit.Key, Any]()
+    for library in libraries:
+        library.built = []
+        given[library.name, "proof"] = made.task(library, given, 1)
+    return {library.name: (given[library.name, "proof"], library.built) for library in libraries}
+
+
+def test_a_new_clone_is_proved_from_nothing_and_once(libraries: List[Library]) -> None:
+    assert build(libraries) == dict.fromkeys(["low", "middle", "high", "beside"], (True, [True]))
+    assert build(libraries) == dict.fromkeys(["low", "middle", "high", "beside"], (True, []))
+
+
+def test_what_stands_on_a_changed_library_is_proved_anew(libraries: List[Library]) -> None:
+    build(libraries)
+    libraries[1].source = "changed"
+    assert build(libraries) == {"low": (True, []), "middle": (True, [True]), "high": (True, [True]), "beside": (True, [])}
+
+
+def test_statements_of_a_library_made_anew_fit_nothing_older(libraries: List[Library]) -> None:
+    """Also where what is made is the same as before: the rlib was built by something else in between."""
+    build(libraries)
+    (pathlib.Path(libraries[0].folder) / "out" / "rlib" / "statements").unlink()
+    assert build(libraries) == {"low": (True, [True]), "middle": (True, [True]), "high": (True, [True]), "beside": (True, [])}
+
+
+def test_nothing_is_built_above_what_is_not_proved(libraries: List[Library]) -> None:
+    libraries[1].source = "refused"
+    assert build(libraries) == {"low": (True, [True]), "middle": (False, [True]), "high": (False, []), "beside": (True, [True])}
+    assert build(libraries) == {"low": (True, []), "middle": (False, [True]), "high": (False, []), "beside": (True, [])}
+
+
+def test_what_the_kit_has_kept_is_used(libraries: List[Library]) -> None:
+    libraries[0].has_stamp = True
+    assert build(libraries) == dict.fromkeys(["low", "middle", "high", "beside"], (True, [False]))
+
+
 def test_one_file_has_it_all() -> None:
     lines = (TOP / "bin" / "kit.py").read_text().splitlines()
     assert len(lines) <= 250
