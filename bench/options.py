@@ -29,6 +29,10 @@ class Parser(argparse.ArgumentParser):
         """The path of a built program."""
         self.add_argument(name, type=path_of, help="the built program")
 
+    def add_beside(self) -> None:
+        """The path of another program, which is measured in the same rounds."""
+        self.add_argument("--beside", metavar="OLD", type=path_of, help="another built program, measured in the same rounds")
+
     def error(self, message: str) -> NoReturn:
         self.exit(2, f"{self.prog}: {message}\n")
 

@@ -2,21 +2,29 @@
 from __future__ import annotations
 
 import os
+import re
+import shutil
+import signal
 import socket
 import subprocess
 import sys
+import tempfile
 import time
-from typing import BinaryIO, Callable, Dict, List, NamedTuple, Sequence, Tuple
+from collections import Counter
+from typing import BinaryIO, Callable, Dict, List, NamedTuple, Optional, Sequence, Tuple, TypeVar
 
 from shared.loads import liquid
-from shared.program import USUAL, end_of, status_of
+from shared.program import USUAL, end_of, status_of, wait_until
 from shared.serving import begun, options_of, user_line
 from shared.sockets import connected
 
 TOKEN = "0" * 32
 SECONDS = 120
 WORKERS = 4
+# The sessions of a user who has several.
+SESSIONS = [f"s{number}" for number in range(8)]
 Child = subprocess.Popen[bytes]
+Of = TypeVar("Of")
 
 
 class Talk(NamedTuple):
@@ -64,6 +72,15 @@ def crowd_of(program: str, kind: str, users: int, atoms: int, workers: int = WOR
     return child, [loaded(talk_to(stream), atoms) for stream in streams]
 
 
+def sessions_of(program: str, kind: str, atoms: int, workers: int = WORKERS) -> Tuple[Child, List[Talk]]:
+    """A server, and its one user with several sessions of so many atoms."""
+    child, (stream,) = serve(program, kind, workers)
+    talk = talk_to(stream)
+    for name in SESSIONS:
+        talk.ask(liquid(atoms, name), f"OK LOAD {name} 0 {atoms}\n".encode())
+    return child, [talk]
+
+
 def loaded(talk: Talk, atoms: int) -> Talk:
     talk.ask(liquid(atoms), f"OK LOAD a 0 {atoms}\n".encode())
     return talk
@@ -91,6 +108,15 @@ def advance(talks: Sequence[Talk], steps: int, step: int) -> None:
         talk.hear(f"OK ADVANCE a {step}\n".encode())
 
 
+def start_sessions(talks: Sequence[Talk], steps: int, step: int) -> None:
+    """Starts all sessions of a user, and waits for each."""
+    lines = [f"START {name} {steps}" for name in SESSIONS] + [f"ADVANCE {name} 0" for name in SESSIONS]
+    talks[0].send("".join(f"{line}\n" for line in lines).encode())
+    for line in lines:
+        command, name, _ = line.split()
+        talks[0].hear(f"OK {command} {name} {step}\n".encode())
+
+
 def spent(path: str) -> float:
     """How long a thread has computed, in seconds, by its file `schedstat`, which counts nanoseconds."""
     with open(f"{path}/schedstat", encoding="utf-8") as file:
@@ -108,15 +134,58 @@ class Use(NamedTuple):
     """What a thread has used: processor time in seconds, and how often it gave its processor away."""
 
     seconds: float
-    switches: int
+    switches: float
 
 
-def uses(child: Child) -> Dict[int, Use]:
-    """What each thread of a program has used, by its number: those begun first have the lesser ones."""
+def threads_of(child: Child) -> List[str]:
+    """The folders of /proc of a program's threads, in the order in which they began."""
     folder = f"/proc/{child.pid}/task"
-    return {int(thread): use_of(f"{folder}/{thread}") for thread in os.listdir(folder)}
+    return sorted((f"{folder}/{thread}" for thread in os.listdir(folder)), key=beginning_of)
 
 
-def use_of(thread: str) -> Use:
-    """What a thread has used, whose folder of /proc this is."""
-    return Use(spent(thread), status_of(thread, "voluntary_ctxt_switches"))
+def beginning_of(thread: str) -> Tuple[int, int]:
+    """When a thread began, in clock ticks, and its number, by which those of one tick follow one another."""
+    with open(f"{thread}/stat", encoding="utf-8") as file:
+        return int(file.read().rpartition(")")[2].split()[19]), int(os.path.basename(thread))
+
+
+def by_kind(threads: Sequence[Of], connections: int) -> Dict[str, Sequence[Of]]:
+    """What is told of each thread of a server with so many connections, by kinds: its own thread begins first, then its workers'."""
+    last = max(1, len(threads) - connections)
+    return {"program": threads[:1], "workers": threads[1:last], "connections": threads[last:]}
+
+
+def uses(child: Child) -> List[Use]:
+    """What each thread of a program has used, in the order in which they began."""
+    return [Use(spent(thread), status_of(thread, "voluntary_ctxt_switches")) for thread in threads_of(child)]
+
+
+class Calls(NamedTuple):
+    """How often a thread asked the system by futex to hold it up, and to wake others."""
+
+    holds: float
+    wakes: float
+
+
+def calls_of(child: Child, work: Callable[[], object]) -> Optional[List[Calls]]:
+    """The calls of each thread of a program while something is done, in the order in which they began, as strace tells them. None
+    where it is not on the PATH, or cannot follow the program."""
+    if shutil.which("strace") is None:
+        return None
+    threads = threads_of(child)
+    with tempfile.NamedTemporaryFile("r", encoding="utf-8") as file:
+        words = ["strace", "-f", "-qq", "-e", "trace=futex", "-e", "signal=none", "-o", file.name, "-p", str(child.pid)]
+        tracer = subprocess.Popen(words, stderr=subprocess.DEVNULL)
+        wait_until(lambda: tracer.poll() is not None or all(status_of(thread, "TracerPid") for thread in threads))
+        is_followed = tracer.poll() is None
+        work()
+        tracer.send_signal(signal.SIGINT)
+        tracer.wait()
+        told = calls_in(file.read())
+    return [told.get(int(os.path.basename(thread)), Calls(0, 0)) for thread in threads] if is_followed else None
+
+
+def calls_in(told: str) -> Dict[int, Calls]:
+    """The calls of each thread, by its number, in what strace has told."""
+    counts = Counter(re.findall(r"^(\d+) +futex\(\w+, FUTEX_(WAIT|WAKE)", told, re.M))
+    return {int(thread): Calls(counts[thread, "WAIT"], counts[thread, "WAKE"]) for thread, _ in counts}

@@ -99,19 +99,43 @@ def reader(name: str) -> str:
     return found.under("XYZ text | MB/s", f"bodies of 1 MiB | {shown(found['bodies read'])}")
 
 
+CROWDS = {
+    "1 x 4096": "one session of 4,096 atoms",
+    "8 x 512": "8 users of 512 atoms",
+    "60 x 128": "60 users of 128 atoms",
+    "1 x 8 x 512": "8 sessions of one user, of 512 atoms",
+}
+THREADS = {"connections": "the connection's thread", "workers": "the workers"}
+
+
 def scale(name: str) -> str:
     found = Found(name)
-    crowds = {"1 x 4096": "one session of 4,096 atoms", "8 x 512": "8 users of 512 atoms", "60 x 128": "60 users of 128 atoms"}
-    rows = [
-        f"{text}, steps a second to those of four runs | "
-        + " | ".join(ratio(found[f"{crowd} atoms, {pool}, 4 workers"] / found[f"{crowd} atoms, four runs"]) for pool in POOLS)
-        for crowd, text in crowds.items()
-    ]
-    alone = [found["1 x 4096 atoms, one run"] / found[f"1 x 4096 atoms, {pool}, 1 workers"] for pool in POOLS]
-    spent = [found[f"1 x 4096 atoms, {pool}, 4 workers, processor time"] for pool in POOLS]
+    rows = [parts_of_runs(found, crowd) for crowd in CROWDS if f"{crowd} atoms, four runs" in found.figures]
+    largest = "1 x 4096 atoms"
+    steps = [1e3 / found[f"{largest}, {pool}, 4 workers"] for pool in POOLS]
+    alone = [found[f"{largest}, one run"] / found[f"{largest}, {pool}, 1 workers"] for pool in POOLS]
+    spent = [found[f"{largest}, {pool}, 4 workers, processor time"] for pool in POOLS]
     rows.append(f"one worker: time of a step of 4,096 atoms to `run`'s | {' | '.join(map(ratio, alone))}")
+    rows.append(f"4 workers: a step of 4,096 atoms, ms | {' | '.join(map(shown, steps))}")
     rows.append(f"4 workers: processor time of all threads to `run`'s | {' | '.join(map(ratio, spent))}")
-    return found.under("Measured | queue | lock", *rows)
+    return found.under("Measured | queue | lock", *rows, *rows_of_threads(found, largest))
+
+
+def parts_of_runs(found: Found, crowd: str) -> str:
+    """What four workers do of four runs at once, and these of one."""
+    four = found[f"{crowd} atoms, four runs"]
+    parts = [ratio(found[f"{crowd} atoms, {pool}, 4 workers"] / four) for pool in POOLS]
+    runs = ratio(four / found[f"{crowd} atoms, one run"])
+    return f"{CROWDS[crowd]}, steps a second to those of four runs, which are {runs} of one | {' | '.join(parts)}"
+
+
+def rows_of_threads(found: Found, crowd: str) -> Iterator[str]:
+    """What threads take for each tile, as far as it was measured."""
+    for kind, text in THREADS.items():
+        for figure, head in {"": "us", ", holds": "holds", ", wakes": "wakes"}.items():
+            names = [f"{crowd}, {pool}, 4 workers, {kind}{figure}" for pool in POOLS]
+            if all(each in found.figures for each in names):
+                yield f"4 workers: {head} of {text} for a tile | {' | '.join(ratio(found[each]) for each in names)}"
 
 
 def server(name: str) -> str:

@@ -11,10 +11,12 @@ import sys
 from typing import List
 
 import pytest
+from shared.program import Program
 
 TOP = pathlib.Path(__file__).resolve().parents[2]
 BENCH = TOP / "bench"
 sys.path.insert(0, str(BENCH))
+import serving  # noqa: E402
 import timing  # noqa: E402
 
 SECONDS = 120
@@ -71,6 +73,7 @@ def test_wrong_words_are_told_in_a_line(script: pathlib.Path) -> None:
         (["ratio", "no/such/program", "run", "--", "64"], "ratio: there is no program no/such/program"),
         (["ratio", "sh", "--", "0"], "ratio: argument n: 0 is no whole number from 1 on"),
         (["lines", "sh", "run", "900"], "lines: no `--` stands behind the words of the program"),
+        (["scale", "sh", "--beside", "no/such/program"], "scale: argument --beside: there is no program no/such/program"),
         (["tiles", "no/such/program"], "tiles: argument program: there is no program no/such/program"),
         (["species", "sh", "sh", "--seconds=0"], "species: --seconds is more than 0"),
         (["order", "sh", "--rounds=x"], "order: argument --rounds: x is no whole number from 1 on"),
@@ -123,3 +126,37 @@ def test_the_twin_beside_itself(tmp_path: pathlib.Path) -> None:
     of_rounds = [each for each in told["figures"] if "rounds" in each]
     assert [each["name"] for each in of_rounds] == ["program, 3 steps", "plain, 3 steps", "program, 0 steps", "plain, 0 steps"]
     assert all(len(each["rounds"]) == 2 and each["value"] == min(each["rounds"]) for each in of_rounds)
+
+
+def test_a_server_is_told_beside_runs_and_another_program(program: Program, tmp_path: pathlib.Path) -> None:
+    """Each figure of a server is there for both programs, with its rounds where it is the best of some; calls where they are counted."""
+    words = ["--beside", program.path, "--pool=queue", "--only=512", "--rounds=2", f"--json={tmp_path}/scale.json"]
+    done = ended(BENCH / "scale", program.path, *words)
+    assert (done.returncode, done.stderr) == (0, "") and done.stdout.count("beside the old program: ") == 1
+    figures = {each["name"]: each for each in json.loads((tmp_path / "scale.json").read_text())["figures"]}
+    for who in ("", "old program, "):
+        server = f"8 x 512 atoms, {who}queue, 4 workers"
+        timed = [f"8 x 512 atoms, {who}four runs", f"8 x 512 atoms, {who}one run", server]
+        timed += [f"{server}, {what}" for what in ("processor time", "connections", "workers")]
+        assert all(len(figures[name]["rounds"]) == 2 and figures[name]["value"] > 0 for name in timed)
+        counted = [f"{server}, {kind}, {word}" for kind in ("connections", "workers") for word in ("holds", "wakes")]
+        assert [name in figures for name in counted] in ([True] * 4, [False] * 4)
+
+
+def test_threads_are_told_apart_by_when_they_begin() -> None:
+    """A server's own thread begins first, then its workers', and then its connections'. A `run` has one."""
+    assert serving.by_kind("pwwwcc", 2) == {"program": "p", "workers": "www", "connections": "cc"}
+    assert serving.by_kind("p", 1) == {"program": "p", "workers": "", "connections": ""}
+    with subprocess.Popen(["sh", "-c", "read word"], stdin=subprocess.PIPE) as child:
+        assert serving.threads_of(child) == [f"/proc/{child.pid}/task/{child.pid}"]
+        assert serving.beginning_of(f"/proc/{child.pid}/task/{child.pid}")[1] == child.pid
+
+
+def test_calls_are_counted_by_thread() -> None:
+    told = """12  futex(0x7f01, FUTEX_WAIT_PRIVATE, 2, NULL <unfinished ...>
+13  futex(0x7f01, FUTEX_WAKE_PRIVATE, 1) = 1
+12  <... futex resumed>)             = 0
+12  futex(0x7f02, FUTEX_WAIT_BITSET_PRIVATE|FUTEX_CLOCK_REALTIME, 0, NULL, FUTEX_BITSET_MATCH_ANY) = -1 EAGAIN
+13  futex(0x7f02, FUTEX_WAKE_PRIVATE, 2147483647) = 0
+"""
+    assert serving.calls_in(told) == {12: serving.Calls(2, 0), 13: serving.Calls(0, 2)}

@@ -62,6 +62,31 @@ def test_lines_beside_the_twin(folder: Path) -> None:
     assert speeds.speed("lines", "a").splitlines()[-1] == "| 4,000,000 | 2,000,000 | 0.50 |"
 
 
+def test_a_pool_beside_four_runs(folder: Path) -> None:
+    figures: Dict[str, float] = {}
+    for crowd, four, queue, lock in (("1 x 4096", 800, 400, 80), ("8 x 512", 1000, 900, 300)):
+        rates = {"four runs": four, "one run": four / 4, "queue, 4 workers": queue, "lock, 4 workers": lock}
+        figures |= {f"{crowd} atoms, {what}": rate for what, rate in rates.items()}
+    for pool in ("queue", "lock"):
+        what = f"1 x 4096 atoms, {pool}, 4 workers"
+        figures |= {
+            f"1 x 4096 atoms, {pool}, 1 workers": 160,
+            f"{what}, processor time": 1.5,
+            f"{what}, connections": 0.875,
+            f"{what}, workers, wakes": 0.25,
+        }
+    kept(folder, "a", "bench/scale X --json a.json", figures, "")
+    assert speeds.speed("scale", "a").splitlines()[4:] == [
+        "| one session of 4,096 atoms, steps a second to those of four runs, which are 4.00 of one | 0.50 | 0.10 |",
+        "| 8 users of 512 atoms, steps a second to those of four runs, which are 4.00 of one | 0.90 | 0.30 |",
+        "| one worker: time of a step of 4,096 atoms to `run`'s | 1.25 | 1.25 |",
+        "| 4 workers: a step of 4,096 atoms, ms | 2.50 | 12.5 |",
+        "| 4 workers: processor time of all threads to `run`'s | 1.50 | 1.50 |",
+        "| 4 workers: us of the connection's thread for a tile | 0.88 | 0.88 |",
+        "| 4 workers: wakes of the workers for a tile | 0.25 | 0.25 |",
+    ]
+
+
 def test_commands_one_at_a_time(folder: Path) -> None:
     kept(
         folder,
