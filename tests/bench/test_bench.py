@@ -73,6 +73,7 @@ def test_wrong_words_are_told_in_a_line(script: pathlib.Path) -> None:
         (["ratio", "no/such/program", "run", "--", "64"], "ratio: there is no program no/such/program"),
         (["ratio", "sh", "--", "0"], "ratio: argument n: 0 is no whole number from 1 on"),
         (["lines", "sh", "run", "900"], "lines: no `--` stands behind the words of the program"),
+        (["lines", "sh", "--", "--beside=no/such/program"], "lines: argument --beside: there is no program no/such/program"),
         (["scale", "sh", "--beside", "no/such/program"], "scale: argument --beside: there is no program no/such/program"),
         (["tiles", "no/such/program"], "tiles: argument program: there is no program no/such/program"),
         (["species", "sh", "sh", "--seconds=0"], "species: --seconds is more than 0"),
@@ -126,6 +127,16 @@ def test_the_twin_beside_itself(tmp_path: pathlib.Path) -> None:
     of_rounds = [each for each in told["figures"] if "rounds" in each]
     assert [each["name"] for each in of_rounds] == ["program, 3 steps", "plain, 3 steps", "program, 0 steps", "plain, 0 steps"]
     assert all(len(each["rounds"]) == 2 and each["value"] == min(each["rounds"]) for each in of_rounds)
+
+
+@pytest.mark.skipif(shutil.which("valgrind") is None, reason="valgrind is not installed")
+def test_a_program_takes_as_many_instructions_as_itself(program: Program, tmp_path: pathlib.Path) -> None:
+    path = program.path
+    done = ended(BENCH / "lines", path, "run", "--", "--instructions", f"--beside={path}", f"--json={tmp_path}/lines.json")
+    assert (done.returncode, done.stderr) == (0, "") and done.stdout.endswith("\nratio 1.000\n")
+    ours, theirs = json.loads((tmp_path / "lines.json").read_text())["figures"]
+    assert (ours["name"], theirs["name"], ours["unit"]) == ("a SHOW, program", "a SHOW, old program", "instructions")
+    assert ours["value"] == theirs["value"] and 100 < ours["value"] < 10_000
 
 
 def test_a_server_is_told_beside_runs_and_another_program(program: Program, tmp_path: pathlib.Path) -> None:
