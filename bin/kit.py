@@ -28,10 +28,11 @@ Task = Tuple[List[Key], int, float, Callable[[Dict[Key, Any], int], Any]]
 LANES = ["processors()", "free()", "in_lanes(tasks)"]
 EDITS = ["edits_of(crate)", "checked(crate,texts,flags,kept)", "must_fail(crate,edit,flags,kept)", "seeded(crate,flags,start)"]
 CRATES = ["rtlib.guarded()", "rtlib.crates_below(top)", "rtlib.lock(crates)", "rtlib.Crate.below(self)", "rtlib.Crate.count(self,pattern)"]
+MADE = ["rtlib.Crate.words(self,flags,tests,keeps,as_source)", "rtlib.Crate.call(self,words)", "rtlib.Crate.stamp(crate,made)"]
 KEPT = ["rtlib.Crate.is_built(self)", "rtlib.Crate.has_kept(self)", "rtlib.Crate.build_rlib(self,flags,anew)"]
 ONE = ["share_work(is_alone)", "handles_of(root)", "Crate.compile(self,flags,to,tests)", "Crate.link(self,made,program)"]
 CALLED = {"gate": ["main(words)", *LANES, *EDITS], "planted": ["edits_alone(names)", *EDITS]}
-CALLED |= {"build": [*LANES, "need(crate)", *CRATES, *KEPT, "rtlib.Crate.stamp(crate,made)"], "compile": ["processors()", *CRATES, *ONE]}
+CALLED |= {"build": [*LANES, "need(crate)", *CRATES, *MADE, *KEPT], "compile": ["processors()", *CRATES, *ONE]}
 
 
 def load(asker: str) -> Any:
@@ -46,8 +47,7 @@ def load(asker: str) -> Any:
     return kit
 
 
-def has(rt: Any, call: str) -> bool:
-    """Whether the kit has a function of this name with these arguments."""
+def has(rt: Any, call: str) -> bool:  # a function of this name with these arguments
     name, _, arguments = call.rstrip(")").partition("(")
     try:
         return ",".join(inspect.signature(attrgetter(name)(rt)).parameters) == arguments
@@ -104,15 +104,14 @@ class Lanes:
             self.given[key] = gives
             if not isinstance(gives, BaseException):
                 self.begin_all()
-        for gives in self.given.values():
-            if isinstance(gives, BaseException):
-                raise gives
+        for error in (gives for gives in self.given.values() if isinstance(gives, BaseException)):
+            raise error
         return self.given
 
     def begin_all(self) -> None:
         """Begins what is ready and fits. Where there is no memory yet for the first one, the others wait as well."""
         for key in list(self.left):
-            if self.is_ready(key):
+            if self.given.keys() >= set(self.tasks[key][0]):
                 is_first = all(self.behind[other] < self.behind[key] for other in self.running)
                 if not self.begin(key, is_first) and is_first:
                     return
@@ -133,11 +132,8 @@ class Lanes:
         """The first proof has half of the processors, or all that nothing else could use now, and all else one."""
         if not is_first or key[1] != "proof":
             return 1
-        ready = sum(other != key and self.is_ready(other) for other in self.left)
+        ready = sum(other != key and self.given.keys() >= set(self.tasks[other][0]) for other in self.left)
         return max(1, self.processors // 2, self.processors - len(self.running) - ready)
-
-    def is_ready(self, key: Key) -> bool:
-        return all(below in self.given for below in self.tasks[key][0])
 
     def call(self, key: Key, jobs: int, is_first: bool) -> None:
         """Calls a task in a thread of its own, whose niceness is that of the processes which it begins."""
@@ -203,27 +199,30 @@ def show(text: str) -> None:  # on a terminal, in the place of the line that was
 
 
 class Libraries:
-    """The libraries of the program. Where no proof is kept, as in a new clone, their rlibs are made as for a verdict: from nothing, and of
-    statements alone, so that crates above read less. The kit leaves these without a stamp. A mark says of what they were made."""
+    """The libraries of the program. Where no proof is kept, as in a new clone, their rlibs are made from nothing, and of statements
+    alone, as for a verdict, so that crates above read less. The kit leaves these without a stamp. A mark says of what they were made."""
 
-    def __init__(self, libraries: Sequence[Any]) -> None:
-        self.all, self.anew = libraries, set[str]()
+    def __init__(self, rattle: str, libraries: Sequence[Any]) -> None:
+        self.rattle, self.all, self.anew = rattle, libraries, set[str]()
         self.of_statements = not any(crate.is_built() or crate.has_kept() for crate in libraries)
 
-    def task(self, crate: Any, given: Dict[Key, Any], jobs: int) -> bool:
-        """Builds a library, once those below it are built."""
+    def task(self, crate: Any, given: Dict[Key, Any], jobs: int) -> bool:  # builds one, once those below it are built
         below = {dep.name for dep in crate.below()}
         if not all(given[name, "proof"] for name in below):
             return False
         show(f"ljserve: {len(given)} of {len(self.all)} libraries are proved; {crate.name} is next")
+        if not self.of_statements:
+            return not crate.build_rlib(["--jobs", str(jobs)], anew=False)
         mark, made_of = Path(crate.folder, "out", "rlib", "statements"), crate.stamp()
-        if self.of_statements and mark.is_file() and mark.read_text() == made_of and self.anew.isdisjoint(below):
+        if mark.is_file() and mark.read_text() == made_of and self.anew.isdisjoint(below):
             return True
         self.anew.add(crate.name)
-        built = not crate.build_rlib(["--jobs", str(jobs)], self.of_statements)
-        if built and self.of_statements:
+        shutil.rmtree(mark.parent, ignore_errors=True)
+        mark.parent.mkdir(parents=True)
+        words = crate.words(["--jobs", str(jobs), "--statements"], keeps=False)
+        if not crate.call(self.rattle, "build", *words, "-o", crate.rlib):
             mark.write_text(made_of)
-        return built
+        return mark.is_file()
 
 
 def build(log: str) -> int:
@@ -235,9 +234,10 @@ def build(log: str) -> int:
         return subprocess.run(["rt", "lib"], cwd=TOP / "crates" / "lj_serve").returncode
     rt.rtlib.guarded()
     crates = rt.rtlib.crates_below(os.getcwd())
-    libraries = Libraries([it for it in crates if any(it.name in {dep.name for dep in top.below()} for top in crates if top.is_program)])
+    libraries = Libraries(
+        rt.rtlib.RATTLE, [it for it in crates if any(it.name in {dep.name for dep in top.below()} for top in crates if top.is_program)]
+    )
     held = rt.rtlib.lock(libraries.all)
-    rt.rtlib.Crate.cuts_libraries = libraries.of_statements
     tasks: Dict[Key, Task] = {
         (it.name, "proof"): ([(dep.name, "proof") for dep in it.below()], it.count(rb"\n"), rt.need(it), partial(libraries.task, it))
         for it in libraries.all
