@@ -459,7 +459,7 @@ BLOCKS = {
         "-- z is the least image": stands_in("crates/lj_ring/specs/Ring.antt"),
         "pub fn steps_are_undone": stands_in("crates/lj_step/src/laws.rt"),
         "pub fn hello": stands_in("crates/lj_access/src/directory.rt"),
-        "bin/ljserve --version": NEEDS_KIT,
+        "cd crates/lj_step": NEEDS_KIT,
     },
     "docs/PROTOCOL.md": {
         LOADED: first_dialogue,
