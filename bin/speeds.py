@@ -46,7 +46,7 @@ class Found:
 
 def moment(*found: Found) -> str:
     """The day, and the load before the first of these measurements began and at the end of the last one."""
-    told = sorted((each.told for each in found), key=lambda each: each["began"])
+    told = sorted((each.told for each in found), key=lambda each: str(each["began"]))
     before, after = told[0]["machine"]["load_before"], told[-1]["machine"]["load_after"]
     return f"{told[0]['began'][:10]}, load {before:.1f} to {after:.1f}"
 

@@ -14,7 +14,7 @@ NO_FEATURE = 'echo "this machine lacks a feature of x86-64-v3" >&2; exit 127'
 BUILDER = """#!/bin/sh
 echo "$(basename "$0") $*" >>"{calls}"
 mkdir -p {place}
-printf '#!/bin/sh\\necho {name} "$*"\\n' >{place}/ljserve
+printf '#!/bin/sh\\necho %s "$*"\\n' {name} >{place}/ljserve
 chmod +x {place}/ljserve
 """
 
@@ -106,8 +106,9 @@ def repository(tmp_path: pathlib.Path) -> Any:
     """A folder with bin/ljserve of the repository, and commands that stand in for those of the kit and of bin/."""
     put(tmp_path / "bin" / "ljserve", (TOP / "bin" / "ljserve").read_text())
     put(tmp_path / "bin" / "build", f'#!/bin/sh\necho "build" >>"{tmp_path}/calls"\n')
-    put(tmp_path / "bin" / "compile", BUILDER.format(calls=tmp_path / "calls", place=tmp_path / "crates/ljserve/out/v3", name="v3"))
-    put(tmp_path / "tools" / "rt", BUILDER.format(calls=tmp_path / "calls", place="out", name="v2"))
+    place = tmp_path / "crates/ljserve"
+    put(tmp_path / "bin" / "compile", BUILDER.format(calls=tmp_path / "calls", place=f'{place}/"$2"', name='"${1#x86-64-}"'))
+    put(tmp_path / "tools" / "rt", BUILDER.format(calls=tmp_path / "calls", place="out", name='"of the kit"'))
     (tmp_path / "crates.txt").touch()
     for folder in ("src", "specs"):
         (tmp_path / "crates" / "ljserve" / folder).mkdir(parents=True)
@@ -121,9 +122,21 @@ def test_the_repository_builds_the_one_beside_the_other(repository: Any) -> None
     for said, wanted in turns:
         assert begun(repository / "bin" / "ljserve", "run", path=path, **said)[:2] == (0, f"{wanted} run\n")
     calls = (repository / "calls").read_text().splitlines()
-    assert calls == ["build", "compile x86-64-v3 out/v3", "build", f"rt run --jobs {len(os.sched_getaffinity(0))}"]
+    assert calls == ["build", "compile x86-64-v3 out/v3", "build", "compile x86-64-v2 out"]
     out = repository / "crates" / "ljserve" / "out"
     assert sorted(str(path.relative_to(out)) for path in out.rglob("*")) == ["build.log", "ljserve", "v3", "v3/build.log", "v3/ljserve"]
+
+
+@pytest.mark.parametrize(
+    "compiles, cpu, ends",
+    [("exit 69", "v2", (0, "of the kit run\n")), ("exit 69", "v3", (70, "")), ("exit 1", "v2", (70, ""))],
+    ids=["v2", "v3", "not proved"],
+)
+def test_the_kit_builds_it_where_it_cannot_be_called(repository: Any, compiles: str, cpu: str, ends: Tuple[int, str]) -> None:
+    """By its own command, which is for x86-64-v2 alone, and not where the program is refused."""
+    put(repository / "bin" / "compile", f"#!/bin/sh\n{compiles}\n")
+    path = f"{repository / 'tools'}:{os.environ['PATH']}"
+    assert begun(repository / "bin" / "ljserve", "run", path=path, LJSERVE_CPU=cpu)[:2] == ends
 
 
 @pytest.mark.parametrize("source", ["bin/ljserve", "packaging/ljserve/ljserve"])
