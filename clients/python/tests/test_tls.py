@@ -187,10 +187,16 @@ def prompt(*words: Any) -> Tuple[Any, Any, Any]:
     return done.returncode, done.stdout, done.stderr
 
 
-def test_a_prompt(server: Any, relay: Any, good: Any) -> None:
+@pytest.fixture
+def emptied(server: Any) -> None:
+    """The user has no session, whatever tests came before in this process."""
     with connect("127.0.0.1", server.port, "ann", TOKEN, timeout=SECONDS) as user:
         for row in user.sessions():
             user.session(row.name).drop()
+
+
+@pytest.mark.usefixtures("emptied")
+def test_a_prompt(relay: Any, good: Any) -> None:
     where = f"127.0.0.1:{relay.port}", "ann"
     assert prompt(*where, "--tls", "--ca", good[0]) == (0, "OK LIST 0\n", "")
     status, told, fault = prompt(*where, "--tls")
@@ -201,6 +207,7 @@ def test_a_prompt(server: Any, relay: Any, good: Any) -> None:
     assert prompt("--tls")[2].endswith("ljclient: --tls is for a server: say HOST:PORT NAME\n")
 
 
+@pytest.mark.usefixtures("emptied")
 def test_a_record_that_is_verified(relay: Any, good: Any, tmp_path: pathlib.Path) -> None:
     path = tmp_path / "run.lj"
     path.write_text(with_checks(DIMER_TEXT))
