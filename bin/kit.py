@@ -24,13 +24,13 @@ Key = Tuple[Any, ...]  # the name of a crate, what is done for it, and of an edi
 # What a task waits for, its work in lines, its memory in bytes, and a call that gets what was given and how many jobs it may use.
 Task = Tuple[List[Key], int, float, Callable[[Dict[Key, Any], int], Any]]
 
-# What each command calls of the kit's, with the arguments that it gives.
+# What each command calls of the kit's, with its arguments, or with those of either kit.
 LANES = ["processors()", "free()", "in_lanes(tasks)"]
-EDITS = ["edits_of(crate)", "checked(crate,texts,flags,kept)", "must_fail(crate,edit,flags,kept)", "seeded(crate,flags,start)"]
+EDITS = ["edits_of(crate)", "checked(crate,texts,flags,kept)", "must_fail(crate,edit,flags,kept)"]
 CRATES = ["rtlib.guarded()", "rtlib.crates_below(top)", "rtlib.lock(crates)", "rtlib.Crate.below(self)", "rtlib.Crate.count(self,pattern)"]
-MADE = ["rtlib.Crate.words(self,flags,tests,keeps,as_source)", "rtlib.Crate.call(self,words)", "rtlib.Crate.stamp(crate,made)"]
+MADE = ["rtlib.Crate.words(self,flags,tests,keeps,as_source)", "rtlib.Crate.call(self,words)", "rtlib.Crate.stamp(self|crate,made)"]
 KEPT = ["rtlib.Crate.is_built(self)", "rtlib.Crate.has_kept(self)", "rtlib.Crate.build_rlib(self,flags,anew)"]
-ONE = ["share_work(is_alone)", "handles_of(root)", "Crate.compile(self,flags,to,tests)", "Crate.link(self,made,program)"]
+ONE = ["handles_of(root)", "Crate.compile(self,flags,to,tests)", "Crate.link(self,made,program)"]
 CALLED = {"gate": ["main(words)", *LANES, *EDITS], "planted": ["edits_alone(names)", *EDITS]}
 CALLED |= {"build": [*LANES, "need(crate)", *CRATES, *MADE, *KEPT], "compile": ["processors()", *CRATES, *ONE]}
 
@@ -50,7 +50,7 @@ def load(asker: str) -> Any:
 def has(rt: Any, call: str) -> bool:  # a function of this name with these arguments
     name, _, arguments = call.rstrip(")").partition("(")
     try:
-        return ",".join(inspect.signature(attrgetter(name)(rt)).parameters) == arguments
+        return ",".join(inspect.signature(attrgetter(name)(rt)).parameters) in arguments.split("|")
     except (AttributeError, TypeError, ValueError):
         return False
 
@@ -168,7 +168,7 @@ def judged(ran: Any) -> Any:
 
 def use_edits(rt: Any) -> None:
     """Has the kit's module try edits so."""
-    checked, must_fail, seeded = rt.checked, rt.must_fail, rt.seeded
+    checked, must_fail, seeded = rt.checked, rt.must_fail, getattr(rt, "seeded", None)  # an older kit shares work without the last
 
     def checked_by_names(crate: Any, texts: Any, flags: List[str], kept: Any) -> Any:
         return judged(checked(crate, texts, flags if texts else [*flags, *only(rt.edits_of(crate)[0])], kept))
@@ -177,7 +177,7 @@ def use_edits(rt: Any) -> None:
         return must_fail(crate, edit, [*flags, *(only([edit]) if only(rt.edits_of(crate)[0]) else [])], kept)
 
     def seeded_for_many(crate: Any, flags: List[str], start: Any = None) -> Any:
-        return "" if len(rt.edits_of(crate)[0]) <= FEW and not start else seeded(crate, flags, start)
+        return "" if not seeded or len(rt.edits_of(crate)[0]) <= FEW and not start else seeded(crate, flags, start)
 
     rt.checked, rt.must_fail, rt.seeded = checked_by_names, must_fail_by_names, seeded_for_many
 

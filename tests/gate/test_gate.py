@@ -23,7 +23,7 @@ if __name__ == "__main__":
     sys.exit(7)
 """
 GATE = "def main(words): return 0\ndef processors(): return 1\ndef free(): return 1\ndef in_lanes(tasks): return {}\n"
-EDITS = "def edits_of(crate): pass\ndef checked(crate, texts, flags, kept): pass\ndef seeded(crate, flags, start=None): pass\n"
+EDITS = "def edits_of(crate): pass\ndef checked(crate, texts, flags, kept): pass\n"
 MUST_FAIL = "def must_fail(crate, edit, flags, kept=None): pass\n"
 
 
@@ -65,11 +65,29 @@ def test_a_function_of_other_arguments_is_named(rt: Any, monkeypatch: pytest.Mon
     assert kit.lacking(rt, "gate") == kit.lacking(rt, "build") == ["free()"]
 
 
+def older(self: Any) -> str:
+    return ""
+
+
+def newer(crate: Any, made: Any = None) -> str:
+    return ""
+
+
+def other(self: Any, made: Any) -> str:
+    return ""
+
+
+@pytest.mark.parametrize("stamp, lacking", [(older, []), (newer, []), (other, ["rtlib.Crate.stamp(self|crate,made)"])])
+def test_a_stamp_is_that_of_either_kit(rt: Any, monkeypatch: pytest.MonkeyPatch, stamp: Any, lacking: List[str]) -> None:
+    monkeypatch.setattr(rt.rtlib.Crate, "stamp", stamp)
+    assert kit.lacking(rt, "build") == lacking
+
+
 @pytest.mark.parametrize(
     "functions, lacking",
     [
         (GATE + EDITS, "must_fail(crate,edit,flags,kept)"),
-        (GATE + MUST_FAIL, "edits_of(crate), checked(crate,texts,flags,kept), seeded(crate,flags,start)"),
+        (GATE + MUST_FAIL, "edits_of(crate), checked(crate,texts,flags,kept)"),
         (GATE + EDITS + MUST_FAIL.replace("edit, ", ""), "must_fail(crate,edit,flags,kept)"),
         ("a b", "command that Python can load (SyntaxError)"),
         ("raise OSError", "command that Python can load (OSError)"),
