@@ -12,4 +12,5 @@ pub mod Ending
 pub mod Rested
 pub mod Dialogues
 pub mod Handing
+pub mod ItemEnds
 mod AllRead

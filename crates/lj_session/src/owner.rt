@@ -22,6 +22,7 @@ use crate::state::UserState;
 use lj_step::{NotAwaited, Stray};
 use lj_tile::{Done, Kind, Label, Name, Task};
 use std::marker::Model;
+use std::mem;
 
 /// What the beginning of a command comes to.
 #[derive(Debug, Drop)]
@@ -76,7 +77,6 @@ impl Owner {
     /// Promise: a command is answered at once exactly where it has no turn to wait for, with the reply and the next
     /// user of the definition; else it waits, and will be answered what it would be now. If it is refused nothing has
     /// changed, and it changes no other session.
-    #[inline(never)]
     pub fn begin(&mut self, command: Command) -> Begin
         requires idle { self.old.waiting ≡ None }
         ensures at_once { IfAnswered result (λ _. turns_before self.old.state command ≡ 0) }
@@ -95,8 +95,32 @@ impl Owner {
         ensures number { self.new.number ≡ self.old.number }
         ensures quota { self.new.state.quota ≡ self.old.state.quota }
     {
-        let index = self.state.index_waited_for(&command);
-        if self.state.is_at_once(&command, index) {
+        let mut command = command;
+        self.begin_from(&mut command)
+    }
+
+    /// Begins a command as `begin` does, from the room that it was read into, so that it is not moved. What the room holds then
+    /// is not said.
+    pub fn begin_from(&mut self, command: &mut Command) -> Begin
+        requires idle { self.old.waiting ≡ None }
+        ensures at_once { IfAnswered result (λ _. turns_before self.old.state command.old ≡ 0) }
+        ensures answered { IfAnswered result (λ reply.
+            IsAnswered (user_in self.old) command.old reply (user_in self.new)) }
+        ensures idle { IfAnswered result (λ _. self.new.waiting ≡ None) }
+        ensures settled { IfAnswered result (IsSettled self.new.state) }
+        ensures steps { IfAnswered result (λ _. StepsFollow command.old self.old.state self.new.state) }
+        ensures takes_turns { OnRunning result (0 < turns_before self.old.state command.old) }
+        ensures begun { OnRunning result (self.new ≡ owner_begun command.old self.old) }
+        ensures alike { OnRunning result (IfSome self.new.waiting (λ left.
+            AnswersAlike (user_in self.new) left (user_in self.old) command.old)) }
+        ensures turns { OnRunning result (turns_left self.new ≡ turns_before self.old.state command.old) }
+        ensures unchanged { OnRefused result (self.new ≡ self.old) }
+        ensures others { OthersKept command.old self.old.state self.new.state }
+        ensures number { self.new.number ≡ self.old.number }
+        ensures quota { self.new.state.quota ≡ self.old.state.quota }
+    {
+        let index = self.state.index_waited_for(command);
+        if self.state.is_at_once(command, index) {
             return Begin::Answered(answer(&mut self.state, command, index));
         }
         self.hold(command);
@@ -268,20 +292,21 @@ impl Owner {
     /// Gives up the state, and what waits.
     pub fn abandon(self) {}
 
-    /// Holds a command that is not answered at once, and begins to take its own steps where no other is owed. It is kept out
-    /// of line, so that `begin` is short for what is answered at once.
+    /// Takes a command that is not answered at once out of its room and holds it, and begins to take its own steps where no
+    /// other is owed. It is kept out of line, so that `begin_from` is short for what is answered at once.
     #[inline(never)]
-    fn hold(&mut self, command: Command)
+    fn hold(&mut self, command: &mut Command)
         requires idle { self.old.waiting ≡ None }
-        requires waits { 0 < turns_before self.old.state command }
-        ensures begun { self.new ≡ owner_begun command self.old }
+        requires waits { 0 < turns_before self.old.state command.old }
+        ensures begun { self.new ≡ owner_begun command.old self.old }
         ensures alike { IfSome self.new.waiting (λ left.
-            AnswersAlike (user_in self.new) left (user_in self.old) command) }
-        ensures turns { turns_left self.new ≡ turns_before self.old.state command }
-        ensures others { OthersKept command self.old.state self.new.state }
+            AnswersAlike (user_in self.new) left (user_in self.old) command.old) }
+        ensures turns { turns_left self.new ≡ turns_before self.old.state command.old }
+        ensures others { OthersKept command.old self.old.state self.new.state }
         ensures number { self.new.number ≡ self.old.number }
         ensures quota { self.new.state.quota ≡ self.old.state.quota }
     {
+        let command = mem::replace(command, Command::Bye);
         self.waiting = Some(take_up(&mut self.state, command));
     }
 
@@ -323,21 +348,21 @@ impl Owner {
     }
 }
 
-/// Answers a command that waits for nothing, and takes no step of its own. The index is that of the session that it waits
-/// for.
-fn answer(state: &mut UserState, command: Command, index: Option<usize>) -> Reply
-    requires index { index ≡ index_waited_for state.old command }
-    requires at_once { turns_before state.old command ≡ 0 }
+/// Answers a command that waits for nothing, and takes no step of its own, from its room. The index is that of the session that
+/// it waits for.
+fn answer(state: &mut UserState, command: &mut Command, index: Option<usize>) -> Reply
+    requires index { index ≡ index_waited_for state.old command.old }
+    requires at_once { turns_before state.old command.old ≡ 0 }
     requires at_work { IsAtWork None state.old }
-    ensures answered { IsAnswered (user_of state.old) command result (user_of state.new) }
+    ensures answered { IsAnswered (user_of state.old) command.old result (user_of state.new) }
     ensures settled { IsSettled state.new result }
     ensures at_work { IsAtWork None state.new }
-    ensures steps { StepsFollow command state.old state.new }
+    ensures steps { StepsFollow command.old state.old state.new }
     ensures unchanged { OnRefusal result (state.new ≡ state.old) }
-    ensures others { OthersKept command state.old state.new }
+    ensures others { OthersKept command.old state.old state.new }
     ensures quota { state.new.quota ≡ state.old.quota }
 {
-    replied(state.perform(command, index))
+    replied(state.perform_from(command, index))
 }
 
 /// Returns the reply to a command: where it is refused, its refusal.

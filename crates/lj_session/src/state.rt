@@ -30,6 +30,7 @@ use lj_tile::Name;
 use lj_xyz::Symbol;
 use std::alloc::Global;
 use std::marker::Model;
+use std::mem;
 
 /// A user's quota, what is used of it, and sessions by their names, in order of loading, with the steps that are owed to
 /// them.
@@ -183,16 +184,47 @@ impl UserState {
         self.find(name).is_some()
     }
 
+    /// Performs a command as `perform` does, from its room. A SHOW, which comes most often, is read there; any other is taken
+    /// out.
+    pub(crate) fn perform_from(
+        &mut self,
+        command: &mut Command,
+        index: Option<usize>,
+    ) -> Result<Reply, Refusal>
+        requires index { index ≡ index_waited_for self.old command.old }
+        requires at_once { turns_before self.old command.old ≡ 0 }
+        ensures performs { Performs self.old command.old result self.new }
+        ensures quota { self.new.quota ≡ self.old.quota }
+        ensures unchanged { OnErr result (self.new ≡ self.old) }
+    {
+        if let Command::Show { name, atom } = command {
+            return self.show(name.copy(), index, *atom);
+        }
+        self.perform_taken(command, index)
+    }
+
+    /// Takes a command out of its room and performs it. It is kept out of line, so that `perform_from` is short for SHOW.
+    #[inline(never)]
+    fn perform_taken(
+        &mut self,
+        command: &mut Command,
+        index: Option<usize>,
+    ) -> Result<Reply, Refusal>
+        requires index { index ≡ index_waited_for self.old command.old }
+        requires at_once { turns_before self.old command.old ≡ 0 }
+        ensures performs { Performs self.old command.old result self.new }
+        ensures quota { self.new.quota ≡ self.old.quota }
+        ensures unchanged { OnErr result (self.new ≡ self.old) }
+    {
+        self.perform(mem::replace(command, Command::Bye), index)
+    }
+
     /// Performs a command that waits for nothing, and takes no step of its own. The index is that of the session that it
     /// waits for: SHOW, DUMP and ADVANCE read the session by it.
     ///
     /// # Errors
     /// The command's first refusal. Nothing has changed then. `Memory` comes only from LOAD, LOADMIX and BRANCH.
-    pub(crate) fn perform(
-        &mut self,
-        command: Command,
-        index: Option<usize>,
-    ) -> Result<Reply, Refusal>
+    fn perform(&mut self, command: Command, index: Option<usize>) -> Result<Reply, Refusal>
         requires index { index ≡ index_waited_for self.old command }
         requires at_once { turns_before self.old command ≡ 0 }
         ensures performs { Performs self.old command result self.new }

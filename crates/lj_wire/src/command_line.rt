@@ -2,11 +2,14 @@
 ghost use Rattle.std.specs.Prelude.{◌≡◌, [], ◌∷◌, option_map};
 ghost use Rattle.lj_session.specs.declared.body.LoadBody.TheVariants.{Unread};
 ghost use Rattle.lj_session.specs.declared.command.Command.TheVariants as command;
+ghost use Rattle.lj_wire.specs.declared.item.Item.TheVariants as items;
 ghost use Rattle.lj_wire.specs.Commands.{count_of, mode_of, name_and_number, one_name, two_names};
 ghost use Rattle.lj_wire.specs.Commands.{bare_command, list_command, load_command, tug_command, verb_command};
+ghost use Rattle.lj_wire.specs.Commands.{number_command};
 ghost use Rattle.lj_wire.specs.Commands.{class_in, load_from, load_mix_of, load_of, mode_and_count, symbols_of};
 
 use crate::displacement::parse_displacement;
+use crate::item::Item;
 use crate::limits::MAX_BODY_BYTES;
 use crate::verb::Verb;
 use crate::words::Words;
@@ -53,6 +56,17 @@ pub(crate) fn parse_words(verb: Verb, words: Words) -> Option<Command>
         Verb::Unload => one_name(words).map(|name| Command::Unload { name }),
         Verb::Bye => parse_bye(words),
     }
+}
+
+// Puts the SHOW that the words after SHOW say in the place of what `item` holds; None where they say none. SHOW is the command
+// that comes most often, and is put where it stays: no command is moved.
+pub(crate) fn put_show(words: Words, item: &mut Item) -> Option<()>
+    ensures { option_map (λ _. item.new) result
+        ≡ option_map items.Command (number_command command.Show words.entry) }
+{
+    let (name, atom) = name_and_number(words)?;
+    *item = Item::Command(Command::Show { name, atom });
+    Some(())
 }
 
 fn one_name(mut words: Words) -> Option<Name>

@@ -4,7 +4,7 @@ ghost use Rattle.lj_session.specs.declared.body.LoadBody.TheVariants.{Unread};
 ghost use Rattle.lj_wire.specs.Items.{refusal_of, is_ending, with_body};
 ghost use Rattle.lj_wire.specs.Commands.{item_with};
 
-use lj_session::{Command, Load, LoadBody, Refusal};
+use lj_session::{Command, LoadBody, Refusal};
 
 /// What is wrong with an item that is no command.
 #[derive(Clone, Copy, Debug, PartialEq, Eq)]
@@ -59,17 +59,22 @@ impl Item {
         }
     }
 
+    /// Puts this body into the item, where it is a load.
+    pub(crate) fn put_body(&mut self, body: LoadBody)
+        ensures value { self.new ≡ with_body self.old body }
+    {
+        if let Item::Command(Command::Load(load)) = self {
+            load.body = body;
+        }
+    }
+
     /// The item with this body, where it is a load.
     pub fn with_body(self, body: LoadBody) -> Item
         ensures value { result ≡ with_body self body }
         ensures whole { (line : List ℕ) → self ≡ item_with line Unread → result ≡ item_with line body }
     {
-        match self {
-            Item::Command(Command::Load(load)) => {
-                let load = Load { body, ..load };
-                Item::Command(Command::Load(load))
-            }
-            item => item,
-        }
+        let mut item = self;
+        item.put_body(body);
+        item
     }
 }

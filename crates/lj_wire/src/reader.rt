@@ -1,5 +1,5 @@
 //! The reader of a stream of lines and bodies.
-ghost use Rattle.std.specs.Prelude.{◌≡◌, ◌↔◌, false, [], IfOk, IfSome, IfNone, OnErr};
+ghost use Rattle.std.specs.Prelude.{◌≡◌, ◌↔◌, true, false, [], IfOk, IfSome, IfNone, OnErr};
 ghost use Rattle.std.specs.Io.KnownBytes.{prepend_known};
 ghost use Rattle.lj_wire.specs.declared.reader.phase.Phase.TheVariants.{Open};
 
@@ -85,26 +85,37 @@ impl<S: Source> LineReader<S> {
         ensures none { IfOk result (λ item. IfNone item (HandsNone self.old self.new)) }
         ensures fault { OnErr result (HasFailed self.old self.new) }
     {
+        let mut item = Item::Bad(Fault::Syntax);
+        Ok(self.next_in(&mut item)?.then_some(item))
+    }
+
+    /// Puts the item that `next` returns in the place of what `item` holds. Answers false where there is none.
+    pub fn next_in(&mut self, item: &mut Item) -> Result<bool, ReadFault>
+        ensures item { IfOk result (λ some. some ≡ true → HandsOut self.old self.new item.new) }
+        ensures none { IfOk result (λ some. some ≡ false → HandsNone self.old self.new) }
+        ensures fault { OnErr result (HasFailed self.old self.new) }
+    {
         match self.phase {
             Phase::Open => {}
-            Phase::Over => return Ok(None),
+            Phase::Over => return Ok(false),
             Phase::Failed => return Err(ReadFault),
         }
         if self.items == MAX_ITEMS {
             self.items += 1;
             self.phase = Phase::Over;
-            return Ok(Some(Item::Last(Fault::Enough)));
+            *item = Item::Last(Fault::Enough);
+            return Ok(true);
         }
-        let read = read_item(self.alloc, &mut self.input);
+        let read = read_item(self.alloc, &mut self.input, item);
         match &read {
-            Ok(Some(item)) => {
+            Ok(true) => {
                 if item.ends() {
                     self.phase = Phase::Over;
                 }
                 self.items += 1;
                 read
             }
-            Ok(None) => {
+            Ok(false) => {
                 self.phase = Phase::Over;
                 read
             }
@@ -148,8 +159,8 @@ impl<S: Source> LineReader<S> {
     /// is false.
     pub fn holds_item(&self) -> bool {
         let held = self.input.held();
-        if begins_no_load(held) && held.last() == Some(&b'\n') {
-            return true;
+        if begins_no_load(held) {
+            return held.last() == Some(&b'\n') || split_line(held).is_some();
         }
         let Some((line, _)) = split_line(held) else {
             return false;

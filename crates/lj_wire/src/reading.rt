@@ -2,15 +2,15 @@
 ghost use Rattle.std.specs.Prelude.{◌≡◌, Some, unwrap_or};
 ghost use Rattle.lj_session.specs.declared.body.LoadBody.TheVariants.{Unread};
 ghost use Rattle.lj_wire.specs.Commands.{body_len_announced, item_with, last_count, verb_command};
+ghost use Rattle.lj_wire.specs.declared.item.Item.TheVariants.{Bad};
 ghost use Rattle.lj_wire.specs.Commands.{counted_item, item_or_syntax, over_item, verb_body_len, verb_item};
 
-use crate::command_line::{parse_count, parse_words};
+use crate::command_line::{parse_count, parse_words, put_show};
 use crate::item::{Fault, Item};
 use crate::limits::LONG_LINE_BYTES;
 use crate::line::{is_over, words_in};
 use crate::verb::Verb;
 use crate::words::Words;
-use lj_session::Command;
 
 /// What a line says.
 #[derive(Debug, Drop)]
@@ -27,16 +27,31 @@ pub fn read_line(line: &[u8]) -> LineReading
     ensures item { result.item ≡ item_with line.now Unread }
     ensures body { result.body ≡ body_len_announced line.now }
 {
+    let mut item = Item::Bad(Fault::Syntax);
+    let body = read_line_in(line, &mut item);
+    LineReading { item, body }
+}
+
+/// Puts the item that `read_line` returns in the place of what `item` holds, and answers how many bytes of body follow the line.
+pub(crate) fn read_line_in(line: &[u8], item: &mut Item) -> usize
+    ensures item { item.new ≡ item_with line.now Unread }
+    ensures body { result ≡ body_len_announced line.now }
+{
     if is_over(line) {
-        return without_body(over_item(line));
+        put_over(line, item);
+        return 0;
     }
     let mut words = words_in(line);
     let Some(word) = words.next() else {
-        return without_body(Item::Bad(Fault::Syntax));
+        put_bad(Fault::Syntax, item);
+        return 0;
     };
     match Verb::parse(word) {
-        Some(verb) => read_command(verb, words),
-        None => without_body(Item::Bad(Fault::Command)),
+        Some(verb) => read_command(verb, words, item),
+        None => {
+            put_bad(Fault::Command, item);
+            0
+        }
     }
 }
 
@@ -49,56 +64,81 @@ pub fn parse_command(line: &[u8]) -> Item
     read_line(line).item
 }
 
-fn without_body(item: Item) -> LineReading
-    ensures { result ≡ record { item = item; body = 0 } }
+// Puts a fault that the connection goes on after.
+#[cold]
+#[inline(never)]
+fn put_bad(fault: Fault, item: &mut Item)
+    ensures { item.new ≡ Bad fault }
 {
-    LineReading { item, body: 0 }
+    *item = Item::Bad(fault);
 }
 
-// The item of a line that is too long for a command.
-fn over_item(line: &[u8]) -> Item
-    ensures { result ≡ over_item line.now }
+// Puts the item of a line that is too long for a command.
+#[cold]
+#[inline(never)]
+fn put_over(line: &[u8], item: &mut Item)
+    ensures { item.new ≡ over_item line.now }
 {
-    if line.len() < LONG_LINE_BYTES {
+    *item = if line.len() < LONG_LINE_BYTES {
         Item::Bad(Fault::Line)
     } else {
         Item::Last(Fault::Long)
-    }
+    };
 }
 
-fn or_syntax(command: Option<Command>) -> Item
-    ensures { result ≡ item_or_syntax command }
-{
-    match command {
-        Some(command) => Item::Command(command),
-        None => Item::Bad(Fault::Syntax),
-    }
-}
-
-// What the line of a command says, by its first word and those after it.
-fn read_command(verb: Verb, words: Words) -> LineReading
-    ensures item { result.item ≡ verb_item (Some verb) words.entry Unread }
-    ensures body { result.body ≡ verb_body_len (Some verb) words.entry }
+// Puts what the line of a command says, by its first word and those after it, and answers how many bytes of body follow.
+fn read_command(verb: Verb, words: Words, item: &mut Item) -> usize
+    ensures item { item.new ≡ verb_item (Some verb) words.entry Unread }
+    ensures body { result ≡ verb_body_len (Some verb) words.entry }
 {
     if verb.has_body() {
-        return read_load(verb, words);
+        return read_load(verb, words, item);
     }
-    without_body(or_syntax(parse_words(verb, words)))
+    put_command(verb, words, item);
+    0
 }
 
-// What the line of a load says.
-fn read_load(verb: Verb, words: Words) -> LineReading
-    ensures item { result.item
+// Puts the command of words that say one, and a fault where they say none.
+fn put_command(verb: Verb, words: Words, item: &mut Item)
+    ensures { item.new ≡ item_or_syntax (verb_command verb Unread words.entry) }
+{
+    match verb {
+        Verb::Show => {
+            if put_show(words, item).is_none() {
+                put_bad(Fault::Syntax, item);
+            }
+        }
+        _ => put_words(verb, words, item),
+    }
+}
+
+// Puts what the line of a load says.
+fn read_load(verb: Verb, words: Words, item: &mut Item) -> usize
+    ensures item { item.new
         ≡ counted_item (last_count words.entry) (verb_command verb Unread words.entry) }
-    ensures body { result.body ≡ unwrap_or (last_count words.entry) 0 }
+    ensures body { result ≡ unwrap_or (last_count words.entry) 0 }
 {
     match last_count(words.copy()) {
-        Some(body) => LineReading {
-            item: or_syntax(parse_words(verb, words)),
-            body,
-        },
-        None => without_body(Item::Last(Fault::Body)),
+        Some(body) => {
+            put_words(verb, words, item);
+            body
+        }
+        None => {
+            *item = Item::Last(Fault::Body);
+            0
+        }
     }
+}
+
+// Puts what `put_command` does, of any verb. It is kept out of line, so that `put_command` is short for SHOW.
+#[inline(never)]
+fn put_words(verb: Verb, words: Words, item: &mut Item)
+    ensures { item.new ≡ item_or_syntax (verb_command verb Unread words.entry) }
+{
+    *item = match parse_words(verb, words) {
+        Some(command) => Item::Command(command),
+        None => Item::Bad(Fault::Syntax),
+    };
 }
 
 // The count of the line of a load: its last word, and not its first one.

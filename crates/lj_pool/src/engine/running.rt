@@ -24,31 +24,31 @@ pub(crate) enum Halt {
     TooManyStrays,
 }
 
-/// Answers an item; a command once what it waits for is done.
+/// Answers an item; a command once what it waits for is done. What `item` holds then is not said.
 pub(crate) fn answer<P: Pool>(
     owner: &mut Owner,
     user: u8,
     pool: &mut P,
-    item: Item,
+    item: &mut Item,
     room: &mut Task,
 ) -> Result<Reply, Halt>
     requires idle { owner.old.waiting ≡ None }
     requires number { owner.old.number ≡ user }
     requires gathers { Gathers owner.old (P.seen pool.old).owed }
-    ensures answered { IfOk result (λ reply. AnswersItem (user_in owner.old) item reply (user_in owner.new)) }
+    ensures answered { IfOk result (λ reply. AnswersItem (user_in owner.old) item.old reply (user_in owner.new)) }
     ensures settled { IfOk result (IsSettled owner.new.state) }
     ensures idle { OnOk result (owner.new.waiting ≡ None) }
     ensures gathers { OnOk result (Gathers owner.new (P.seen pool.new).owed) }
     ensures counted { OnOk result (CountsRise
-        (item_tiles (user_in owner.old) item + tiles_to_come owner.old.state - tiles_to_come owner.new.state)
+        (item_tiles (user_in owner.old) item.old + tiles_to_come owner.old.state - tiles_to_come owner.new.state)
         (P.seen pool.old) (P.seen pool.new)) }
     ensures handed { OnOk result (HandedWithin
-        (tiles_to_come owner.old.state + item_tiles (user_in owner.old) item) (tiles_to_come owner.new.state)
+        (tiles_to_come owner.old.state + item_tiles (user_in owner.old) item.old) (tiles_to_come owner.new.state)
         (P.seen pool.old) (P.seen pool.new)) }
-    ensures owes { OnOk result (OwesAfter owner.old.state item owner.new.state) }
-    ensures waits { OnErr result (0 < item_before owner.old.state item) }
+    ensures owes { OnOk result (OwesAfter owner.old.state item.old owner.new.state) }
+    ensures waits { OnErr result (0 < item_before owner.old.state item.old) }
     ensures missing { OnErr result (FallsShort
-        (tiles_to_come owner.old.state + item_tiles (user_in owner.old) item)
+        (tiles_to_come owner.old.state + item_tiles (user_in owner.old) item.old)
         (P.seen pool.old) (P.seen pool.new)) }
     ensures halted { IfErr result (λ halt. IsHalted halt (P.seen pool.old) (P.seen pool.new)) }
     ensures number { owner.new.number ≡ user }
@@ -56,11 +56,11 @@ pub(crate) fn answer<P: Pool>(
     ensures own { P.for_others pool.new user ≡ P.for_others pool.old user }
 {
     match item {
-        Item::Command(command) => match owner.begin(command) {
+        Item::Command(command) => match owner.begin_from(command) {
             Begin::Answered(reply) => Ok(reply),
             Begin::Running => run(owner, user, pool, room),
         },
-        Item::Bad(fault) | Item::Last(fault) => Ok(Reply::Refused(Refusal::from(fault))),
+        Item::Bad(fault) | Item::Last(fault) => Ok(Reply::Refused(Refusal::from(*fault))),
     }
 }
 

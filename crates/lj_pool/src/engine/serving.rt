@@ -22,7 +22,7 @@ use crate::engine::writing::put_reply;
 use crate::pool::{MAX_STRAYS, Pool};
 use lj_session::{Command, Owner, UserState};
 use lj_tile::Task;
-use lj_wire::{Item, Line, LineReader, ReadFault, Sink, Source, WriteFault};
+use lj_wire::{Fault, Item, Line, LineReader, ReadFault, Sink, Source, WriteFault};
 use std::alloc::Global;
 
 /// Serves a stream of commands from a user's state on, over a pool that owes nothing. What is written is the dialogue
@@ -87,20 +87,21 @@ pub fn serve_lines<R: Source, W: Sink, P: Pool>(
     let mut owner = Owner::new(state, user);
     let mut line = Line::new();
     let mut room = Task::blank();
+    let mut item = Item::Bad(Fault::Syntax);
     let mut owes = true;
     'items: loop {
         owes = match work_ahead(&mut owner, user, pool, owes, &mut room) {
             Ok(owes) => owes,
             Err(halt) => return given_up(owner, halt),
         };
-        let item = match lines.next() {
-            Ok(Some(item)) => item,
-            Ok(None) => return (Some(owner.into_state()), Served::End),
+        match lines.next_in(&mut item) {
+            Ok(true) => {}
+            Ok(false) => return (Some(owner.into_state()), Served::End),
             Err(ReadFault) => return (Some(owner.into_state()), Served::ReadFault),
-        };
+        }
         let ending = ending_of(&item);
         owes = owes || matches!(&item, Item::Command(Command::Start { .. }));
-        let reply = match answer(&mut owner, user, pool, item, &mut room) {
+        let reply = match answer(&mut owner, user, pool, &mut item, &mut room) {
             Ok(reply) => reply,
             Err(halt) => return given_up(owner, halt),
         };

@@ -1,5 +1,5 @@
 //! Items read whole.
-ghost use Rattle.std.specs.Prelude.{◌≡◌, [], IfOk, OnOk, OnErr};
+ghost use Rattle.std.specs.Prelude.{◌≡◌, [], Some, None, if◌then◌else◌, IfOk, OnOk, OnErr};
 ghost use Rattle.lj_wire.specs.Input.{ReadsFor};
 ghost use Rattle.lj_wire.specs.Ends.{Rises};
 ghost use Rattle.lj_wire.specs.Steps.{may_take_body, Finishes, ReadsItem, TakesFewer, TakesNoItem};
@@ -8,16 +8,17 @@ use super::load_body::{pass, read_body};
 use super::source_input::{Front, Input, Passed};
 use crate::ends::{ReadFault, Source};
 use crate::item::{Fault, Item};
-use crate::reading::read_line;
+use crate::reading::read_line_in;
 use lj_session::Command;
 use std::alloc::Global;
 
-/// Reads an item. `None` where the input ends in less than one.
+/// Reads an item in the place of what `item` holds. Answers false where the input ends in less than one.
 pub(crate) fn read_item<S: Source>(
     alloc: Global,
     input: &mut Input<S>,
-) -> Result<Option<Item>, ReadFault>
-    ensures item { IfOk result (λ item. ReadsItem input.old item input.new) }
+    item: &mut Item,
+) -> Result<bool, ReadFault>
+    ensures item { IfOk result (λ whole. ReadsItem input.old (if whole then Some item.new else None) input.new) }
     ensures counted { OnOk result (input.new.errors ≡ input.old.errors) }
     ensures part { OnErr result (TakesNoItem input.old input.new) }
     ensures emptied { OnErr result (input.new.held ≡ []) }
@@ -26,42 +27,50 @@ pub(crate) fn read_item<S: Source>(
     match input.find_line()? {
         Front::Line(count) => {
             let (line, _) = input.held().split_at(count);
-            let reading = read_line(line);
+            let body = read_line_in(line, item);
             input.take(count + 1);
-            finish(alloc, input, reading.item, reading.body)
+            finish(alloc, input, item, body)
         }
         Front::Long => match input.pass_line()? {
-            Passed::Line => Ok(Some(Item::Bad(Fault::Line))),
-            Passed::Long => Ok(Some(Item::Last(Fault::Long))),
-            Passed::End => Ok(None),
+            Passed::Line => {
+                *item = Item::Bad(Fault::Line);
+                Ok(true)
+            }
+            Passed::Long => {
+                *item = Item::Last(Fault::Long);
+                Ok(true)
+            }
+            Passed::End => Ok(false),
         },
-        Front::End => Ok(None),
+        Front::End => Ok(false),
     }
 }
 
-// Reads the body of `count` bytes after a line, and puts it into the item of the line if that is a load.
+// Reads the body of `count` bytes after a line, and puts it into the item of the line if that is a load. Answers false where
+// the input ends before.
 fn finish<S: Source>(
     alloc: Global,
     input: &mut Input<S>,
-    item: Item,
+    item: &mut Item,
     count: usize,
-) -> Result<Option<Item>, ReadFault>
-    ensures item { IfOk result (λ handed. Finishes input.old item count handed input.new) }
+) -> Result<bool, ReadFault>
+    ensures item { IfOk result (λ whole.
+        Finishes input.old item.old count (if whole then Some item.new else None) input.new) }
     ensures counted { OnOk result (input.new.errors ≡ input.old.errors) }
     ensures part { OnErr result (TakesFewer input.old input.new count) }
     ensures emptied { OnErr result (input.new.held ≡ []) }
     ensures risen { OnErr result (Rises input.old.errors input.new.errors) }
     ensures reads_for { ReadsFor input.old input.new count }
 {
-    if !takes_body(&item) {
-        if !pass(input, count)? {
-            return Ok(None);
-        }
-        return Ok(Some(item));
+    if !takes_body(item) {
+        return pass(input, count);
     }
     match read_body(alloc, input, count)? {
-        Some(body) => Ok(Some(item.with_body(body))),
-        None => Ok(None),
+        Some(body) => {
+            item.put_body(body);
+            Ok(true)
+        }
+        None => Ok(false),
     }
 }
 

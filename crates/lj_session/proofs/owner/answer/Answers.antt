@@ -12,22 +12,22 @@ none_owed owned command none = omega (arith, none)
 
 pub returns-clause-settled : goal.returns-clause-settled
 returns-clause-settled c =
-    subst (IsSettled c.perform.new.self) (sym c.replied.ensures)
-    (settled-performed c.args.state.now c.perform.new.self c.args.command c.perform.result c.perform.ensures.performs
-    (none_owed c.args.state.now c.args.command c.requires.at_once))
+    subst (IsSettled c.perform_from.new.self) (sym c.replied.ensures)
+    (settled-performed c.args.state.now c.perform_from.new.self c.args.command.now c.perform_from.result c.perform_from.ensures.performs
+    (none_owed c.args.state.now c.args.command.now c.requires.at_once))
 
 pub returns-clause-at_work : goal.returns-clause-at_work
 returns-clause-at_work c =
-    at_work-performed c.args.state.now c.perform.new.self c.args.command c.perform.result
-    c.perform.ensures.performs c.perform.ensures.unchanged c.requires.at_work
+    at_work-performed c.args.state.now c.perform_from.new.self c.args.command.now c.perform_from.result
+    c.perform_from.ensures.performs c.perform_from.ensures.unchanged c.requires.at_work
 
 pub returns-clause-steps : goal.returns-clause-steps
 returns-clause-steps c =
-    steps-performed c.args.state.now c.perform.new.self c.args.command c.perform.result
-    c.perform.ensures.performs c.perform.ensures.unchanged
+    steps-performed c.args.state.now c.perform_from.new.self c.args.command.now c.perform_from.result
+    c.perform_from.ensures.performs c.perform_from.ensures.unchanged
 
 pub returns-clause-unchanged : goal.returns-clause-unchanged
 returns-clause-unchanged c =
-    subst (λ r. OnRefusal r (c.perform.new.self ≡ c.args.state.now)) (sym c.replied.ensures)
-    (refused-unchanged (c.perform.new.self ≡ c.args.state.now) c.args.state.now c.perform.new.self c.args.command
-    c.perform.result c.perform.ensures.performs c.perform.ensures.unchanged)
+    subst (λ r. OnRefusal r (c.perform_from.new.self ≡ c.args.state.now)) (sym c.replied.ensures)
+    (refused-unchanged (c.perform_from.new.self ≡ c.args.state.now) c.args.state.now c.perform_from.new.self c.args.command.now
+    c.perform_from.result c.perform_from.ensures.performs c.perform_from.ensures.unchanged)

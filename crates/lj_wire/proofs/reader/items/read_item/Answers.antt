@@ -1,4 +1,4 @@
-use Rattle.std.proofs.Common.{◌≡◌, ◌≤◌, length, take, ap, ◌∙◌, arith}
+use Rattle.std.proofs.Common.{◌≡◌, ◌≤◌, length, take, Some, None, if◌then◌else◌, ap, ◌∙◌, arith}
 use Rattle.std.proofs.lemmas.Result.{IfOk-weaker, IfErr-weaker}
 use Rattle.lj_wire.specs.declared.reader.buffer.TheConstants.{MAX_HELD_BYTES}
 use Rattle.lj_wire.specs.declared.reader.source_input.Front.TheVariants as front
@@ -29,15 +29,15 @@ returns-in-Line-clause-item g c =
     let on = goes_onward c.args.input.now mid c.take.new.self c.finish.new.input line c.in-Line.count _ counted searched
     c.take.ensures c.finish.ensures.reads_for in
     IfOk-weaker c.finish.result _ _
-    (λ handed f. finished c.args.input.now c.take.new.self c.finish.new.input line _ _ handed (taken g c)
-    on c.read_line-reading.ensures.item c.read_line-reading.ensures.body f)
+    (λ whole f. finished c.args.input.now c.take.new.self c.finish.new.input line _ _
+    (if whole then Some c.finish.new.item else None) (taken g c) on c.read_line_in-body.ensures.item c.read_line_in-body.ensures.body f)
     c.finish.ensures.item
 
 pub returns-in-Line-clause-part : goal.returns-in-Line-clause-part
 returns-in-Line-clause-part g c =
     IfErr-weaker c.finish.result _ _
     (λ fault f. open_body c.args.input.now c.take.new.self c.finish.new.input c.split_at.result.0.now _ (taken g c)
-    c.read_line-reading.ensures.body f)
+    c.read_line_in-body.ensures.body f)
     c.finish.ensures.part
 
 pub returns-in-Line-2-clause-item : goal.returns-in-Line-2-clause-item

@@ -2,10 +2,10 @@ use Rattle.std.proofs.Common.{◌≡◌, ◌+◌, refl, sym, ap, ◌∙◌, arit
 use Rattle.lj_wire.specs.declared.limits.TheConstants.{MAX_ITEMS}
 use Rattle.lj_wire.specs.declared.reader.phase.Phase.TheVariants.{Open}
 use Rattle.lj_wire.proofs.Wholes.{enough}
-use Rattle.lj_wire.proofs.reader.LineReader.next.Goals as goal
+use Rattle.lj_wire.proofs.reader.LineReader.next_in.Goals as goal
 
 pub returns-then-self-eq-MAX_ITEMS-clause-item : goal.returns-then-self-eq-MAX_ITEMS-clause-item
-returns-then-self-eq-MAX_ITEMS-clause-item g c =
+returns-then-self-eq-MAX_ITEMS-clause-item g c = λ some.
     let old = c.args.self.now in
     let is_open : old.phase ≡ Open = sym (ap (λ s. s.phase) c.self.view_is) ∙ c.in-Open.is in
     let items = ap (λ s. s.items) c.self.view_is in

@@ -2,17 +2,16 @@ use Rattle.std.proofs.Common.{ap, sym, ◌∙◌}
 use Rattle.lj_session.specs.declared.body.LoadBody.TheVariants.{Unread}
 use Rattle.lj_wire.specs.Commands.{verb_body_len, verb_item}
 use Rattle.lj_wire.proofs.Parsing.{says_empty, says_words}
-use Rattle.lj_wire.proofs.reading.read_line.Goals as goal
+use Rattle.lj_wire.proofs.reading.read_line_in.Goals as goal
 
 pub returns-in_default-clause-item : goal.returns-in_default-clause-item
 returns-in_default-clause-item c =
-    rw c.without_body-in_default.ensures
-    (says_empty c.args.line.now Unread (sym c.is_over.ensures ∙ c.if-is_over.false)
+    c.put_bad.ensures
+    ∙ (says_empty c.args.line.now Unread (sym c.is_over.ensures ∙ c.if-is_over.false)
     (sym c.words_in-words.ensures ∙ c.in_default.ensures.steps.0)).item_is
 
 pub returns-in_default-clause-body : goal.returns-in_default-clause-body
 returns-in_default-clause-body c =
-    rw c.without_body-in_default.ensures
     (says_empty c.args.line.now Unread (sym c.is_over.ensures ∙ c.if-is_over.false)
     (sym c.words_in-words.ensures ∙ c.in_default.ensures.steps.0)).len_is
 
@@ -32,14 +31,13 @@ returns-in-Some-parse-clause-body c =
 
 pub returns-in-None-clause-item : goal.returns-in-None-clause-item
 returns-in-None-clause-item c =
-    rw c.without_body-in-None.ensures
-    (ap (λ verb. verb_item verb c.next.new.self Unread) c.in-None.ensures
+    c.put_bad-in-None.ensures
+    ∙ ap (λ verb. verb_item verb c.next.new.self Unread) c.in-None.ensures
     ∙ (says_words c.args.line.now c.in-Some.word.now c.next.new.self Unread
-    (sym c.is_over.ensures ∙ c.if-is_over.false) (sym c.words_in-words.ensures ∙ c.in-Some.ensures.steps)).item_is)
+    (sym c.is_over.ensures ∙ c.if-is_over.false) (sym c.words_in-words.ensures ∙ c.in-Some.ensures.steps)).item_is
 
 pub returns-in-None-clause-body : goal.returns-in-None-clause-body
 returns-in-None-clause-body c =
-    rw c.without_body-in-None.ensures
-    (ap (λ verb. verb_body_len verb c.next.new.self) c.in-None.ensures
+    ap (λ verb. verb_body_len verb c.next.new.self) c.in-None.ensures
     ∙ (says_words c.args.line.now c.in-Some.word.now c.next.new.self Unread
-    (sym c.is_over.ensures ∙ c.if-is_over.false) (sym c.words_in-words.ensures ∙ c.in-Some.ensures.steps)).len_is)
+    (sym c.is_over.ensures ∙ c.if-is_over.false) (sym c.words_in-words.ensures ∙ c.in-Some.ensures.steps)).len_is
