@@ -1,14 +1,18 @@
-//! Tests of the pools: ends that are full, a full pool, a closed pool, ends that are gone, a user that is withdrawn, ends that
-//! poll, tasks that a gate sends back, work that goes ahead of the next command, and sessions that are worked on at once.
+//! Tests of the pools: ends that are full, a full pool, posts that are refused, a closed pool, ends that are gone, a user that is
+//! withdrawn, ends that find nothing or poll, tasks that are taken in turn or that a gate sends back, work that goes ahead of the
+//! next command, and sessions that are worked on at once.
 
 mod ahead;
 mod closing;
 mod ends;
 mod filled;
 mod handed_back;
+mod in_turn;
+mod nothing_found;
 mod over_lock;
 mod over_queue;
 mod polling;
+mod refused;
 mod room;
 mod scene;
 mod side_by_side;

@@ -1,7 +1,8 @@
-//! A pool that is closed while an end waits for a result, or has fetched one of two.
+//! A pool that is closed while an end waits for a result, or has fetched one of two, or before one posts.
 
 use super::over_lock::{OverLock, over_lock};
 use super::over_queue::{OverQueue, over_queue};
+use super::room::{self, Answer, post_last};
 use super::scene::{Scene, Seen};
 use super::stage::{Host, Stage, beside_worker};
 use super::{close_late, posting_end};
@@ -14,7 +15,10 @@ use std::thread;
 
 const USER: u8 = 7;
 
-/// The user whose only task is posted after those of the other, so that its result is given after theirs.
+/// Another one.
+const OTHER: u8 = 9;
+
+/// The user whose only task is posted after those of the others, so that its result is given after theirs.
 const LAST: u8 = 8;
 
 /// Posts a task that nobody computes, and waits for its result. Whether none came, and the end is closed.
@@ -61,37 +65,84 @@ fn who_waits_for_a_result_is_told_of_a_closed_book(rt: HostRuntime) -> Result<()
     Ok(())
 }
 
-/// Fetches one of two results that were given, so that the other is in hand over a queue, and closes the pool. Whether
-/// neither comes any more.
-fn drop_in_hand<S: Stage<R>, R: Host>(rt: &R, stage: &S) -> bool {
-    let mut end = posting_end(rt, stage, USER, 2);
-    let mut last = posting_end(rt, stage, LAST, 1);
-    let all_given = last.owed() > 0 && last.fetch(LAST).is_some();
-    let first_came = end.poll(USER).is_some();
-    stage.close(rt);
-    let polled = end.poll(USER);
-    let is_dropped = polled.is_none() && end.owed() == 1 && end.fetch(USER).is_none();
-    stage.leave(rt, end);
-    stage.leave(rt, last);
-    all_given && first_came && is_dropped
+/// Polls over a closed pool, and then fetches. Whether nothing comes, and the task is owed still.
+fn poll_then_fetch<P: Pool>(end: &mut P) -> bool {
+    end.poll(USER).is_none() && end.owed() == 1 && end.fetch(USER).is_none() && end.closed()
 }
 
-/// An end has a result in hand as the pool is closed. Whether that does not come any more.
+/// Fetches over a closed pool, and then polls. Whether nothing comes, and the task is owed still.
+fn fetch_then_poll<P: Pool>(end: &mut P) -> bool {
+    end.owed() == 1 && end.fetch(OTHER).is_none() && end.closed() && end.poll(OTHER).is_none()
+}
+
+/// Two ends fetch one of two results that were given, so that the other is in hand over a queue, and the pool is closed.
+/// Whether neither of these comes any more.
+fn drop_in_hand<S: Stage<R>, R: Host>(rt: &R, stage: &S) -> bool {
+    let mut end = posting_end(rt, stage, USER, 2);
+    let mut other = posting_end(rt, stage, OTHER, 2);
+    let mut last = posting_end(rt, stage, LAST, 1);
+    let all_given = last.owed() > 0 && last.fetch(LAST).is_some();
+    let first_came = end.poll(USER).is_some() && other.poll(OTHER).is_some();
+    stage.close(rt);
+    let are_dropped = poll_then_fetch(&mut end) && fetch_then_poll(&mut other);
+    stage.leave(rt, end);
+    stage.leave(rt, other);
+    stage.leave(rt, last);
+    all_given && first_came && are_dropped
+}
+
+/// Ends have results in hand as the pool is closed. Whether these do not come any more.
 pub fn close_in_hand<S: Stage<R> + Sync, R: Host + Sync>(rt: &R, stage: &S) -> bool {
     beside_worker(rt, stage, move || drop_in_hand(rt, stage))
 }
 
 #[test]
-fn a_result_in_hand_does_not_outlive_the_pool(rt: HostRuntime) -> Result<(), Fail> {
+fn results_in_hand_do_not_outlive_the_pool(rt: HostRuntime) -> Result<(), Fail> {
     let OverQueue { seen, given, .. } = over_queue(&rt, 1, Scene::InHand)?;
-    assert_eq!(rt; (seen, given), (Seen::Right(true), 3));
+    assert_eq!(rt; (seen, given), (Seen::Right(true), 5));
     Ok(())
 }
 
-/// The result that came before the close lies in the room of the end still.
+/// The result that came before the close lies in the room of each end still.
 #[test]
 fn no_result_outlives_a_pool_behind_a_lock(rt: HostRuntime) -> Result<(), Fail> {
     let OverLock { seen, given, .. } = over_lock(&rt, 1, Scene::InHand)?;
-    assert_eq!(rt; (seen, given), (Seen::Right(true), 3));
+    assert_eq!(rt; (seen, given), (Seen::Right(true), 5));
+    Ok(())
+}
+
+/// Posts over a closed pool, by an end from before the close and by a new one, each without waiting and with it.
+pub fn post_after_close<S: Stage<R>, R: Host>(rt: &R, stage: &S) -> [Answer; 4] {
+    let mut present = stage.end(rt, room::LAST);
+    stage.close(rt);
+    let mut new = stage.end(rt, room::LAST);
+    let answers = [
+        post_last(rt, &mut present, false),
+        post_last(rt, &mut present, true),
+        post_last(rt, &mut new, false),
+        post_last(rt, &mut new, true),
+    ];
+    stage.leave(rt, present);
+    stage.leave(rt, new);
+    answers
+}
+
+#[test]
+fn nothing_is_posted_to_a_closed_pool_behind_a_lock(rt: HostRuntime) -> Result<(), Fail> {
+    let OverLock { seen, counts, .. } = over_lock(&rt, 1, Scene::AfterClose)?;
+    assert_eq!(rt;
+        (seen, counts.posted),
+        (Seen::Answers([Answer::Closed; 4]), 0)
+    );
+    Ok(())
+}
+
+#[test]
+fn nothing_is_posted_to_a_closed_pool_with_a_queue(rt: HostRuntime) -> Result<(), Fail> {
+    let OverQueue { seen, settled, .. } = over_queue(&rt, 1, Scene::AfterClose)?;
+    assert_eq!(rt;
+        (seen, settled.pushed),
+        (Seen::Answers([Answer::Closed; 4]), 0)
+    );
     Ok(())
 }

@@ -16,10 +16,10 @@ use std::test::Fail;
 use std::thread;
 
 /// So many ends with 64 tasks each are all that a queue or a book takes.
-const ENDS: u8 = 16;
+pub const ENDS: u8 = 16;
 
 /// The user who comes last.
-const LAST: u8 = 16;
+pub const LAST: u8 = 16;
 
 /// What a post answers.
 #[derive(Clone, Copy, PartialEq, Eq, Debug)]
@@ -34,7 +34,10 @@ pub enum Answer {
 }
 
 /// Ends that fill the pool.
-fn fill<S: Stage<R>, R: Host>(rt: &R, stage: &S) -> Result<Vec<S::End>, AllocError> {
+///
+/// # Errors
+/// Out of memory.
+pub fn fill<S: Stage<R>, R: Host>(rt: &R, stage: &S) -> Result<Vec<S::End>, AllocError> {
     let mut ends = Vec::with_capacity(rt.alloc(), usize::from(ENDS))?;
     for user in 0..ENDS {
         put_back(rt, &mut ends, posting_end(rt, stage, user, 64));
@@ -43,7 +46,7 @@ fn fill<S: Stage<R>, R: Host>(rt: &R, stage: &S) -> Result<Vec<S::End>, AllocErr
 }
 
 /// Posts a task by an end that is owed nothing.
-fn post_last<P: Pool, R: Abort>(rt: &R, end: &mut P, wait: bool) -> Answer {
+pub fn post_last<P: Pool, R: Abort>(rt: &R, end: &mut P, wait: bool) -> Answer {
     if end.owed() > 0 {
         return Answer::Other;
     }

@@ -2,7 +2,10 @@
 
 use super::room::Crowd;
 use super::stage::{Host, Stage};
-use super::{ahead, closing, ends, filled, handed_back, polling, room, side_by_side, withdrawn};
+use super::{
+    ahead, closing, ends, filled, handed_back, in_turn, nothing_found, polling, refused, room,
+    side_by_side, withdrawn,
+};
 use std::alloc::AllocError;
 
 /// What is played. Its file says what that is.
@@ -11,10 +14,14 @@ pub enum Scene {
     Ahead(ahead::Case),
     InVain,
     InHand,
+    AfterClose,
     Nine,
     Filling,
     HandedBack,
+    InTurn,
+    NothingFound,
     Polling,
+    Refused,
     Crowd(Crowd),
     SideBySide,
     WithEnd,
@@ -30,7 +37,10 @@ pub enum Seen {
     Nine(ends::Kept),
     Filled([filled::Given; 2]),
     Polled(polling::Polled),
+    Taken(in_turn::Taken),
+    Answers([room::Answer; 4]),
     Crowd(Result<room::Told, AllocError>),
+    Refused(Result<refused::Told, AllocError>),
     WithEnd(withdrawn::Left),
     WithoutEnd(withdrawn::LeftAndCounts),
 }
@@ -43,10 +53,14 @@ pub fn play_over<S: Stage<R> + Sync, R: Host + Sync>(rt: &R, stage: &S, scene: S
         Scene::Ahead(case) => Seen::Ahead(ahead::serve_until_closed(rt, stage, case)),
         Scene::InVain => Seen::Right(closing::end_in_vain(rt, stage)),
         Scene::InHand => Seen::Right(closing::close_in_hand(rt, stage)),
+        Scene::AfterClose => Seen::Answers(closing::post_after_close(rt, stage)),
         Scene::Nine => Seen::Nine(ends::compute_nine(rt, stage)),
         Scene::Filling => Seen::Filled(filled::fill_end(rt, stage)),
         Scene::HandedBack => Seen::Right(handed_back::serve_beside_workers(rt, stage)),
+        Scene::InTurn => Seen::Taken(in_turn::take_in_turn(rt, stage)),
+        Scene::NothingFound => Seen::Right(nothing_found::find_nothing(rt, stage)),
         Scene::Polling => Seen::Polled(polling::poll_in_turn(rt, stage)),
+        Scene::Refused => Seen::Refused(refused::refuse_many(rt, stage)),
         Scene::Crowd(crowd) => Seen::Crowd(crowd.play(rt, stage)),
         Scene::SideBySide => Seen::Right(side_by_side::serve_beside_workers(rt, stage)),
         Scene::WithEnd => Seen::WithEnd(withdrawn::withdraw_with_end(rt, stage)),

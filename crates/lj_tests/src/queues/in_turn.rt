@@ -1,0 +1,128 @@
+//! The order in which tasks are taken, over both pools: in turn of their keys, and not from the least one on each time.
+
+use super::over_lock::over_lock;
+use super::over_queue::over_queue;
+use super::scene::{Scene, Seen};
+use super::stage::{Host, Stage};
+use super::{post_one, wait_for};
+use crate::tasks::task;
+use lj_pool::{Gate, Pool};
+use lj_tile::TaskName;
+use std::process::Abort;
+use std::rt::Clock;
+use std::sync::Wait;
+use std::sync::atomic::{AtomicU64, Ordering};
+use std::test::Fail;
+use std::thread;
+
+const USER: u8 = 7;
+
+/// The step of the task that is held.
+const HELD: i64 = 2;
+
+/// A gate that notes which tasks pass, and holds one of them.
+#[derive(Drop)]
+struct Noting<'a, R> {
+    rt: &'a R,
+    /// Their steps, each a digit.
+    order: AtomicU64,
+    /// How often the one that is held came, and how often it was let go.
+    held: AtomicU64,
+    let_go: AtomicU64,
+}
+
+impl<R: Clock + Wait> Gate for Noting<'_, R> {
+    fn between(&self, name: &TaskName) {
+        let before = self.order.load(Ordering::SeqCst);
+        let digit = u64::try_from(name.step).unwrap_or(0);
+        let order = before.saturating_mul(10).saturating_add(digit);
+        self.order.store(order, Ordering::SeqCst);
+        if name.step == HELD {
+            self.held.fetch_add(1, Ordering::SeqCst);
+            wait_for(self.rt, &self.let_go);
+        }
+    }
+}
+
+/// Whether all came, and in which order their tasks were taken.
+#[derive(Clone, Copy, PartialEq, Eq, Debug)]
+pub struct Taken {
+    all_came: bool,
+    order: u64,
+}
+
+/// Fetches so many results. Whether all came.
+fn fetch_some<P: Pool>(end: &mut P, results: u8) -> bool {
+    for _ in 0..results {
+        if end.owed() == 0 || end.fetch(USER).is_none() {
+            return false;
+        }
+    }
+    true
+}
+
+/// Fetches the first result while the second task is held, so that its key is vacant, and posts a fourth task under it. Then
+/// fetches the others, and closes the pool. Whether all came.
+fn post_fourth<S: Stage<R>, P: Pool, R: Host>(
+    rt: &R,
+    stage: &S,
+    gate: &Noting<'_, R>,
+    end: &mut P,
+) -> bool {
+    let is_held = wait_for(rt, &gate.held);
+    let first_came = fetch_some(end, 1);
+    post_one(rt, end, task(rt, USER, 4));
+    gate.let_go.fetch_add(1, Ordering::SeqCst);
+    let others_came = fetch_some(end, 3);
+    stage.close(rt);
+    is_held && first_came && others_came
+}
+
+/// An end posts three tasks. Then a worker comes.
+pub fn take_in_turn<S: Stage<R> + Sync, R: Host + Sync>(rt: &R, stage: &S) -> Taken {
+    let mut end = stage.end(rt, USER);
+    for step in 1..4 {
+        post_one(rt, &mut end, task(rt, USER, step));
+    }
+    let gate = Noting {
+        rt,
+        order: AtomicU64::new(0),
+        held: AtomicU64::new(0),
+        let_go: AtomicU64::new(0),
+    };
+    let keeper = &gate;
+    let (_, all_came) = thread::join(
+        rt,
+        move || stage.work(rt, keeper),
+        || post_fourth(rt, stage, keeper, &mut end),
+    );
+    stage.leave(rt, end);
+    Taken {
+        all_came,
+        order: gate.order.load(Ordering::SeqCst),
+    }
+}
+
+const EXPECTED: Taken = Taken {
+    all_came: true,
+    order: 1234,
+};
+
+/// The fourth task stands under the least key then, before the third one.
+#[test]
+fn tasks_of_a_book_are_taken_in_turn_of_their_keys(rt: HostRuntime) -> Result<(), Fail> {
+    assert_eq!(rt;
+        over_lock(&rt, 1, Scene::InTurn)?.seen,
+        Seen::Taken(EXPECTED)
+    );
+    Ok(())
+}
+
+#[test]
+fn tasks_of_a_queue_are_taken_in_the_order_of_their_posts(rt: HostRuntime) -> Result<(), Fail> {
+    assert_eq!(rt;
+        over_queue(&rt, 1, Scene::InTurn)?.seen,
+        Seen::Taken(EXPECTED)
+    );
+    Ok(())
+}

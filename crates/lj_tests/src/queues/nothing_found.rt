@@ -1,0 +1,85 @@
+//! Fetches and polls that find nothing over an open pool of either kind: these are no close.
+
+use super::over_lock::over_lock;
+use super::over_queue::over_queue;
+use super::scene::{Scene, Seen};
+use super::stage::{Host, Stage};
+use super::{post_one, sleep_a_while};
+use crate::tasks::task;
+use lj_pool::Pool;
+use std::process::Abort;
+use std::test::Fail;
+use std::thread;
+
+const USER: u8 = 7;
+
+/// Polls where nothing is there. Whether nothing came, and the end is not told that the pool is closed.
+fn poll_nothing<P: Pool>(end: &mut P) -> bool {
+    end.poll(USER).is_none() && !end.closed()
+}
+
+/// Fetches the result of the task that is owed, and polls once more. Whether it came, and the end is not told that the pool is
+/// closed.
+fn fetch_one<P: Pool, R: Abort>(rt: &R, end: &mut P) -> bool {
+    if end.owed() == 0 {
+        return false;
+    }
+    let came = end
+        .fetch(USER)
+        .is_some_and(|done| done.task().is(&task(rt, USER, 0)));
+    came && !end.closed() && poll_nothing(end)
+}
+
+/// Fetches what no worker has computed yet, since it comes after a while.
+fn fetch_early<S: Stage<R> + Sync, P: Pool, R: Host + Sync>(
+    rt: &R,
+    stage: &S,
+    end: &mut P,
+) -> bool {
+    let (_, came) = thread::join(
+        rt,
+        move || {
+            sleep_a_while(rt);
+            stage.work(rt, &())
+        },
+        || {
+            let came = fetch_one(rt, end);
+            stage.close(rt);
+            came
+        },
+    );
+    came
+}
+
+/// An end polls while nothing is owed to it, and while there is no worker. Then it fetches until one comes.
+pub fn find_nothing<S: Stage<R> + Sync, R: Host + Sync>(rt: &R, stage: &S) -> bool {
+    let mut end = stage.end(rt, USER);
+    let none_owed = poll_nothing(&mut end);
+    post_one(rt, &mut end, task(rt, USER, 0));
+    let none_computed = poll_nothing(&mut end);
+    let came = fetch_early(rt, stage, &mut end);
+    stage.leave(rt, end);
+    none_owed && none_computed && came
+}
+
+#[test]
+fn who_finds_nothing_over_a_pool_behind_a_lock_is_told_of_no_close(
+    rt: HostRuntime,
+) -> Result<(), Fail> {
+    assert_eq!(rt;
+        over_lock(&rt, 1, Scene::NothingFound)?.seen,
+        Seen::Right(true)
+    );
+    Ok(())
+}
+
+#[test]
+fn who_finds_nothing_over_a_pool_with_a_queue_is_told_of_no_close(
+    rt: HostRuntime,
+) -> Result<(), Fail> {
+    assert_eq!(rt;
+        over_queue(&rt, 1, Scene::NothingFound)?.seen,
+        Seen::Right(true)
+    );
+    Ok(())
+}

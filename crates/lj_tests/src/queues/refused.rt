@@ -1,0 +1,191 @@
+//! Posts that are refused, over both pools: however many they are, the pool has as much room afterwards.
+
+use super::over_lock::{OverLock, over_lock};
+use super::over_queue::{OverQueue, over_queue};
+use super::room::{Answer, ENDS, LAST, fill, post_last};
+use super::scene::{Scene, Seen};
+use super::stage::{Host, Stage};
+use super::wait_for;
+use crate::tasks::task;
+use lj_pool::{Gate, Pool};
+use lj_tile::TaskName;
+use std::alloc::AllocError;
+use std::process::Abort;
+use std::rt::Clock;
+use std::sync::Wait;
+use std::sync::atomic::{AtomicU64, Ordering};
+use std::test::Fail;
+use std::thread;
+
+/// How many posts are refused: more than a pool has rooms.
+const REFUSED: u64 = 1100;
+
+/// How many tasks each end posts.
+const TASKS: u64 = 64;
+
+/// A gate that holds each task until it stands open.
+#[derive(Drop)]
+struct Barrier<'a, R> {
+    rt: &'a R,
+    /// How many tasks came to it.
+    came: AtomicU64,
+    /// 1 where it stands open, else 0.
+    open: AtomicU64,
+}
+
+impl<R: Clock + Wait> Gate for Barrier<'_, R> {
+    fn between(&self, _name: &TaskName) {
+        self.came.fetch_add(1, Ordering::SeqCst);
+        wait_for(self.rt, &self.open);
+    }
+}
+
+/// What came of the posts.
+#[derive(Clone, Copy, PartialEq, Eq, Debug)]
+pub struct Told {
+    /// How many found no room.
+    refused: u64,
+    /// What one more was told while a worker had taken a task, and given no result.
+    beside_taken: Answer,
+    /// How many results came once it went on.
+    fetched: u64,
+    /// How many tasks found room when there were no others.
+    posted: u64,
+}
+
+/// Posts again and again where there is no room. How many posts were refused.
+fn post_in_vain<P: Pool, R: Abort>(rt: &R, last: &mut P) -> u64 {
+    let mut refused = 0_u64;
+    for _ in 0..REFUSED {
+        if post_last(rt, last, false) == Answer::Full {
+            refused = refused.saturating_add(1);
+        }
+    }
+    refused
+}
+
+/// Fetches all that is owed to the end of a user. How many results came.
+fn fetch_owed<P: Pool>(end: &mut P, user: u8) -> u64 {
+    let mut fetched = 0_u64;
+    for _ in 0..TASKS {
+        if end.owed() > 0 && end.fetch(user).is_some() {
+            fetched = fetched.saturating_add(1);
+        }
+    }
+    fetched
+}
+
+/// Fetches all that is owed to ends. How many results came.
+fn fetch_all<P: Pool>(ends: &mut Vec<P>) -> u64 {
+    let mut fetched = 0_u64;
+    for user in 0..ENDS {
+        if let Some(end) = ends.get_mut(usize::from(user)) {
+            fetched = fetched.saturating_add(fetch_owed(end, user));
+        }
+    }
+    fetched
+}
+
+/// Posts tasks of a user, which may not wait. How many found room.
+fn post_some<P: Pool, R: Abort>(rt: &R, end: &mut P, user: u8) -> u64 {
+    let mut posted = 0_u64;
+    for _ in 0..TASKS {
+        if !end.is_full() && end.post(task(rt, user, 0), false).is_ok() {
+            posted = posted.saturating_add(1);
+        }
+    }
+    posted
+}
+
+/// Posts tasks by each end, which may not wait. How many found room.
+fn post_all<P: Pool, R: Abort>(rt: &R, ends: &mut Vec<P>) -> u64 {
+    let mut posted = 0_u64;
+    for user in 0..ENDS {
+        if let Some(end) = ends.get_mut(usize::from(user)) {
+            posted = posted.saturating_add(post_some(rt, end, user));
+        }
+    }
+    posted
+}
+
+/// Posts one more task while the first one is held, fetches the results of all, posts as many anew while one of these is held
+/// at most, and closes the pool.
+fn go_on<S: Stage<R>, P: Pool, R: Host>(
+    rt: &R,
+    stage: &S,
+    barrier: &Barrier<'_, R>,
+    ends: &mut Vec<P>,
+    last: &mut P,
+) -> Told {
+    wait_for(rt, &barrier.came);
+    let beside_taken = post_last(rt, last, false);
+    barrier.open.store(1, Ordering::SeqCst);
+    let fetched = fetch_all(ends).saturating_add(fetch_owed(last, LAST));
+    barrier.open.store(0, Ordering::SeqCst);
+    let posted = post_all(rt, ends);
+    stage.close(rt);
+    barrier.open.store(1, Ordering::SeqCst);
+    Told {
+        refused: 0,
+        beside_taken,
+        fetched,
+        posted,
+    }
+}
+
+/// A full pool refuses many posts. Then a worker comes.
+///
+/// # Errors
+/// Out of memory.
+pub fn refuse_many<S: Stage<R> + Sync, R: Host + Sync>(
+    rt: &R,
+    stage: &S,
+) -> Result<Told, AllocError> {
+    let mut ends = fill(rt, stage)?;
+    let mut last = stage.end(rt, LAST);
+    let refused = post_in_vain(rt, &mut last);
+    let barrier = Barrier {
+        rt,
+        came: AtomicU64::new(0),
+        open: AtomicU64::new(0),
+    };
+    let keeper = &barrier;
+    let (_, told) = thread::join(
+        rt,
+        move || stage.work(rt, keeper),
+        || go_on(rt, stage, keeper, &mut ends, &mut last),
+    );
+    stage.leave(rt, last);
+    for end in ends {
+        stage.leave(rt, end);
+    }
+    Ok(Told { refused, ..told })
+}
+
+/// A task that is taken has its room in the book until its result is fetched.
+#[test]
+fn no_room_of_a_book_is_lost_by_refused_posts(rt: HostRuntime) -> Result<(), Fail> {
+    let OverLock { seen, counts, .. } = over_lock(&rt, 1, Scene::Refused)?;
+    let told = Told {
+        refused: REFUSED,
+        beside_taken: Answer::Full,
+        fetched: 1024,
+        posted: 1024,
+    };
+    assert_eq!(rt; (seen, counts.posted), (Seen::Refused(Ok(told)), 2048));
+    Ok(())
+}
+
+/// A task that is taken leaves its room in the queue.
+#[test]
+fn no_room_of_a_queue_is_lost_by_refused_posts(rt: HostRuntime) -> Result<(), Fail> {
+    let OverQueue { seen, settled, .. } = over_queue(&rt, 1, Scene::Refused)?;
+    let told = Told {
+        refused: REFUSED,
+        beside_taken: Answer::Posted,
+        fetched: 1025,
+        posted: 1024,
+    };
+    assert_eq!(rt; (seen, settled.pushed), (Seen::Refused(Ok(told)), 2049));
+    Ok(())
+}
