@@ -1,15 +1,18 @@
 -- A book whose slab and marks change at one key is a book, and the marks tell what stands under the keys.
-use Rattle.std.proofs.Common.{◌≡◌, ◌≢◌, ℕ, ◌+◌, ◌<◌, ◌≤◌, List, length, Option, sym, ap, ◌∙◌, inl, inr, arith, length-set, get_or-set_same, get_or-set_other}
+use Rattle.std.proofs.Common.{◌≡◌, ◌≢◌, ℕ, ◌+◌, ◌<◌, ◌≤◌, Bool, true, false, List, [], ◌∷◌, length, Option, None, Some, is_some, cond, count_by, refl, sym, ap, ◌∙◌, inl, inr, arith, length-set, get_or-set_same, get_or-set_other}
 use Rattle.std.proofs.lemmas.Bool.{cases_eq, cases_lt}
 use Rattle.std.proofs.lemmas.List.{get_or_past}
+use Rattle.std.proofs.lemmas.List.Sums.{sum_by-cons}
 use Rattle.std.specs.Prelude.{slice_set}
 use Rattle.slab.specs.Slab.{Slab, Updates, get, slab_len}
 use Rattle.lj_book.specs.declared.entries.TheConstants.{MAX_ENTRIES}
 use Rattle.lj_book.specs.declared.marks.Mark.{Mark}
-use Rattle.lj_book.specs.declared.marks.Mark.TheVariants.{Vacant}
-use Rattle.lj_book.specs.Book.{Entry, IsBook, mark_of, waiting_count}
+use Rattle.lj_book.specs.declared.marks.Mark.TheVariants.{Vacant, ToTake, Taken, ToFetch}
+use Rattle.lj_book.specs.Book.{BookOf, Entry, Open, Out, Done, IsBook, Puts, entry_at, entry_count, mark_of, waiting_count, weight}
+use Rattle.lj_book.specs.Boxes.{has_box_by}
 use Rattle.lj_book.specs.Marks.{HasMark, mark_at}
 use Rattle.lj_book.specs.Picks.{IsPick}
+use Rattle.lj_book.proofs.CountLemmas.{sum_changed}
 
 -- a key with another mark than that of vacant ones is one of the list
 pub key_within : (marks : List Mark) (key : ℕ) → mark_at marks key ≢ Vacant → key < length marks
@@ -19,7 +22,7 @@ key_within marks key marked =
       | inr past ↦ absurd (marked (get_or_past marks key Vacant past))
     ]
 
-module _ (slab : Slab Entry) (marks : List Mark) (marked : (k : ℕ) → mark_at marks k ≡ mark_of (get slab k)) where
+module _ {P K : Type 0} (slab : Slab (Entry P K)) (marks : List Mark) (marked : (k : ℕ) → mark_at marks k ≡ mark_of (get slab k)) where
   -- what is picked by its mark is picked by what stands there
   pub picked : (mark : Mark) (pick key : ℕ) → mark ≢ Vacant → IsPick (HasMark marks mark) pick key
       → IsPick (λ k. mark_of (get slab k) ≡ mark) pick key
@@ -35,7 +38,7 @@ module _ (slab : Slab Entry) (marks : List Mark) (marked : (k : ℕ) → mark_at
         is = marked k ∙ here;
       }
 
-  module _ (new : Slab Entry) (key : ℕ) (slot : Option Entry) (mark : Mark) (within : key < length marks)
+  module _ (new : Slab (Entry P K)) (key : ℕ) (slot : Option (Entry P K)) (mark : Mark) (within : key < length marks)
       (updates : Updates slab new key slot) (is : mark ≡ mark_of slot) where
     still_marked : (k : ℕ) → mark_at (slice_set marks key mark) k ≡ mark_of (get new k)
     still_marked k =
@@ -57,3 +60,72 @@ module _ (slab : Slab Entry) (marks : List Mark) (marked : (k : ℕ) → mark_at
       keys = length-set marks key mark ∙ keys ∙ sym capacity;
       marked = still_marked;
     }
+
+-- 1 for the mark of a task without its result, else 0
+abbrev pub mark_weight : Mark → ℕ
+mark_weight Vacant = 0
+mark_weight ToTake = 1
+mark_weight Taken = 1
+mark_weight (ToFetch user) = 0
+
+weight_marked : {P K : Type 0} (slot : Option (Entry P K)) → weight slot ≡ mark_weight (mark_of slot)
+weight_marked None = refl
+weight_marked (Some (Open opened)) = refl
+weight_marked (Some (Out kept)) = refl
+weight_marked (Some (Done work)) = refl
+
+-- where an entry takes the place of another, it is still a book
+module _ {P K : Type 0} (slab : Slab (Entry P K)) (marks : List Mark) (posted given fetched withdrawn : ℕ)
+    (held : IsBook slab marks posted given fetched withdrawn) where
+  pub put_book : (new : Slab (Entry P K)) (key : ℕ) (entry : Entry P K) (was mark : Mark) → mark_of (get slab key) ≡ was
+      → was ≢ Vacant → mark ≡ mark_of (Some entry) → Updates slab new key (Some entry) → slab_len new ≡ slab_len slab
+      → new.capacity ≡ slab.capacity → (given_now : ℕ) → given_now + weight (Some entry) ≡ given + mark_weight was
+      → IsBook new (slice_set marks key mark) posted given_now fetched withdrawn
+  put_book new key entry was mark there stands is updates len capacity given_now counts =
+      let waits = sum_changed weight refl slab.slots new.slots key updates.others in
+      let before : weight (get slab key) ≡ mark_weight was = weight_marked (get slab key) ∙ ap mark_weight there in
+      changed_book slab marks held.marked new key (Some entry) mark
+      (key_within marks key (λ vacant. stands (sym (held.marked key ∙ there) ∙ vacant)))
+      updates is held.keys held.room capacity posted given_now fetched withdrawn
+      (omega (arith, held.balance, len))
+      (omega (arith, held.given_or_waiting, waits, before, ap weight updates.changed, counts))
+      (omega (arith, held.most, len))
+
+-- 1 where a test passes, else 0
+abbrev pub one_if : Bool → ℕ
+one_if passes = cond passes 1 0
+
+-- how many entries pass a test, where one changes
+module _ {P K : Type 0} (old new : BookOf P K) (key : ℕ) (was slot : Option (Entry P K)) (there : entry_at old key ≡ was)
+    (puts : Puts old new key slot) where
+  pub count_put : (test : Option (Entry P K) → Bool) → test None ≡ false
+      → count_by test new.slots + one_if (test was) ≡ count_by test old.slots + one_if (test slot)
+  count_put test nothing =
+      let f : Option (Entry P K) → ℕ = λ s. one_if (test s) in
+      let changed = sum_changed f (ap one_if nothing) old.slots new.slots key puts.others in
+      omega (arith, changed, ap f there, ap f puts.changed)
+
+  -- how many entries stand
+  pub entries_put : entry_count new + one_if (is_some was) ≡ entry_count old + one_if (is_some slot)
+  entries_put = count_put is_some refl
+
+-- where a box lies in each entry, there are as many as entries
+module _ {P K : Type 0} where
+  abbrev boxed : Option (Entry P K) → Bool
+  boxed = has_box_by (λ opened. true) (λ kept. true)
+
+  one_boxed : (slot : Option (Entry P K)) → one_if (boxed slot) ≡ one_if (is_some slot)
+  one_boxed None = refl
+  one_boxed (Some (Open opened)) = refl
+  one_boxed (Some (Out kept)) = refl
+  one_boxed (Some (Done work)) = refl
+
+  pub all_boxed : (slots : List (Option (Entry P K))) → count_by boxed slots ≡ count_by is_some slots
+  all_boxed [] = refl
+  all_boxed (slot ∷ slots) = omega (
+    arith,
+    one_boxed slot,
+    all_boxed slots,
+    sum_by-cons (λ s. one_if (boxed s)) slot slots,
+    sum_by-cons (λ (s : Option (Entry P K)). one_if (is_some s)) slot slots,
+  )

@@ -1,4 +1,5 @@
 mod BookLemmas
+mod BoxLemmas
 mod CountLemmas
 mod MarkLemmas
-mod RoomLemmas
+mod RefusedLemmas

@@ -1,5 +1,6 @@
 pub mod Picks
 pub mod Marks
 pub mod Book
-pub mod Rooms
+pub mod Boxes
+pub mod Refused
 pub mod Limits

@@ -1,12 +1,13 @@
 //! The book.
 ghost use Rattle.std.specs.Prelude.{◌≡◌, true, false, ◌≤◌, ◌<◌, ◌+◌, ◌-◌, ◌^◌, ◌↔◌, ◌⊎◌, ℕ, List, [], Some, IsOk, OnOk, OnErr, IfOk, IfErr, IfSome, IfNone, IsTrue};
 ghost use Rattle.lj_book.specs.Picks.{IsPick};
-ghost use Rattle.lj_book.specs.Book.{Book, Entry, entry_at, entry_count, IsOpenAt, IsDoneAt, Posts, Takes, Gives, HandsBack, Fetches, Withdraws, WithdrawsAt};
+ghost use Rattle.lj_book.specs.Book.{entry_at, entry_count, IsOpenAt, IsDoneAt, Posts, Takes, Gives, HandsBack, Fetches, Withdraws};
 
 use crate::book_faults::{Full, NoRoom, NotOut};
-use crate::entries::Entries;
-pub use crate::entries::MAX_ENTRIES;
-use crate::marks::{Mark, Marks};
+use crate::book_of::BookOf;
+use crate::boxes::{TaskBox, boxes, spare_box};
+use crate::counts::Counts;
+use crate::entries::{Entry, MAX_ENTRIES};
 use lj_tile::{Done, Task};
 use std::alloc::{AllocError, Global};
 use std::marker::Model;
@@ -14,50 +15,26 @@ use std::marker::Model;
 /// The key of an entry of a book.
 pub type Key = usize;
 
-/// The counts of a book.
-#[derive(Clone, Copy, PartialEq, Eq, Debug)]
-pub struct Counts {
-    /// Tasks that were ever posted.
-    pub posted: u64,
-    /// Results that were ever given.
-    pub given: u64,
-    /// Results that were ever fetched.
-    pub fetched: u64,
-    /// Entries that were ever withdrawn.
-    pub withdrawn: u64,
-    /// Entries that stand now.
-    pub entries: u64,
-}
-
 /// The book of tasks. A task is posted, and stands open; it is taken, and is out; its result is given, and is then to
 /// be fetched by its user. No call but `new` takes memory.
 ///
-/// Tasks and results are large, so they pass by reference, into a room of the book or of the caller; `post`, `take`,
-/// `give` and `fetch` copy them.
+/// Tasks and results are large, so they pass by reference, into a box of the book or a room of the caller; `post`,
+/// `take`, `give` and `fetch` copy them.
 #[derive(Drop)]
 pub struct Book {
-    entries: Entries,
-    marks: Marks,
-    posted: u64,
-    given: u64,
-    fetched: u64,
-    withdrawn: u64,
+    held: BookOf<TaskBox, TaskBox>,
+    spare: Vec<TaskBox>,
 }
 
 impl Model for Book {
-    ghost use Rattle.lj_book.specs.Book.{Book, IsBook};
+    ghost use Rattle.lj_book.specs.Book.{Book};
+    ghost use Rattle.lj_book.specs.Boxes.{HasBoxes};
 
     ghost Value = { Book };
 
-    ghost view = { λ b. record {
-      slots = b.entries.slots;
-      posted = b.posted;
-      given = b.given;
-      fetched = b.fetched;
-      withdrawn = b.withdrawn;
-    } };
+    ghost view = { λ b. b.held };
 
-    ghost invariant = { λ b. IsBook b.entries b.marks b.posted b.given b.fetched b.withdrawn };
+    ghost invariant = { λ b. HasBoxes b.held b.spare };
 }
 
 impl Book {
@@ -69,16 +46,9 @@ impl Book {
         ensures { IfOk result (λ book.
             book ≡ record { slots = []; posted = 0; given = 0; fetched = 0; withdrawn = 0 }) }
     {
-        let entries = Entries::new(alloc)?;
-        let marks = Marks::new(alloc, entries.capacity())?;
-        Ok(Book {
-            entries,
-            marks,
-            posted: 0,
-            given: 0,
-            fetched: 0,
-            withdrawn: 0,
-        })
+        let held = BookOf::new(alloc)?;
+        let spare = boxes(alloc, MAX_ENTRIES + 1)?;
+        Ok(Book { held, spare })
     }
 
     /// Posts a copy of a task, which then stands open.
@@ -90,12 +60,12 @@ impl Book {
         ensures posts { OnOk result ((key : ℕ) × Posts self.old self.new task.now key) }
         ensures unchanged { OnErr result (self.new ≡ self.old) }
     {
-        if self.entries.len() == MAX_ENTRIES || self.posted == u64::MAX {
+        if !self.held.has_room() {
             return Err(NoRoom);
         }
-        let key = self.entries.insert(task);
-        self.marks.set(key, Mark::ToTake);
-        self.posted += 1;
+        let mut opened = spare_box(&mut self.spare);
+        opened.copy_from(task);
+        self.held.post(opened);
         Ok(())
     }
 
@@ -127,9 +97,12 @@ impl Book {
         ensures unchanged { IfNone result (self.new ≡ self.old) }
         ensures same_room { IfNone result (room.new ≡ room.old) }
     {
-        let key = self.marks.find(Mark::ToTake, pick)?;
-        self.entries.let_out(key, room);
-        self.marks.set(key, Mark::Taken);
+        let key = self.held.find_open(pick)?;
+        room.copy_from(self.held.open_at(key).task());
+        let mut kept = spare_box(&mut self.spare);
+        kept.copy_from(room);
+        let opened = self.held.let_out(key, kept);
+        self.spare.push_reserved(opened);
         Some(key)
     }
 
@@ -157,13 +130,12 @@ impl Book {
         ensures gives { OnOk result (Gives self.old self.new key done.now) }
         ensures unchanged { OnErr result (self.new ≡ self.old) }
     {
-        if !self.entries.is_out(key, done.task()) {
+        if !self.is_out(key, done.task()) {
             return Err(NotOut);
         }
-        let user = done.task().name().label.user;
-        self.entries.finish(key, done);
-        self.marks.set(key, Mark::ToFetch(user));
-        self.given += 1;
+        let given = spare_box(&mut self.spare).filled(done);
+        let kept = self.held.finish(key, given);
+        self.spare.push_reserved(kept);
         Ok(())
     }
 
@@ -195,11 +167,13 @@ impl Book {
         ensures hands_back { OnOk result (HandsBack self.old self.new key task.now) }
         ensures unchanged { OnErr result (self.new ≡ self.old) }
     {
-        if !self.entries.is_out(key, task) {
+        if !self.is_out(key, task) {
             return Err(NotOut);
         }
-        self.entries.reopen(key, task);
-        self.marks.set(key, Mark::ToTake);
+        let mut opened = spare_box(&mut self.spare);
+        opened.copy_from(task);
+        let kept = self.held.reopen(key, opened);
+        self.spare.push_reserved(kept);
         Ok(())
     }
 
@@ -212,12 +186,11 @@ impl Book {
         ensures unchanged { result ≡ false → self.new ≡ self.old }
         ensures same_room { result ≡ false → room.new ≡ room.old }
     {
-        let Some(key) = self.marks.find(Mark::ToFetch(user), pick) else {
+        let Some(done) = self.held.fetch(user, pick) else {
             return false;
         };
-        self.entries.take_out(key, user, room);
-        self.marks.set(key, Mark::Vacant);
-        self.fetched += 1;
+        room.copy_from(done.done());
+        self.spare.push_reserved(done.into_task());
         true
     }
 
@@ -244,19 +217,17 @@ impl Book {
     pub fn withdraw(&mut self, user: u8)
         ensures { Withdraws user self.old self.new }
     {
-        for key in 0..self.entries.capacity() {
-            self.withdraw_at(key, user);
-        }
+        let Book { held, spare } = self;
+        held.withdraw(user, spare);
     }
 
-    /// Withdraws what stands under the key, if it is of the user.
-    fn withdraw_at(&mut self, key: usize, user: u8)
-        ensures { WithdrawsAt user key self.old self.new }
+    /// Whether this very task is out under the key.
+    fn is_out(&self, key: Key, task: &Task) -> bool
+        ensures { IsTrue result ↔ (entry_at self.now key ≡ Some (Entry.Out task.now)) }
     {
-        if self.entries.is_of(key, user) {
-            self.entries.remove(key);
-            self.marks.set(key, Mark::Vacant);
-            self.withdrawn += 1;
+        match self.held.kept_at(key) {
+            Some(kept) => kept.task().is(task),
+            None => false,
         }
     }
 
@@ -272,12 +243,6 @@ impl Book {
         ensures balance { result.posted ≡ result.fetched + result.withdrawn + result.entries }
         ensures given_posted { result.given ≤ result.posted }
     {
-        Counts {
-            posted: self.posted,
-            given: self.given,
-            fetched: self.fetched,
-            withdrawn: self.withdrawn,
-            entries: self.entries.len() as u64,
-        }
+        self.held.counts()
     }
 }

@@ -3,8 +3,19 @@
 
 mod book;
 mod book_faults;
+mod book_of;
+mod box_book;
+mod boxes;
+mod counts;
 mod entries;
+pub mod laws;
+mod lent;
 mod marks;
 
-pub use book::{Book, Counts, Key, MAX_ENTRIES};
+pub use book::{Book, Key};
 pub use book_faults::{Full, NoRoom, NotOut};
+pub use box_book::BoxBook;
+pub use boxes::{DoneBox, TaskBox};
+pub use counts::Counts;
+pub use entries::MAX_ENTRIES;
+pub use lent::{Lent, LentDone};

@@ -1,6 +1,7 @@
 //! What lies under the lock of a pool.
 ghost use Rattle.std.specs.Prelude.{◌≡◌, ◌+◌, ◌-◌, ◌≤◌, ◌<◌, ◌↔◌, ℕ, Some, None, true, false, IsOk, IsTrue, IfErr, IfNone, IfSome, OnErr, OnOk};
-ghost use Rattle.lj_book.specs.Book.{Out, entry_at, entry_count, Fetches, Gives, HandsBack, IsDoneAt, IsOpenAt, Posts, Takes, Withdraws};
+ghost use Rattle.lj_book.specs.declared.entries.Entry.TheVariants.{Out};
+ghost use Rattle.lj_book.specs.Book.{entry_at, entry_count, Fetches, Gives, HandsBack, IsDoneAt, IsOpenAt, Posts, Takes, Withdraws};
 ghost use Rattle.lj_pool.specs.declared.pool.NotPosted.TheVariants.{Closed};
 ghost use Rattle.lj_pool.specs.PoolStates.{HasRoom};
 

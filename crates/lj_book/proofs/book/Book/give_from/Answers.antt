@@ -1,24 +1,13 @@
-use Rattle.std.proofs.Common.{◌≡◌, Some, ap, sym, ◌∙◌, arith}
-use Rattle.slab.specs.Slab.{get}
-use Rattle.lj_tile.specs.declared.names.TaskName.{TaskName}
-use Rattle.lj_tile.specs.Task.{Task}
-use Rattle.lj_book.specs.Book.{Out}
-use Rattle.lj_book.specs.declared.marks.Mark.TheVariants.{Taken, ToFetch}
-use Rattle.lj_book.specs.Book.{mark_of}
-use Rattle.lj_book.specs.Marks.{mark_at}
-use Rattle.lj_book.proofs.BookLemmas.{changed_book, key_within}
+use Rattle.std.proofs.Common.{arith}
+use Rattle.lj_book.proofs.BookLemmas.{entries_put}
 use Rattle.lj_book.proofs.book.Book.give_from.Goals as goal
 
 pub invariant_of-self : goal.invariant_of-self
 invariant_of-self c =
     let held = c.self.invariant in
-    let out : get c.self.inside.entries c.args.key ≡ Some (Out c.args.done.now) =
-    rw c.task.ensures at (c.is_out.ensures.0 c.if-not-is_out.false) in
-    let taken : mark_at c.self.inside.marks c.args.key ≡ Taken = held.marked c.args.key ∙ ap mark_of out in
-    let user = ap (λ (n : TaskName). n.label.user) (c.name.ensures.value ∙ ap (λ (w : Task). w.name) c.task-2.ensures) in
-    rw c.set.ensures
-    (changed_book c.self.inside.entries c.self.inside.marks held.marked c.finish.new.self c.args.key _ _
-    (key_within c.self.inside.marks c.args.key (λ vacant. let e : Taken ≡ _ = sym taken ∙ vacant in cc))
-    c.finish.ensures.updates (ap ToFetch user) held.keys held.room c.finish.ensures.capacity _ _ _ _
-    (omega (arith, held.balance, c.finish.ensures.len)) (omega (arith, held.given_or_waiting, c.finish.ensures.waiting))
-    (omega (arith, held.most, c.finish.ensures.len)))
+    let stand = entries_put c.self.inside.held c.finish-kept.new.self c.args.key _ _ c.finish-kept.ensures.was c.finish-kept.ensures.puts in
+    record {
+      boxes = omega (arith, held.boxes, stand, c.spare_box.ensures.len, c.push_reserved.ensures.len);
+      one = omega (arith, held.one, held.boxes, c.spare_box.ensures.len, c.push_reserved.ensures.len);
+      places = omega (arith, held.places, c.spare_box.ensures.capacity, c.push_reserved.ensures.capacity);
+    }

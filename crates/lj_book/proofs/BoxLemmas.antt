@@ -1,0 +1,90 @@
+-- What a change at one key does to a book of boxes.
+use Rattle.std.proofs.Common.{◌≡◌, ℕ, ◌≤◌, Option, Some, None, refl, sym, subst, inl, inr, arith}
+use Rattle.std.proofs.lemmas.Bool.{cases_eq}
+use Rattle.std.specs.Prelude.{Vec, IfSome, IfNone}
+use Rattle.std.specs.Global.{Global}
+use Rattle.lj_tile.specs.Task.{Task}
+use Rattle.lj_book.specs.Picks.{IsPick}
+use Rattle.lj_book.specs.Book.{BookOf, Entry, Open, Out, Done, Puts, Posts, LetsOut, Reopens, Finishes, Fetches, IsDoneAt, entry_at}
+use Rattle.lj_book.specs.Boxes.{AreOlder, BoxBook, FetchesBox, GivesBox, HandsBackBox, IsBelow, IsBoxBook, Lent, Numbered, PostsBox, Slip, TakesBox, numbered_of, slip_of}
+use Rattle.lj_book.proofs.BookLemmas.{entries_put}
+
+-- a number that is below one is below a greater one
+below_more : (slot : Option (Entry Numbered Slip)) (less more : ℕ) → less ≤ more → IsBelow less slot → IsBelow more slot
+below_more None less more grows below = tt
+below_more (Some (Open opened)) less more grows below = omega (arith, grows, below)
+below_more (Some (Out kept)) less more grows below = omega (arith, grows, below)
+below_more (Some (Done work)) less more grows below = tt
+
+module _ (old new : BookOf Numbered Slip) (key : ℕ) (was slot : Option (Entry Numbered Slip)) (there : entry_at old key ≡ was)
+    (puts : Puts old new key slot) where
+  pub older_put : AreOlder old → old.posted ≤ new.posted → IsBelow new.posted slot → AreOlder new
+  older_put older grows newest k = elim (cases_eq k key) [
+    | inl same ↦ rw (same, puts.changed) newest
+    | inr other ↦ rw (puts.others k other) (below_more (entry_at old k) old.posted new.posted grows (older k))
+  ]
+
+-- the book with these entries and counts
+abbrev pub with_held : BookOf Numbered Slip → BoxBook → BoxBook
+with_held held book = record { held = held; spare = book.spare; made = book.made }
+
+module _ (old : BoxBook) (new : BookOf Numbered Slip) where
+  pub posts_box : (work : Task) (key : ℕ) → Posts old.held new (record { number = old.held.posted; work = work }) key
+      → PostsBox old (with_held new old) work key
+  posts_box work key p = record {
+    posts = p;
+    spare = refl;
+    made = refl;
+    boxes = omega (arith, entries_put old.held new key _ _ p.was p.puts);
+  }
+
+  pub takes_box : (lent : Lent) → LetsOut old.held new lent.key (numbered_of lent) (slip_of lent) → TakesBox old (with_held new old) lent
+  takes_box lent t = record {
+    takes = t;
+    spare = refl;
+    made = refl;
+    boxes = omega (arith, entries_put old.held new lent.key _ _ t.was t.puts);
+  }
+
+  pub hands_back_box : (lent : Lent) → Reopens old.held new lent.key (slip_of lent) (numbered_of lent)
+      → HandsBackBox old (with_held new old) lent
+  hands_back_box lent h = record {
+    hands_back = h;
+    spare = refl;
+    made = refl;
+    boxes = omega (arith, entries_put old.held new lent.key _ _ h.was h.puts);
+  }
+
+  pub gives_box : (lent : Lent) → Finishes old.held new lent.key (slip_of lent) lent.work → GivesBox old (with_held new old) lent
+  gives_box lent g = record {
+    gives = g;
+    spare = refl;
+    made = refl;
+    boxes = omega (arith, entries_put old.held new lent.key _ _ g.was g.puts);
+  }
+
+  pub fetches_box : (user pick : ℕ) (result : Option Task)
+      → IfSome result (λ done. (key : ℕ) × Fetches old.held new done key × IsPick (IsDoneAt user old.held) pick key)
+      → IfSome result (λ done. (key : ℕ) × FetchesBox old (with_held new old) done key × IsPick (IsDoneAt user old.held) pick key)
+  fetches_box user pick None f = tt
+  fetches_box user pick (Some done) f = (
+    f.0,
+    record {
+      fetches = f.1;
+      spare = refl;
+      made = refl;
+      boxes = omega (arith, entries_put old.held new f.0 _ _ f.1.was f.1.puts);
+    },
+    f.2,
+  )
+
+-- a book of boxes from which a result was fetched, if there was one
+pub fetched : (old new : BookOf Numbered Slip) (spare : Vec Task Global) (made user pick : ℕ) (result : Option Task)
+    → IfSome result (λ done. (key : ℕ) × Fetches old new done key × IsPick (IsDoneAt user old) pick key)
+    → IfNone result (new ≡ old) → IsBoxBook old spare made → IsBoxBook new spare made
+fetched old new spare made user pick None f same held = subst (λ h. IsBoxBook h spare made) (sym same) held
+fetched old new spare made user pick (Some done) f same held = record {
+  few = omega (arith, held.few, entries_put old new f.0 _ _ f.1.was f.1.puts);
+  places = held.places;
+  older = older_put old new f.0 _ _ f.1.was f.1.puts held.older (omega (arith, f.1.posted)) tt;
+}

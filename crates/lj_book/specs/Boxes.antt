@@ -1,0 +1,150 @@
+-- A book whose tasks go out in their boxes.
+use Rattle.std.specs.Prelude.{◌≡◌, ℕ, ◌+◌, ◌≤◌, ◌<◌, Bool, true, false, List, [], Option, Some, None, count_by, Vec, vec_len}
+use Rattle.std.specs.Global.{Global}
+use Rattle.std.specs.Vec.{vec_capacity}
+use Rattle.lj_tile.specs.Task.{Task}
+use Rattle.lj_book.specs.declared.entries.TheConstants.{MAX_ENTRIES}
+use Rattle.lj_book.specs.Book.{BookOf, Entry, Open, Out, Done, entry_at, entry_count, user_of, is_of_by, Posts, LetsOut, Reopens, Finishes, Fetches, Removes}
+
+-- whether a box lies in an entry, by whether one lies in what stands open, and in what is kept
+abbrev pub has_box_by : {P K : Type 0} → (P → Bool) → (K → Bool) → Option (Entry P K) → Bool
+has_box_by in_open in_kept None = false
+has_box_by in_open in_kept (Some (Open opened)) = in_open opened
+has_box_by in_open in_kept (Some (Out kept)) = in_kept kept
+has_box_by in_open in_kept (Some (Done work)) = true
+
+-- in how many entries a box lies
+abbrev pub box_count_by : {P K : Type 0} → (P → Bool) → (K → Bool) → List (Option (Entry P K)) → ℕ
+box_count_by in_open in_kept slots = count_by (has_box_by in_open in_kept) slots
+
+-- By value a box lies in each entry, and there is one more for what is being changed. All have a place among the spare ones.
+pub record HasBoxes (held : BookOf Task Task) (spare : Vec Task Global) : Type 0 where
+  pub boxes : vec_len spare + entry_count held ≡ MAX_ENTRIES + 1
+  pub one : 0 < vec_len spare
+  pub places : MAX_ENTRIES + 1 ≤ vec_capacity spare
+
+-- a task, by the number of its post
+pub record Numbered : Type 0 where
+  pub number : ℕ
+  pub work : Task
+
+-- what is kept of a task whose box is out
+pub record Slip : Type 0 where
+  pub number : ℕ
+  pub user : ℕ
+
+-- a task that is out in its box: under which key, and by which number of its post
+pub record Lent : Type 0 where
+  pub key : ℕ
+  pub number : ℕ
+  pub work : Task
+
+-- the lent task as it stands open
+abbrev pub numbered_of : Lent → Numbered
+numbered_of lent = record { number = lent.number; work = lent.work }
+
+-- what is kept of a task while its box is out
+abbrev pub slip_for : Numbered → Slip
+slip_for opened = record { number = opened.number; user = user_of opened.work }
+
+-- what is kept of the lent task
+abbrev pub slip_of : Lent → Slip
+slip_of lent = slip_for (numbered_of lent)
+
+-- entries and counts, how many boxes are spare, and how many were made
+pub record BoxBook : Type 0 where
+  pub held : BookOf Numbered Slip
+  pub spare : ℕ
+  pub made : ℕ
+
+-- no box lies in what is kept
+abbrev pub has_box : Option (Entry Numbered Slip) → Bool
+has_box = has_box_by (λ opened. true) (λ kept. false)
+
+-- in how many entries a box lies, which is in those of no task that is out
+abbrev pub box_count : List (Option (Entry Numbered Slip)) → ℕ
+box_count = box_count_by (λ opened. true) (λ kept. false)
+
+-- For how many boxes the book accounts: those that are spare, and one for each entry, which lies there or is out with its
+-- task. The others are lent.
+abbrev pub boxes : BoxBook → ℕ
+boxes book = book.spare + entry_count book.held
+
+-- how many boxes lie in the book, spare or in entries
+abbrev pub boxes_inside : BoxBook → ℕ
+boxes_inside book = book.spare + box_count book.held.slots
+
+-- the task that this box was lent with is out under its key, by the number of its post
+abbrev pub IsOut : BoxBook → Lent → Type 0
+IsOut book lent = entry_at book.held lent.key ≡ Some (Out (slip_of lent))
+
+-- a number of what stands there is below this one
+abbrev pub IsBelow : ℕ → Option (Entry Numbered Slip) → Type 0
+IsBelow posted None = Unit {0}
+IsBelow posted (Some (Open opened)) = opened.number < posted
+IsBelow posted (Some (Out kept)) = kept.number < posted
+IsBelow posted (Some (Done work)) = Unit {0}
+
+-- each number in the book is below the count of posts, so that a post has a number of its own
+abbrev pub AreOlder : BookOf Numbered Slip → Type 0
+AreOlder held = (k : ℕ) → IsBelow held.posted (entry_at held k)
+
+-- Of the boxes that were made, as many are lent as are neither spare nor an entry's. All have a place among the spare ones.
+pub record IsBoxBook (held : BookOf Numbered Slip) (spare : Vec Task Global) (made : ℕ) : Type 0 where
+  pub few : vec_len spare + entry_count held ≤ made
+  pub places : made ≤ vec_capacity spare
+  pub older : AreOlder held
+
+-- something of this user stands there
+abbrev pub is_slot_of : ℕ → Option (Entry Numbered Slip) → Bool
+is_slot_of = is_of_by (λ opened. user_of opened.work) (λ kept. kept.user)
+
+-- a book without entries, whose boxes are all spare
+abbrev pub empty_box_book : ℕ → BoxBook
+empty_box_book made = record {
+  held = record { slots = []; posted = 0; given = 0; fetched = 0; withdrawn = 0 };
+  spare = made;
+  made = made;
+}
+
+-- the task stands open in its box, by the number of this post, under a key that was vacant
+pub record PostsBox (old new : BoxBook) (work : Task) (key : ℕ) : Type 0 where
+  pub posts : Posts old.held new.held (record { number = old.held.posted; work = work }) key
+  pub spare : new.spare ≡ old.spare
+  pub made : new.made ≡ old.made
+  pub boxes : boxes new ≡ boxes old + 1
+
+-- the task that stood open is out, and its box with it
+pub record TakesBox (old new : BoxBook) (lent : Lent) : Type 0 where
+  pub takes : LetsOut old.held new.held lent.key (numbered_of lent) (slip_of lent)
+  pub spare : new.spare ≡ old.spare
+  pub made : new.made ≡ old.made
+  pub boxes : boxes new ≡ boxes old
+
+-- the task that was out stands open again, in its box
+pub record HandsBackBox (old new : BoxBook) (lent : Lent) : Type 0 where
+  pub hands_back : Reopens old.held new.held lent.key (slip_of lent) (numbered_of lent)
+  pub spare : new.spare ≡ old.spare
+  pub made : new.made ≡ old.made
+  pub boxes : boxes new ≡ boxes old
+
+-- the result of the task that was out stands there, in its box
+pub record GivesBox (old new : BoxBook) (lent : Lent) : Type 0 where
+  pub gives : Finishes old.held new.held lent.key (slip_of lent) lent.work
+  pub spare : new.spare ≡ old.spare
+  pub made : new.made ≡ old.made
+  pub boxes : boxes new ≡ boxes old
+
+-- the result that stood there has left the book, and its box with it
+pub record FetchesBox (old new : BoxBook) (work : Task) (key : ℕ) : Type 0 where
+  pub fetches : Fetches old.held new.held work key
+  pub spare : new.spare ≡ old.spare
+  pub made : new.made ≡ old.made
+  pub boxes : boxes new + 1 ≡ boxes old
+
+-- every entry of the user has left the book; the boxes that lay in them are spare, and those of tasks that are out are lent
+pub record WithdrawsBox (user : ℕ) (old new : BoxBook) : Type 0 where
+  pub withdraws : Removes (is_slot_of user) old.held new.held
+  pub made : new.made ≡ old.made
+  pub inside : boxes_inside new ≡ boxes_inside old
+  pub boxes : boxes new ≤ boxes old

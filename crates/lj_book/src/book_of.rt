@@ -1,0 +1,260 @@
+//! A book, whatever stands open in it, and whatever is kept of that while it is out.
+ghost use Rattle.std.specs.Prelude.{◌≡◌, true, false, ◌≤◌, ◌<◌, ◌+◌, ◌-◌, ◌^◌, ◌↔◌, ℕ, List, [], Some, None, length, vec_len, IfOk, IfSome, IfNone, IsSome, IsTrue};
+ghost use Rattle.std.specs.Option.{option_copied};
+ghost use Rattle.std.specs.Vec.{vec_capacity};
+ghost use Rattle.lj_book.specs.declared.marks.Mark.TheVariants.{Taken};
+ghost use Rattle.lj_book.specs.Picks.{IsPick};
+ghost use Rattle.lj_book.specs.Book.{entry_at, entry_count, mark_of, kept_at, HasRoom, IsOpenAt, IsDoneAt, Posts, LetsOut, Reopens, Finishes, Fetches, Puts, Removes, RemovesAt, is_of_by};
+ghost use Rattle.lj_book.specs.Boxes.{box_count_by};
+
+use crate::boxes::{DoneBox, TaskBox};
+use crate::counts::Counts;
+use crate::entries::{Entry, Keeps, MAX_ENTRIES, put_for};
+use crate::marks::{Mark, Marks};
+use slab::Slab;
+use std::alloc::{AllocError, Global};
+use std::marker::Model;
+
+/// Entries, a mark for each key, and counts. No call but `new` takes memory.
+#[derive(Drop)]
+pub(crate) struct BookOf<P, K> {
+    entries: Slab<Entry<P, K>>,
+    marks: Marks,
+    posted: u64,
+    given: u64,
+    fetched: u64,
+    withdrawn: u64,
+}
+
+impl<P, K> Model for BookOf<P, K> {
+    ghost use Rattle.lj_book.specs.Book.{BookOf, IsBook};
+
+    ghost Value = { BookOf P K };
+
+    ghost view = { λ b. record {
+      slots = b.entries.slots;
+      posted = b.posted;
+      given = b.given;
+      fetched = b.fetched;
+      withdrawn = b.withdrawn;
+    } };
+
+    ghost invariant = { λ b. IsBook b.entries b.marks b.posted b.given b.fetched b.withdrawn };
+}
+
+impl<P: Drop, K: Drop> BookOf<P, K> {
+    /// A book without entries, with room for `MAX_ENTRIES`.
+    pub(crate) fn new(alloc: Global) -> Result<BookOf<P, K>, AllocError>
+        ensures { IfOk result (λ book.
+            book ≡ record { slots = []; posted = 0; given = 0; fetched = 0; withdrawn = 0 }) }
+    {
+        let entries = Slab::with_capacity(alloc, MAX_ENTRIES)?;
+        let marks = Marks::new(alloc, entries.capacity())?;
+        Ok(BookOf {
+            entries,
+            marks,
+            posted: 0,
+            given: 0,
+            fetched: 0,
+            withdrawn: 0,
+        })
+    }
+
+    /// Whether an entry more has room, and a post more is counted.
+    pub(crate) fn has_room(&self) -> bool
+        ensures { IsTrue result ↔ HasRoom self.now }
+    {
+        self.entries.len() < MAX_ENTRIES && self.posted < u64::MAX
+    }
+
+    /// How many entries stand.
+    pub(crate) fn len(&self) -> usize
+        ensures { result ≡ entry_count self.now }
+    {
+        self.entries.len()
+    }
+
+    /// How many were posted.
+    pub(crate) fn posted(&self) -> u64
+        ensures { result ≡ self.now.posted }
+    {
+        self.posted
+    }
+
+    /// Posts what then stands open.
+    pub(crate) fn post(&mut self, opened: P)
+        requires { HasRoom self.old }
+        ensures { (key : ℕ) × Posts self.old self.new opened key }
+    {
+        let key = self.entries.insert_reserved(Entry::Open(opened));
+        self.marks.set(key, Mark::ToTake);
+        self.posted += 1;
+    }
+
+    /// The least key from `pick` on under which something stands open, else the least.
+    pub(crate) fn find_open(&self, pick: usize) -> Option<usize>
+        ensures some { IfSome result (λ key. IsPick (IsOpenAt self.now) pick key) }
+        ensures none { IfNone result ((k : ℕ) → ¬ IsOpenAt self.now k) }
+    {
+        self.marks.find(Mark::ToTake, pick)
+    }
+
+    /// What stands open under a key.
+    pub(crate) fn open_at(&self, key: usize) -> &P
+        requires { IsOpenAt self.now key }
+        ensures { entry_at self.now key ≡ Some (Entry.Open result.now) }
+    {
+        match self.entries.get(key) {
+            Some(Entry::Open(opened)) => opened,
+            _ => unreachable!(),
+        }
+    }
+
+    /// What is kept under a key of what is out.
+    pub(crate) fn kept_at(&self, key: usize) -> Option<&K>
+        ensures { option_copied result ≡ kept_at (entry_at self.now key) }
+    {
+        match self.entries.get(key) {
+            Some(Entry::Out(kept)) => Some(kept),
+            _ => None,
+        }
+    }
+
+    /// Lets what stands open under a key out.
+    pub(crate) fn let_out(&mut self, key: usize, kept: K) -> P
+        requires { IsOpenAt self.old key }
+        ensures { LetsOut self.old self.new key result kept }
+    {
+        let was = put_for(&mut self.entries, key, Entry::Out(kept));
+        self.marks.set(key, Mark::Taken);
+        match was {
+            Entry::Open(opened) => opened,
+            _ => unreachable!(),
+        }
+    }
+
+    /// Opens what is out under a key again.
+    pub(crate) fn reopen(&mut self, key: usize, opened: P) -> K
+        requires { mark_of (entry_at self.old key) ≡ Taken }
+        ensures { Reopens self.old self.new key result opened }
+    {
+        let was = put_for(&mut self.entries, key, Entry::Open(opened));
+        self.marks.set(key, Mark::ToTake);
+        match was {
+            Entry::Out(kept) => kept,
+            _ => unreachable!(),
+        }
+    }
+
+    /// Puts a result in the place of what is out under a key.
+    pub(crate) fn finish(&mut self, key: usize, done: DoneBox) -> K
+        requires { mark_of (entry_at self.old key) ≡ Taken }
+        ensures { Finishes self.old self.new key result done }
+    {
+        let user = done.done().task().name().label.user;
+        let was = put_for(&mut self.entries, key, Entry::Done(done));
+        self.marks.set(key, Mark::ToFetch(user));
+        self.given += 1;
+        match was {
+            Entry::Out(kept) => kept,
+            _ => unreachable!(),
+        }
+    }
+
+    /// Fetches the user's result of the least key from `pick` on, else of the least key. Its entry leaves the book.
+    pub(crate) fn fetch(&mut self, user: u8, pick: usize) -> Option<DoneBox>
+        ensures some { IfSome result (λ done. (key : ℕ) × Fetches self.old self.new done key
+            × IsPick (IsDoneAt user self.old) pick key) }
+        ensures none { IfNone result ((k : ℕ) → ¬ IsDoneAt user self.old k) }
+        ensures unchanged { IfNone result (self.new ≡ self.old) }
+    {
+        let key = self.marks.find(Mark::ToFetch(user), pick)?;
+        let was = self.entries.remove(key);
+        self.marks.set(key, Mark::Vacant);
+        self.fetched += 1;
+        match was {
+            Entry::Done(done) => Some(done),
+            _ => unreachable!(),
+        }
+    }
+
+    /// The counts.
+    pub(crate) fn counts(&self) -> Counts
+        ensures posted { result.posted ≡ self.now.posted }
+        ensures given { result.given ≡ self.now.given }
+        ensures fetched { result.fetched ≡ self.now.fetched }
+        ensures withdrawn { result.withdrawn ≡ self.now.withdrawn }
+        ensures entries { result.entries ≡ entry_count self.now }
+        ensures balance { result.posted ≡ result.fetched + result.withdrawn + result.entries }
+        ensures given_posted { result.given ≤ result.posted }
+    {
+        Counts {
+            posted: self.posted,
+            given: self.given,
+            fetched: self.fetched,
+            withdrawn: self.withdrawn,
+            entries: self.entries.len() as u64,
+        }
+    }
+}
+
+impl<P: Keeps, K: Keeps> BookOf<P, K> {
+    /// Removes every entry of the user, also of what is out. The boxes that lay in them are spare then.
+    pub(crate) fn withdraw(&mut self, user: u8, spare: &mut Vec<TaskBox>)
+        requires { vec_len spare.old + entry_count self.old ≤ vec_capacity spare.old }
+        ensures removes { Removes (is_of_by P.whose K.whose user) self.old self.new }
+        ensures boxes { vec_len spare.new + box_count_by P.boxed K.boxed self.new.slots
+            ≡ vec_len spare.old + box_count_by P.boxed K.boxed self.old.slots }
+        ensures stock { vec_len spare.new + entry_count self.new ≤ vec_len spare.old + entry_count self.old }
+        ensures grows { vec_len spare.old ≤ vec_len spare.new }
+        ensures places { vec_capacity spare.new ≡ vec_capacity spare.old }
+    {
+        for key in 0..self.entries.capacity() {
+            self.withdraw_at(key, user, spare);
+        }
+    }
+
+    /// Removes what stands under the key, if it is of the user.
+    fn withdraw_at(&mut self, key: usize, user: u8, spare: &mut Vec<TaskBox>)
+        requires { vec_len spare.old + entry_count self.old ≤ vec_capacity spare.old }
+        ensures removes { RemovesAt (is_of_by P.whose K.whose user) key self.old self.new }
+        ensures boxes { vec_len spare.new + box_count_by P.boxed K.boxed self.new.slots
+            ≡ vec_len spare.old + box_count_by P.boxed K.boxed self.old.slots }
+        ensures stock { vec_len spare.new + entry_count self.new ≤ vec_len spare.old + entry_count self.old }
+        ensures grows { vec_len spare.old ≤ vec_len spare.new }
+        ensures places { vec_capacity spare.new ≡ vec_capacity spare.old }
+    {
+        if self.is_of(key, user) {
+            let was = self.remove(key);
+            if let Some(left) = was.into_box() {
+                spare.push_reserved(left);
+            }
+        }
+    }
+
+    /// Whether something of the user stands under the key.
+    fn is_of(&self, key: usize, user: u8) -> bool
+        ensures { result ≡ is_of_by P.whose K.whose user (entry_at self.now key) }
+    {
+        match self.entries.get(key) {
+            Some(entry) => entry.user() == user,
+            None => false,
+        }
+    }
+
+    /// Removes what stands under the key, and counts it as withdrawn.
+    fn remove(&mut self, key: usize) -> Entry<P, K>
+        requires { IsSome (entry_at self.old key) }
+        ensures was { entry_at self.old key ≡ Some result }
+        ensures puts { Puts self.old self.new key None }
+        ensures counted { self.new.withdrawn + entry_count self.new ≡ self.old.withdrawn + entry_count self.old }
+        ensures posted { self.new.posted ≡ self.old.posted }
+        ensures given { self.new.given ≡ self.old.given }
+        ensures fetched { self.new.fetched ≡ self.old.fetched }
+    {
+        let removed = self.entries.remove(key);
+        self.marks.set(key, Mark::Vacant);
+        self.withdrawn += 1;
+        removed
+    }
+}

@@ -1,0 +1,237 @@
+//! The book whose tasks go out in their boxes.
+ghost use Rattle.std.specs.Prelude.{◌≡◌, ◌≤◌, ◌<◌, ◌+◌, ◌-◌, ◌↔◌, ℕ, Some, IsOk, IsTrue, OnOk, OnErr, OnSome, IfOk, IfErr, IfSome, IfNone};
+ghost use Rattle.lj_book.specs.Picks.{IsPick};
+ghost use Rattle.lj_book.specs.Book.{entry_at, entry_count, HasRoom, IsOpenAt, IsDoneAt};
+ghost use Rattle.lj_book.specs.Boxes.{AreOlder, FetchesBox, GivesBox, HandsBackBox, IsOut, PostsBox, TakesBox, WithdrawsBox, boxes as boxes_of, empty_box_book};
+
+use crate::book_of::BookOf;
+use crate::boxes::{DoneBox, TaskBox, boxes};
+use crate::counts::Counts;
+use crate::entries::Entry;
+use crate::lent::{Lent, LentDone, Numbered, Slip};
+use std::alloc::{AllocError, Global};
+use std::marker::Model;
+
+/// The book of tasks in boxes. A box comes with its task and stands open; it is taken, and only the number of its post
+/// and whose it is are kept; it comes back with its result, which its user then fetches in the box. Nothing of a box is
+/// copied, and no call but `new` takes memory.
+///
+/// A post has a number of its own, so a box that is out is known by its key and number: one that was withdrawn is refused
+/// also where its key was posted anew.
+#[derive(Drop)]
+pub struct BoxBook {
+    held: BookOf<Numbered, Slip>,
+    spare: Vec<TaskBox>,
+    made: usize,
+}
+
+impl Model for BoxBook {
+    ghost use Rattle.std.specs.Prelude.{vec_len};
+    ghost use Rattle.lj_book.specs.Boxes.{BoxBook, IsBoxBook};
+
+    ghost Value = { BoxBook };
+
+    ghost view = { λ b. record { held = b.held; spare = vec_len b.spare; made = b.made } };
+
+    ghost invariant = { λ b. IsBoxBook b.held b.spare b.made };
+}
+
+impl BoxBook {
+    /// A book without entries, and so many boxes, all spare.
+    ///
+    /// # Errors
+    /// Out of memory.
+    pub fn new(alloc: Global, made: usize) -> Result<BoxBook, AllocError>
+        ensures { IfOk result (λ book. book ≡ empty_box_book made) }
+    {
+        let held = BookOf::new(alloc)?;
+        let spare = boxes(alloc, made)?;
+        Ok(BoxBook { held, spare, made })
+    }
+
+    /// Lends a spare box.
+    ///
+    /// Promise: a box is lent exactly where one is spare.
+    pub fn lend(&mut self) -> Option<TaskBox>
+        ensures lends { OnSome result (self.old ≡ record self.new { spare = self.new.spare + 1 }) }
+        ensures none { IfNone result (self.old.spare ≡ 0) }
+        ensures unchanged { IfNone result (self.new ≡ self.old) }
+    {
+        self.spare.pop()
+    }
+
+    /// Whether a box is spare.
+    pub fn has_spare(&self) -> bool
+        ensures { IsTrue result ↔ (0 < self.now.spare) }
+    {
+        !self.spare.is_empty()
+    }
+
+    /// Puts a box by that was lent. One that comes from elsewhere, since none is lent, is let go.
+    ///
+    /// Promise: no box that was lent is lost.
+    pub fn put_by(&mut self, lent: TaskBox)
+        ensures spare { boxes_of self.old < self.old.made → self.new ≡ record self.old { spare = self.old.spare + 1 } }
+        ensures unchanged { self.old.made ≤ boxes_of self.old → self.new ≡ self.old }
+    {
+        if self.is_any_lent() {
+            self.spare.push_reserved(lent);
+        }
+    }
+
+    /// Posts the task in a box, which then stands open.
+    ///
+    /// # Errors
+    /// The box, where `MAX_ENTRIES` entries stand, 2^64 - 1 tasks have been posted, or no box is lent, so that it comes from
+    /// elsewhere. Nothing has changed then.
+    ///
+    /// Promise: exactly where the book has room and has lent a box, the task stands open in its box, by a number that no post had; else the
+    /// box is handed back, and the book is as before.
+    pub fn post_box(&mut self, task: TaskBox) -> Result<(), TaskBox>
+        ensures room { IsOk result ↔ (HasRoom self.old.held × (boxes_of self.old < self.old.made)) }
+        ensures posts { OnOk result ((key : ℕ) × PostsBox self.old self.new task key) }
+        ensures handed_back { IfErr result (λ refused. refused ≡ task) }
+        ensures unchanged { OnErr result (self.new ≡ self.old) }
+    {
+        if !self.has_room() {
+            return Err(task);
+        }
+        let number = self.held.posted();
+        self.held.post(Numbered { number, task });
+        Ok(())
+    }
+
+    /// Takes the open task of the least key from `pick` on, else of the least key, in its box. It is then out.
+    ///
+    /// Promise: the open task of the least key from `pick` on, else of the least key, is out then, and its box is handed
+    /// out; none exactly where none is open.
+    pub fn take_box(&mut self, pick: usize) -> Option<Lent>
+        ensures some { IfSome result (λ lent. TakesBox self.old self.new lent) }
+        ensures picked { IfSome result (λ lent. IsPick (IsOpenAt self.old.held) pick lent.key) }
+        ensures none { IfNone result ((k : ℕ) → ¬ IsOpenAt self.old.held k) }
+        ensures unchanged { IfNone result (self.new ≡ self.old) }
+    {
+        let key = self.held.find_open(pick)?;
+        let slip = self.held.open_at(key).slip();
+        let Numbered { number, task } = self.held.let_out(key, slip);
+        Some(Lent { key, number, task })
+    }
+
+    /// Gives the result of a task that is out. It is then to be fetched by its user.
+    ///
+    /// # Errors
+    /// The box, where no task is out under that key by that number. Nothing has changed then.
+    ///
+    /// Promise: a result is taken in exactly where its box is the one that is out under that key; else the box is handed
+    /// back, and nothing has changed.
+    pub fn give_box(&mut self, lent: LentDone) -> Result<(), DoneBox>
+        ensures given { IsOk result ↔ IsOut self.old lent }
+        ensures gives { OnOk result (GivesBox self.old self.new lent) }
+        ensures handed_back { IfErr result (λ refused. refused ≡ lent.work) }
+        ensures unchanged { OnErr result (self.new ≡ self.old) }
+    {
+        let LentDone { key, number, done } = lent;
+        let user = done.done().task().name().label.user;
+        if !self.is_out(key, number, user) {
+            return Err(done);
+        }
+        self.held.finish(key, done);
+        Ok(())
+    }
+
+    /// Hands back a task that is out. It is then open again, in its box.
+    ///
+    /// # Errors
+    /// The box, where no task is out under that key by that number. Nothing has changed then.
+    pub fn hand_back_box(&mut self, lent: Lent) -> Result<(), TaskBox>
+        ensures was_out { IsOk result ↔ IsOut self.old lent }
+        ensures hands_back { OnOk result (HandsBackBox self.old self.new lent) }
+        ensures handed_back { IfErr result (λ refused. refused ≡ lent.work) }
+        ensures unchanged { OnErr result (self.new ≡ self.old) }
+    {
+        let Lent { key, number, task } = lent;
+        let user = task.task().name().label.user;
+        if !self.is_out(key, number, user) {
+            return Err(task);
+        }
+        self.held.reopen(key, Numbered { number, task });
+        Ok(())
+    }
+
+    /// Fetches the user's result of the least key from `pick` on, else of the least key, in its box. Its entry leaves the
+    /// book.
+    ///
+    /// Promise: the user's result of the least key from `pick` on, else of the least key, leaves the book in its box; none
+    /// exactly where the user has none.
+    pub fn fetch_box(&mut self, user: u8, pick: usize) -> Option<DoneBox>
+        ensures some { IfSome result (λ done. (key : ℕ) × FetchesBox self.old self.new done key
+            × IsPick (IsDoneAt user self.old.held) pick key) }
+        ensures none { IfNone result ((k : ℕ) → ¬ IsDoneAt user self.old.held k) }
+        ensures unchanged { IfNone result (self.new ≡ self.old) }
+    {
+        self.held.fetch(user, pick)
+    }
+
+    /// Withdraws every entry of the user, also of tasks that are out. The boxes that lay in them are spare then.
+    ///
+    /// Promise: the user's entries leave the book, those that are out too, and no others; no box is lost.
+    pub fn withdraw(&mut self, user: u8)
+        ensures { WithdrawsBox user self.old self.new }
+    {
+        let BoxBook { held, spare, .. } = self;
+        held.withdraw(user, spare);
+    }
+
+    /// Whether a box that was lent can be posted.
+    fn has_room(&self) -> bool
+        ensures { IsTrue result ↔ (HasRoom self.now.held × (boxes_of self.now < self.now.made)) }
+    {
+        self.held.has_room() && self.is_any_lent()
+    }
+
+    /// Whether a box is lent that is not out with the task of an entry.
+    fn is_any_lent(&self) -> bool
+        ensures { IsTrue result ↔ (boxes_of self.now < self.now.made) }
+    {
+        self.spare.len() + self.held.len() < self.made
+    }
+
+    /// Whether a task of this user is out under the key by this number.
+    fn is_out(&self, key: usize, number: u64, user: u8) -> bool
+        ensures { IsTrue result ↔ (entry_at self.now.held key ≡ Some (Entry.Out (record { number = number; user = user }))) }
+    {
+        match self.held.kept_at(key) {
+            Some(kept) => kept.number == number && kept.user == user,
+            None => false,
+        }
+    }
+
+    /// Each number in the book is below the count of posts, so no post has the number of another.
+    pub fn numbers_are_older(&self)
+        ensures { AreOlder self.now.held }
+    {
+        let _held = &self.held;
+    }
+
+    /// Of the boxes that were made, as many are lent as are neither spare nor an entry's.
+    pub fn boxes_are_few(&self)
+        ensures { boxes_of self.now ≤ self.now.made }
+    {
+        let _held = &self.held;
+    }
+
+    /// The counts. What was posted has been fetched or withdrawn, or stands in the book.
+    ///
+    /// Promise: what was posted has been fetched or withdrawn, or stands in the book; no more was given than posted.
+    pub fn counts(&self) -> Counts
+        ensures posted { result.posted ≡ self.now.held.posted }
+        ensures given { result.given ≡ self.now.held.given }
+        ensures fetched { result.fetched ≡ self.now.held.fetched }
+        ensures withdrawn { result.withdrawn ≡ self.now.held.withdrawn }
+        ensures entries { result.entries ≡ entry_count self.now.held }
+        ensures balance { result.posted ≡ result.fetched + result.withdrawn + result.entries }
+        ensures given_posted { result.given ≤ result.posted }
+    {
+        self.held.counts()
+    }
+}

@@ -1,0 +1,16 @@
+//! What a book counts.
+
+/// The counts of a book.
+#[derive(Clone, Copy, PartialEq, Eq, Debug)]
+pub struct Counts {
+    /// Tasks that were ever posted.
+    pub posted: u64,
+    /// Results that were ever given.
+    pub given: u64,
+    /// Results that were ever fetched.
+    pub fetched: u64,
+    /// Entries that were ever withdrawn.
+    pub withdrawn: u64,
+    /// Entries that stand now.
+    pub entries: u64,
+}

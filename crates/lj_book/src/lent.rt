@@ -1,0 +1,144 @@
+//! Tasks that are out of a book in their boxes.
+ghost use Rattle.std.specs.Prelude.{◌≡◌, ℕ, Bool, is_some, true, false};
+ghost use Rattle.lj_book.specs.Book.{user_of};
+ghost use Rattle.lj_book.specs.Boxes.{slip_for};
+
+use crate::boxes::{DoneBox, TaskBox};
+use crate::entries::Keeps;
+use lj_table::Table;
+use lj_tile::{Done, Task};
+use std::marker::Model;
+
+/// A task that stands open in its box, by the number of its post.
+#[derive(Drop)]
+pub(crate) struct Numbered {
+    pub(crate) number: u64,
+    pub(crate) task: TaskBox,
+}
+
+impl Model for Numbered {
+    ghost use Rattle.lj_book.specs.Boxes.{Numbered};
+
+    ghost Value = { Numbered };
+
+    ghost view = { λ n. record { number = n.number; work = n.task } };
+}
+
+impl Numbered {
+    /// What is kept of the task while its box is out.
+    pub(crate) fn slip(&self) -> Slip
+        ensures { result ≡ slip_for self.now }
+    {
+        Slip {
+            number: self.number,
+            user: self.task.task().name().label.user,
+        }
+    }
+}
+
+impl Keeps for Numbered {
+    ghost whose = { λ n. user_of n.work };
+
+    ghost boxed = { λ n. true };
+
+    fn user(&self) -> u8 {
+        self.task.task().name().label.user
+    }
+
+    fn into_box(self) -> Option<TaskBox> {
+        Some(self.task)
+    }
+}
+
+/// What is kept of a task while its box is out: the number of its post, and whose it is.
+#[derive(Drop)]
+pub(crate) struct Slip {
+    pub(crate) number: u64,
+    pub(crate) user: u8,
+}
+
+impl Model for Slip {
+    ghost use Rattle.lj_book.specs.Boxes.{Slip};
+
+    ghost Value = { Slip };
+
+    ghost view = { λ s. record { number = s.number; user = s.user } };
+}
+
+impl Keeps for Slip {
+    ghost whose = { λ s. s.user };
+
+    ghost boxed = { λ s. false };
+
+    fn user(&self) -> u8 {
+        self.user
+    }
+
+    fn into_box(self) -> Option<TaskBox> {
+        None
+    }
+}
+
+/// A task that is out in its box: under which key, and by which number of its post. Only a book makes one, and nothing
+/// changes its task.
+#[derive(Drop)]
+pub struct Lent {
+    pub(crate) key: usize,
+    pub(crate) number: u64,
+    pub(crate) task: TaskBox,
+}
+
+impl Model for Lent {
+    ghost use Rattle.lj_book.specs.Boxes.{Lent};
+
+    ghost Value = { Lent };
+
+    ghost view = { λ l. record { key = l.key; number = l.number; work = l.task } };
+}
+
+impl Lent {
+    /// The task.
+    pub fn task(&self) -> &Task
+        ensures { result.now ≡ self.now.work }
+    {
+        self.task.task()
+    }
+
+    /// Computes the task, in its box.
+    ///
+    /// Promise: the result is of that very task, under that key and number.
+    pub fn compute(self, table: &Table) -> LentDone
+        ensures { result ≡ self }
+    {
+        LentDone {
+            key: self.key,
+            number: self.number,
+            done: self.task.compute(table),
+        }
+    }
+}
+
+/// The result of a task that is out, in its box.
+#[derive(Drop)]
+pub struct LentDone {
+    pub(crate) key: usize,
+    pub(crate) number: u64,
+    pub(crate) done: DoneBox,
+}
+
+impl Model for LentDone {
+    ghost use Rattle.lj_book.specs.Boxes.{Lent};
+
+    ghost Value = { Lent };
+
+    ghost view = { λ l. record { key = l.key; number = l.number; work = l.done } };
+}
+
+impl LentDone {
+    /// The result.
+    pub fn done(&self) -> &Done
+        ensures { result.now ≡ self.now.work }
+    {
+        self.done.done()
+    }
+}
