@@ -97,6 +97,13 @@ impl Model for Lent {
 }
 
 impl Lent {
+    /// Its key.
+    pub fn key(&self) -> usize
+        ensures { result ≡ self.now.key }
+    {
+        self.key
+    }
+
     /// The task.
     pub fn task(&self) -> &Task
         ensures { result.now ≡ self.now.work }

@@ -14,3 +14,4 @@ pub mod Dialogues
 pub mod Handing
 pub mod ItemEnds
 mod AllRead
+pub mod EndBoxLemmas

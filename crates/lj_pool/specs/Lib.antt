@@ -10,6 +10,7 @@ pub mod Endings
 pub mod Serving
 pub mod Served
 pub mod Accounts
+pub mod EndBoxes
 pub mod LockEnd
 pub mod Waking
 pub mod PoolStates

@@ -1,8 +1,10 @@
 -- One connection's end of a pool behind a lock.
+use Rattle.std.specs.Prelude.{List}
 use Rattle.lj_tile.specs.Task.{Task}
 use Rattle.lj_pool.specs.Seen.{Seen}
 
--- what the end has seen, and the task of the result that it was handed last
+-- what the end has seen, the task of the result that it was handed last, and those of the results that it has in hand
 pub record LockEnd : Type 0 where
   pub seen : Seen
   pub last : Task
+  pub hand : List Task

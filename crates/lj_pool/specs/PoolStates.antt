@@ -1,8 +1,39 @@
 -- What lies under the lock of a pool.
-use Rattle.std.specs.Prelude.{◌<◌, ◌-◌, ◌^◌}
-use Rattle.lj_book.specs.Book.{Book, entry_count}
-use Rattle.lj_book.specs.declared.entries.TheConstants.{MAX_ENTRIES}
+use Rattle.std.specs.Prelude.{◌≡◌, ℕ, ◌+◌, ◌-◌, ◌<◌, ◌≤◌, List, [], ◌∷◌, Option, Some, None}
+use Rattle.lj_tile.specs.Task.{Task}
+use Rattle.lj_book.specs.Book.{BookOf, Fetches}
+use Rattle.lj_book.specs.Boxes.{BoxBook, Numbered, Slip, boxes}
+use Rattle.lj_pool.specs.EndBoxes.{EndBoxes, TakesInHand, box_count}
 
--- the book has room for a task
-abbrev pub HasRoom : Book → Type 0
-HasRoom book = (entry_count book < MAX_ENTRIES) × (book.posted < 2 ^ 64 - 1)
+-- a box can be posted: the one at hand if one is lent, else a spare one
+abbrev pub HasBox : BoxBook → Option Task → Type 0
+HasBox book None = 0 < book.spare
+HasBox book (Some task) = boxes book < book.made
+
+-- the book without the box that is posted
+abbrev pub lending : Option Task → BoxBook → BoxBook
+lending None book = record book { spare = book.spare - 1 }
+lending (Some task) book = book
+
+-- A box is spare again, if it was lent.
+pub record PutsBy (old new : BoxBook) : Type 0 where
+  pub held : new.held ≡ old.held
+  pub made : new.made ≡ old.made
+  pub lent : boxes old < old.made → new.spare ≡ old.spare + 1
+  pub none : old.made ≤ boxes old → new.spare ≡ old.spare
+
+-- These results have left the book, one after the other.
+abbrev pub FetchesEach : List Task → BookOf Numbered Slip → BookOf Numbered Slip → Type 0
+FetchesEach [] old new = new ≡ old
+FetchesEach (done ∷ others) old new =
+    (next : BookOf Numbered Slip) × ((key : ℕ) × Fetches old next done key) × FetchesEach others next new
+
+-- Of the boxes of the book and of an end none is lost, if the end's were lent.
+abbrev pub NoneIsLost : BoxBook → EndBoxes → BoxBook → EndBoxes → Type 0
+NoneIsLost old own new others =
+    boxes old + box_count own ≤ old.made → boxes new + box_count others ≡ boxes old + box_count own
+
+-- The results that an end took in hand are those that left the book, and no others did.
+pub record FetchesInHand (user : ℕ) (old : BoxBook) (own : EndBoxes) (new : BoxBook) (others : EndBoxes) : Type 0 where
+  pub takes : TakesInHand user own others
+  pub fetches : FetchesEach (takes.first ∷ takes.others) old.held new.held

@@ -1,4 +1,5 @@
 //! A pool behind a lock, whose workers run in threads of their own.
+mod end_boxes;
 mod lock_end;
 mod lock_pool;
 mod pool_state;

@@ -1,10 +1,12 @@
 //! One connection's end of a pool behind a lock.
-ghost use Rattle.std.specs.Prelude.{◌≡◌, ◌<◌, true, false, length, IfErr, OnErr, OnOk};
+ghost use Rattle.std.specs.Prelude.{◌≡◌, ◌<◌, [], true, false, length, IfErr, OnErr, OnOk};
 ghost use Rattle.lj_tile.specs.Blank.{blank_task};
 ghost use Rattle.lj_pool.specs.declared.pool.NotPosted.TheVariants.{Closed};
+ghost use Rattle.lj_pool.specs.EndBoxes.{IsNext};
 ghost use Rattle.lj_pool.specs.Seen.{IsHandedOut, IsPosted, SameOwed, StaysClosed, nothing_seen};
 
 use crate::account::Account;
+use crate::lock::end_boxes::EndBoxes;
 use crate::lock::lock_pool::LockPool;
 use crate::pool::{NotPosted, Pool};
 use lj_tile::{Done, Task};
@@ -12,8 +14,8 @@ use std::marker::Model;
 use std::sync::Wait;
 use std::sync::ledger::Ledger;
 
-/// An end of a pool behind a lock. It keeps a copy of each task that it is owed, and has room for one result. It takes no
-/// memory.
+/// An end of a pool behind a lock. It keeps a copy of each task that it is owed, has boxes of the pool in hand, and takes no
+/// memory. It gives its boxes back by `finish`.
 ///
 /// Promise: it is a `Pool`, for every number of workers, so what is served over it is the same dialogue.
 #[derive(Drop)]
@@ -21,15 +23,22 @@ pub struct LockEnd<'p, L: Ledger, R: Wait> {
     rt: &'p R,
     pool: &'p LockPool<L>,
     account: Account,
-    room: Done,
+    /// The result that was handed out last, those that are handed out next, and spare boxes.
+    boxes: EndBoxes,
 }
 
 impl<'p, L: Ledger, R: Wait> Model for LockEnd<'p, L, R> {
+    ghost use Rattle.std.specs.Prelude.{unwrap_or};
+    ghost use Rattle.lj_tile.specs.Blank.{blank_task};
     ghost use Rattle.lj_pool.specs.LockEnd.{LockEnd};
 
     ghost Value = { LockEnd };
 
-    ghost view = { λ end. record { seen = end.account; last = end.room } };
+    ghost view = { λ end. record {
+      seen = end.account;
+      last = unwrap_or end.boxes.last blank_task;
+      hand = end.boxes.hand;
+    } };
 }
 
 impl<'p, L: Ledger, R: Wait> LockEnd<'p, L, R> {
@@ -37,13 +46,25 @@ impl<'p, L: Ledger, R: Wait> LockEnd<'p, L, R> {
     pub(crate) fn new(rt: &'p R, pool: &'p LockPool<L>) -> LockEnd<'p, L, R>
         ensures seen { result.seen ≡ nothing_seen }
         ensures last { result.last ≡ blank_task }
+        ensures empty_handed { result.hand ≡ [] }
     {
         LockEnd {
             rt,
             pool,
             account: Account::new(),
-            room: Done::blank(),
+            boxes: EndBoxes::new(),
         }
+    }
+
+    /// Gives all its boxes back to the pool. Results that it is owed may still come for its user.
+    pub fn finish(self) {
+        let LockEnd {
+            rt,
+            pool,
+            boxes,
+            ..
+        } = self;
+        pool.put_all_by(rt, boxes);
     }
 }
 
@@ -61,29 +82,37 @@ impl<'p, L: Ledger, R: Wait> Pool for LockEnd<'p, L, R> {
     fn post_from(&mut self, task: &Task, wait: bool) -> Result<(), NotPosted>
         requires room { length self.old.seen.owed < MAX_OWED }
         ensures last { self.new.last ≡ self.old.last }
+        ensures hand { self.new.hand ≡ self.old.hand }
         ensures posted { OnOk result (IsPosted task.now self.old.seen self.new.seen) }
         ensures unchanged { OnErr result (SameOwed self.old.seen self.new.seen) }
         ensures full { wait ≡ true → IfErr result (λ why. why ≡ Closed) }
         ensures closed { IfErr result (λ why. why ≡ Closed → self.new.seen.closed ≡ true) }
         ensures stays_closed { StaysClosed self.old.seen self.new.seen }
     {
-        let posted = self.pool.post(self.rt, task, wait);
+        let mut boxed = self.boxes.copy_of(task);
+        let posted = self.pool.post(self.rt, &mut boxed, task, wait);
+        if let Some(handed_back) = boxed {
+            self.boxes.push_spare(handed_back);
+        }
         self.account.note_post(task, posted);
         posted
     }
 
     fn fetch_in(&mut self, user: u8) -> bool
         ensures whose { result ≡ true → self.new.last.name.label.user ≡ user }
+        ensures next { result ≡ true → IsNext user self.old.hand self.new.last self.new.hand }
         ensures last { result ≡ false → self.new.last ≡ self.old.last }
+        ensures hand { result ≡ false → self.new.hand ≡ self.old.hand }
         ensures handed_out { result ≡ true → IsHandedOut self.new.last self.old.seen self.new.seen }
         ensures unchanged { result ≡ false → SameOwed self.old.seen self.new.seen }
         ensures closed { result ≡ false → self.new.seen.closed ≡ true }
         ensures stays_closed { StaysClosed self.old.seen self.new.seen }
     {
-        let owed = self.account.owed();
-        let fetched = self.pool.fetch(self.rt, user, owed, &mut self.room);
+        let owed = self.account.owed().saturating_sub(self.boxes.in_hand());
+        let fetched = self.pool.fetch(self.rt, user, owed, &mut self.boxes);
         if fetched {
-            self.account.count(self.room.task());
+            let last = self.boxes.last_or(self.pool.blank());
+            self.account.count(last.task());
         } else {
             self.account.close();
         }
@@ -92,21 +121,24 @@ impl<'p, L: Ledger, R: Wait> Pool for LockEnd<'p, L, R> {
 
     fn poll_in(&mut self, user: u8) -> bool
         ensures whose { result ≡ true → self.new.last.name.label.user ≡ user }
+        ensures next { result ≡ true → IsNext user self.old.hand self.new.last self.new.hand }
         ensures last { result ≡ false → self.new.last ≡ self.old.last }
+        ensures hand { result ≡ false → self.new.hand ≡ self.old.hand }
         ensures open { self.new.seen.closed ≡ self.old.seen.closed }
         ensures handed_out { result ≡ true → IsHandedOut self.new.last self.old.seen self.new.seen }
         ensures unchanged { result ≡ false → SameOwed self.old.seen self.new.seen }
         ensures stays_closed { StaysClosed self.old.seen self.new.seen }
     {
-        let polled = self.pool.poll(self.rt, user, &mut self.room);
+        let polled = self.pool.poll(self.rt, user, &mut self.boxes);
         if polled {
-            self.account.count(self.room.task());
+            let last = self.boxes.last_or(self.pool.blank());
+            self.account.count(last.task());
         }
         polled
     }
 
     fn fetched(&self) -> &Done {
-        &self.room
+        self.boxes.last_or(self.pool.blank())
     }
 
     fn owed(&self) -> usize {

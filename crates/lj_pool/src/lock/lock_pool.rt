@@ -1,37 +1,49 @@
 //! A pool behind a lock, whose workers run in threads of their own.
-ghost use Rattle.std.specs.Prelude.{◌≡◌, ◌+◌, ◌≤◌, true, false, vec_len, IfErr, IfNone, IfOk, OnErr};
+ghost use Rattle.std.specs.Prelude.{◌≡◌, ◌+◌, ◌≤◌, None, true, false, vec_len, IfErr, IfOk, IsSomeAnd, OnErr, OnOk};
 ghost use Rattle.std.specs.List.{All};
+ghost use Rattle.std.specs.Option.{ForSome};
 ghost use Rattle.lj_pool.specs.declared.pool.NotPosted.TheVariants.{Closed};
+ghost use Rattle.lj_pool.specs.EndBoxes.{IsNext, SameResults, TakesInHand};
 ghost use Rattle.lj_pool.specs.Seen.{nothing_seen};
 ghost use Rattle.lj_tile.specs.Blank.{blank_task};
 
+use crate::lock::end_boxes::{EndBoxes, MAX_END_BOXES};
 use crate::lock::lock_end::LockEnd;
 use crate::lock::pool_state::PoolState;
 use crate::pool::NotPosted;
 use crate::share::{Share, shares_of};
 use crate::waking::{TASKS_AT_ONCE, WAIT_QUEUES, wait_queue_of};
-use lj_book::{Book, Counts, Key};
+use lj_book::{BoxBook, Counts, Lent, LentDone, MAX_ENTRIES, TaskBox};
 use lj_tile::{Done, Task};
 use std::alloc::{AllocError, Global};
 use std::array;
+use std::sync::atomic::{AtomicBool, Ordering};
 use std::sync::ledger::{self, Blank, Ledger};
 use std::sync::{Condvar, Mutex, MutexGuard, Wait};
 
+/// The most ends at once that a pool has boxes for. With more of them a post may be refused before the book is full.
+pub const MAX_ENDS: usize = 64;
+
 /// A book of tasks behind a lock. Its ends post tasks and fetch results, each from a thread of its own, and workers
-/// compute them (`work`). The lock is never held while a task is computed.
+/// compute them (`work`). Tasks and results change hands in their boxes. The lock is never held while a task is computed.
 #[derive(Drop)]
 pub struct LockPool<L: Ledger> {
     state: Mutex<PoolState<L>>,
     /// A task was posted. Workers wait for it.
     not_empty: Condvar,
-    /// An entry left a full book. Ends that have a task to post wait for it.
+    /// An entry left a full book, or a box was put by where none was spare. Ends that have a task to post wait for it.
     not_full: Condvar,
     /// Results were given, for each wait queue to the users who share it. Their ends wait for it.
     results_ready: [Condvar; WAIT_QUEUES],
+    /// Whether the pool is closed, as its state says too.
+    closed: AtomicBool,
+    /// What an end shows that was handed no result yet.
+    blank: Done,
+    ghost blank_is: { blank ≡ blank_task },
 }
 
 impl<L: Ledger> LockPool<L> {
-    /// An empty pool, with a share for each worker.
+    /// An empty pool, with a share for each worker, and boxes for all entries, workers and ends.
     ///
     /// # Errors
     /// Out of memory.
@@ -46,7 +58,10 @@ impl<L: Ledger> LockPool<L> {
         ensures one_each { IfOk result (λ made. vec_len made.1 ≡ workers) }
         ensures nothing { IfOk result (λ made. All (λ count. count ≡ 0) made.1.items) }
     {
-        let book = Book::new(alloc)?;
+        let Some(made) = workers.checked_add(MAX_ENTRIES + MAX_ENDS * MAX_END_BOXES) else {
+            return Err(AllocError);
+        };
+        let book = BoxBook::new(alloc, made)?;
         let (results, all) = blank.open::<L>();
         let shares = shares_of(alloc, all, workers)?;
         let pool = LockPool {
@@ -54,6 +69,8 @@ impl<L: Ledger> LockPool<L> {
             not_empty: Condvar::new(),
             not_full: Condvar::new(),
             results_ready: array::from_fn(|_| Condvar::new()),
+            closed: AtomicBool::new(false),
+            blank: Done::blank(),
         };
         Ok((pool, shares))
     }
@@ -68,6 +85,7 @@ impl<L: Ledger> LockPool<L> {
 
     /// Closes the pool: from now on no task is posted or taken and no result fetched.
     pub fn close<R: Wait>(&self, rt: &R) {
+        self.closed.store(true, Ordering::SeqCst);
         self.state.lock(rt).close();
         self.not_empty.notify_all();
         self.not_full.notify_all();
@@ -92,13 +110,35 @@ impl<L: Ledger> LockPool<L> {
         self.not_full.notify_all();
     }
 
-    /// Posts a copy of a task. With `wait` it waits while the book is full.
-    pub(crate) fn post<R: Wait>(&self, rt: &R, task: &Task, wait: bool) -> Result<(), NotPosted>
+    /// Whether the pool is closed.
+    fn is_closed(&self) -> bool {
+        self.closed.load(Ordering::SeqCst)
+    }
+
+    /// A blank result.
+    pub(crate) fn blank(&self) -> &Done
+        ensures { result.now ≡ blank_task }
+    {
+        &self.blank
+    }
+
+    /// Posts a task in the box at hand, where there is one; else a copy of it in a spare box. Where it is not posted, the box
+    /// at hand is handed back. With `wait` it waits while the book is full.
+    pub(crate) fn post<R: Wait>(
+        &self,
+        rt: &R,
+        boxed: &mut Option<TaskBox>,
+        task: &Task,
+        wait: bool,
+    ) -> Result<(), NotPosted>
+        requires { ForSome boxed.old (λ work. work ≡ task.now) }
+        ensures out_of_hand { OnOk result (boxed.new ≡ None) }
+        ensures handed_back { OnErr result (boxed.new ≡ boxed.old) }
         ensures full { wait ≡ true → IfErr result (λ why. why ≡ Closed) }
     {
         let mut state = self.state.lock(rt);
         for _ in rt.forever() {
-            match state.post(task) {
+            match state.post(boxed, task) {
                 Err(NotPosted::Full) if wait => {}
                 posted => {
                     let tasks = state.unsignalled.take_due(TASKS_AT_ONCE);
@@ -121,15 +161,23 @@ impl<L: Ledger> LockPool<L> {
         }
     }
 
-    /// Fetches a result of the user into a room, and waits for one. False where the pool is closed: the room stays as it
-    /// is. So many are owed to the end that asks.
-    pub(crate) fn fetch<R: Wait>(&self, rt: &R, user: u8, owed: usize, room: &mut Done) -> bool
-        ensures whose { result ≡ true → room.new.name.label.user ≡ user }
-        ensures same_room { result ≡ false → room.new ≡ room.old }
+    /// Hands out the next result of the user that is in hand. Where there is none it takes all in hand that are there, as far
+    /// as there is room, and hands the first one out; it waits for one. False where the pool is closed. So many are owed to
+    /// the end that asks, and not in its hand.
+    #[tactic(auto, using(crate::proofs::EndBoxLemmas::next_in_hand, crate::proofs::EndBoxLemmas::next_fetched))]
+    pub(crate) fn fetch<R: Wait>(&self, rt: &R, user: u8, owed: usize, own: &mut EndBoxes) -> bool
+        ensures next { result ≡ true → IsSomeAnd own.new.last (λ done. IsNext user own.old.hand done own.new.hand) }
+        ensures same_results { result ≡ false → SameResults own.old own.new }
     {
+        if self.is_closed() {
+            return false;
+        }
+        if own.hand_out(user) {
+            return true;
+        }
         let mut state = self.state.lock(rt);
         for _ in rt.forever() {
-            match self.fetch_from(state, user, room) {
+            match self.fetch_from(state, user, own) {
                 Ok(fetched) => return fetched,
                 Err(kept) => state = kept,
             }
@@ -139,17 +187,25 @@ impl<L: Ledger> LockPool<L> {
         unreachable!()
     }
 
-    /// Fetches a result of the user that is there now into a room. False where there is none, or the pool is closed: the
-    /// room stays as it is.
-    pub(crate) fn poll<R: Wait>(&self, rt: &R, user: u8, room: &mut Done) -> bool
-        ensures whose { result ≡ true → room.new.name.label.user ≡ user }
-        ensures same_room { result ≡ false → room.new ≡ room.old }
+    /// Hands out the next result of the user that is in hand. Where there is none it takes all in hand that are there now, as
+    /// far as there is room, and hands the first one out. False where there is none, or the pool is closed.
+    #[tactic(auto, using(crate::proofs::EndBoxLemmas::next_in_hand, crate::proofs::EndBoxLemmas::next_fetched))]
+    pub(crate) fn poll<R: Wait>(&self, rt: &R, user: u8, own: &mut EndBoxes) -> bool
+        ensures next { result ≡ true → IsSomeAnd own.new.last (λ done. IsNext user own.old.hand done own.new.hand) }
+        ensures same_results { result ≡ false → SameResults own.old own.new }
     {
+        if self.is_closed() {
+            return false;
+        }
+        if own.hand_out(user) {
+            return true;
+        }
         let state = self.state.lock(rt);
-        self.fetch_from(state, user, room).unwrap_or(false)
+        self.fetch_from(state, user, own).unwrap_or(false)
     }
 
-    /// Fetches a result of the user into a room, and unlocks the state. False where the pool is closed.
+    /// Takes all results of the user in hand, as far as there is room, puts the spare boxes of the end by, and unlocks the
+    /// state. False where the pool is closed. Ends that wait for room are woken if there is some now.
     ///
     /// # Errors
     /// The state, where there is none yet. Workers that wait are woken then for the tasks that none was woken for.
@@ -157,80 +213,94 @@ impl<L: Ledger> LockPool<L> {
         &self,
         state: MutexGuard<'d, PoolState<L>>,
         user: u8,
-        room: &mut Done,
+        own: &mut EndBoxes,
     ) -> Result<bool, MutexGuard<'d, PoolState<L>>>
-        ensures whose { IfOk result (λ fetched. fetched ≡ true → room.new.name.label.user ≡ user) }
-        ensures same_room { IfOk result (λ fetched. fetched ≡ false → room.new ≡ room.old) }
-        ensures unchanged { OnErr result (room.new ≡ room.old) }
+        ensures taken { IfOk result (λ fetched. fetched ≡ true → TakesInHand user own.old own.new) }
+        ensures none { IfOk result (λ fetched. fetched ≡ false → SameResults own.old own.new) }
+        ensures same_results { OnErr result (SameResults own.old own.new) }
     {
         let mut state = state;
         let was_full = state.is_full();
-        let fetched = state.fetch(user, room);
+        let puts_by = own.has_spare();
+        let fetched = state.fetch(user, own);
+        if was_full && (fetched || puts_by) {
+            self.not_full.notify_all();
+        }
         if !fetched && !state.is_closed() {
             self.wake_workers(state.unsignalled.take_due(1));
             return Err(state);
         }
         drop(state);
-        if was_full {
-            self.not_full.notify_all();
-        }
         Ok(fetched)
     }
 
-    /// Gives a result, which is credited to the share if it is accepted. Then takes an open task into a room, and waits
-    /// for one. None where the pool is closed: the room stays as it is.
+    /// Gives a result, which is credited to the share if it is accepted. Then takes an open task, and waits for one. None
+    /// where the pool is closed.
     pub(crate) fn exchange<R: Wait>(
         &self,
         rt: &R,
-        key: Key,
-        done: &Done,
+        done: LentDone,
         share: &mut Share<L>,
-        room: &mut Task,
-    ) -> Option<Key>
+    ) -> Option<Lent>
         ensures never_falls { share.old ≤ share.new }
         ensures one_at_most { share.new ≤ share.old + 1 }
-        ensures same_room { IfNone result (room.new ≡ room.old) }
     {
-        let user = done.task().name().label.user;
+        let user = done.done().task().name().label.user;
         let mut state = self.state.lock(rt);
-        let wakes = state.give(key, done, share) && state.wait_queues.note_given(user);
-        let taken = state.take(room);
+        let was_full = state.is_full();
+        let given = state.give(done, share);
+        let wakes = given && state.wait_queues.note_given(user);
+        let taken = state.take();
         drop(state);
         if wakes {
             self.results_ready[wait_queue_of(user)].notify_all();
         }
+        if was_full && !given {
+            self.not_full.notify_all();
+        }
         if taken.is_none() {
-            return self.take(rt, room);
+            return self.take(rt);
         }
         taken
     }
 
-    /// Hands the task in a room back, which is then open again, and wakes workers that wait. Then takes an open task
-    /// into the room, which may be the same, and waits for one. None where the pool is closed: the room stays as it is.
-    pub(crate) fn hand_back<R: Wait>(&self, rt: &R, key: Key, room: &mut Task) -> Option<Key>
-        ensures { IfNone result (room.new ≡ room.old) }
-    {
+    /// Hands a task back, which is then open again, and wakes workers that wait. Then takes an open task, which may be the
+    /// same, and waits for one. None where the pool is closed.
+    pub(crate) fn hand_back<R: Wait>(&self, rt: &R, lent: Lent) -> Option<Lent> {
         let mut state = self.state.lock(rt);
-        state.hand_back(key, room);
+        let was_full = state.is_full();
+        let was_out = state.hand_back(lent);
         let tasks = state.unsignalled.take_due(1);
         drop(state);
         self.wake_workers(tasks);
-        self.take(rt, room)
+        if was_full && !was_out {
+            self.not_full.notify_all();
+        }
+        self.take(rt)
     }
 
-    /// Takes an open task into a room, and waits for one. None where the pool is closed: the room stays as it is.
-    pub(crate) fn take<R: Wait>(&self, rt: &R, room: &mut Task) -> Option<Key>
-        ensures { IfNone result (room.new ≡ room.old) }
-    {
+    /// Takes an open task, and waits for one. None where the pool is closed.
+    pub(crate) fn take<R: Wait>(&self, rt: &R) -> Option<Lent> {
         let mut state = self.state.lock(rt);
         for _ in rt.forever() {
-            let taken = state.take(room);
+            let taken = state.take();
             if taken.is_some() || state.is_closed() {
                 return taken;
             }
             state = self.not_empty.wait(rt, state);
         }
         unreachable!()
+    }
+
+    /// Puts all boxes of an end by, for others.
+    pub(crate) fn put_all_by<R: Wait>(&self, rt: &R, own: EndBoxes) {
+        let mut state = self.state.lock(rt);
+        let was_full = state.is_full();
+        state.put_all_by(own);
+        drop(state);
+        if was_full {
+            self.not_full.notify_all();
+        }
     }
 
     /// How many results were given, which is what all parts of the ledger have together.

@@ -1,34 +1,38 @@
 //! What lies under the lock of a pool.
-ghost use Rattle.std.specs.Prelude.{◌≡◌, ◌+◌, ◌-◌, ◌≤◌, ◌<◌, ◌↔◌, ℕ, Some, None, true, false, IsOk, IsTrue, IfErr, IfNone, IfSome, OnErr, OnOk};
-ghost use Rattle.lj_book.specs.declared.entries.Entry.TheVariants.{Out};
-ghost use Rattle.lj_book.specs.Book.{entry_at, entry_count, Fetches, Gives, HandsBack, IsDoneAt, IsOpenAt, Posts, Takes, Withdraws};
+ghost use Rattle.std.specs.Prelude.{◌≡◌, ◌≢◌, ◌+◌, ◌≤◌, ◌<◌, ◌↔◌, ◌⊎◌, ◌++◌, ℕ, List, Some, None, true, false, length, IsOk, IsTrue, IfErr, IfNone, IfSome, OnErr, OnOk};
+ghost use Rattle.std.specs.List.{All};
+ghost use Rattle.std.specs.Option.{ForSome};
+ghost use Rattle.lj_book.specs.Book.{entry_count, user_of, HasRoom, IsDoneAt, IsOpenAt};
+ghost use Rattle.lj_book.specs.Boxes.{boxes as boxes_of, GivesBox, HandsBackBox, IsOut, PostsBox, TakesBox, WithdrawsBox};
 ghost use Rattle.lj_pool.specs.declared.pool.NotPosted.TheVariants.{Closed};
-ghost use Rattle.lj_pool.specs.PoolStates.{HasRoom};
+ghost use Rattle.lj_pool.specs.EndBoxes.{SameResults, box_count};
+ghost use Rattle.lj_pool.specs.PoolStates.{FetchesEach, FetchesInHand, HasBox, NoneIsLost, PutsBy, lending};
 
+use crate::lock::end_boxes::{EndBoxes, MAX_IN_HAND};
 use crate::pool::NotPosted;
 use crate::share::Share;
 use crate::waking::{UnsignalledPosts, WaitQueues};
-use lj_book::{Book, Counts, Key, MAX_ENTRIES};
-use lj_tile::{Done, Task};
+use lj_book::{BoxBook, Counts, Key, Lent, LentDone, MAX_ENTRIES, TaskBox};
+use lj_tile::Task;
 use std::sync::ledger::{self, Ledger};
 
 /// The book of a pool, and the ledger's book of the results that it was given.
 #[derive(Drop)]
 pub(crate) struct PoolState<L: Ledger> {
-    book: Book,
+    book: BoxBook,
     results: ledger::Book<L>,
     next: Key,
     pub(crate) unsignalled: UnsignalledPosts,
     /// Where ends wait for results.
     pub(crate) wait_queues: WaitQueues,
     closed: bool,
-    ghost counted: { book.given ≡ results.total },
+    ghost counted: { book.held.given ≡ results.total },
 }
 
 impl<L: Ledger> PoolState<L> {
     /// The state of an open pool.
-    pub(crate) fn new(book: Book, results: ledger::Book<L>) -> PoolState<L>
-        requires { book.given ≡ results.total }
+    pub(crate) fn new(book: BoxBook, results: ledger::Book<L>) -> PoolState<L>
+        requires { book.held.given ≡ results.total }
         ensures book { result.book ≡ book }
         ensures open { result.closed ≡ false }
     {
@@ -42,12 +46,16 @@ impl<L: Ledger> PoolState<L> {
         }
     }
 
-    /// Posts a copy of a task.
-    pub(crate) fn post(&mut self, task: &Task) -> Result<(), NotPosted>
-        ensures room { IsOk result ↔ ((self.old.closed ≡ false) × HasRoom self.old.book) }
-        ensures posts { OnOk result ((key : ℕ) × Posts self.old.book self.new.book task.now key) }
+    /// Posts a task in the box at hand, where there is one; else a copy of it in a spare box. Where it is not posted, the box
+    /// at hand is handed back.
+    pub(crate) fn post(&mut self, boxed: &mut Option<TaskBox>, task: &Task) -> Result<(), NotPosted>
+        requires { ForSome boxed.old (λ work. work ≡ task.now) }
+        ensures room { IsOk result ↔ ((self.old.closed ≡ false) × HasRoom self.old.book.held × HasBox self.old.book boxed.old) }
+        ensures posts { OnOk result ((key : ℕ) × PostsBox (lending boxed.old self.old.book) self.new.book task.now key) }
+        ensures out_of_hand { OnOk result (boxed.new ≡ None) }
         ensures closed { IfErr result (λ why. (why ≡ Closed) ↔ (self.old.closed ≡ true)) }
         ensures unchanged { OnErr result (self.new.book ≡ self.old.book) }
+        ensures handed_back { OnErr result (boxed.new ≡ boxed.old) }
         ensures stays { self.new.closed ≡ self.old.closed }
         ensures wait_queues { self.new.wait_queues ≡ self.old.wait_queues }
         ensures unsignalled { OnOk result (1 ≤ self.new.unsignalled) }
@@ -55,19 +63,45 @@ impl<L: Ledger> PoolState<L> {
         if self.closed {
             return Err(NotPosted::Closed);
         }
-        if self.book.post_from(task).is_err() {
+        let Some(at_hand) = boxed.take() else {
+            return self.post_copy(task);
+        };
+        if let Err(refused) = self.book.post_box(at_hand) {
+            *boxed = Some(refused);
             return Err(NotPosted::Full);
         }
         self.unsignalled.note_posted();
         Ok(())
     }
 
-    /// Takes an open task, in turn, into a room. None where there is none, or the pool is closed: the room stays as it is.
-    pub(crate) fn take(&mut self, room: &mut Task) -> Option<Key>
-        ensures some { IfSome result (λ key. Takes self.old.book self.new.book key room.new) }
-        ensures none { IfNone result (self.old.closed ≡ false → (k : ℕ) → ¬ IsOpenAt self.old.book k) }
+    /// Posts a copy of a task in a spare box.
+    fn post_copy(&mut self, task: &Task) -> Result<(), NotPosted>
+        ensures room { IsOk result ↔ (HasRoom self.old.book.held × (0 < self.old.book.spare)) }
+        ensures posts { OnOk result ((key : ℕ) × PostsBox (lending None self.old.book) self.new.book task.now key) }
+        ensures open { IfErr result (λ why. why ≢ Closed) }
+        ensures unchanged { OnErr result (self.new.book ≡ self.old.book) }
+        ensures stays { self.new.closed ≡ self.old.closed }
+        ensures wait_queues { self.new.wait_queues ≡ self.old.wait_queues }
+        ensures unsignalled { OnOk result (1 ≤ self.new.unsignalled) }
+    {
+        self.book.boxes_are_few();
+        let Some(mut spare) = self.book.lend() else {
+            return Err(NotPosted::Full);
+        };
+        spare.copy_from(task);
+        if let Err(refused) = self.book.post_box(spare) {
+            self.book.put_by(refused);
+            return Err(NotPosted::Full);
+        }
+        self.unsignalled.note_posted();
+        Ok(())
+    }
+
+    /// Takes an open task, in turn, in its box. None where there is none, or the pool is closed.
+    pub(crate) fn take(&mut self) -> Option<Lent>
+        ensures some { IfSome result (λ lent. TakesBox self.old.book self.new.book lent) }
+        ensures none { IfNone result (self.old.closed ≡ false → (k : ℕ) → ¬ IsOpenAt self.old.book.held k) }
         ensures unchanged { IfNone result (self.new.book ≡ self.old.book) }
-        ensures same_room { IfNone result (room.new ≡ room.old) }
         ensures closed { self.old.closed ≡ true → result ≡ None }
         ensures stays { self.new.closed ≡ self.old.closed }
         ensures wait_queues { self.new.wait_queues ≡ self.old.wait_queues }
@@ -75,23 +109,24 @@ impl<L: Ledger> PoolState<L> {
         if self.closed {
             return None;
         }
-        let key = self.book.take_into(self.next, room)?;
-        self.next = key.wrapping_add(1);
-        Some(key)
+        let lent = self.book.take_box(self.next)?;
+        self.next = lent.key().wrapping_add(1);
+        Some(lent)
     }
 
-    /// Gives a result, and credits it to the share of its worker if it is accepted. Whether it is.
-    pub(crate) fn give(&mut self, key: Key, done: &Done, share: &mut Share<L>) -> bool
-        ensures accepted { IsTrue result ↔ (entry_at self.old.book key ≡ Some (Out done.now)) }
-        ensures gives { result ≡ true → Gives self.old.book self.new.book key done.now }
+    /// Gives a result, and credits it to the share of its worker if it is accepted. Whether it is; else its box is put by.
+    pub(crate) fn give(&mut self, done: LentDone, share: &mut Share<L>) -> bool
+        ensures accepted { IsTrue result ↔ IsOut self.old.book done }
+        ensures gives { result ≡ true → GivesBox self.old.book self.new.book done }
         ensures credited { result ≡ true → share.new ≡ share.old + 1 }
-        ensures unchanged { result ≡ false → self.new.book ≡ self.old.book }
+        ensures put_by { result ≡ false → PutsBy self.old.book self.new.book }
         ensures not_credited { result ≡ false → share.new ≡ share.old }
         ensures stays { self.new.closed ≡ self.old.closed }
         ensures wait_queues { self.new.wait_queues ≡ self.old.wait_queues }
     {
         let PoolState { book, results, .. } = self;
-        if book.give_from(key, done).is_err() {
+        if let Err(refused) = book.give_box(done) {
+            self.put_by(refused.into_task());
             return false;
         }
         let _given = book.counts().given;
@@ -100,43 +135,115 @@ impl<L: Ledger> PoolState<L> {
     }
 
     /// Hands back a task that was taken, of which the workers are to be told as of one that was posted. Whether it was out;
-    /// it is not where its user's entries were withdrawn.
-    pub(crate) fn hand_back(&mut self, key: Key, task: &Task) -> bool
-        ensures was_out { IsTrue result ↔ (entry_at self.old.book key ≡ Some (Out task.now)) }
-        ensures hands_back { result ≡ true → HandsBack self.old.book self.new.book key task.now }
+    /// it is not where its user's entries were withdrawn, and its box is put by then.
+    pub(crate) fn hand_back(&mut self, lent: Lent) -> bool
+        ensures was_out { IsTrue result ↔ IsOut self.old.book lent }
+        ensures hands_back { result ≡ true → HandsBackBox self.old.book self.new.book lent }
         ensures unsignalled { result ≡ true → 1 ≤ self.new.unsignalled }
-        ensures unchanged { result ≡ false → self.new.book ≡ self.old.book }
+        ensures put_by { result ≡ false → PutsBy self.old.book self.new.book }
         ensures not_told { result ≡ false → self.new.unsignalled ≡ self.old.unsignalled }
         ensures wait_queues { self.new.wait_queues ≡ self.old.wait_queues }
         ensures stays { self.new.closed ≡ self.old.closed }
     {
-        if self.book.hand_back(key, task).is_err() {
+        if let Err(refused) = self.book.hand_back_box(lent) {
+            self.put_by(refused);
             return false;
         }
         self.unsignalled.note_posted();
         true
     }
 
-    /// Fetches a result of the user into a room. False where there is none, or the pool is closed: the room stays as it is.
-    pub(crate) fn fetch(&mut self, user: u8, room: &mut Done) -> bool
-        ensures some { result ≡ true → (key : ℕ) × Fetches self.old.book self.new.book room.new key }
-        ensures whose { result ≡ true → room.new.name.label.user ≡ user }
-        ensures none { result ≡ false → self.old.closed ≡ false → (k : ℕ) → ¬ IsDoneAt user self.old.book k }
-        ensures unchanged { result ≡ false → self.new.book ≡ self.old.book }
-        ensures same_room { result ≡ false → room.new ≡ room.old }
+    /// Puts the spare boxes of an end by. Then it takes results of the user in hand, all that are there, as far as it has room;
+    /// the first one is its last one at once, and the box of the one before that is spare for the next task. False where there
+    /// is none, or the pool is closed.
+    pub(crate) fn fetch(&mut self, user: u8, own: &mut EndBoxes) -> bool
+        ensures some { result ≡ true → FetchesInHand user self.old.book own.old self.new.book own.new }
+        ensures all { result ≡ true
+            → (length own.new.hand ≡ MAX_IN_HAND) ⊎ ((k : ℕ) → ¬ IsDoneAt user self.new.book.held k) }
+        ensures none { result ≡ false → self.old.closed ≡ false → (k : ℕ) → ¬ IsDoneAt user self.old.book.held k }
+        ensures unchanged { result ≡ false → self.new.book.held ≡ self.old.book.held }
+        ensures same_results { result ≡ false → SameResults own.old own.new }
+        ensures kept { NoneIsLost self.old.book own.old self.new.book own.new }
+        ensures put_by { own.new.spare ≤ 1 }
         ensures closed { self.old.closed ≡ true → result ≡ false }
+        ensures made { self.new.book.made ≡ self.old.book.made }
         ensures stays { self.new.closed ≡ self.old.closed }
         ensures wait_queues { self.new.wait_queues ≡ self.old.wait_queues }
     {
+        self.put_spare_by(own);
         if self.closed {
             return false;
         }
-        self.book.fetch_into(user, 0, room)
+        let Some(first) = self.book.fetch_box(user, 0) else {
+            return false;
+        };
+        own.show(first);
+        self.fetch_more(user, own);
+        true
+    }
+
+    /// Puts a box by.
+    fn put_by(&mut self, lent: TaskBox)
+        ensures put_by { PutsBy self.old.book self.new.book }
+        ensures unsignalled { self.new.unsignalled ≡ self.old.unsignalled }
+        ensures stays { self.new.closed ≡ self.old.closed }
+        ensures wait_queues { self.new.wait_queues ≡ self.old.wait_queues }
+    {
+        self.book.put_by(lent);
+    }
+
+    /// Puts the spare boxes of an end by.
+    fn put_spare_by(&mut self, own: &mut EndBoxes)
+        ensures held { self.new.book.held ≡ self.old.book.held }
+        ensures made { self.new.book.made ≡ self.old.book.made }
+        ensures own { own.new ≡ record own.old { spare = 0 } }
+        ensures few { length own.new.hand ≤ MAX_IN_HAND }
+        ensures kept { NoneIsLost self.old.book own.old self.new.book own.new }
+        ensures stays { self.new.closed ≡ self.old.closed }
+        ensures wait_queues { self.new.wait_queues ≡ self.old.wait_queues }
+    {
+        while let Some(spare) = own.pop_spare() {
+            self.put_by(spare);
+        }
+    }
+
+    /// Takes results of the user in hand, all that are there, as far as there is room.
+    fn fetch_more(&mut self, user: u8, own: &mut EndBoxes)
+        requires { own.old.spare ≤ 1 }
+        ensures fetches { (others : List Task) × (own.new ≡ record own.old { hand = own.old.hand ++ others })
+            × FetchesEach others self.old.book.held self.new.book.held × All (λ done. user_of done ≡ user) others }
+        ensures all { (length own.new.hand ≡ MAX_IN_HAND) ⊎ ((k : ℕ) → ¬ IsDoneAt user self.new.book.held k) }
+        ensures kept { boxes_of self.new.book + length own.new.hand ≡ boxes_of self.old.book + length own.old.hand }
+        ensures made { self.new.book.made ≡ self.old.book.made }
+        ensures stays { self.new.closed ≡ self.old.closed }
+        ensures wait_queues { self.new.wait_queues ≡ self.old.wait_queues }
+    {
+        for _held in own.in_hand()..MAX_IN_HAND {
+            let Some(next) = self.book.fetch_box(user, 0) else {
+                return;
+            };
+            own.push(next);
+        }
+    }
+
+    /// Puts all boxes of an end by.
+    pub(crate) fn put_all_by(&mut self, own: EndBoxes)
+        ensures held { self.new.book.held ≡ self.old.book.held }
+        ensures made { self.new.book.made ≡ self.old.book.made }
+        ensures kept { boxes_of self.old.book + box_count own ≤ self.old.book.made
+            → boxes_of self.new.book ≡ boxes_of self.old.book + box_count own }
+        ensures stays { self.new.closed ≡ self.old.closed }
+        ensures wait_queues { self.new.wait_queues ≡ self.old.wait_queues }
+    {
+        let mut left = own;
+        while let Some(lent) = left.give_up() {
+            self.put_by(lent);
+        }
     }
 
     /// Withdraws every entry of the user.
     pub(crate) fn withdraw(&mut self, user: u8)
-        ensures withdraws { Withdraws user self.old.book self.new.book }
+        ensures withdraws { WithdrawsBox user self.old.book self.new.book }
         ensures stays { self.new.closed ≡ self.old.closed }
         ensures wait_queues { self.new.wait_queues ≡ self.old.wait_queues }
     {
@@ -159,20 +266,20 @@ impl<L: Ledger> PoolState<L> {
         self.closed
     }
 
-    /// Whether no task can be posted before an entry leaves the book.
+    /// Whether no task can be posted before an entry leaves the book, or a box is put by.
     pub(crate) fn is_full(&self) -> bool
-        ensures { IsTrue result ↔ (entry_count self.now.book ≡ MAX_ENTRIES) }
+        ensures { result ≡ false ↔ ((entry_count self.now.book.held ≢ MAX_ENTRIES) × (0 < self.now.book.spare)) }
     {
-        self.book.counts().entries == MAX_ENTRIES as u64
+        self.book.counts().entries == MAX_ENTRIES as u64 || !self.book.has_spare()
     }
 
     /// The counts of the book.
     pub(crate) fn counts(&self) -> Counts
-        ensures posted { result.posted ≡ self.now.book.posted }
-        ensures given { result.given ≡ self.now.book.given }
-        ensures fetched { result.fetched ≡ self.now.book.fetched }
-        ensures withdrawn { result.withdrawn ≡ self.now.book.withdrawn }
-        ensures entries { result.entries ≡ entry_count self.now.book }
+        ensures posted { result.posted ≡ self.now.book.held.posted }
+        ensures given { result.given ≡ self.now.book.held.given }
+        ensures fetched { result.fetched ≡ self.now.book.held.fetched }
+        ensures withdrawn { result.withdrawn ≡ self.now.book.held.withdrawn }
+        ensures entries { result.entries ≡ entry_count self.now.book.held }
         ensures balance { result.posted ≡ result.fetched + result.withdrawn + result.entries }
         ensures given_posted { result.given ≤ result.posted }
     {
@@ -182,7 +289,7 @@ impl<L: Ledger> PoolState<L> {
     /// How many results were given, which is what all parts of the ledger have together.
     pub(crate) fn audited(&mut self, all: &mut ledger::Share<L>) -> u64
         requires { all.old.parts ≡ L.parts }
-        ensures given { result ≡ self.old.book.given }
+        ensures given { result ≡ self.old.book.held.given }
         ensures amount { result ≡ all.old.amount }
         ensures unchanged { self.new.book ≡ self.old.book }
         ensures wait_queues { self.new.wait_queues ≡ self.old.wait_queues }

@@ -5,7 +5,7 @@ ghost use Rattle.lj_tile.specs.declared.names.TaskName.{TaskName};
 use crate::lock::lock_pool::LockPool;
 use crate::share::{Share, merged};
 use lj_table::Table;
-use lj_tile::{Done, Task, TaskName, compute_in};
+use lj_tile::TaskName;
 use std::sync::Wait;
 use std::sync::ledger::Ledger;
 
@@ -34,8 +34,7 @@ impl Gate for () {
 }
 
 /// Computes tasks of the pool until it is closed, but those that the gate sends back, which it hands back. The share
-/// that is handed back has been credited each result that was accepted. A worker has one room for a task and one for its
-/// result.
+/// that is handed back has been credited each result that was accepted.
 pub fn work<L: Ledger, G: Gate, R: Wait>(
     rt: &R,
     pool: &LockPool<L>,
@@ -46,19 +45,16 @@ pub fn work<L: Ledger, G: Gate, R: Wait>(
     ensures { share ≤ result }
 {
     let mut share = share;
-    let mut task = Task::blank();
-    let mut done = Done::blank();
-    let mut taken = pool.take(rt, &mut task);
+    let mut taken = pool.take(rt);
     for _ in rt.forever() {
-        let Some(key) = taken else {
+        let Some(lent) = taken else {
             break;
         };
-        if gate.back(task.name()) {
-            taken = pool.hand_back(rt, key, &mut task);
+        if gate.back(lent.task().name()) {
+            taken = pool.hand_back(rt, lent);
         } else {
-            gate.between(task.name());
-            compute_in(&task, table, &mut done);
-            taken = pool.exchange(rt, key, &done, &mut share, &mut task);
+            gate.between(lent.task().name());
+            taken = pool.exchange(rt, lent.compute(table), &mut share);
         }
     }
     share

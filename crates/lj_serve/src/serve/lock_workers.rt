@@ -100,6 +100,7 @@ impl<'s, L: Ledger, R: Wait + Clock + Log> Backend for LockBackend<'_, 's, L, R>
         ensures { Happens None None (withdrawn end.entry.user end.entry.pool.seen 0 ∷ []) }
     {
         self.pool.withdraw(self.visitor.rt, end.user);
+        end.pool.finish();
     }
 
     fn leave(&mut self, lent: Lent) {

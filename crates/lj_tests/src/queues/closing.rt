@@ -75,7 +75,7 @@ fn fetch_then_poll<P: Pool>(end: &mut P) -> bool {
     end.owed() == 1 && end.fetch(OTHER).is_none() && end.closed() && end.poll(OTHER).is_none()
 }
 
-/// Two ends fetch one of two results that were given, so that the other is in hand over a queue, and the pool is closed.
+/// Two ends fetch one of two results that were given, so that the other is in hand, and the pool is closed.
 /// Whether neither of these comes any more.
 fn drop_in_hand<S: Stage<R>, R: Host>(rt: &R, stage: &S) -> bool {
     let mut end = posting_end(rt, stage, USER, 2);
@@ -103,7 +103,7 @@ fn results_in_hand_do_not_outlive_the_pool(rt: HostRuntime) -> Result<(), Fail> 
     Ok(())
 }
 
-/// The result that came before the close lies in the room of each end still.
+/// The result that came before the close is the last one of each end still.
 #[test]
 fn no_result_outlives_a_pool_behind_a_lock(rt: HostRuntime) -> Result<(), Fail> {
     let OverLock { seen, given, .. } = over_lock(&rt, 1, Scene::InHand)?;

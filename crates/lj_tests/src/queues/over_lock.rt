@@ -28,7 +28,7 @@ impl<'p, L: Ledger + Send + Sync, R: Host + Sync> Stage<R> for LockStage<'p, L, 
     }
 
     fn leave(&self, _rt: &R, end: LockEnd<'p, L, R>) -> Option<usize> {
-        drop(end);
+        end.finish();
         None
     }
 

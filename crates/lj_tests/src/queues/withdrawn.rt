@@ -14,9 +14,12 @@ use std::test::Fail;
 /// The user that is withdrawn, and how many tasks it posts.
 const GONE: u8 = 6;
 
-const GONE_TASKS: i64 = 4;
+const GONE_TASKS: i64 = 20;
 
-/// How many more it posts over a queue once it has those in hand.
+/// So many of them are in hand over a book once the first one was handed out.
+const IN_HAND: i64 = 16;
+
+/// How many more it posts once it has those in hand.
 const MORE_TASKS: i64 = 2;
 
 /// Its neighbour.
@@ -94,8 +97,8 @@ pub fn withdraw_with_end<S: Stage<R> + Sync, R: Host + Sync>(rt: &R, stage: &S) 
     beside_worker(rt, stage, move || leave_with_end(rt, stage))
 }
 
-/// All results are kept but the one of the task that was posted by another user's end. The three in hand come, and the two
-/// that the pool had do not.
+/// All results are kept but the one of the task that was posted by another user's end. Those in hand come, and the two that
+/// the pool had do not.
 #[test]
 fn a_withdrawal_over_a_queue_leaves_the_neighbour(rt: HostRuntime) -> Result<(), Fail> {
     let OverQueue { seen, given, .. } = over_queue(&rt, 1, Scene::WithEnd)?;
@@ -103,14 +106,26 @@ fn a_withdrawal_over_a_queue_leaves_the_neighbour(rt: HostRuntime) -> Result<(),
         after: GONE_TASKS - 1,
         ..EXPECTED
     };
-    assert_eq!(rt; (seen, given), (Seen::WithEnd(expected), 11));
+    assert_eq!(rt; (seen, given), (Seen::WithEnd(expected), 27));
+    Ok(())
+}
+
+/// The results in hand come, and those that stood in the book do not.
+#[test]
+fn a_withdrawal_over_a_book_leaves_what_is_in_hand(rt: HostRuntime) -> Result<(), Fail> {
+    let seen = over_lock(&rt, 1, Scene::WithEnd)?.seen;
+    let expected = Left {
+        after: IN_HAND,
+        ..EXPECTED
+    };
+    assert_eq!(rt; seen, Seen::WithEnd(expected));
     Ok(())
 }
 
 /// What came, and the counts of the book while the entries of the end that is gone were there, and after they were withdrawn.
 pub type LeftAndCounts = (Left, Option<Counts>, Option<Counts>);
 
-/// Withdraws a user whose end is gone, once all results were given.
+/// Withdraws a user whose end is gone, once all results were given. Those that it had in hand are dropped with it.
 fn leave_without_end<S: Stage<R>, R: Host>(rt: &R, stage: &S) -> LeftAndCounts {
     let mut gone = posting_end(rt, stage, GONE, GONE_TASKS);
     let mut neighbour = posting_end(rt, stage, NEIGHBOUR, NEIGHBOUR_TASKS);
@@ -140,14 +155,15 @@ pub fn withdraw_without_end<S: Stage<R> + Sync, R: Host + Sync>(
     beside_worker(rt, stage, move || leave_without_end(rt, stage))
 }
 
-/// An entry stands until it is fetched or withdrawn, also that of an end which is gone.
+/// An entry stands until it is fetched or withdrawn, also that of an end which is gone. With the first result those that are
+/// in hand then are fetched.
 #[test]
 fn a_withdrawal_over_a_book_leaves_the_neighbour(rt: HostRuntime) -> Result<(), Fail> {
     let seen = over_lock(&rt, 1, Scene::WithoutEnd)?.seen;
     let standing = Counts {
-        posted: 8,
-        given: 8,
-        fetched: 2,
+        posted: 24,
+        given: 24,
+        fetched: 18,
         withdrawn: 0,
         entries: 6,
     };

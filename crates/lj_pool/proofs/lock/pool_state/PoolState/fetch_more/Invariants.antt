@@ -1,0 +1,20 @@
+use Rattle.std.specs.Prelude.{◌≡◌, ◌+◌, ◌++◌, List, length}
+use Rattle.std.specs.List.{All}
+use Rattle.lj_tile.specs.Task.{Task}
+use Rattle.lj_book.specs.Book.{user_of}
+use Rattle.lj_book.specs.Boxes.{boxes}
+use Rattle.lj_pool.specs.PoolStates.{FetchesEach}
+use Rattle.lj_pool.proofs.lock.pool_state.PoolState.fetch_more.Given as goal
+
+abbrev pub invariant-loop-held : goal.invariant-loop-held
+invariant-loop-held g l = record {
+  held : l._held ≡ length l.own.hand;
+  last : l.own.last ≡ l.fn.own.last;
+  spare : l.own.spare ≡ l.fn.own.spare;
+  others : (xs : List Task) × (l.own.hand ≡ l.fn.own.hand ++ xs) × FetchesEach xs l.fn.self.book.held l.self.book.held
+      × All (λ done. user_of done ≡ l.user) xs;
+  kept : boxes l.self.book + length l.own.hand ≡ boxes l.fn.self.book + length l.fn.own.hand;
+  made : l.self.book.made ≡ l.fn.self.book.made;
+  closed : l.self.closed ≡ l.fn.self.closed;
+  wait_queues : l.self.wait_queues ≡ l.fn.self.wait_queues;
+}

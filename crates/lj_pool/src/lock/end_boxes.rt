@@ -1,0 +1,181 @@
+//! The boxes that an end of a pool behind a lock has.
+ghost use Rattle.std.specs.Prelude.{◌≡◌, ◌≢◌, ◌+◌, ◌<◌, ◌≤◌, ◌↔◌, ◌∷◌, [], ◌++◌, ℕ, Some, cond, is_some, length, slice_index_or, true, false, unwrap_or, IsTrue, IfNone, IfSome, OnSome};
+ghost use Rattle.std.specs.List.{All};
+ghost use Rattle.lj_book.specs.Book.{user_of};
+ghost use Rattle.lj_tile.specs.Blank.{blank_task};
+ghost use Rattle.lj_pool.specs.EndBoxes.{HandsOut, IsFirstOf, box_count, no_boxes};
+
+use arrayvec::ArrayVec;
+use lj_book::{DoneBox, TaskBox};
+use lj_tile::{Done, Task};
+use std::marker::Model;
+
+/// The most results that an end has in hand, fetched and not handed out yet.
+pub const MAX_IN_HAND: usize = 16;
+
+/// The most results in hand and spare boxes of an end.
+pub const MAX_SPARE: usize = MAX_IN_HAND + 1;
+
+/// The most boxes that an end has: those, and that of the result that it handed out last.
+pub const MAX_END_BOXES: usize = MAX_SPARE + 1;
+
+/// The result that an end handed out last, those that it hands out next, and boxes for tasks. It takes no memory.
+#[derive(Drop)]
+pub(crate) struct EndBoxes {
+    last: Option<DoneBox>,
+    hand: ArrayVec<Option<DoneBox>, MAX_IN_HAND>,
+    spare: ArrayVec<Option<TaskBox>, MAX_SPARE>,
+}
+
+impl Model for EndBoxes {
+    ghost use Rattle.std.specs.Prelude.{length, map};
+    ghost use Rattle.lj_pool.specs.EndBoxes.{ArePlaced, EndBoxes, result_in};
+
+    ghost Value = { EndBoxes };
+
+    ghost view = { λ b. record { last = b.last; hand = map result_in b.hand.items; spare = length b.spare.items } };
+
+    ghost invariant = { λ b. ArePlaced b.hand.items b.spare.items };
+}
+
+impl EndBoxes {
+    /// No boxes.
+    pub(crate) fn new() -> EndBoxes
+        ensures { result ≡ no_boxes }
+    {
+        EndBoxes {
+            last: None,
+            hand: ArrayVec::new(),
+            spare: ArrayVec::new(),
+        }
+    }
+
+    /// The result that was handed out last; a blank one where there is none.
+    pub(crate) fn last_or<'a>(&'a self, blank: &'a Done) -> &'a Done
+        ensures { result.now ≡ unwrap_or self.now.last blank.now }
+    {
+        match &self.last {
+            Some(last) => last.done(),
+            None => blank,
+        }
+    }
+
+    /// How many results are in hand.
+    pub(crate) fn in_hand(&self) -> usize
+        ensures value { result ≡ length self.now.hand }
+        ensures most { result ≤ MAX_IN_HAND }
+    {
+        self.hand.len()
+    }
+
+    /// Whether a box is spare.
+    pub(crate) fn has_spare(&self) -> bool
+        ensures { IsTrue result ↔ (0 < self.now.spare) }
+    {
+        !self.spare.is_empty()
+    }
+
+    /// Takes a spare box off, if there is one.
+    pub(crate) fn pop_spare(&mut self) -> Option<TaskBox>
+        ensures some { OnSome result (self.old ≡ record self.new { spare = self.new.spare + 1 }) }
+        ensures place { OnSome result (length self.new.hand + self.new.spare < MAX_SPARE) }
+        ensures few { length self.old.hand ≤ MAX_IN_HAND }
+        ensures none { IfNone result (self.old.spare ≡ 0) }
+        ensures unchanged { IfNone result (self.new ≡ self.old) }
+    {
+        self.spare.pop().flatten()
+    }
+
+    /// Takes a spare box off, if there is one, for a copy of a task.
+    pub(crate) fn copy_of(&mut self, task: &Task) -> Option<TaskBox>
+        ensures copy { IfSome result (λ boxed. boxed ≡ task.now) }
+        ensures some { OnSome result (self.old ≡ record self.new { spare = self.new.spare + 1 }) }
+        ensures place { OnSome result (length self.new.hand + self.new.spare < MAX_SPARE) }
+        ensures none { IfNone result (self.old.spare ≡ 0) }
+        ensures unchanged { IfNone result (self.new ≡ self.old) }
+    {
+        let mut boxed = self.pop_spare()?;
+        boxed.copy_from(task);
+        Some(boxed)
+    }
+
+    /// Keeps a box for a task.
+    pub(crate) fn push_spare(&mut self, spare: TaskBox)
+        requires { length self.old.hand + self.old.spare < MAX_SPARE }
+        ensures { self.new ≡ record self.old { spare = self.old.spare + 1 } }
+    {
+        self.spare.push(Some(spare));
+    }
+
+    /// Takes a result in hand, behind the others.
+    pub(crate) fn push(&mut self, done: DoneBox)
+        requires room { length self.old.hand < MAX_IN_HAND }
+        requires place { length self.old.hand + self.old.spare < MAX_SPARE }
+        ensures { self.new ≡ record self.old { hand = self.old.hand ++ done ∷ [] } }
+    {
+        self.hand.push(Some(done));
+    }
+
+    /// Hands out a result. The box of the one before it is spare.
+    pub(crate) fn show(&mut self, done: DoneBox)
+        requires { length self.old.hand + self.old.spare < MAX_SPARE }
+        ensures { self.new ≡ record self.old { last = Some done; spare = self.old.spare + cond (is_some self.old.last) 1 0 } }
+    {
+        if let Some(older) = self.last.replace(done) {
+            self.spare.push(Some(older.into_task()));
+        }
+    }
+
+    /// Hands out the first result in hand of a user. False where there is none.
+    pub(crate) fn hand_out(&mut self, user: u8) -> bool
+        ensures some { result ≡ true → HandsOut user self.old self.new }
+        ensures none { result ≡ false → All (λ done. user_of done ≢ user) self.old.hand }
+        ensures unchanged { result ≡ false → self.new ≡ self.old }
+    {
+        let Some(here) = self.find(user) else {
+            return false;
+        };
+        let done = self.hand.remove(here).unwrap();
+        self.show(done);
+        true
+    }
+
+    /// Gives up a box, if there is one.
+    pub(crate) fn give_up(&mut self) -> Option<TaskBox>
+        ensures some { OnSome result (box_count self.old ≡ box_count self.new + 1) }
+        ensures none { IfNone result (box_count self.old ≡ 0) }
+    {
+        if let Some(spare) = self.pop_spare() {
+            return Some(spare);
+        }
+        if let Some(done) = self.hand.pop().flatten() {
+            return Some(done.into_task());
+        }
+        let last = self.last.take()?;
+        Some(last.into_task())
+    }
+
+    /// Where the first result in hand of a user lies.
+    fn find(&self, user: u8) -> Option<usize>
+        ensures some { IfSome result (IsFirstOf self.now.hand user) }
+        ensures none { IfNone result (All (λ done. user_of done ≢ user) self.now.hand) }
+    {
+        for here in 0..self.in_hand() {
+            if self.is_of(here, user) {
+                return Some(here);
+            }
+        }
+        None
+    }
+
+    /// Whether the result that lies here is of this user.
+    fn is_of(&self, here: usize, user: u8) -> bool
+        requires { here < length self.now.hand }
+        ensures { IsTrue result ↔ (user_of (slice_index_or self.now.hand here blank_task) ≡ user) }
+    {
+        match &self.hand[here] {
+            Some(done) => done.done().task().name().label.user == user,
+            None => false,
+        }
+    }
+}
