@@ -1,5 +1,8 @@
 -- Parts of the lines of replies.
-use Rattle.std.specs.Prelude.{ℕ, Bool, true, false, List, ◌∷◌}
+use Rattle.std.specs.Prelude.{ℕ, Bool, true, false, List, ◌∷◌, Option, None}
+use Rattle.std.specs.List.{position}
+use Rattle.std.specs.Str.{bytes_eq}
+use Rattle.lj_session.specs.UserState.{UserState, names}
 use Rattle.lj_session.specs.declared.reply.Reply.{Reply}
 use Rattle.lj_session.specs.declared.reply.Reply.TheVariants.{Dumped, Listed, ListedBranches}
 
@@ -13,3 +16,9 @@ is_one_line (Dumped name) = false
 is_one_line Listed = false
 is_one_line (ListedBranches name) = false
 is_one_line _ = true
+
+-- the place of the session of which a reply has a line for each atom, or for each that is saved in it
+abbrev pub listed_session : UserState → Reply → Option ℕ
+listed_session owned (Dumped name) = position (bytes_eq name) (names owned)
+listed_session owned (ListedBranches name) = position (bytes_eq name) (names owned)
+listed_session owned _ = None

@@ -35,8 +35,8 @@ pub use put::put_all;
 pub use reader::{LineReader, Phase, handed_are_all, handed_come_first, lost_is_marked};
 pub use reading::{LineReading, parse_command, read_line};
 pub use replies::{
-    Line, MAX_REPLY_LINE_BYTES, last_line, put_refusal_line, put_reply_line, put_welcome_line,
-    reply_line,
+    Line, MAX_REPLY_LINE_BYTES, last_line, listed_session, put_line_at, put_refusal_line,
+    put_reply_line, put_welcome_line, reply_line,
 };
 pub use verb::is_load;
 pub use words::Words;

@@ -13,14 +13,14 @@ ghost use Rattle.lj_session.specs.UserState.{held_session_at, names, user_of, se
 ghost use Rattle.lj_session.specs.Owner.{IsSettled};
 ghost use Rattle.lj_wire.specs.Texts.{ok_line, ended_line, text, reply_lines, line_of, session_line, session_lines, branch_line};
 ghost use Rattle.lj_wire.specs.Texts.{branch_lines, dump_lines, atom_lines};
-ghost use Rattle.lj_wire.specs.Lines.{blank_and, is_one_line};
+ghost use Rattle.lj_wire.specs.Lines.{blank_and, is_one_line, listed_session};
 
 use arrayvec::ArrayVec;
 use itoa::{Buffer, Integer};
 use lj_branch::Branches;
 use lj_ring::{Place, micro_of};
 use lj_session::{Name, Refusal, Reply, UserState};
-use lj_xyz::FrameLine;
+use lj_xyz::{FrameLine, push_atom_line};
 
 /// The most bytes of a line of a reply, with its line feed.
 pub const MAX_REPLY_LINE_BYTES: usize = 256;
@@ -313,13 +313,15 @@ fn atom_line(line: &mut Line, state: &UserState, i: usize, atom: usize)
     let edge = state.edge_at(i);
     let Place { x, y, z } = state.sim_at(i).place(atom);
     let symbol = state.symbol_at(i, atom);
-    let text = lj_xyz::atom_line(
+    line.clear();
+    push_atom_line(
+        line,
         symbol,
         micro_of(x, &edge),
         micro_of(y, &edge),
         micro_of(z, &edge),
     );
-    frame_line(line, &text);
+    end(line);
 }
 
 /// The line of a reply that has one alone.
@@ -438,20 +440,49 @@ pub fn reply_line(state: &UserState, reply: &Reply, k: usize) -> Option<Line>
 
 /// Puts line k of a reply, counted from 0, in the place of what `line` holds, with the state of the user after the
 /// command. None past the last line; `line` is as before then.
-#[tactic(auto, unfolding(crate::specs::Texts::reply_lines))]
 pub fn put_reply_line(line: &mut Line, state: &UserState, reply: &Reply, k: usize) -> Option<()>
     requires settled { IsSettled state.now reply.now }
     ensures text { option_map (λ _. line.new.items) result
         ≡ slice_get (reply_lines (user_of state.now) reply.now) k }
     ensures unchanged { IfNone result (line.new ≡ line.old) }
 {
+    put_line_at(line, state, reply, listed_session(state, reply), k)
+}
+
+/// The index of the session of which a reply has a line for each atom or for each that is saved in it. None where the reply
+/// has no such lines, or no session has the name.
+pub fn listed_session(state: &UserState, reply: &Reply) -> Option<usize>
+    ensures { result ≡ listed_session state.now reply.now }
+{
     match reply {
-        Reply::Dumped { name } => match state.index_of(name) {
+        Reply::Dumped { name } | Reply::ListedBranches { name } => state.index_of(name),
+        _ => None,
+    }
+}
+
+/// The same as `put_reply_line`, where `session` is what `listed_session` answers: a caller that puts all lines of a reply
+/// looks its session up once.
+#[tactic(auto, unfolding(crate::specs::Texts::reply_lines))]
+pub fn put_line_at(
+    line: &mut Line,
+    state: &UserState,
+    reply: &Reply,
+    session: Option<usize>,
+    k: usize,
+) -> Option<()>
+    requires settled { IsSettled state.now reply.now }
+    requires session { session ≡ listed_session state.now reply.now }
+    ensures text { option_map (λ _. line.new.items) result
+        ≡ slice_get (reply_lines (user_of state.now) reply.now) k }
+    ensures unchanged { IfNone result (line.new ≡ line.old) }
+{
+    match reply {
+        Reply::Dumped { name } => match session {
             Some(i) => dump_line(line, state, i, name, k),
             None => None,
         },
         Reply::Listed => list_line(line, state, k),
-        Reply::ListedBranches { name } => match state.index_of(name) {
+        Reply::ListedBranches { name } => match session {
             Some(i) => branches_line(line, state, i, name, k),
             None => None,
         },

@@ -4,3 +4,4 @@ pub mod FrameLaws
 pub mod FrameStands
 pub mod ReadingLaws
 pub mod ReadLaws
+pub mod Pairs

@@ -2,6 +2,7 @@
 #![tactic(auto)]
 
 mod atom_row;
+mod coordinate;
 mod frame_reader;
 mod laws;
 mod lines;
@@ -16,5 +17,5 @@ pub use laws::one_reading;
 pub use lines::{split_word, without_return};
 pub use symbol::Symbol;
 pub use symbol_pair::SymbolPair;
-pub use writer::{FrameLine, atom_line, comment_line, count_line};
+pub use writer::{FrameLine, MAX_LINE_BYTES, atom_line, comment_line, count_line, push_atom_line};
 pub use xyz_fault::{XyzError, XyzFault, XyzKind};

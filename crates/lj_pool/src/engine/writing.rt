@@ -7,7 +7,7 @@ ghost use Rattle.lj_wire.specs.Ends.{Rises};
 ghost use Rattle.lj_wire.specs.Texts.{text};
 
 use lj_session::{Reply, UserState};
-use lj_wire::{Line, Sink, WriteFault, last_line, put_all, put_reply_line};
+use lj_wire::{Line, Sink, WriteFault, last_line, listed_session, put_all, put_line_at};
 
 /// Writes the lines of a reply, which tells of the state after its command, and flushes the writer where `flushes` is true. Each
 /// line is built in the room of `line`. After a fault the first bytes of them may have been written.
@@ -34,7 +34,8 @@ pub(crate) fn put_reply<W: Sink>(
     Ok(())
 }
 
-/// Writes the lines of a reply. After a fault the first bytes of them may have been written.
+/// Writes the lines of a reply, whose session is looked up once. After a fault the first bytes of them may have been
+/// written.
 fn put_lines<W: Sink>(
     writer: &mut W,
     line: &mut Line,
@@ -51,8 +52,9 @@ fn put_lines<W: Sink>(
     ensures risen { OnErr result (Rises (W.faults writer.old) (W.faults writer.new)) }
 {
     let last = last_line(state, reply);
+    let session = listed_session(state, reply);
     let mut k = 0;
-    while let Some(()) = put_reply_line(line, state, reply, k) {
+    while let Some(()) = put_line_at(line, state, reply, session, k) {
         put_all(writer, line.as_slice())?;
         if k == last {
             break;

@@ -6,11 +6,12 @@ use Rattle.lj_wire.proofs.replies.atom_line.Goals as goal
 pub returns : goal.returns
 returns c =
     held_atom_line (held_session_at c.args.state.now c.args.i)
-    c.edge_at-edge.result c.args.atom c.sim_at.result.now c.symbol_at-symbol.result.now c.frame_line.new.line.items
+    c.edge_at-edge.result c.args.atom c.sim_at.result.now c.symbol_at-symbol.result.now c.end.new.line.items
     c.edge_at-edge.ensures c.sim_at.ensures c.symbol_at-symbol.ensures c.requires.atom
     (rw (
-      c.frame_line.ensures,
-      c.atom_line-text.ensures,
+      c.end.ensures,
+      c.push_atom_line.ensures.text,
+      c.clear.ensures,
       c.micro_of.ensures,
       c.micro_of-2.ensures,
       c.micro_of-3.ensures,

@@ -16,7 +16,7 @@ returns-in_err-put_all-clause-begun g c =
     let begun = rw c.as_slice.ensures.value at c.in_err-put_all.ensures.begun in
     let p = err_from_is_err_and c.from_residual.result c.from_residual.ensures.1 in
     rw p.1
-    (line_part lines c.loop-writer.k c.put_reply_line.new.line.items (sym c.in-Some.ensures.text) begun.0 begun.1
+    (line_part lines c.loop-writer.k c.put_line_at.new.line.items (sym c.in-Some.ensures.text) begun.0 begun.1
     (g.W.Sink.contents c.args.writer.now) (g.W.Sink.contents c.loop-writer.writer)
     (g.W.Sink.contents c.put_all.new.sink) (text user c.args.reply.now)
     (text-lines user c.args.reply.now) c.loop-writer.invariant.written begun.2)
@@ -28,10 +28,10 @@ loop-writer-preserved g c =
     record {
       written =
           subst (Appends (g.W.Sink.contents c.args.writer.now) (g.W.Sink.contents c.put_all.new.sink))
-          (sym (line_more lines c.loop-writer.k c.put_reply_line.new.line.items (sym c.in-Some.ensures.text)))
+          (sym (line_more lines c.loop-writer.k c.put_line_at.new.line.items (sym c.in-Some.ensures.text)))
           (Appends-trans (g.W.Sink.contents c.args.writer.now) (g.W.Sink.contents c.loop-writer.writer)
           (g.W.Sink.contents c.put_all.new.sink) (concat (take c.loop-writer.k lines))
-          c.put_reply_line.new.line.items c.loop-writer.invariant.written written);
+          c.put_line_at.new.line.items c.loop-writer.invariant.written written);
       faults = c.in_ok-put_all.ensures.counted ∙ c.loop-writer.invariant.faults;
       within = omega (arith, c.loop-writer.invariant.within, c.if-k-last.false);
     }
@@ -43,11 +43,11 @@ returns-then-k-last-clause-written g c =
     let written = rw c.as_slice.ensures.value at c.in_ok-put_all.ensures.written in
     let all : length lines ≤ c.loop-writer.k + 1 = omega (arith, c.last_line-last.ensures, c.if-k-last.true) in
     subst (Appends (g.W.Sink.contents c.args.writer.now) (g.W.Sink.contents c.put_all.new.sink))
-    (sym (line_more lines c.loop-writer.k c.put_reply_line.new.line.items (sym c.in-Some.ensures.text))
+    (sym (line_more lines c.loop-writer.k c.put_line_at.new.line.items (sym c.in-Some.ensures.text))
     ∙ lines_all lines (c.loop-writer.k + 1) all ∙ sym (text-lines user c.args.reply.now))
     (Appends-trans (g.W.Sink.contents c.args.writer.now) (g.W.Sink.contents c.loop-writer.writer)
     (g.W.Sink.contents c.put_all.new.sink) (concat (take c.loop-writer.k lines))
-    c.put_reply_line.new.line.items c.loop-writer.invariant.written written)
+    c.put_line_at.new.line.items c.loop-writer.invariant.written written)
 
 pub returns-in_default-clause-written : goal.returns-in_default-clause-written
 returns-in_default-clause-written g c =
