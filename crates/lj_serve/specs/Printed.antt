@@ -10,7 +10,7 @@ use Rattle.lj_access.specs.declared.user.User.{User}
 use Rattle.lj_world.specs.declared.event.Event.{Event}
 use Rattle.lj_world.specs.declared.transcript.Entry.{Entry}
 use Rattle.lj_world.specs.Runs.{IsTranscript}
-use Rattle.lj_world.specs.Laws.{TellsAsAnyOther}
+use Rattle.lj_world.specs.Laws.{AgreesWithEveryRun}
 
 -- what stands before each line: the name of the user and the number of the connection, a blank after each
 abbrev pub head : List ℕ → ℕ → List ℕ
@@ -39,7 +39,7 @@ pub record IsPrintedRun (bytes : List ℕ) : Type 0 where
   pub events : List Event
   pub entries : List Entry
   pub is_run : IsTranscript users events entries
-  pub headline : TellsAsAnyOther users events entries
+  pub headline : AgreesWithEveryRun users events entries
   pub printed_so : bytes ≡ printed (names users) entries
 
 -- what was written is a printed run

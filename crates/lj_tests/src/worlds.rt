@@ -5,7 +5,7 @@ use crate::users::{USERS, name, token, users};
 use arrayvec::ArrayString;
 use lj_session::{Body, LoadBody};
 use lj_wire::{Item, read_line};
-use lj_world::{Act, Deed, Entry, Event, OutOfMemory, World};
+use lj_world::{ConnectionEvent, Entry, Event, OutOfMemory, WorkerEvent, World};
 use std::alloc::{AllocError, AllocGlobal};
 use std::fmt::Write;
 use std::process::Abort;
@@ -34,7 +34,7 @@ enum Step {
     /// Turns this session, or where the word is empty the first one that is ready.
     Turn(u8, &'static str),
     Leave(u8),
-    By(u8, Deed),
+    By(u8, WorkerEvent),
 }
 
 /// Two users load two atoms each; the first saves them, the second goes on by a step.
@@ -55,9 +55,9 @@ const STEPS: [Step; 24] = [
     Step::Next(1),
     Step::Next(2),
     Step::Post(2),
-    Step::By(1, Deed::Take { pick: 0 }),
-    Step::By(1, Deed::Compute),
-    Step::By(1, Deed::Give),
+    Step::By(1, WorkerEvent::Take { pick: 0 }),
+    Step::By(1, WorkerEvent::Compute),
+    Step::By(1, WorkerEvent::Give),
     Step::Fetch(2, 0),
     Step::Turn(2, ""),
     Step::Next(2),
@@ -83,15 +83,15 @@ const OF_NOBODY: [Step; 29] = [
     Step::Next(65),
     Step::Post(0),
     Step::Post(65),
-    Step::By(0, Deed::Take { pick: 0 }),
-    Step::By(17, Deed::Take { pick: 0 }),
-    Step::By(255, Deed::Take { pick: 0 }),
-    Step::By(0, Deed::Compute),
-    Step::By(17, Deed::Compute),
-    Step::By(0, Deed::Give),
-    Step::By(17, Deed::Give),
-    Step::By(0, Deed::HandBack),
-    Step::By(17, Deed::HandBack),
+    Step::By(0, WorkerEvent::Take { pick: 0 }),
+    Step::By(17, WorkerEvent::Take { pick: 0 }),
+    Step::By(255, WorkerEvent::Take { pick: 0 }),
+    Step::By(0, WorkerEvent::Compute),
+    Step::By(17, WorkerEvent::Compute),
+    Step::By(0, WorkerEvent::Give),
+    Step::By(17, WorkerEvent::Give),
+    Step::By(0, WorkerEvent::HandBack),
+    Step::By(17, WorkerEvent::HandBack),
     Step::Fetch(0, 0),
     Step::Fetch(65, 0),
     Step::Turn(0, ""),
@@ -118,29 +118,29 @@ fn event(rt: &(impl Abort + AllocGlobal), step: Step) -> Result<Event, AllocErro
             name: name(rt, word),
             token: token(rt),
         },
-        Step::Arrive(connection, line) => at(connection, Act::Arrive(item(rt, line)?)),
-        Step::End(connection) => at(connection, Act::End),
-        Step::Enter(connection) => at(connection, Act::Enter),
-        Step::Next(connection) => at(connection, Act::Next),
-        Step::Post(connection) => at(connection, Act::Post),
-        Step::Fetch(connection, pick) => at(connection, Act::Fetch { pick }),
+        Step::Arrive(connection, line) => at(connection, ConnectionEvent::Arrive(item(rt, line)?)),
+        Step::End(connection) => at(connection, ConnectionEvent::End),
+        Step::Enter(connection) => at(connection, ConnectionEvent::Enter),
+        Step::Next(connection) => at(connection, ConnectionEvent::Next),
+        Step::Post(connection) => at(connection, ConnectionEvent::Post),
+        Step::Fetch(connection, pick) => at(connection, ConnectionEvent::Fetch { pick }),
         Step::Turn(connection, word) => at(connection, turn(rt, word)),
-        Step::Leave(connection) => at(connection, Act::Leave),
-        Step::By(worker, deed) => Event::By { worker, deed },
+        Step::Leave(connection) => at(connection, ConnectionEvent::Leave),
+        Step::By(worker, event) => Event::By { worker, event },
     })
 }
 
-fn turn(rt: &impl Abort, word: &str) -> Act {
+fn turn(rt: &impl Abort, word: &str) -> ConnectionEvent {
     let session = if word.is_empty() {
         None
     } else {
         Some(name(rt, word))
     };
-    Act::Turn { session }
+    ConnectionEvent::Turn { session }
 }
 
-fn at(connection: u8, act: Act) -> Event {
-    Event::At { connection, act }
+fn at(connection: u8, event: ConnectionEvent) -> Event {
+    Event::At { connection, event }
 }
 
 /// Adds the events of connections and workers that are none.

@@ -1,13 +1,13 @@
--- Where the picked entry of the book changes, or none does, the pick decides.
+-- The pick decides if the picked entry of the book changes, or none does.
 use Rattle.std.proofs.Common.{ℕ, Option, refl, sym, subst, inl, inr}
 use Rattle.std.proofs.lemmas.Bool.{cases_eq}
 use Rattle.lj_tile.specs.Task.{Task}
 use Rattle.lj_book.specs.Picks.{IsPick}
 use Rattle.lj_book.specs.declared.entries.Entry.{Entry}
 use Rattle.lj_book.specs.Book.{Book, Puts}
-use Rattle.lj_world.specs.declared.event.Deed.{Deed}
-use Rattle.lj_world.specs.declared.event.Deed.TheVariants.{Take, Compute, Give, HandBack}
-use Rattle.lj_world.specs.Picked.{ChangesPicked, DeedHeeds}
+use Rattle.lj_world.specs.declared.event.WorkerEvent.{WorkerEvent}
+use Rattle.lj_world.specs.declared.event.WorkerEvent.TheVariants.{Take, Compute, Give, HandBack}
+use Rattle.lj_world.specs.Picked.{ChangesPicked, WorkerFollowsPick}
 
 -- the picked one changes
 pub puts_picked : (Passes : ℕ → Type 0) (pick : ℕ) (old new : Book) (key : ℕ) (slot : Option (Entry Task Task)) → Puts old new key slot
@@ -17,9 +17,9 @@ puts_picked Passes pick old new key slot puts is k changes = elim (cases_eq k ke
   | inr apart ↦ absurd (changes (puts.others k apart))
 ]
 
--- nothing changes at a deed
-pub still_heeds : (deed : Deed) (book : Book) → DeedHeeds deed book book
-still_heeds (Take pick) book = λ key changes. absurd (changes refl)
-still_heeds Compute book = tt
-still_heeds Give book = tt
-still_heeds HandBack book = tt
+-- an event at a worker that changes nothing
+pub still_follows : (event : WorkerEvent) (book : Book) → WorkerFollowsPick event book book
+still_follows (Take pick) book = λ key changes. absurd (changes refl)
+still_follows Compute book = tt
+still_follows Give book = tt
+still_follows HandBack book = tt

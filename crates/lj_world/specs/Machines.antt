@@ -1,14 +1,16 @@
--- What is true of the parts of each machine.
+-- The invariant of the machine.
 use Rattle.std.specs.Prelude.{◌≡◌, ℕ, List, length, slice_index_or, Option, Some, None}
 use Rattle.lj_access.specs.Rows.{Row}
 use Rattle.lj_world.specs.Machine.{Connection, Worker}
-use Rattle.lj_world.specs.Kept.{HasRow}
+use Rattle.lj_world.specs.KnownConnections.{HasRow}
 
--- There are 65 places of connections and 17 of workers. Each connection has a row, and no two have the same ticket.
-pub record IsMachine (rows : List Row) (talks : List (Option Connection)) (hands : List (Option Worker)) : Type 0 where
-  pub places : length talks ≡ 65
-  pub workers : length hands ≡ 17
-  pub known : (c : ℕ) (talk : Connection) → slice_index_or talks c None ≡ Some talk → HasRow rows talk
+-- There are 65 slots of connections and 17 of workers. Each connection has a row, and no two have the same ticket.
+pub record IsMachine (rows : List Row) (connections : List (Option Connection)) (workers : List (Option Worker))
+    : Type 0 where
+  pub connection_slots : length connections ≡ 65
+  pub worker_slots : length workers ≡ 17
+  pub known : (c : ℕ) (connection : Connection)
+      → slice_index_or connections c None ≡ Some connection → HasRow rows connection
   pub apart : (c d : ℕ) (a b : Connection)
-      → slice_index_or talks c None ≡ Some a → slice_index_or talks d None ≡ Some b
+      → slice_index_or connections c None ≡ Some a → slice_index_or connections d None ≡ Some b
       → a.user ≡ b.user → a.number ≡ b.number → c ≡ d

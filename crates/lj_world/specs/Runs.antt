@@ -4,18 +4,18 @@ use Rattle.lj_access.specs.declared.user.User.{User}
 use Rattle.lj_world.specs.declared.event.Event.{Event}
 use Rattle.lj_world.specs.declared.transcript.Entry.{Entry}
 use Rattle.lj_world.specs.Machine.{Machine, start}
-use Rattle.lj_world.specs.Happenings.{Happens}
+use Rattle.lj_world.specs.Transitions.{Transition}
 
 -- the event is possible
 abbrev pub IsPossible : Machine → Event → Type 0
-IsPossible old event = (reply : Option Entry) × (new : Machine) × Happens old event reply new
+IsPossible old event = (reply : Option Entry) × (new : Machine) × Transition old event reply new
 
--- A step: the event happens, or it is not possible, and then nothing is told and nothing changes.
+-- A step: the event happens, or it is not possible, and then nothing is replied and nothing changes.
 abbrev pub Step : Machine → Event → Option Entry → Machine → Type 0
 Step old event reply new =
-    Happens old event reply new ⊎ (¬ IsPossible old event) × (reply ≡ None) × (new ≡ old)
+    Transition old event reply new ⊎ (¬ IsPossible old event) × (reply ≡ None) × (new ≡ old)
 
--- Steps of one kind over these events, one after the other, which tell these replies.
+-- Steps of one kind over these events, one after the other, which give these replies.
 abbrev pub RunBy : (Machine → Event → Option Entry → Machine → Type 0) → Machine → List Event → List Entry → Machine → Type 0
 RunBy IsStep old [] replies new = (replies ≡ []) × (new ≡ old)
 RunBy IsStep old (event ∷ events) replies new =
@@ -23,7 +23,7 @@ RunBy IsStep old (event ∷ events) replies new =
     × IsStep old event reply between × RunBy IsStep between events later new
     × (replies ≡ option_to_list reply ++ later)
 
--- Steps over these events, one after the other, which tell these replies.
+-- Steps over these events, one after the other, which give these replies.
 abbrev pub Run : Machine → List Event → List Entry → Machine → Type 0
 Run old events replies new = RunBy Step old events replies new
 

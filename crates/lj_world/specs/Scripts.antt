@@ -9,74 +9,75 @@ use Rattle.lj_access.specs.declared.user_row.TheConstants.{MAX_TICKETS}
 use Rattle.lj_access.specs.Rows.{Row, first_row, user_with}
 use Rattle.lj_world.specs.declared.event.Event.{Event}
 use Rattle.lj_world.specs.declared.event.Event.TheVariants.{Hello, At}
-use Rattle.lj_world.specs.declared.event.Act.TheVariants.{Arrive, End}
+use Rattle.lj_world.specs.declared.event.ConnectionEvent.TheVariants.{Arrive, End}
 use Rattle.lj_world.specs.declared.transcript.Entry.{Entry}
 use Rattle.lj_world.specs.declared.limits.TheConstants.{MAX_CONNECTIONS}
 
--- a granted connection as it was heard: its number, its user, the items that arrived, and whether it ended
-pub record Heard : Type 0 where
-  pub connection : ℕ
+-- the history of a granted connection: its number, its user, the items that arrived, and whether its input ended
+pub record ConnectionHistory : Type 0 where
+  pub id : ℕ
   pub user : ℕ
   pub items : List Item
   pub ended : Bool
 
--- with another value for the connection of a number
-abbrev pub with_heard : ℕ → (Heard → Heard) → List Heard → List Heard
-with_heard connection change [] = []
-with_heard connection change (h ∷ all_heard) =
-    if nat_eq h.connection connection then change h ∷ all_heard else h ∷ with_heard connection change all_heard
+-- with the history of one connection changed
+abbrev pub with_history : ℕ → (ConnectionHistory → ConnectionHistory) → List ConnectionHistory
+    → List ConnectionHistory
+with_history id change [] = []
+with_history id change (h ∷ histories) =
+    if nat_eq h.id id then change h ∷ histories else h ∷ with_history id change histories
 
--- the connections of a user
-abbrev pub line_of : ℕ → List Heard → List Heard
-line_of user all_heard = filter (λ h. nat_eq h.user user) all_heard
+-- the histories of a user's connections
+abbrev pub histories_of : ℕ → List ConnectionHistory → List ConnectionHistory
+histories_of user histories = filter (λ h. nat_eq h.user user) histories
 
 -- the connection of this number is new, and its user has a ticket left
-abbrev pub is_granted : ℕ → ℕ → List Heard → Bool
-is_granted connection user all_heard =
-    (nat_le 1 connection && nat_le connection MAX_CONNECTIONS)
-    && (not (list_any (λ h. nat_eq h.connection connection) all_heard)
-    && nat_lt (length (line_of user all_heard)) MAX_TICKETS)
+abbrev pub is_granted : ℕ → ℕ → List ConnectionHistory → Bool
+is_granted id user histories =
+    (nat_le 1 id && nat_le id MAX_CONNECTIONS)
+    && (not (list_any (λ h. nat_eq h.id id) histories)
+    && nat_lt (length (histories_of user histories)) MAX_TICKETS)
 
--- a HELLO heard, as the user of its name and token if there is one: the connection goes last if it is granted
-abbrev pub greeting : ℕ → Option ℕ → List Heard → List Heard
-greeting connection None all_heard = all_heard
-greeting connection (Some user) all_heard =
-    if is_granted connection user all_heard
-    then all_heard ++ record { connection = connection; user = user; items = []; ended = false } ∷ []
-    else all_heard
+-- after a HELLO with the name and token of this user, if there is one: the connection is appended if it is granted
+abbrev pub with_hello : ℕ → Option ℕ → List ConnectionHistory → List ConnectionHistory
+with_hello id None histories = histories
+with_hello id (Some user) histories =
+    if is_granted id user histories
+    then histories ++ record { id = id; user = user; items = []; ended = false } ∷ []
+    else histories
 
--- an item arrives unless the connection has ended
-abbrev pub with_item : Item → Heard → Heard
+-- an item arrives, unless the input has ended
+abbrev pub with_item : Item → ConnectionHistory → ConnectionHistory
 with_item item h = if h.ended then h else record h { items = h.items ++ item ∷ [] }
 
--- nothing more arrives
-abbrev pub with_end : Heard → Heard
+-- the input ends
+abbrev pub with_end : ConnectionHistory → ConnectionHistory
 with_end h = record h { ended = true }
 
--- what was heard, after one event more; the rows have the names and tokens of the users
-abbrev pub heard_after : List Row → List Heard → Event → List Heard
-heard_after rows all_heard (Hello connection name token) = greeting connection (user_with rows name token) all_heard
-heard_after rows all_heard (At connection (Arrive item)) = with_heard connection (with_item item) all_heard
-heard_after rows all_heard (At connection End) = with_heard connection with_end all_heard
-heard_after rows all_heard _ = all_heard
+-- the histories after one more event; the rows have the names and tokens of the users
+abbrev pub histories_after : List Row → List ConnectionHistory → Event → List ConnectionHistory
+histories_after rows histories (Hello id name token) = with_hello id (user_with rows name token) histories
+histories_after rows histories (At id (Arrive item)) = with_history id (with_item item) histories
+histories_after rows histories (At id End) = with_history id with_end histories
+histories_after rows histories _ = histories
 
--- the granted connections, in the order of their HELLO
-abbrev pub all_heard : List User → List Event → List Heard
-all_heard users events = fold (heard_after (map first_row users)) [] events
+-- the histories of the granted connections, in the order of their HELLO
+abbrev pub connection_histories : List User → List Event → List ConnectionHistory
+connection_histories users events = fold (histories_after (map first_row users)) [] events
 
 -- the items up to the first that ends the connection, which is one of them
 abbrev pub items_to_end : List Item → List Item
 items_to_end [] = []
 items_to_end (item ∷ items) = item ∷ (if is_ending item then [] else items_to_end items)
 
--- the connection has ended, or an item that ends it arrived
-abbrev pub is_closed : Heard → Bool
+-- the input has ended, or an item that ends the connection arrived
+abbrev pub is_closed : ConnectionHistory → Bool
 is_closed h = h.ended || list_any is_ending h.items
 
--- the items of connections, each cut, where a next connection counts only if this one is closed
-abbrev pub items_joined : List Heard → List Item
+-- the items of connections, each up to its end; a connection counts only if the one before it is closed
+abbrev pub items_joined : List ConnectionHistory → List Item
 items_joined [] = []
-items_joined (h ∷ all_heard) = items_to_end h.items ++ (if is_closed h then items_joined all_heard else [])
+items_joined (h ∷ histories) = items_to_end h.items ++ (if is_closed h then items_joined histories else [])
 
 -- The texts that a run replies to a user, in order.
 abbrev pub replies : ℕ → List Entry → List (List ℕ)
@@ -91,7 +92,7 @@ pub record Script : Type 0 where
 -- the reply is that memory ran out.
 abbrev pub script : ℕ → List User → List Event → List Entry → Script
 script user users events entries = record {
-  items = items_joined (line_of user (all_heard users events));
+  items = items_joined (histories_of user (connection_histories users events));
   marks = map is_memory (replies user entries);
 }
 

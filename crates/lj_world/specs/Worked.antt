@@ -7,8 +7,8 @@ use Rattle.lj_wire.specs.declared.item.Item.TheVariants.{Command}
 use Rattle.lj_access.specs.declared.user.User.{User}
 use Rattle.lj_world.specs.declared.event.Event.{Event}
 use Rattle.lj_world.specs.declared.event.Event.TheVariants.{Hello, At}
-use Rattle.lj_world.specs.declared.event.Act.TheVariants.{Arrive, End}
-use Rattle.lj_world.specs.Scripts.{all_heard, line_of, items_joined}
+use Rattle.lj_world.specs.declared.event.ConnectionEvent.TheVariants.{Arrive, End}
+use Rattle.lj_world.specs.Scripts.{connection_histories, histories_of, items_joined}
 
 -- two users, A and B, and their tokens
 abbrev pub token_a : List ℕ
@@ -32,19 +32,19 @@ bye = Command Bye
 
 -- a connection says hello as A
 abbrev pub hello : ℕ → Event
-hello connection = Hello connection (codes "A") token_a
+hello id = Hello id (codes "A") token_a
 
 -- an item arrives at a connection
 abbrev pub arrive : ℕ → Item → Event
-arrive connection item = At connection (Arrive item)
+arrive id item = At id (Arrive item)
 
--- nothing more arrives at it
+-- its input ends
 abbrev pub end : ℕ → Event
-end connection = At connection End
+end id = At id End
 
 -- the items that the connections of A bring
 abbrev pub brought : List Event → List Item
-brought events = items_joined (line_of 0 (all_heard (user_a ∷ user_b ∷ []) events))
+brought events = items_joined (histories_of 0 (connection_histories (user_a ∷ user_b ∷ []) events))
 
 -- the second connection's item counts once the first has ended
 pub ended_first : brought (hello 1 ∷ hello 2 ∷ arrive 2 bye ∷ arrive 1 list ∷ end 1 ∷ []) ≡ list ∷ bye ∷ []
@@ -55,8 +55,8 @@ pub not_ended : brought (hello 1 ∷ hello 2 ∷ arrive 2 bye ∷ arrive 1 list 
 not_ended = refl
 
 -- an item that ends its connection is the last of it, and what arrives after an end does not count
-pub over : brought (hello 1 ∷ hello 2 ∷ arrive 1 bye ∷ arrive 1 list ∷ end 2 ∷ arrive 2 list ∷ []) ≡ bye ∷ []
-over = refl
+pub finished : brought (hello 1 ∷ hello 2 ∷ arrive 1 bye ∷ arrive 1 list ∷ end 2 ∷ arrive 2 list ∷ []) ≡ bye ∷ []
+finished = refl
 
 -- the connections of a user follow in the order of their hello, whatever their numbers
 pub in_order : brought (hello 9 ∷ hello 4 ∷ arrive 4 bye ∷ arrive 9 list ∷ end 9 ∷ []) ≡ list ∷ bye ∷ []

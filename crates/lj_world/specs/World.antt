@@ -1,8 +1,8 @@
--- A world: the state of the machine, and whether memory was refused to it.
+-- A world: the state of the machine, and whether it has run out of memory.
 use Rattle.std.specs.Prelude.{Bool}
 use Rattle.lj_world.specs.Machine.{Machine}
 
--- The state, and whether a step was out of memory. A world that was is lost: its state is not said any more.
+-- The state, and whether a step ran out of memory. Such a world is lost: its state is unspecified from then on.
 pub record World : Type 0 where
   pub state : Machine
   pub lost : Bool

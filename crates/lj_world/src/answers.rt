@@ -1,7 +1,7 @@
-//! Items begun and steps turned by an owner, where what is answered is a text.
+//! Begins items and turns steps of an owner, and makes a text of each reply.
 ghost use Rattle.std.specs.Prelude.{◌≡◌, None, true, IfOk, IfSome, IfNone, List, ℕ};
 ghost use Rattle.lj_session.specs.UserState.{is_whole_in};
-ghost use Rattle.lj_world.specs.Begun.{Begins, CanTurn, TurnsTo};
+ghost use Rattle.lj_world.specs.OwnerReplies.{Begins, CanTurn, TurnsTo};
 
 use crate::texts::text_of;
 use crate::transcript::ReplyText;
@@ -10,10 +10,10 @@ use lj_tile::Name;
 use lj_wire::Item;
 use std::alloc::{AllocError, Global};
 
-/// Begins an item. None where it waits, else the text that it is answered.
+/// Begins an item. Returns the text of the reply, or None if the item is a command that waits.
 ///
 /// # Errors
-/// Out of memory. The item has been begun then, and the text of its answer is lost.
+/// Out of memory. The item has been begun then, and the text of its reply is lost.
 pub(crate) fn begin(
     alloc: Global,
     owner: &mut Owner,
@@ -33,7 +33,8 @@ pub(crate) fn begin(
     Ok(Some(text_of(alloc, owner.state(), &reply)?))
 }
 
-/// The session that a turn is of, where it can be turned: the one that is named, or the first that is ready.
+/// Finds the session to turn: the named one or, if none is named, the first that is ready. Returns None if its step
+/// cannot be turned.
 pub(crate) fn session_to_turn(owner: &Owner, session: Option<Name>) -> Option<Name>
     ensures some { IfSome result (CanTurn session owner.now) }
     ensures none { IfNone result ((name : List ℕ) → ¬ CanTurn session owner.now name) }
@@ -47,11 +48,11 @@ pub(crate) fn session_to_turn(owner: &Owner, session: Option<Name>) -> Option<Na
     Some(name)
 }
 
-/// Turns the step of a session, all tiles of which are in. None where nothing is answered, else the text that what waits
-/// is answered.
+/// Turns the step of a session whose results are all in. Returns the text of the reply if this was the last turn of the
+/// pending command, else None.
 ///
 /// # Errors
-/// Out of memory. The step has been turned then, and the text of the answer is lost.
+/// Out of memory. The step has been turned then, and the text of the reply is lost.
 pub(crate) fn turn(
     alloc: Global,
     owner: &mut Owner,

@@ -1,18 +1,18 @@
-//! Connections, and what each of them does.
+//! A connection, and how it handles each event.
 ghost use Rattle.std.specs.Prelude.{◌≡◌, ◌↔◌, None, IfOk, IsTrue, OnErr, List};
 ghost use Rattle.lj_access.specs.Rows.{Row};
 ghost use Rattle.lj_book.specs.Book.{Book, IsDoneAt};
-ghost use Rattle.lj_world.specs.declared.event.Act.TheVariants.{Arrive, End, Enter, Next, Post, Fetch, Turn, Leave};
-ghost use Rattle.lj_world.specs.Machine.{greeted_connection};
-ghost use Rattle.lj_world.specs.Connections.{IsDone, here_of};
-ghost use Rattle.lj_world.specs.Attempts.{Acts};
-ghost use Rattle.lj_world.specs.Picked.{ChangesPicked, ActHeeds};
-ghost use Rattle.lj_world.specs.Kept.{HasRow, Stays};
+ghost use Rattle.lj_world.specs.declared.event.ConnectionEvent.TheVariants.{Arrive, End, Enter, Next, Post, Fetch, Turn, Leave};
+ghost use Rattle.lj_world.specs.Machine.{new_connection};
+ghost use Rattle.lj_world.specs.Connections.{IsDone, connection_view};
+ghost use Rattle.lj_world.specs.Steps.{ConnectionStep};
+ghost use Rattle.lj_world.specs.Picked.{ChangesPicked, ConnectionFollowsPick};
+ghost use Rattle.lj_world.specs.KnownConnections.{HasRow, KeepsTicket};
 
 use crate::answers;
-use crate::event::Act;
+use crate::connection_state::ConnectionState;
+use crate::event::ConnectionEvent;
 use crate::limits::MAX_POSTED;
-use crate::position::Position;
 use crate::transcript::ReplyText;
 use lj_access::{Directory, Ticket};
 use lj_book::Book;
@@ -24,17 +24,17 @@ use std::collections::VecDeque;
 use std::marker::Model;
 use std::mem;
 
-/// A connection that was granted a ticket.
+/// A connection that has been granted a ticket.
 #[derive(Drop)]
 pub(crate) struct Connection {
     alloc: Global,
     user: u8,
     number: u32,
     ticket: Option<Ticket>,
-    position: Position,
+    state: ConnectionState,
     inbox: VecDeque<Item>,
     ended: bool,
-    over: bool,
+    finished: bool,
     posted: usize,
 }
 
@@ -43,82 +43,83 @@ impl Model for Connection {
 
     ghost Value = { Connection };
 
-    ghost use Rattle.lj_world.specs.Positions.{stage_of, HasTicket};
+    ghost use Rattle.lj_world.specs.ConnectionStates.{state_of, HoldsTicket};
 
     ghost view = { λ c. record {
       user = c.user;
       number = c.number;
-      stage = stage_of c.position;
+      state = state_of c.state;
       inbox = c.inbox.items;
       ended = c.ended;
-      over = c.over;
+      finished = c.finished;
       posted = c.posted;
     } };
 
-    ghost invariant = { λ c. HasTicket c.position c.ticket c.user c.number };
+    ghost invariant = { λ c. HoldsTicket c.state c.ticket c.user c.number };
 }
 
 impl Connection {
-    /// Has this ticket, and nothing in its inbox.
+    /// Creates a connection that waits with this ticket. Its inbox is empty.
     pub(crate) fn new(alloc: Global, ticket: Ticket) -> Connection
-        ensures { result ≡ greeted_connection ticket.user ticket.number }
+        ensures { result ≡ new_connection ticket.user ticket.number }
     {
         Connection {
             alloc,
             user: ticket.user(),
             number: ticket.number(),
             ticket: Some(ticket),
-            position: Position::Waiting,
+            state: ConnectionState::Waiting,
             inbox: VecDeque::new(alloc),
             ended: false,
-            over: false,
+            finished: false,
             posted: 0,
         }
     }
 
-    /// The number of its user.
+    /// Returns the number of its user.
     pub(crate) fn user(&self) -> u8
         ensures { result ≡ self.now.user }
     {
         self.user
     }
 
-    /// Does what it is asked for, or nothing where it cannot. What is replied is handed back.
+    /// Handles an event, or changes nothing if the event is not possible now. Returns the text of the reply, if any.
     ///
     /// # Errors
-    /// Out of memory. What it has done then is not said.
-    pub(crate) fn act(
+    /// Out of memory. The directory is then unchanged, the connection keeps its ticket, and the rest is unspecified.
+    pub(crate) fn handle(
         &mut self,
-        act: Act,
+        event: ConnectionEvent,
         directory: &mut Directory,
         book: &mut Book,
     ) -> Result<Option<ReplyText>, AllocError>
         requires { HasRow directory.old self.old }
-        ensures acts { IfOk result (λ text.
-            Acts act (here_of self.old directory.old book.old) text
-            (here_of self.new directory.new book.new)) }
-        ensures picked { ActHeeds act self.old.user book.old book.new }
-        ensures stays { OnErr result (Stays self.old self.new) }
+        ensures step { IfOk result (λ text.
+            ConnectionStep event (connection_view self.old directory.old book.old) text
+            (connection_view self.new directory.new book.new)) }
+        ensures picked { ConnectionFollowsPick event self.old.user book.old book.new }
+        ensures stays { OnErr result (KeepsTicket self.old self.new) }
         ensures rows { OnErr result (directory.new ≡ directory.old) }
     {
-        match act {
-            Act::Arrive(item) => self.arrive(item)?,
-            Act::End => self.end(),
-            Act::Enter => self.enter(directory),
-            Act::Next => return self.next(),
-            Act::Post => self.post(book),
-            Act::Fetch { pick } => self.fetch(book, pick),
-            Act::Turn { session } => return self.turn(session),
-            Act::Leave => self.leave(directory, book),
+        match event {
+            ConnectionEvent::Arrive(item) => self.arrive(item)?,
+            ConnectionEvent::End => self.end(),
+            ConnectionEvent::Enter => self.enter(directory),
+            ConnectionEvent::Next => return self.next(),
+            ConnectionEvent::Post => self.post(book),
+            ConnectionEvent::Fetch { pick } => self.fetch(book, pick),
+            ConnectionEvent::Turn { session } => return self.turn(session),
+            ConnectionEvent::Leave => self.leave(directory, book),
         }
         Ok(None)
     }
 
-    /// Notes an item that has arrived, unless the connection has ended.
+    /// Appends an item to the inbox, unless the input of the connection has ended.
     fn arrive(&mut self, item: Item) -> Result<(), AllocError>
-        ensures acts { IfOk result (λ _. (rows : List Row) (book : Book)
-            → Acts (Arrive item) (here_of self.old rows book) None (here_of self.new rows book)) }
-        ensures stays { OnErr result (Stays self.old self.new) }
+        ensures step { IfOk result (λ _. (rows : List Row) (book : Book)
+            → ConnectionStep (Arrive item) (connection_view self.old rows book) None
+            (connection_view self.new rows book)) }
+        ensures stays { OnErr result (KeepsTicket self.old self.new) }
     {
         if !self.ended {
             self.inbox.push_back(item)?;
@@ -126,40 +127,43 @@ impl Connection {
         Ok(())
     }
 
-    /// Notes that nothing more arrives.
+    /// Marks the input as ended: no more items arrive.
     fn end(&mut self)
         ensures { (rows : List Row) (book : Book)
-            → Acts End (here_of self.old rows book) None (here_of self.new rows book) }
+            → ConnectionStep End (connection_view self.old rows book) None
+            (connection_view self.new rows book) }
     {
         self.ended = true;
     }
 
-    /// Takes the state of its user, where it is its turn.
+    /// Takes the state of its user from the directory, if its ticket may enter.
     fn enter(&mut self, directory: &mut Directory)
         ensures { (book : Book)
-            → Acts Enter (here_of self.old directory.old book) None (here_of self.new directory.new book) }
+            → ConnectionStep Enter (connection_view self.old directory.old book) None
+            (connection_view self.new directory.new book) }
     {
-        let Position::Waiting = &self.position else {
+        let ConnectionState::Waiting = &self.state else {
             return;
         };
         let Some(ticket) = &self.ticket else {
             return;
         };
         if let Some(state) = directory.try_enter(ticket) {
-            self.position = Position::Inside(Owner::new(state, self.user));
+            self.state = ConnectionState::Inside(Owner::new(state, self.user));
         }
     }
 
-    /// Begins the next item of its inbox.
+    /// Begins the next item of the inbox, unless a command is pending or the connection is finished.
     fn next(&mut self) -> Result<Option<ReplyText>, AllocError>
-        ensures acts { IfOk result (λ text. (rows : List Row) (book : Book)
-            → Acts Next (here_of self.old rows book) text (here_of self.new rows book)) }
-        ensures stays { OnErr result (Stays self.old self.new) }
+        ensures step { IfOk result (λ text. (rows : List Row) (book : Book)
+            → ConnectionStep Next (connection_view self.old rows book) text
+            (connection_view self.new rows book)) }
+        ensures stays { OnErr result (KeepsTicket self.old self.new) }
     {
-        let Position::Inside(owner) = &mut self.position else {
+        let ConnectionState::Inside(owner) = &mut self.state else {
             return Ok(None);
         };
-        if self.over || owner.is_waiting() {
+        if self.finished || owner.is_waiting() {
             return Ok(None);
         }
         let Some(item) = self.inbox.pop_front() else {
@@ -167,19 +171,20 @@ impl Connection {
         };
         let ends = item.ends();
         let text = answers::begin(self.alloc, owner, item)?;
-        self.over = text.is_some() && ends;
+        self.finished = text.is_some() && ends;
         Ok(text)
     }
 
-    /// Posts the next task that a session has.
+    /// Posts the next task of its user's sessions.
     fn post(&mut self, book: &mut Book)
         ensures { (rows : List Row)
-            → Acts Post (here_of self.old rows book.old) None (here_of self.new rows book.new) }
+            → ConnectionStep Post (connection_view self.old rows book.old) None
+            (connection_view self.new rows book.new) }
     {
         if self.posted >= MAX_POSTED {
             return;
         }
-        let Position::Inside(owner) = &mut self.position else {
+        let ConnectionState::Inside(owner) = &mut self.state else {
             return;
         };
         let Some(task) = owner.next_task() else {
@@ -191,13 +196,14 @@ impl Connection {
         }
     }
 
-    /// Fetches a result of its user. One that no session awaits is dropped.
+    /// Fetches a result of its user. A result that no session awaits is dropped.
     fn fetch(&mut self, book: &mut Book, pick: usize)
-        ensures acts { (rows : List Row)
-            → Acts (Fetch pick) (here_of self.old rows book.old) None (here_of self.new rows book.new) }
+        ensures step { (rows : List Row)
+            → ConnectionStep (Fetch pick) (connection_view self.old rows book.old) None
+            (connection_view self.new rows book.new) }
         ensures picked { ChangesPicked (IsDoneAt self.old.user book.old) pick book.old book.new }
     {
-        let Position::Inside(owner) = &mut self.position else {
+        let ConnectionState::Inside(owner) = &mut self.state else {
             return;
         };
         if !owner.is_busy() {
@@ -210,13 +216,14 @@ impl Connection {
         self.posted = self.posted.saturating_sub(1);
     }
 
-    /// Turns the step of a session: of the one that is named, or of the first that is ready.
+    /// Turns the step of the named session or, if none is named, of the first that is ready.
     fn turn(&mut self, session: Option<Name>) -> Result<Option<ReplyText>, AllocError>
-        ensures acts { IfOk result (λ text. (rows : List Row) (book : Book)
-            → Acts (Turn session) (here_of self.old rows book) text (here_of self.new rows book)) }
-        ensures stays { OnErr result (Stays self.old self.new) }
+        ensures step { IfOk result (λ text. (rows : List Row) (book : Book)
+            → ConnectionStep (Turn session) (connection_view self.old rows book) text
+            (connection_view self.new rows book)) }
+        ensures stays { OnErr result (KeepsTicket self.old self.new) }
     {
-        let Position::Inside(owner) = &mut self.position else {
+        let ConnectionState::Inside(owner) = &mut self.state else {
             return Ok(None);
         };
         let Some(name) = answers::session_to_turn(owner, session) else {
@@ -225,16 +232,16 @@ impl Connection {
         answers::turn(self.alloc, owner, &name)
     }
 
-    /// Hands the state of its user back, where nothing is left to answer.
+    /// Returns the state of its user to the directory, if nothing is left to answer.
     fn leave(&mut self, directory: &mut Directory, book: &mut Book)
         requires { HasRow directory.old self.old }
-        ensures { Acts Leave (here_of self.old directory.old book.old) None
-            (here_of self.new directory.new book.new) }
+        ensures { ConnectionStep Leave (connection_view self.old directory.old book.old) None
+            (connection_view self.new directory.new book.new) }
     {
         if !self.is_done() {
             return;
         }
-        let Position::Inside(owner) = &self.position else {
+        let ConnectionState::Inside(owner) = &self.state else {
             return;
         };
         if owner.is_waiting() {
@@ -243,17 +250,18 @@ impl Connection {
         let Some(ticket) = self.ticket.take() else {
             return;
         };
-        let Position::Inside(owner) = mem::replace(&mut self.position, Position::Gone) else {
+        let ConnectionState::Inside(owner) = mem::replace(&mut self.state, ConnectionState::Gone)
+        else {
             return;
         };
         book.withdraw(self.user);
-        let _home = directory.leave(ticket, owner.into_state());
+        let _refused = directory.leave(ticket, owner.into_state());
     }
 
-    /// Whether nothing is left to answer.
+    /// Returns true if nothing is left to answer.
     fn is_done(&self) -> bool
         ensures { IsTrue result ↔ IsDone self.now }
     {
-        self.over || self.ended && self.inbox.is_empty()
+        self.finished || self.ended && self.inbox.is_empty()
     }
 }

@@ -1,60 +1,60 @@
-//! What can happen in a world.
+//! The events of a world.
 
 use lj_access::{Name, Token};
 use lj_wire::Item;
 
-/// An event. Connections are numbered from 1 to `MAX_CONNECTIONS`, and workers from 1 to `MAX_WORKERS`. An event that
-/// is not possible changes nothing.
+/// An event. Connections are numbered from 1 to `MAX_CONNECTIONS`, workers from 1 to `MAX_WORKERS`. An event that is not
+/// possible changes nothing.
 #[derive(Debug, Drop)]
 pub enum Event {
-    /// A new connection shows a name and a token, and is granted a ticket.
+    /// A new connection sends a name and a token, and is granted a ticket.
     Hello {
         connection: u8,
         name: Name,
         token: Token,
     },
-    /// Something happens at a connection that is known.
+    /// An event at a known connection: one that has been granted a ticket.
     At {
         connection: u8,
-        act: Act,
+        event: ConnectionEvent,
     },
-    /// A worker does something.
+    /// An event at a worker.
     By {
         worker: u8,
-        deed: Deed,
+        event: WorkerEvent,
     },
 }
 
-/// What a connection does. A pick says from which key on the book looks first.
+/// An event at a connection. The book begins its search at the key `pick`.
 #[derive(Debug, Drop)]
-pub enum Act {
-    /// An item arrives at a connection.
+pub enum ConnectionEvent {
+    /// An item arrives.
     Arrive(Item),
-    /// Nothing more arrives at a connection.
+    /// The input ends: no more items arrive.
     End,
-    /// A connection is given the state of its user.
+    /// The connection takes the state of its user.
     Enter,
-    /// A connection begins its next item.
+    /// The connection begins the next item of its inbox.
     Next,
-    /// A connection posts the next task that a session of its user has.
+    /// The connection posts the next task of its user's sessions.
     Post,
-    /// A connection fetches a result of its user.
+    /// The connection fetches a result of its user.
     Fetch { pick: usize },
-    /// A connection turns the step of a session: of the one that is named, or of the first that is ready.
+    /// The connection turns the step of the named session or, if none is named, of the first that is ready.
     Turn { session: Option<Name> },
-    /// A connection hands the state of its user back.
+    /// The connection returns the state of its user.
     Leave,
 }
 
-/// What a worker does. A pick says from which key on the book looks first.
+/// An event at a worker. The book begins its search at the key `pick`.
 #[derive(Clone, Copy, PartialEq, Eq, Debug)]
-pub enum Deed {
-    /// A worker takes a task.
+pub enum WorkerEvent {
+    /// The worker takes a task.
     Take { pick: usize },
-    /// A worker computes the task that it holds.
+    /// The worker computes the task that it holds.
     Compute,
-    /// A worker gives the result that it holds.
+    /// The worker gives the result that it holds.
     Give,
-    /// A worker hands back the task that it holds.
+    /// The worker hands back the task that it holds.
     HandBack,
 }

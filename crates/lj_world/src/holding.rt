@@ -1,8 +1,8 @@
-//! What a worker holds.
+//! The task or the result that a worker holds.
 
 use lj_tile::{Done, Task};
 
-/// A task, or its result.
+/// The task or the result that a worker holds.
 #[derive(Drop)]
 pub(crate) enum Holding {
     Task(Task),

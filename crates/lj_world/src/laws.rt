@@ -1,14 +1,15 @@
-//! Laws of runs: functions that do nothing of their own, whose contracts are the laws.
-ghost use Rattle.lj_world.specs.Laws.{Known, RepliesAreFirstTexts, AgreeingScriptsAgreeInTexts, Headline};
+//! The laws of runs. Each is the contract of a function that computes nothing.
+ghost use Rattle.lj_world.specs.Laws.{PendingCommandLaws, RepliesAreFirstTexts, AgreeingScriptsAgreeInTexts, Headline};
 ghost use Rattle.lj_world.specs.Laws.{ValueIsThatOfScript, TicketsAreInOrder, OthersChangeNothing, EachListHasARun};
 ghost use Rattle.lj_world.specs.Laws.{RefusalsLeaveSessions};
 
 use lj_session::{accept_keeps_user, begun_waits_alike, posted_keeps_user, rest_keeps_user};
 use lj_wire::{alike_is_told, mark_is_told, waiting_goes_on};
 
-/// What waits is told in the end what it would be told now, and what is done meanwhile leaves the user.
-fn laws_of_what_waits()
-    ensures { Known }
+/// Gathers the laws of pending commands: each is answered at its last turn as it would be answered now, and nothing that
+/// is done until then changes the value of the user.
+fn pending_command_laws()
+    ensures { PendingCommandLaws }
 {
     rest_keeps_user();
     posted_keeps_user();
@@ -23,16 +24,16 @@ pub fn replies_are_first_texts()
     ensures { RepliesAreFirstTexts }
 {
     mark_is_told();
-    laws_of_what_waits();
+    pending_command_laws();
 }
 
-/// Promise: of two scripts that agree the one list of texts is a prefix of the other.
+/// Promise: if two scripts agree, one of their lists of texts is a prefix of the other.
 pub fn agreeing_scripts_agree_in_texts()
     ensures { AgreeingScriptsAgreeInTexts }
 {}
 
-/// Promise: for every two lists of events in which a user's scripts agree, of the replies that the two runs give this
-/// user one list is a prefix of the other, and each is a prefix of the replies of that user's commands answered alone.
+/// Promise: for every two lists of events in which a user's scripts agree, one list of the replies to this user is a
+/// prefix of the other, and each is a prefix of the replies that this user's commands get when they are answered alone.
 pub fn headline()
     ensures { Headline }
 {
@@ -40,34 +41,33 @@ pub fn headline()
     agreeing_scripts_agree_in_texts();
 }
 
-/// Promise: in every run the value of a user is that of its script so far; while something waits, it is the script's
-/// next item.
+/// Promise: in every run the value of a user is that of its script so far; a pending command is the script's next item.
 pub fn value_is_that_of_script()
     ensures { ValueIsThatOfScript }
 {
     mark_is_told();
-    laws_of_what_waits();
+    pending_command_laws();
 }
 
 /// Promise: in every run a user's n-th granted HELLO, counted from 0, gets its ticket n.
 pub fn tickets_are_in_order()
     ensures { TicketsAreInOrder }
 {
-    laws_of_what_waits();
+    pending_command_laws();
 }
 
-/// Promise: an event that is not a user's changes nothing of it.
+/// Promise: an event that is not a user's own changes nothing of that user, and sends it no reply.
 pub fn others_change_nothing()
     ensures { OthersChangeNothing }
 {}
 
-/// Promise: a refusal that is told at a NEXT leaves every session as it was, with what is owed to it and its open step.
-/// At one that is told at a TURN the step of its session is made, and nothing else.
+/// Promise: a refusal replied at a NEXT leaves every session as it was, with its pending steps and its open step. A
+/// refusal replied at a TURN completes the step of its session, and changes nothing else.
 pub fn refusals_leave_sessions()
     ensures { RefusalsLeaveSessions }
 {}
 
-/// Promise: no list of events is without a run, whichever state it begins in.
+/// Promise: no list of events is without a run, whatever the state in which it begins.
 pub fn each_list_has_a_run()
     ensures { EachListHasARun }
 {}

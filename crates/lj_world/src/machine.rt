@@ -1,4 +1,4 @@
-//! The machine of events.
+//! The state machine of a world: one step for each event.
 ghost use Rattle.std.specs.Prelude.{◌≡◌, ◌≤◌, ◌<◌, Some, None, IfOk, length, replicate, slice_set};
 ghost use Rattle.std.specs.List.{IsDistinct};
 ghost use Rattle.std.specs.Str.{bytes_eq};
@@ -9,17 +9,17 @@ ghost use Rattle.lj_world.specs.Runs.{Step};
 ghost use Rattle.lj_world.specs.Picked.{PickedStep};
 
 use crate::connection::Connection;
-use crate::event::{Act, Deed, Event};
+use crate::event::{ConnectionEvent, Event, WorkerEvent};
 use crate::limits::{MAX_CONNECTIONS, MAX_WORKERS};
 use crate::transcript::Entry;
-use crate::worker::{Worker, work};
+use crate::worker::{self, Worker};
 use lj_access::{Directory, MAX_USERS, Name, Token, User};
 use lj_book::Book;
 use lj_table::Table;
 use std::alloc::{AllocError, Global};
 use std::marker::Model;
 
-/// Users, connections, workers and the book. Connections and workers stand at their numbers, and place 0 stays empty.
+/// Users, connections, workers and the book. The slot of a connection or a worker has its number; slot 0 stays empty.
 #[derive(Drop)]
 pub(crate) struct Machine {
     alloc: Global,
@@ -39,8 +39,8 @@ impl Model for Machine {
 
     ghost view = { λ m. record {
       rows = m.directory;
-      talks = m.connections.items;
-      hands = m.workers.items;
+      connections = m.connections.items;
+      workers = m.workers.items;
       book = m.book;
     } };
 
@@ -48,7 +48,7 @@ impl Model for Machine {
 }
 
 impl Machine {
-    /// These users, no connections, and nothing in the hands of the workers.
+    /// Creates the machine of these users: no connection is known, and no worker holds anything.
     ///
     /// # Errors
     /// Out of memory.
@@ -62,16 +62,16 @@ impl Machine {
             alloc,
             table: Table::new(),
             directory: Directory::new(alloc, users)?,
-            connections: places(alloc, usize::from(MAX_CONNECTIONS) + 1)?,
-            workers: places(alloc, usize::from(MAX_WORKERS) + 1)?,
+            connections: empty_slots(alloc, usize::from(MAX_CONNECTIONS) + 1)?,
+            workers: empty_slots(alloc, usize::from(MAX_WORKERS) + 1)?,
             book: Book::new(alloc)?,
         })
     }
 
-    /// A step of the machine, with what is replied.
+    /// Makes one step of the machine. Returns the reply, if any.
     ///
     /// # Errors
-    /// Out of memory. The state is then not said.
+    /// Out of memory. The state is then unspecified.
     pub(crate) fn step(&mut self, event: Event) -> Result<Option<Entry>, AllocError>
         ensures { IfOk result (λ reply. PickedStep self.old event reply self.new) }
     {
@@ -84,23 +84,23 @@ impl Machine {
                 self.hello(connection, &name, &token);
                 Ok(None)
             }
-            Event::At { connection, act } => self.act(connection, act),
-            Event::By { worker, deed } => {
-                self.work(worker, deed);
+            Event::At { connection, event } => self.handle_connection_event(connection, event),
+            Event::By { worker, event } => {
+                self.handle_worker_event(worker, event);
                 Ok(None)
             }
         }
     }
 
     /// Grants a ticket to a new connection.
-    fn hello(&mut self, connection: u8, name: &Name, token: &Token)
-        ensures { Step self.old (Hello connection name.now token.now) None self.new }
+    fn hello(&mut self, id: u8, name: &Name, token: &Token)
+        ensures { Step self.old (Hello id name.now token.now) None self.new }
     {
-        let place = usize::from(connection);
-        if place == 0 || place >= self.connections.len() {
+        let slot = usize::from(id);
+        if slot == 0 || slot >= self.connections.len() {
             return;
         }
-        if self.connections[place].is_some() {
+        if self.connections[slot].is_some() {
             return;
         }
         let Ok(ticket) = self.directory.hello(name.as_bytes(), token.as_bytes()) else {
@@ -108,60 +108,64 @@ impl Machine {
         };
         put(
             &mut self.connections,
-            place,
+            slot,
             Connection::new(self.alloc, ticket),
         );
     }
 
-    /// A connection that is known does something.
-    fn act(&mut self, connection: u8, act: Act) -> Result<Option<Entry>, AllocError>
-        ensures { IfOk result (λ reply. PickedStep self.old (At connection act) reply self.new) }
+    /// Handles an event at a connection. Returns the reply, if any.
+    fn handle_connection_event(
+        &mut self,
+        id: u8,
+        event: ConnectionEvent,
+    ) -> Result<Option<Entry>, AllocError>
+        ensures { IfOk result (λ reply. PickedStep self.old (At id event) reply self.new) }
     {
-        let place = usize::from(connection);
-        if place >= self.connections.len() {
+        let slot = usize::from(id);
+        if slot >= self.connections.len() {
             return Ok(None);
         }
-        let Some(known) = &mut self.connections[place] else {
+        let Some(connection) = &mut self.connections[slot] else {
             return Ok(None);
         };
-        let user = known.user();
-        let Some(text) = known.act(act, &mut self.directory, &mut self.book)? else {
+        let user = connection.user();
+        let Some(text) = connection.handle(event, &mut self.directory, &mut self.book)? else {
             return Ok(None);
         };
         Ok(Some(Entry {
             user,
-            connection,
+            connection: id,
             text,
         }))
     }
 
-    /// A worker does something.
-    fn work(&mut self, worker: u8, deed: Deed)
-        ensures { PickedStep self.old (By worker deed) None self.new }
+    /// Handles an event at a worker.
+    fn handle_worker_event(&mut self, id: u8, event: WorkerEvent)
+        ensures { PickedStep self.old (By id event) None self.new }
     {
-        let place = usize::from(worker);
-        if place == 0 || place >= self.workers.len() {
+        let slot = usize::from(id);
+        if slot == 0 || slot >= self.workers.len() {
             return;
         }
-        work(&mut self.workers[place], deed, &mut self.book, &self.table);
+        worker::handle(&mut self.workers[slot], event, &mut self.book, &self.table);
     }
 }
 
-/// So many empty places.
-fn places<T: Drop>(alloc: Global, count: usize) -> Result<Vec<Option<T>>, AllocError>
-    ensures { IfOk result (λ places. places.items ≡ replicate count None) }
+/// Returns `count` empty slots.
+fn empty_slots<T: Drop>(alloc: Global, count: usize) -> Result<Vec<Option<T>>, AllocError>
+    ensures { IfOk result (λ slots. slots.items ≡ replicate count None) }
 {
-    let mut places = Vec::with_capacity(alloc, count)?;
-    while places.len() < count {
-        places.push(None)?;
+    let mut slots = Vec::with_capacity(alloc, count)?;
+    while slots.len() < count {
+        slots.push(None)?;
     }
-    Ok(places)
+    Ok(slots)
 }
 
-/// Puts a connection at a place.
-fn put(connections: &mut Vec<Option<Connection>>, place: usize, connection: Connection)
-    requires { place < length connections.old.items }
-    ensures { connections.new.items ≡ slice_set connections.old.items place (Some connection) }
+/// Stores a connection in a slot.
+fn put(connections: &mut Vec<Option<Connection>>, slot: usize, connection: Connection)
+    requires { slot < length connections.old.items }
+    ensures { connections.new.items ≡ slice_set connections.old.items slot (Some connection) }
 {
-    connections[place] = Some(connection);
+    connections[slot] = Some(connection);
 }

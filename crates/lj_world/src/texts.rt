@@ -9,7 +9,7 @@ use lj_session::{Reply, UserState};
 use lj_wire::{last_line, reply_line};
 use std::alloc::{AllocError, Global};
 
-/// The text of a reply, which tells of the state after its command.
+/// Makes the text of a reply, from the state after its command.
 ///
 /// # Errors
 /// Out of memory.

@@ -1,4 +1,4 @@
-//! What a world tells its users.
+//! The replies of a world.
 ghost use Rattle.std.specs.Prelude.{◌≡◌};
 
 use std::marker::Model;
@@ -18,14 +18,14 @@ impl Model for ReplyText {
 }
 
 impl ReplyText {
-    /// The text of these bytes.
+    /// Makes a text of these bytes.
     pub fn new(bytes: Vec<u8>) -> ReplyText
         ensures { result ≡ bytes.items }
     {
         ReplyText { bytes }
     }
 
-    /// Its bytes.
+    /// Returns its bytes.
     pub fn as_bytes(&self) -> &[u8]
         ensures { result.now ≡ self.now }
     {
@@ -33,7 +33,7 @@ impl ReplyText {
     }
 }
 
-/// A reply: the number of the user and of the connection that are told it, and its text.
+/// A reply: the numbers of the user and of the connection that receive it, and its text.
 #[derive(Debug, Drop)]
 pub struct Entry {
     pub user: u8,
@@ -57,14 +57,14 @@ impl Model for Transcript {
 }
 
 impl Transcript {
-    /// These replies.
+    /// Makes a transcript of these replies.
     pub fn new(entries: Vec<Entry>) -> Transcript
         ensures { result ≡ entries.items }
     {
         Transcript { entries }
     }
 
-    /// The replies, in order.
+    /// Returns the replies, in order.
     pub fn entries(&self) -> &[Entry]
         ensures { result.now ≡ self.now }
     {

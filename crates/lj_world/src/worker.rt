@@ -1,19 +1,19 @@
-//! The hands of workers, and what each worker does.
+//! What a worker holds, and how a worker handles each event.
 ghost use Rattle.std.specs.Prelude.{◌≡◌, Some, false};
 ghost use Rattle.lj_book.specs.Book.{Book, IsOpenAt};
-ghost use Rattle.lj_world.specs.declared.event.Deed.TheVariants.{Take, Compute, Give, HandBack};
-ghost use Rattle.lj_world.specs.Workers.{bench};
-ghost use Rattle.lj_world.specs.Attempts.{Tries};
-ghost use Rattle.lj_world.specs.Picked.{ChangesPicked, DeedHeeds};
+ghost use Rattle.lj_world.specs.declared.event.WorkerEvent.TheVariants.{Take, Compute, Give, HandBack};
+ghost use Rattle.lj_world.specs.Workers.{worker_view};
+ghost use Rattle.lj_world.specs.Steps.{WorkerStep};
+ghost use Rattle.lj_world.specs.Picked.{ChangesPicked, WorkerFollowsPick};
 
-use crate::event::Deed;
+use crate::event::WorkerEvent;
 use crate::holding::Holding;
 use lj_book::{Book, Key};
 use lj_table::Table;
 use lj_tile::{Task, compute};
 use std::marker::Model;
 
-/// A task that a worker has taken, or its result, with its key.
+/// What a worker holds: a task or its result, with the key of the task.
 #[derive(Drop)]
 pub(crate) struct Worker {
     key: Key,
@@ -30,43 +30,48 @@ impl Model for Worker {
     ghost view = { λ w. record { key = w.key; work = task_of w.holding; computed = is_computed w.holding } };
 }
 
-/// Does what a worker is asked for, or nothing where it cannot.
-pub(crate) fn work(hand: &mut Option<Worker>, deed: Deed, book: &mut Book, table: &Table)
-    ensures tries { Tries deed (bench hand.old book.old) (bench hand.new book.new) }
-    ensures picked { DeedHeeds deed book.old book.new }
+/// Handles an event, or changes nothing if the event is not possible now.
+pub(crate) fn handle(
+    worker: &mut Option<Worker>,
+    event: WorkerEvent,
+    book: &mut Book,
+    table: &Table,
+)
+    ensures step { WorkerStep event (worker_view worker.old book.old) (worker_view worker.new book.new) }
+    ensures picked { WorkerFollowsPick event book.old book.new }
 {
-    match deed {
-        Deed::Take { pick } => take(hand, book, pick),
-        Deed::Compute => {
-            if let Some(worker) = hand {
+    match event {
+        WorkerEvent::Take { pick } => take(worker, book, pick),
+        WorkerEvent::Compute => {
+            if let Some(worker) = worker {
                 worker.compute(table);
             }
         }
-        Deed::Give => {
-            if let Some(worker) = hand {
+        WorkerEvent::Give => {
+            if let Some(worker) = worker {
                 worker.give(book);
             }
         }
-        Deed::HandBack => {
-            if let Some(worker) = hand {
+        WorkerEvent::HandBack => {
+            if let Some(worker) = worker {
                 worker.hand_back(book);
             }
         }
     }
 }
 
-/// Takes a task, in place of what was held.
-fn take(hand: &mut Option<Worker>, book: &mut Book, pick: usize)
-    ensures tries { Tries (Take pick) (bench hand.old book.old) (bench hand.new book.new) }
+/// Takes a task, in place of what the worker held.
+fn take(worker: &mut Option<Worker>, book: &mut Book, pick: usize)
+    ensures step { WorkerStep (Take pick) (worker_view worker.old book.old) (worker_view worker.new book.new) }
     ensures picked { ChangesPicked (IsOpenAt book.old) pick book.old book.new }
 {
     if let Some((key, task)) = book.take(pick) {
-        *hand = Some(Worker::new(key, task));
+        *worker = Some(Worker::new(key, task));
     }
 }
 
 impl Worker {
-    /// Holds a task, which is not computed.
+    /// Holds a task that is not computed yet.
     fn new(key: Key, task: Task) -> Worker
         ensures { result ≡ record { key = key; work = task; computed = false } }
     {
@@ -76,27 +81,30 @@ impl Worker {
         }
     }
 
-    /// Computes the task that it holds, unless that is done.
+    /// Computes the task, unless it is computed already.
     fn compute(&mut self, table: &Table)
-        ensures { (book : Book) → Tries Compute (bench (Some self.old) book) (bench (Some self.new) book) }
+        ensures { (book : Book)
+            → WorkerStep Compute (worker_view (Some self.old) book) (worker_view (Some self.new) book) }
     {
         if let Holding::Task(task) = &self.holding {
             self.holding = Holding::Done(compute(task.copy(), table));
         }
     }
 
-    /// Gives a copy of the result that it holds, where the task is out under its key.
+    /// Gives a copy of the result to the book, which refuses it unless the task is out under its key.
     fn give(&self, book: &mut Book)
-        ensures { Tries Give (bench (Some self.now) book.old) (bench (Some self.now) book.new) }
+        ensures { WorkerStep Give (worker_view (Some self.now) book.old)
+            (worker_view (Some self.now) book.new) }
     {
         if let Holding::Done(done) = &self.holding {
             let _refused = book.give(self.key, done.copy());
         }
     }
 
-    /// Hands the task back, where it is out under its key.
+    /// Hands the task back to the book, which refuses it unless the task is out under its key.
     fn hand_back(&self, book: &mut Book)
-        ensures { Tries HandBack (bench (Some self.now) book.old) (bench (Some self.now) book.new) }
+        ensures { WorkerStep HandBack (worker_view (Some self.now) book.old)
+            (worker_view (Some self.now) book.new) }
     {
         let task = match &self.holding {
             Holding::Task(task) => task,

@@ -1,12 +1,12 @@
-//! A world: its machine, the flag of lost memory, and runs.
+//! A world: its machine, and runs over lists of events.
 ghost use Rattle.std.specs.Prelude.{◌≡◌, ◌↔◌, ◌≤◌, length, IsTrue, IsFalse, IsErr, IfOk};
 ghost use Rattle.std.specs.List.{IsDistinct};
 ghost use Rattle.std.specs.Str.{bytes_eq};
 ghost use Rattle.lj_access.specs.Users.{names};
 ghost use Rattle.lj_world.specs.Machine.{start};
 ghost use Rattle.lj_world.specs.Runs.{Step, IsTranscript};
-ghost use Rattle.lj_world.specs.Picked.{HeedsPick, IsPickedTranscript};
-ghost use Rattle.lj_world.specs.Laws.{TellsAsAnyOther};
+ghost use Rattle.lj_world.specs.Picked.{FollowsPick, IsPickedTranscript};
+ghost use Rattle.lj_world.specs.Laws.{AgreesWithEveryRun};
 
 use crate::event::Event;
 use crate::laws::headline;
@@ -34,8 +34,8 @@ impl<T: Drop> From<AllocFailed<T>> for OutOfMemory {
     }
 }
 
-/// Users, connections, workers and the book of tasks: one machine, to which one event happens after the other. A world
-/// to which memory was refused is lost, and goes no further.
+/// Users, connections, workers and the book of tasks: one state machine, which takes one event after the other. A world
+/// that has run out of memory is lost: it takes no further step.
 #[derive(Drop)]
 pub struct World {
     machine: Machine,
@@ -51,7 +51,7 @@ impl Model for World {
 }
 
 impl World {
-    /// The world of these users: nobody is connected, and no worker holds anything.
+    /// Creates the world of these users: nobody is connected, and no worker holds anything.
     ///
     /// # Errors
     /// Out of memory.
@@ -68,17 +68,17 @@ impl World {
         })
     }
 
-    /// An event happens, or it is not possible and nothing changes. What is replied is answered. Its pick decides which
-    /// task is taken, and which result is fetched.
+    /// Takes one event: it happens, or it is not possible and nothing changes. Returns the reply, if any. The pick of the
+    /// event decides which task is taken, and which result is fetched.
     ///
     /// # Errors
-    /// Out of memory, now or at an earlier step: a world that has once lost memory takes no step more.
+    /// Out of memory, at this step or at an earlier one: a lost world takes no further step.
     ///
-    /// Promise: an event is a step of the machine of events, in which one that is not possible changes nothing; its
+    /// Promise: an event is one step of the state machine, in which an event that is not possible changes nothing; its
     /// pick decides which task is taken and which result is fetched.
     pub fn step(&mut self, event: Event) -> Result<Option<Entry>, OutOfMemory>
         ensures step { IfOk result (λ reply. Step self.old.state event reply self.new.state) }
-        ensures picked { IfOk result (λ _. HeedsPick self.old.state event self.new.state) }
+        ensures picked { IfOk result (λ _. FollowsPick self.old.state event self.new.state) }
         ensures lost { IsTrue self.new.lost ↔ IsErr result }
         ensures no_more { IsTrue self.old.lost → IsErr result }
         ensures unchanged { IsTrue self.old.lost → self.new ≡ self.old }
@@ -95,9 +95,9 @@ impl World {
         }
     }
 
-    /// Runs a world of these users over these events, and answers what is replied. For every user, and every other run
-    /// in which the user's script agrees with the one here, one of the two lists of its replies is a prefix of the
-    /// other, and both are prefixes of what its commands are answered alone.
+    /// Runs a world of these users over these events, and returns the replies. For every user, and every other run in
+    /// which the user's script agrees with the one here, one list of the replies to the user is a prefix of the other,
+    /// and both are prefixes of the replies that the user's commands get when they are answered alone.
     ///
     /// # Errors
     /// Out of memory.
@@ -114,7 +114,7 @@ impl World {
         requires distinct { IsDistinct bytes_eq (names users.items) }
         ensures run { IfOk result (λ transcript. IsTranscript users.items events.items transcript) }
         ensures picked { IfOk result (λ transcript. IsPickedTranscript users.items events.items transcript) }
-        ensures headline { IfOk result (λ transcript. TellsAsAnyOther users.items events.items transcript) }
+        ensures headline { IfOk result (λ transcript. AgreesWithEveryRun users.items events.items transcript) }
     {
         let mut world = World::new(alloc, users)?;
         let mut entries = Vec::new(alloc);

@@ -7,19 +7,19 @@ use lj_access::{Name, Token};
 use lj_fixed::parse_number;
 use lj_session::LoadBody;
 use lj_wire::{Fault, Item, Words, is_load, parse_command};
-use lj_world::{Act, Deed, Event, MAX_CONNECTIONS, MAX_WORKERS};
+use lj_world::{ConnectionEvent, Event, MAX_CONNECTIONS, MAX_WORKERS, WorkerEvent};
 use lj_xyz::split_word;
 
 /// The event that a first word and those after it say. An arriving item is none of these.
 pub fn parse_event(verb: &[u8], words: Words) -> Option<Event> {
     match verb {
         b"hello" => parse_hello(words),
-        b"take" | b"compute" | b"give" | b"handback" => parse_deed(verb, words),
-        _ => parse_act(verb, words),
+        b"take" | b"compute" | b"give" | b"handback" => parse_worker_event(verb, words),
+        _ => parse_connection_event(verb, words),
     }
 }
 
-/// A new connection shows a name and a token.
+/// A new connection sends a name and a token.
 fn parse_hello(mut words: Words) -> Option<Event> {
     let connection = parse_numbered(words.next()?, MAX_CONNECTIONS)?;
     let name = Name::parse(words.next()?)?;
@@ -32,25 +32,25 @@ fn parse_hello(mut words: Words) -> Option<Event> {
     })
 }
 
-/// What a connection does.
-fn parse_act(verb: &[u8], mut words: Words) -> Option<Event> {
+/// An event at a connection.
+fn parse_connection_event(verb: &[u8], mut words: Words) -> Option<Event> {
     let connection = parse_numbered(words.next()?, MAX_CONNECTIONS)?;
-    let act = match verb {
-        b"end" => Act::End,
-        b"enter" => Act::Enter,
-        b"next" => Act::Next,
-        b"post" => Act::Post,
-        b"fetch" => Act::Fetch {
+    let event = match verb {
+        b"end" => ConnectionEvent::End,
+        b"enter" => ConnectionEvent::Enter,
+        b"next" => ConnectionEvent::Next,
+        b"post" => ConnectionEvent::Post,
+        b"fetch" => ConnectionEvent::Fetch {
             pick: parse_pick(words.next()?)?,
         },
-        b"turn" => Act::Turn {
+        b"turn" => ConnectionEvent::Turn {
             session: parse_session(&mut words)?,
         },
-        b"leave" => Act::Leave,
+        b"leave" => ConnectionEvent::Leave,
         _ => return None,
     };
     words.end()?;
-    Some(Event::At { connection, act })
+    Some(Event::At { connection, event })
 }
 
 /// The session that the next word names, or `Some(None)` if no word is left. None of a word that is no name.
@@ -61,20 +61,20 @@ fn parse_session(words: &mut Words) -> Option<Option<Name>> {
     }
 }
 
-/// What a worker does.
-fn parse_deed(verb: &[u8], mut words: Words) -> Option<Event> {
+/// An event at a worker.
+fn parse_worker_event(verb: &[u8], mut words: Words) -> Option<Event> {
     let worker = parse_numbered(words.next()?, MAX_WORKERS)?;
-    let deed = match verb {
-        b"take" => Deed::Take {
+    let event = match verb {
+        b"take" => WorkerEvent::Take {
             pick: parse_pick(words.next()?)?,
         },
-        b"compute" => Deed::Compute,
-        b"give" => Deed::Give,
-        b"handback" => Deed::HandBack,
+        b"compute" => WorkerEvent::Compute,
+        b"give" => WorkerEvent::Give,
+        b"handback" => WorkerEvent::HandBack,
         _ => return None,
     };
     words.end()?;
-    Some(Event::By { worker, deed })
+    Some(Event::By { worker, event })
 }
 
 /// The connection at which an item arrives, and the line of the item: what follows the one blank after the
@@ -88,8 +88,8 @@ pub fn parse_arrival(words: &[u8]) -> Option<(u8, &[u8])> {
 /// The arrival of a load whose body was lost for want of memory. None if another line follows the connection.
 pub fn parse_loss(words: &[u8]) -> Option<Event> {
     let (connection, line) = parse_arrival(words)?;
-    let act = Act::Arrive(lost_load(line)?);
-    Some(Event::At { connection, act })
+    let event = ConnectionEvent::Arrive(lost_load(line)?);
+    Some(Event::At { connection, event })
 }
 
 /// The item of the line of a load with a count, whose body was lost for want of memory. None of another line.

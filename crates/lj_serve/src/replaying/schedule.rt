@@ -7,7 +7,7 @@ use crate::replaying::event_lines::{parse_arrival, parse_event, parse_loss};
 use lj_access::User;
 use lj_session::{Body, Command, LoadBody};
 use lj_wire::{Item, LineReading, Words, read_line};
-use lj_world::{Act, Event};
+use lj_world::{ConnectionEvent, Event};
 use lj_xyz::split_word;
 use std::alloc::{AllocError, Global};
 
@@ -102,8 +102,8 @@ impl Draft {
             return Err(LineFault::Form);
         }
         let (bytes, _) = after.split_at(body);
-        let act = Act::Arrive(with_bytes(self.alloc, item, bytes)?);
-        self.events.push(Event::At { connection, act })?;
+        let event = ConnectionEvent::Arrive(with_bytes(self.alloc, item, bytes)?);
+        self.events.push(Event::At { connection, event })?;
         Ok(body)
     }
 }

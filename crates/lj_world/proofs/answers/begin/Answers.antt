@@ -4,7 +4,7 @@ use Rattle.lj_session.specs.declared.reply.Reply.{Reply}
 use Rattle.lj_session.specs.declared.reply.Reply.TheVariants.{Refused}
 use Rattle.lj_session.specs.Owner.{Owner, user_in}
 use Rattle.lj_wire.specs.Texts.{text}
-use Rattle.lj_world.proofs.Beginning.{command_answered, fault_answered, last_answered}
+use Rattle.lj_world.proofs.ItemAnswers.{command_answered, fault_answered, last_answered}
 use Rattle.lj_world.proofs.answers.begin.Goals.{in-Command+in-Answered, in-Bad, in-Last}
 use Rattle.lj_world.proofs.answers.begin.Goals as goal
 
@@ -12,7 +12,7 @@ pub returns : goal.returns
 returns c =
     let made : c.in_ok-text_of.field-0 ≡ text (user_in c.match-item.owner) c.match-item.reply =
     c.in_ok-text_of.ensures ∙ ap (λ (s : UserState). text (user_of s) c.match-item.reply) c.state.ensures in
-    let told = λ (is : c.match-item.owner ≡ c.args.owner.now) (reply : Reply) (e : c.match-item.reply ≡ reply).
+    let reply_text = λ (is : c.match-item.owner ≡ c.args.owner.now) (reply : Reply) (e : c.match-item.reply ≡ reply).
     made ∙ ap (λ (o : Owner). text (user_in o) c.match-item.reply) is ∙ ap (text (user_in c.args.owner.now)) e in
     elim c.match-item.branch [
       | in-Command+in-Answered w ↦
@@ -22,8 +22,8 @@ returns c =
           b.at_once b.answered b.idle w.begin.ensures.number w.begin.ensures.others b.steps b.unchanged (rw (← w.owner-is, ← w.reply-is) made))
       | in-Bad w ↦
           rw (w.in-Bad.is, w.owner-is)
-          (fault_answered c.args.owner.now w.in-Bad.fault c.in_ok-text_of.field-0 c.requires (told w.owner-is _ (w.reply-is ∙ ap Refused w.into.ensures)))
+          (fault_answered c.args.owner.now w.in-Bad.fault c.in_ok-text_of.field-0 c.requires (reply_text w.owner-is _ (w.reply-is ∙ ap Refused w.into.ensures)))
       | in-Last w ↦
           rw (w.in-Last.is, w.owner-is)
-          (last_answered c.args.owner.now w.in-Last.fault c.in_ok-text_of.field-0 c.requires (told w.owner-is _ (w.reply-is ∙ ap Refused w.into-in-Last.ensures)))
+          (last_answered c.args.owner.now w.in-Last.fault c.in_ok-text_of.field-0 c.requires (reply_text w.owner-is _ (w.reply-is ∙ ap Refused w.into-in-Last.ensures)))
     ]

@@ -1,4 +1,4 @@
-use Rattle.lj_world.proofs.Agreeing.{headline_from}
+use Rattle.lj_world.proofs.AgreeingScripts.{headline_from}
 use Rattle.lj_world.proofs.laws.headline.Goals as goal
 
 pub returns : goal.returns

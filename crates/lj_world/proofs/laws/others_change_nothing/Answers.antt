@@ -1,4 +1,4 @@
-use Rattle.lj_world.proofs.Others.{others_leave}
+use Rattle.lj_world.proofs.OthersUnchanged.{others_leave}
 use Rattle.lj_world.proofs.laws.others_change_nothing.Goals as goal
 
 pub returns : goal.returns

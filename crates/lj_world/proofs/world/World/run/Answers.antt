@@ -2,7 +2,7 @@ use Rattle.std.proofs.Common.{rules, map-id, append-nil}
 use Rattle.std.proofs.lemmas.Iterator.Consumers.{YieldsList-end}
 use Rattle.std.proofs.lemmas.Iterator.Adapters.{YieldsList-from_vec}
 use Rattle.lj_world.specs.Picked.{PickedStep}
-use Rattle.lj_world.proofs.Pushing.{run_push, run_of}
+use Rattle.lj_world.proofs.RunAppend.{run_push, run_of}
 use Rattle.lj_world.proofs.world.World.run.Goals as goal
 
 -- a reply is pushed

@@ -1,0 +1,76 @@
+use Rattle.std.proofs.Common.{ℕ, List, Option, Some, None, arith, refl, subst, sym}
+use Rattle.std.specs.Option.{option_map}
+use Rattle.lj_world.specs.contracts.machine.Machine.{the_view}
+use Rattle.lj_world.specs.Machine.{Connection}
+use Rattle.lj_world.specs.declared.event.Event.TheVariants.{At}
+use Rattle.lj_world.specs.Connections.{connection_view}
+use Rattle.lj_world.specs.Transitions.{entry, with_connection_view}
+use Rattle.lj_world.specs.Picked.{PickedStep}
+use Rattle.lj_world.proofs.Slots.{read_at, written_back, none_past}
+use Rattle.lj_world.proofs.MachineSteps.{connection_step_by_pick, absent}
+use Rattle.lj_world.proofs.SlotsKept.{connection_step_keeps}
+use Rattle.lj_world.proofs.machine.Machine.handle_connection_event.Goals as goal
+
+pub returns-then-slot-len : goal.returns-then-slot-len
+returns-then-slot-len c =
+    rw (← c.self.view_is)
+    (absent c.args.event (the_view c.self.inside) c.args.id (none_past c.self.inside.connections.items c.args.id (omega arith)))
+
+pub returns-in_default : goal.returns-in_default
+returns-in_default c =
+    let s = the_view c.self.inside in
+    let items = c.self.inside.connections.items in
+    let none = read_at items c.from-slot.result c.args.id c.index_mut.result.now None c.from-slot.ensures (omega arith)
+    c.index_mut.ensures.value c.in_default.is in
+    let same = written_back items c.from-slot.result c.index_mut.result.now c.index_mut.ensures.value in
+    rw (← c.self.view_is)
+    (subst (λ (connections : List (Option Connection)). PickedStep s (At c.args.id c.args.event) None (record s { connections = connections })) (sym same)
+    (absent c.args.event s c.args.id none))
+
+pub handle-requires : goal.handle-requires
+handle-requires c =
+    let known = read_at c.self.inside.connections.items c.from-slot.result c.from-slot.result c.index_mut.result.now (Some c.in-Some.connection)
+    refl (omega arith) c.index_mut.ensures.value c.in-Some.is in
+    c.self.invariant.known c.from-slot.result c.in-Some.connection known
+
+pub invariant_of-self-in_default-2 : goal.invariant_of-self-in_default-2
+invariant_of-self-in_default-2 c =
+    let items = c.self.inside.connections.items in
+    let known = read_at items c.from-slot.result c.from-slot.result c.index_mut.result.now (Some c.in-Some.connection)
+    refl (omega arith) c.index_mut.ensures.value c.in-Some.is in
+    connection_step_keeps c.self.inside.directory items c.self.inside.workers.items c.from-slot.result c.in-Some.connection c.self.invariant
+    (omega arith) known c.args.event c.self.inside.book c.in_ok-text.field-0
+    (connection_view c.handle.new.self c.handle.new.directory c.handle.new.book) c.in_ok-text.ensures.step
+
+pub returns-in_default-2 : goal.returns-in_default-2
+returns-in_default-2 c =
+    let s = the_view c.self.inside in
+    let h = connection_view c.handle.new.self c.handle.new.directory c.handle.new.book in
+    let known = read_at c.self.inside.connections.items c.from-slot.result c.args.id c.index_mut.result.now (Some c.in-Some.connection)
+    c.from-slot.ensures (omega arith) c.index_mut.ensures.value c.in-Some.is in
+    let step = connection_step_by_pick c.args.event s c.args.id c.in-Some.connection c.in_ok-text.field-0 h known c.in_ok-text.ensures.step
+    c.handle.ensures.picked in
+    rw (← c.self.view_is, c.from-slot.ensures)
+    (subst (λ (t : Option (List ℕ)). PickedStep s (At c.args.id c.args.event) (option_map (entry c.args.id c.in-Some.connection) t)
+    (with_connection_view c.args.id h s)) c.in_default-2.is step)
+
+pub invariant_of-self-2 : goal.invariant_of-self-2
+invariant_of-self-2 c =
+    let items = c.self.inside.connections.items in
+    let known = read_at items c.from-slot.result c.from-slot.result c.index_mut.result.now (Some c.in-Some.connection)
+    refl (omega arith) c.index_mut.ensures.value c.in-Some.is in
+    connection_step_keeps c.self.inside.directory items c.self.inside.workers.items c.from-slot.result c.in-Some.connection c.self.invariant
+    (omega arith) known c.args.event c.self.inside.book c.in_ok-text.field-0
+    (connection_view c.handle.new.self c.handle.new.directory c.handle.new.book) c.in_ok-text.ensures.step
+
+pub returns : goal.returns
+returns c =
+    let s = the_view c.self.inside in
+    let h = connection_view c.handle.new.self c.handle.new.directory c.handle.new.book in
+    let known = read_at c.self.inside.connections.items c.from-slot.result c.args.id c.index_mut.result.now (Some c.in-Some.connection)
+    c.from-slot.ensures (omega arith) c.index_mut.ensures.value c.in-Some.is in
+    let step = connection_step_by_pick c.args.event s c.args.id c.in-Some.connection c.in_ok-text.field-0 h known c.in_ok-text.ensures.step
+    c.handle.ensures.picked in
+    rw (← c.self.view_is, c.from-slot.ensures, c.user-user.ensures)
+    (subst (λ (t : Option (List ℕ)). PickedStep s (At c.args.id c.args.event) (option_map (entry c.args.id c.in-Some.connection) t)
+    (with_connection_view c.args.id h s)) c.in-Some-2.is step)
