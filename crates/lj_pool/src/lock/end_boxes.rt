@@ -119,7 +119,8 @@ impl EndBoxes {
     /// Hands out a result. The box of the one before it is spare.
     pub(crate) fn show(&mut self, done: DoneBox)
         requires { length self.old.hand + self.old.spare < MAX_SPARE }
-        ensures { self.new ≡ record self.old { last = Some done; spare = self.old.spare + cond (is_some self.old.last) 1 0 } }
+        ensures { self.new
+            ≡ record self.old { last = Some done; spare = self.old.spare + cond (is_some self.old.last) 1 0 } }
     {
         if let Some(older) = self.last.replace(done) {
             self.spare.push(Some(older.into_task()));

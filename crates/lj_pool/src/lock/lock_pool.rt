@@ -166,7 +166,8 @@ impl<L: Ledger> LockPool<L> {
     /// the end that asks, and not in its hand.
     #[tactic(auto, using(crate::proofs::EndBoxLemmas::next_in_hand, crate::proofs::EndBoxLemmas::next_fetched))]
     pub(crate) fn fetch<R: Wait>(&self, rt: &R, user: u8, owed: usize, own: &mut EndBoxes) -> bool
-        ensures next { result ≡ true → IsSomeAnd own.new.last (λ done. IsNext user own.old.hand done own.new.hand) }
+        ensures next { result ≡ true
+            → IsSomeAnd own.new.last (λ done. IsNext user own.old.hand done own.new.hand) }
         ensures same_results { result ≡ false → SameResults own.old own.new }
     {
         if self.is_closed() {
@@ -191,7 +192,8 @@ impl<L: Ledger> LockPool<L> {
     /// far as there is room, and hands the first one out. False where there is none, or the pool is closed.
     #[tactic(auto, using(crate::proofs::EndBoxLemmas::next_in_hand, crate::proofs::EndBoxLemmas::next_fetched))]
     pub(crate) fn poll<R: Wait>(&self, rt: &R, user: u8, own: &mut EndBoxes) -> bool
-        ensures next { result ≡ true → IsSomeAnd own.new.last (λ done. IsNext user own.old.hand done own.new.hand) }
+        ensures next { result ≡ true
+            → IsSomeAnd own.new.last (λ done. IsNext user own.old.hand done own.new.hand) }
         ensures same_results { result ≡ false → SameResults own.old own.new }
     {
         if self.is_closed() {

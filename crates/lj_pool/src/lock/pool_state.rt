@@ -50,8 +50,10 @@ impl<L: Ledger> PoolState<L> {
     /// at hand is handed back.
     pub(crate) fn post(&mut self, boxed: &mut Option<TaskBox>, task: &Task) -> Result<(), NotPosted>
         requires { ForSome boxed.old (λ work. work ≡ task.now) }
-        ensures room { IsOk result ↔ ((self.old.closed ≡ false) × HasRoom self.old.book.held × HasBox self.old.book boxed.old) }
-        ensures posts { OnOk result ((key : ℕ) × PostsBox (lending boxed.old self.old.book) self.new.book task.now key) }
+        ensures room { IsOk result
+            ↔ ((self.old.closed ≡ false) × HasRoom self.old.book.held × HasBox self.old.book boxed.old) }
+        ensures posts { OnOk result
+            ((key : ℕ) × PostsBox (lending boxed.old self.old.book) self.new.book task.now key) }
         ensures out_of_hand { OnOk result (boxed.new ≡ None) }
         ensures closed { IfErr result (λ why. (why ≡ Closed) ↔ (self.old.closed ≡ true)) }
         ensures unchanged { OnErr result (self.new.book ≡ self.old.book) }
@@ -77,7 +79,8 @@ impl<L: Ledger> PoolState<L> {
     /// Posts a copy of a task in a spare box.
     fn post_copy(&mut self, task: &Task) -> Result<(), NotPosted>
         ensures room { IsOk result ↔ (HasRoom self.old.book.held × (0 < self.old.book.spare)) }
-        ensures posts { OnOk result ((key : ℕ) × PostsBox (lending None self.old.book) self.new.book task.now key) }
+        ensures posts { OnOk result
+            ((key : ℕ) × PostsBox (lending None self.old.book) self.new.book task.now key) }
         ensures open { IfErr result (λ why. why ≢ Closed) }
         ensures unchanged { OnErr result (self.new.book ≡ self.old.book) }
         ensures stays { self.new.closed ≡ self.old.closed }
@@ -160,7 +163,8 @@ impl<L: Ledger> PoolState<L> {
         ensures some { result ≡ true → FetchesInHand user self.old.book own.old self.new.book own.new }
         ensures all { result ≡ true
             → (length own.new.hand ≡ MAX_IN_HAND) ⊎ ((k : ℕ) → ¬ IsDoneAt user self.new.book.held k) }
-        ensures none { result ≡ false → self.old.closed ≡ false → (k : ℕ) → ¬ IsDoneAt user self.old.book.held k }
+        ensures none { result ≡ false → self.old.closed ≡ false
+            → (k : ℕ) → ¬ IsDoneAt user self.old.book.held k }
         ensures unchanged { result ≡ false → self.new.book.held ≡ self.old.book.held }
         ensures same_results { result ≡ false → SameResults own.old own.new }
         ensures kept { NoneIsLost self.old.book own.old self.new.book own.new }
@@ -213,7 +217,8 @@ impl<L: Ledger> PoolState<L> {
         ensures fetches { (others : List Task) × (own.new ≡ record own.old { hand = own.old.hand ++ others })
             × FetchesEach others self.old.book.held self.new.book.held × All (λ done. user_of done ≡ user) others }
         ensures all { (length own.new.hand ≡ MAX_IN_HAND) ⊎ ((k : ℕ) → ¬ IsDoneAt user self.new.book.held k) }
-        ensures kept { boxes_of self.new.book + length own.new.hand ≡ boxes_of self.old.book + length own.old.hand }
+        ensures kept { boxes_of self.new.book + length own.new.hand
+            ≡ boxes_of self.old.book + length own.old.hand }
         ensures made { self.new.book.made ≡ self.old.book.made }
         ensures stays { self.new.closed ≡ self.old.closed }
         ensures wait_queues { self.new.wait_queues ≡ self.old.wait_queues }
@@ -268,7 +273,8 @@ impl<L: Ledger> PoolState<L> {
 
     /// Whether no task can be posted before an entry leaves the book, or a box is put by.
     pub(crate) fn is_full(&self) -> bool
-        ensures { result ≡ false ↔ ((entry_count self.now.book.held ≢ MAX_ENTRIES) × (0 < self.now.book.spare)) }
+        ensures { result ≡ false
+            ↔ ((entry_count self.now.book.held ≢ MAX_ENTRIES) × (0 < self.now.book.spare)) }
     {
         self.book.counts().entries == MAX_ENTRIES as u64 || !self.book.has_spare()
     }
