@@ -68,6 +68,7 @@ class Server:
             await self._users.close()
             with contextlib.suppress(asyncio.TimeoutError):
                 await asyncio.wait_for(runner.cleanup(), END_SECONDS)
+            ignore_signals()
 
     async def _answer(self, request: Any) -> Any:
         """A file of the page, or the page's session."""
@@ -156,3 +157,12 @@ async def until_signalled() -> None:
             with contextlib.suppress(NotImplementedError):
                 loop.add_signal_handler(number, signalled.set)
     await signalled.wait()
+
+
+def ignore_signals() -> None:
+    """Ignores further requests to end: one that came while asyncio closes its loop would be written to a file that is closed."""
+    loop = asyncio.get_running_loop()
+    for number in (signal.SIGINT, signal.SIGTERM):
+        with contextlib.suppress(NotImplementedError):
+            if loop.remove_signal_handler(number):
+                signal.signal(number, signal.SIG_IGN)
