@@ -11,8 +11,11 @@ from shared.texts import shown
 from shared.words import hello, user, welcome
 
 # Allocations of a server over each kind of pool, from the first to one after those until a user has had its commands answered.
-# The queue has 1,089 boxes for tasks and 8,321 for results, of which some are refused.
-ALLOCATIONS = {"lock": [*range(1, 166)], "queue": [*range(1, 80), *range(80, 9_440, 130), *range(9_440, 10_000)]}
+# The lock has 2,177 boxes, and the queue 1,089 for tasks and 8,321 for results, of which some are refused.
+ALLOCATIONS = {
+    "lock": [*range(1, 80), *range(80, 2_160, 40), *range(2_160, 2_360)],
+    "queue": [*range(1, 80), *range(80, 9_440, 130), *range(9_440, 10_000)],
+}
 
 # How many servers are tried side by side.
 AT_ONCE = 4
