@@ -11,10 +11,10 @@ from shared.texts import shown
 from shared.words import hello, user, welcome
 
 # Allocations of a server over each kind of pool, from the first to one after those until a user has had its commands answered.
-# The lock has 2,177 boxes, and the queue 1,089 for tasks and 8,321 for results, of which some are refused.
+# The lock has 2,177 boxes and the queue 6,274, of which some are refused.
 ALLOCATIONS = {
     "lock": [*range(1, 80), *range(80, 2_160, 40), *range(2_160, 2_360)],
-    "queue": [*range(1, 80), *range(80, 9_440, 130), *range(9_440, 10_000)],
+    "queue": [*range(1, 80), *range(80, 6_260, 90), *range(6_260, 6_860)],
 }
 
 # How many servers are tried side by side.

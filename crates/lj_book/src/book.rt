@@ -189,7 +189,7 @@ impl Book {
         let Some(done) = self.held.fetch(user, pick) else {
             return false;
         };
-        room.copy_from(done.done());
+        room.copy_from(&done.done());
         self.spare.push_reserved(done.into_task());
         true
     }

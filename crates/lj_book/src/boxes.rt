@@ -1,20 +1,21 @@
-//! Boxes: in each there is room for a task and its result, so that only the box moves.
+//! Boxes: in each there is room for a task and for its sums, so that only the box moves.
 ghost use Rattle.std.specs.Prelude.{◌≡◌, ◌+◌, ◌≤◌, ◌<◌, ℕ, Bool, is_some, vec_len, IfOk};
 ghost use Rattle.std.specs.Vec.{vec_capacity};
 
 use lj_table::Table;
-use lj_tile::{Done, Task, compute_in};
+use lj_tile::{Done, DoneRef, Sums, Task, compute_sums};
 use std::alloc::{AllocError, Global};
 use std::marker::Model;
 
-/// Room for a task and for its result. What is in the room that is not used says nothing.
+/// A task and room for its sums, which a worker writes. The worker only reads the task, and the end that wrote it reads it
+/// again where it lies.
 #[derive(Drop)]
 struct Rooms {
     task: Task,
-    done: Done,
+    sums: Sums,
 }
 
-/// A task in a box, with room for its result.
+/// A task in a box, with room for its sums.
 #[derive(Drop)]
 pub struct TaskBox {
     rooms: Box<Rooms>,
@@ -36,7 +37,7 @@ impl TaskBox {
     pub fn new(alloc: Global) -> Result<TaskBox, AllocError> {
         let rooms = Rooms {
             task: Task::blank(),
-            done: Done::blank(),
+            sums: Sums::blank(),
         };
         Ok(TaskBox {
             rooms: Box::new(alloc, rooms)?,
@@ -62,8 +63,8 @@ impl TaskBox {
         ensures { result ≡ self }
     {
         let mut rooms = self.rooms;
-        let Rooms { task, done } = rooms.as_mut();
-        compute_in(task, table, done);
+        let Rooms { task, sums } = rooms.as_mut();
+        compute_sums(task, table, sums);
         DoneBox { rooms }
     }
 
@@ -72,7 +73,8 @@ impl TaskBox {
         ensures { result ≡ done.now }
     {
         let mut rooms = self.rooms;
-        rooms.done.copy_from(done);
+        let Rooms { task, sums } = rooms.as_mut();
+        done.by_ref().copy_to(task, sums);
         DoneBox { rooms }
     }
 }
@@ -88,15 +90,27 @@ impl Model for DoneBox {
 
     ghost Value = { Task };
 
-    ghost view = { λ b. b.rooms.value.done };
+    ghost view = { λ b. b.rooms.value.task };
+
+    ghost use Rattle.lj_tile.specs.Results.{AreSums};
+
+    ghost invariant = { λ b. AreSums b.rooms.value.task b.rooms.value.sums };
 }
 
 impl DoneBox {
+    /// A box of the result of a task of one atom: room for others.
+    ///
+    /// # Errors
+    /// Out of memory.
+    pub fn new(alloc: Global) -> Result<DoneBox, AllocError> {
+        Ok(TaskBox::new(alloc)?.filled(&Done::blank()))
+    }
+
     /// The result.
-    pub fn done(&self) -> &Done
-        ensures { result.now ≡ self.now }
+    pub fn done(&self) -> DoneRef<'_>
+        ensures { result ≡ self.now }
     {
-        &self.rooms.done
+        DoneRef::new(&self.rooms.task, &self.rooms.sums)
     }
 
     /// The box, for another task.

@@ -6,7 +6,7 @@ ghost use Rattle.lj_book.specs.Boxes.{slip_for};
 use crate::boxes::{DoneBox, TaskBox};
 use crate::entries::Keeps;
 use lj_table::Table;
-use lj_tile::{Done, Task};
+use lj_tile::{DoneRef, Task};
 use std::marker::Model;
 
 /// A task that stands open in its box, by the number of its post.
@@ -143,8 +143,8 @@ impl Model for LentDone {
 
 impl LentDone {
     /// The result.
-    pub fn done(&self) -> &Done
-        ensures { result.now ≡ self.now.work }
+    pub fn done(&self) -> DoneRef<'_>
+        ensures { result ≡ self.now.work }
     {
         self.done.done()
     }

@@ -7,7 +7,7 @@ ghost use Rattle.lj_pool.specs.declared.pool.NotPosted.TheVariants.{Full};
 
 use crate::pool::{NotPosted, Pool};
 use lj_table::Table;
-use lj_tile::{Done, Task, compute_in};
+use lj_tile::{Done, DoneRef, Task, compute_in};
 use std::marker::Model;
 use std::mem;
 
@@ -95,8 +95,8 @@ impl Pool for InlinePool {
         self.fetch_in(user)
     }
 
-    fn fetched(&self) -> &Done {
-        &self.room
+    fn fetched(&self) -> DoneRef<'_> {
+        self.room.by_ref()
     }
 
     fn owed(&self) -> usize {

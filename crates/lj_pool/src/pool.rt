@@ -5,7 +5,7 @@ ghost use Rattle.lj_pool.specs.declared.pool.NotPosted.TheVariants.{Closed};
 ghost use Rattle.lj_pool.specs.Seen.{Seen, SameOwed, IsPosted, IsHandedOut, StaysClosed};
 ghost use Rattle.lj_pool.specs.Refusals.{task_of, IsClosed};
 
-use lj_tile::{Done, Task};
+use lj_tile::{Done, DoneRef, Task};
 use thiserror::Error;
 
 /// The most tasks that are owed to an end of a pool at once.
@@ -88,8 +88,8 @@ pub trait Pool {
         ensures own { for_others self.new user ≡ for_others self.old user };
 
     /// The result that was handed out last, in the end's own room. It stays there until the next post, fetch or poll.
-    fn fetched(&self) -> &Done
-        ensures { result.now ≡ last self.now };
+    fn fetched(&self) -> DoneRef<'_>
+        ensures { result ≡ last self.now };
 
     /// Posts a task by value. With `wait` it is never refused as `Full`.
     fn post(&mut self, task: Task, wait: bool) -> Result<(), Refused>
@@ -122,7 +122,7 @@ pub trait Pool {
         if !self.fetch_in(user) {
             return None;
         }
-        Some(self.fetched().copy())
+        Some(self.fetched().to_done())
     }
 
     /// A result for a user that is there now, by value. It never waits for a worker. None may come at any time.
@@ -135,7 +135,7 @@ pub trait Pool {
         if !self.poll_in(user) {
             return None;
         }
-        Some(self.fetched().copy())
+        Some(self.fetched().to_done())
     }
 
     /// How many tasks are owed.

@@ -1,4 +1,3 @@
-pub mod Boxes
 pub mod Moves
 pub mod Pops
 pub mod Settling

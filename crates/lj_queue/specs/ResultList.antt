@@ -1,9 +1,7 @@
 -- The list of a user's results.
-use Rattle.std.specs.Prelude.{◌≡◌, ℕ, ◌+◌, ◌≤◌, List, [], ◌∷◌, ◌++◌}
+use Rattle.std.specs.Prelude.{◌≡◌, ℕ, ◌≤◌, List, [], ◌∷◌, ◌++◌}
 use Rattle.std.specs.List.{All}
-use Rattle.std.specs.Prelude.{Box, Vec, vec_len}
 use Rattle.std.specs.Global.{Global}
-use Rattle.std.specs.Vec.{vec_capacity}
 use Rattle.std.specs.VecDeque.{deque_len, deque_capacity}
 use Rattle.std.specs.declared.collections.VecDeque.{VecDeque}
 use Rattle.lj_tile.specs.Task.{Task}
@@ -26,11 +24,8 @@ with_last kept done = record { user = kept.user; results = kept.results ++ done 
 abbrev pub with_first : Task → ResultList → ResultList
 with_first done kept = record { user = kept.user; results = done ∷ kept.results }
 
--- The results are all of one user. They lie in 64 boxes together with what is spare, and there is a place for each box
--- among the results and among the spare ones.
-pub record HasBoxes (user : ℕ) (results : VecDeque (Box Task Global) Global) (spare : Vec (Box Task Global) Global)
-    : Type 0 where
-  pub boxes : deque_len results + vec_len spare ≡ MAX_RESULTS
+-- The results are all of one user, they are at most 64, and there is a place for each.
+pub record HasPlaces (user : ℕ) (results : VecDeque Task Global) : Type 0 where
+  pub most : deque_len results ≤ MAX_RESULTS
   pub places : MAX_RESULTS ≤ deque_capacity results
-  pub spare_places : MAX_RESULTS ≤ vec_capacity spare
-  pub whose : All (λ box. box.value.name.label.user ≡ user) results.items
+  pub whose : All (λ done. done.name.label.user ≡ user) results.items

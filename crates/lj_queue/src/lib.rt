@@ -11,6 +11,7 @@ mod result_list;
 mod root_pass;
 mod rule;
 mod settled;
+mod spares;
 
 pub use open_task::OpenTask;
 pub use pass::{PoolIdentity, PoolPass};

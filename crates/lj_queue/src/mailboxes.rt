@@ -1,15 +1,17 @@
 //! What lies under the lock of a pool: results for its users, and the ledger of them all.
-ghost use Rattle.std.specs.Prelude.{◌≡◌, ◌+◌, ◌-◌, ◌<◌, ◌^◌, ◌↔◌, [], None, Some, length, replicate, true, false, vec_len, IfNone, IfOk, IfSome, IsTrue};
+ghost use Rattle.std.specs.Prelude.{◌≡◌, ◌+◌, ◌-◌, ◌<◌, ◌^◌, ◌↔◌, [], None, Some, length, replicate, true, false, vec_len, IfErr, IfNone, IfOk, IfSome, IsOk, IsTrue, OnErr, OnOk};
 ghost use Rattle.std.specs.List.{All};
 ghost use Rattle.lj_queue.specs.ResultList.{empty_list, with_last};
 ghost use Rattle.lj_pool.specs.declared.waking.TheConstants.{WAIT_QUEUES};
 ghost use Rattle.lj_queue.specs.Mailboxes.{mailbox_of, list_of, present_of, with_list};
 
 use crate::result_list::{MAX_RESULTS, ResultList};
+use crate::spares::Spares;
+use lj_book::DoneBox;
 use lj_pool::{Share, WaitQueues};
-use lj_tile::Done;
 use std::alloc::{AllocError, Global};
 use std::mem;
+use std::sync::Wait;
 use std::sync::ledger::{self, Ledger};
 
 /// The number of mailboxes. Users whose numbers are equal modulo this share one.
@@ -62,9 +64,9 @@ impl<L: Ledger> Mailboxes<L> {
         })
     }
 
-    /// A new end of the user comes in place of the present one, whose results are dropped. Its number, which no end had
-    /// before. None where 2^64 - 1 ends came: then no end is present.
-    pub(crate) fn enter(&mut self, user: u8) -> Option<u64>
+    /// A new end of the user comes in place of the present one, whose results are dropped and their boxes put by. Its
+    /// number, which no end had before. None where 2^64 - 1 ends came: then no end is present.
+    pub(crate) fn enter<R: Wait>(&mut self, rt: &R, user: u8, spares: &Spares) -> Option<u64>
         ensures number { IfSome result (λ number. number ≡ self.old.last + 1) }
         ensures last { IfSome result (λ number. self.new.last ≡ number) }
         ensures none { IfNone result (self.old.last ≡ 2 ^ 64 - 1) }
@@ -77,13 +79,13 @@ impl<L: Ledger> Mailboxes<L> {
     {
         let number = self.last.checked_add(1);
         self.last = self.last.saturating_add(1);
-        self.lists[mailbox_of(user)].clear_for(user);
+        spares.clear(rt, &mut self.lists[mailbox_of(user)], user);
         self.present[mailbox_of(user)] = number;
         number
     }
 
-    /// Drops the user's results. Its present end is gone.
-    pub(crate) fn withdraw(&mut self, user: u8)
+    /// Drops the user's results, whose boxes are put by. Its present end is gone.
+    pub(crate) fn withdraw<R: Wait>(&mut self, rt: &R, user: u8, spares: &Spares)
         ensures present { self.new.present ≡ with_list self.old.present user None }
         ensures lists { self.new.lists.items ≡ with_list self.old.lists.items user (empty_list user) }
         ensures last { self.new.last ≡ self.old.last }
@@ -91,7 +93,7 @@ impl<L: Ledger> Mailboxes<L> {
         ensures given { self.new.given ≡ self.old.given }
         ensures stays { self.new.closed ≡ self.old.closed }
     {
-        self.lists[mailbox_of(user)].clear_for(user);
+        spares.clear(rt, &mut self.lists[mailbox_of(user)], user);
         self.present[mailbox_of(user)] = None;
     }
 
@@ -103,27 +105,29 @@ impl<L: Ledger> Mailboxes<L> {
     }
 
     /// Keeps a result of a task that an end posted for its user, where that end is present, the task is of the list's
-    /// user, and there is room. Its box is exchanged for another then, and it is credited to the share. Whether it was
-    /// kept.
+    /// user, and there is room. It is credited to the share then.
+    ///
+    /// # Errors
+    /// The result, where it is not kept.
     pub(crate) fn keep(
         &mut self,
         end: u64,
         user: u8,
-        done: &mut Box<Done>,
+        done: DoneBox,
         share: &mut Share<L>,
-    ) -> bool
+    ) -> Result<(), DoneBox>
         ensures kept { let list = list_of self.old.lists.items user in
-            IsTrue result
+            IsOk result
             ↔ ((present_of self.old.present user ≡ Some end) × ((length list.results < MAX_RESULTS)
-            × (done.old.value.name.label.user ≡ list.user)) × (self.old.given < 2 ^ 64 - 1)) }
-        ensures lists { result ≡ true → self.new.lists.items
-            ≡ with_list self.old.lists.items user
-            (with_last (list_of self.old.lists.items user) done.old.value) }
-        ensures given { result ≡ true → self.new.given ≡ self.old.given + 1 }
-        ensures credited { result ≡ true → share.new ≡ share.old + 1 }
-        ensures dropped { result ≡ false → self.new.lists.items ≡ self.old.lists.items }
-        ensures not_given { result ≡ false → self.new.given ≡ self.old.given }
-        ensures not_credited { result ≡ false → share.new ≡ share.old }
+            × (done.name.label.user ≡ list.user)) × (self.old.given < 2 ^ 64 - 1)) }
+        ensures lists { OnOk result (self.new.lists.items
+            ≡ with_list self.old.lists.items user (with_last (list_of self.old.lists.items user) done)) }
+        ensures given { OnOk result (self.new.given ≡ self.old.given + 1) }
+        ensures credited { OnOk result (share.new ≡ share.old + 1) }
+        ensures refused { IfErr result (λ refused. refused ≡ done) }
+        ensures dropped { OnErr result (self.new.lists.items ≡ self.old.lists.items) }
+        ensures not_given { OnErr result (self.new.given ≡ self.old.given) }
+        ensures not_credited { OnErr result (share.new ≡ share.old) }
         ensures present { self.new.present ≡ self.old.present }
         ensures last { self.new.last ≡ self.old.last }
         ensures wait_queues { self.new.wait_queues ≡ self.old.wait_queues }
@@ -137,13 +141,13 @@ impl<L: Ledger> Mailboxes<L> {
             ..
         } = self;
         let list = &mut lists[mailbox_of(user)];
-        if !is_present || !list.takes(done) || *given == u64::MAX {
-            return false;
+        if !is_present || !list.takes(&done.done()) || *given == u64::MAX {
+            return Err(done);
         }
         list.push(done);
         *given += 1;
         share.credit(results);
-        true
+        Ok(())
     }
 
     /// Hands out all results of the user, in exchange for an empty list. False where there is none, or the pool is closed.

@@ -1,15 +1,15 @@
 //! An open task, and whose it is.
 
-use lj_tile::Task;
+use lj_book::TaskBox;
 use std::marker::Model;
 
 /// A task that is open, with the number of the end that posted it and that end's user. The task lies in a box, which
-/// passes from hand to hand.
+/// passes from hand to hand and becomes the box of its result.
 #[derive(Drop)]
 pub struct OpenTask {
     pub end: u64,
     pub user: u8,
-    pub task: Box<Task>,
+    pub task: TaskBox,
 }
 
 impl Model for OpenTask {
@@ -17,5 +17,5 @@ impl Model for OpenTask {
 
     ghost Value = { OpenTask };
 
-    ghost view = { λ t. record { end = t.end; user = t.user; task = t.task.value } };
+    ghost view = { λ t. record { end = t.end; user = t.user; task = t.task } };
 }

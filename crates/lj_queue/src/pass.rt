@@ -6,7 +6,8 @@ ghost use Rattle.lj_queue.specs.PoolPass.{IsCounted, with_push, with_pop, pass_o
 use crate::open_task::OpenTask;
 use crate::result_list::ResultList;
 use crate::rule::{OpenTasks, Popped, Pushed, TaskPass};
-use lj_tile::Done;
+use arrayvec::ArrayVec;
+use lj_book::{DoneBox, TaskBox};
 use std::alloc::{AllocError, Global};
 use std::marker::{Brand, Model, PhantomData};
 use std::sync::Wait;
@@ -98,11 +99,16 @@ impl<L: PoolIdentity> CountedPass<L> {
     }
 }
 
-/// Where the results of one thread lie: the one that it looks at, and those that it has in hand.
+/// The most boxes that a pass keeps for tasks that are posted by it.
+pub const MAX_SPARE_BOXES: usize = 16;
+
+/// The boxes of one thread: that of the result which it looks at, those of the results that it has in hand, and some for
+/// the tasks that it posts next, of which the one that was kept last is taken first.
 #[derive(Drop)]
 pub(crate) struct ResultSlots {
-    pub(crate) last: Box<Done>,
+    pub(crate) last: DoneBox,
     pub(crate) hand: ResultList,
+    pub(crate) spare: ArrayVec<Option<TaskBox>, MAX_SPARE_BOXES>,
 }
 
 impl ResultSlots {
@@ -112,8 +118,9 @@ impl ResultSlots {
     /// Out of memory.
     pub(crate) fn new(alloc: Global) -> Result<ResultSlots, AllocError> {
         Ok(ResultSlots {
-            last: Box::new(alloc, Done::blank())?,
+            last: DoneBox::new(alloc)?,
             hand: ResultList::new(alloc, 0)?,
+            spare: ArrayVec::new(),
         })
     }
 }

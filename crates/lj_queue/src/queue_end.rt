@@ -6,9 +6,11 @@ ghost use Rattle.lj_queue.specs.PoolPass.{with_push, open_task_of};
 
 use crate::pass::{CountedPass, PoolIdentity, PoolPass, ResultSlots};
 use crate::queue_pool::QueuePool;
+use lj_book::TaskBox;
 use lj_pool::{Account, MAX_OWED, NotPosted, Pool, TASKS_AT_ONCE, UnsignalledPosts};
-use lj_tile::{Done, Task};
+use lj_tile::{DoneRef, Task};
 use std::marker::Model;
+use std::mem;
 use std::sync::Wait;
 
 /// An end of a pool for one user, with a pass. It keeps a copy of each task that it is owed, and takes no memory. It
@@ -21,7 +23,7 @@ pub struct QueueEnd<'p, L: PoolIdentity, R: Wait> {
     pool: &'p QueuePool<L>,
     account: Account,
     counted: CountedPass<L>,
-    /// The result that was handed out last, and those that are handed out next.
+    /// The result that was handed out last, those that are handed out next, and boxes for the next tasks.
     slots: ResultSlots,
     number: u64,
     user: u8,
@@ -39,7 +41,7 @@ impl<'p, L: PoolIdentity, R: Wait> Model for QueueEnd<'p, L, R> {
       pass = end.counted;
       number = end.number;
       user = end.user;
-      last = end.slots.last.value;
+      last = end.slots.last;
       hand = end.slots.hand.results;
     } };
 }
@@ -60,7 +62,7 @@ impl<'p, L: PoolIdentity, R: Wait> QueueEnd<'p, L, R> {
         ensures empty_handed { result.hand ≡ [] }
     {
         let (counted, mut slots) = pass.into_parts();
-        slots.hand.clear_for(user);
+        pool.spares.clear(rt, &mut slots.hand, user);
         QueueEnd {
             rt,
             pool,
@@ -73,13 +75,15 @@ impl<'p, L: PoolIdentity, R: Wait> QueueEnd<'p, L, R> {
         }
     }
 
-    /// Gives its pass back. Results that it is owed may still come for its user.
+    /// Gives its pass back. Results that it is owed may still come for its user, but what it has in hand is dropped.
     pub fn finish(self) -> PoolPass<L>
         ensures { result ≡ self.entry.pass }
     {
         let mut unsignalled = self.unsignalled;
         self.pool.wake_workers(self.rt, unsignalled.take_due(1));
-        PoolPass::new(self.counted, self.slots)
+        let mut slots = self.slots;
+        self.pool.spares.clear(self.rt, &mut slots.hand, self.user);
+        PoolPass::new(self.counted, slots)
     }
 }
 
@@ -109,9 +113,13 @@ impl<'p, L: PoolIdentity, R: Wait> Pool for QueueEnd<'p, L, R> {
         ensures stays_closed { StaysClosed self.old.seen self.new.seen }
     {
         let (end, user) = (self.number, self.user);
+        let (pass, mut next) = (&mut self.counted, self.slots.spare.pop().flatten());
         let posted = self
             .pool
-            .post(self.rt, &mut self.counted, end, user, task, wait);
+            .post(self.rt, pass, end, user, task, &mut next, wait);
+        if let Some(unused) = next {
+            self.reuse(unused);
+        }
         self.account.note_post(task, posted);
         if posted.is_ok() {
             self.unsignalled.note_posted();
@@ -171,8 +179,8 @@ impl<'p, L: PoolIdentity, R: Wait> Pool for QueueEnd<'p, L, R> {
         polled
     }
 
-    fn fetched(&self) -> &Done {
-        &self.slots.last
+    fn fetched(&self) -> DoneRef<'_> {
+        self.slots.last.done()
     }
 
     fn owed(&self) -> usize {
@@ -197,7 +205,9 @@ impl<'p, L: PoolIdentity, R: Wait> QueueEnd<'p, L, R> {
     {
         let is_closed = self.pool.is_closed();
         if is_closed {
-            self.slots.hand.clear_for(self.user);
+            self.pool
+                .spares
+                .clear(self.rt, &mut self.slots.hand, self.user);
         }
         is_closed
     }
@@ -224,11 +234,24 @@ impl<'p, L: PoolIdentity, R: Wait> QueueEnd<'p, L, R> {
         ensures user { self.new.user ≡ self.old.user }
         ensures open { self.new.seen.closed ≡ self.old.seen.closed }
     {
-        if !self.slots.hand.pop(self.user, &mut self.slots.last) {
+        let Some(first) = self.slots.hand.pop(self.user) else {
             return false;
-        }
-        self.account.count(self.slots.last.task());
+        };
+        let older = mem::replace(&mut self.slots.last, first);
+        self.reuse(older.into_task());
+        self.account.count(self.slots.last.done().task());
         true
+    }
+
+    /// Keeps a box for a task to come. It is put by where there are enough.
+    fn reuse(&mut self, spare: TaskBox)
+        ensures { self.new ≡ self.old }
+    {
+        if self.slots.spare.is_full() {
+            self.pool.spares.put_by(self.rt, spare);
+        } else {
+            self.slots.spare.push(Some(spare));
+        }
     }
 
     /// Tells workers that wait of the tasks that they were not told of, if these are so many.

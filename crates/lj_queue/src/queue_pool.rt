@@ -1,5 +1,5 @@
 //! A pool whose open tasks lie in a queue that no lock guards, and whose results lie under a lock.
-ghost use Rattle.std.specs.Prelude.{◌≡◌, ◌+◌, ◌≤◌, ◌<◌, true, false, ℕ, length, vec_len, slice_index_or, IfErr, IfNone, IfOk, IfSome, OnErr, OnOk};
+ghost use Rattle.std.specs.Prelude.{◌≡◌, ◌+◌, ◌≤◌, ◌<◌, None, Some, true, false, ℕ, length, vec_len, slice_index_or, IfErr, IfNone, IfOk, IfSome, IsSomeAnd, OnErr, OnOk};
 ghost use Rattle.std.specs.List.{All};
 ghost use Rattle.lj_pool.specs.Seen.{nothing_seen};
 ghost use Rattle.lj_pool.specs.declared.pool.NotPosted.TheVariants.{Closed};
@@ -13,9 +13,10 @@ use crate::queue_end::QueueEnd;
 use crate::result_list::ResultList;
 use crate::root_pass::{RootPass, passes_of};
 use crate::rule::{OpenTasks, TaskPass};
-use crossbeam_queue::ArrayQueue;
+use crate::spares::Spares;
+use lj_book::{DoneBox, TaskBox};
 use lj_pool::{NotPosted, Share, WAIT_QUEUES, shares_of, wait_queue_of};
-use lj_tile::{Done, Task};
+use lj_tile::Task;
 use std::alloc::{AllocError, Global};
 use std::array;
 use std::marker::Model;
@@ -28,9 +29,6 @@ pub const MAX_OPEN_TASKS: usize = 1024;
 
 /// The number of passes for connections. Those of the workers come after them.
 pub const CONNECTIONS: usize = 64;
-
-/// So many boxes of no ticket are kept for what is posted next.
-const WARM_BOXES: usize = 64;
 
 /// What a pool is made of: an empty queue, its first pass and a blank ledger.
 #[derive(Drop)]
@@ -75,10 +73,8 @@ impl QueueBlank {
 #[derive(Drop)]
 pub struct QueuePool<L: PoolIdentity> {
     pub(crate) queue: OpenTasks,
-    /// The boxes of no ticket. With those of tickets they are as many as may be open, and one for each pass.
-    spare: ArrayQueue<Box<Task>>,
-    /// Those of them that were put by last, which the processors' caches may still hold.
-    warm: ArrayQueue<Box<Task>>,
+    /// The boxes of no ticket and of no result.
+    pub(crate) spares: Spares,
     /// What the passes were cut from.
     pub(crate) root_pass: Mutex<RootPass<L>>,
     mailboxes: Mutex<Mailboxes<L>>,
@@ -128,15 +124,13 @@ impl<L: PoolIdentity> QueuePool<L> {
         let Some(count) = workers.checked_add(CONNECTIONS) else {
             return Err(AllocError);
         };
-        let spare = spare_boxes(alloc, count)?;
-        let warm = ArrayQueue::new(alloc, WARM_BOXES)?;
+        let spares = Spares::new(alloc, count)?;
         let (results, all) = ledger.open::<L>();
         let shares = shares_of(alloc, all, workers)?;
         let (passes, root) = passes_of(alloc, &queue, first, count)?;
         let pool = QueuePool {
             queue,
-            spare,
-            warm,
+            spares,
             root_pass: Mutex::new(root),
             mailboxes: Mutex::new(Mailboxes::new(alloc, results)?),
             not_empty: Condvar::new(),
@@ -156,7 +150,7 @@ impl<L: PoolIdentity> QueuePool<L> {
         ensures pass { result.pass ≡ pass }
         ensures user { result.user ≡ user }
     {
-        let entered = self.mailboxes.lock(rt).enter(user);
+        let entered = self.mailboxes.lock(rt).enter(rt, user, &self.spares);
         if entered.is_none() {
             self.close(rt);
         }
@@ -176,10 +170,11 @@ impl<L: PoolIdentity> QueuePool<L> {
 
     /// Drops the user's results. Its present end is gone: what comes for that is dropped too.
     pub fn withdraw<R: Wait>(&self, rt: &R, user: u8) {
-        self.mailboxes.lock(rt).withdraw(user);
+        self.mailboxes.lock(rt).withdraw(rt, user, &self.spares);
     }
 
-    /// Posts a task of an end for its user by a pass. With `wait` it waits while there is no room.
+    /// Posts a task of an end for its user by a pass, in its next box or a spare one. With `wait` it waits while there is
+    /// no room.
     pub(crate) fn post<R: Wait>(
         &self,
         rt: &R,
@@ -187,6 +182,7 @@ impl<L: PoolIdentity> QueuePool<L> {
         end: u64,
         user: u8,
         task: &Task,
+        next: &mut Option<TaskBox>,
         wait: bool,
     ) -> Result<(), NotPosted>
         ensures pushed { OnOk result (pass.new ≡ with_push pass.old (open_task_of end user task.now)) }
@@ -196,16 +192,16 @@ impl<L: PoolIdentity> QueuePool<L> {
         if self.is_closed() {
             return Err(NotPosted::Closed);
         }
-        if self.try_post(rt, pass, end, user, task) {
+        if self.try_post(rt, pass, end, user, task, next) {
             Ok(())
         } else if wait {
-            self.post_later(rt, pass, end, user, task)
+            self.post_later(rt, pass, end, user, task, next)
         } else {
             Err(NotPosted::Full)
         }
     }
 
-    /// Posts a task of an end for its user by a pass, in a box of no ticket. Whether there was room.
+    /// Posts a task of an end for its user by a pass, in its next box or a spare one. Whether there was room.
     fn try_post<R: Wait>(
         &self,
         rt: &R,
@@ -213,23 +209,52 @@ impl<L: PoolIdentity> QueuePool<L> {
         end: u64,
         user: u8,
         task: &Task,
+        next: &mut Option<TaskBox>,
     ) -> bool
         ensures pushed { result ≡ true → pass.new ≡ with_push pass.old (open_task_of end user task.now) }
         ensures nothing { result ≡ false → pass.new ≡ pass.old }
     {
-        let Some(mut room) = self.spare_box(rt) else {
+        self.fill(rt, task, next) && self.push_next(rt, pass, end, user, next)
+    }
+
+    /// Copies a task into the next box, a spare one if there is none. Whether there is one.
+    fn fill<R: Wait>(&self, rt: &R, task: &Task, next: &mut Option<TaskBox>) -> bool
+        ensures filled { result ≡ true → next.new ≡ Some task.now }
+        ensures none { result ≡ false → next.old ≡ None }
+    {
+        if next.is_none() {
+            *next = self.spares.take(rt);
+        }
+        match next {
+            Some(room) => {
+                room.copy_from(task);
+                true
+            }
+            None => false,
+        }
+    }
+
+    /// Pushes the task in the next box. Whether there was room: the box stays where there was none.
+    fn push_next<R: Wait>(
+        &self,
+        rt: &R,
+        pass: &mut CountedPass<L>,
+        end: u64,
+        user: u8,
+        next: &mut Option<TaskBox>,
+    ) -> bool
+        ensures pushed { result ≡ true
+            → IsSomeAnd next.old (λ task. pass.new ≡ with_push pass.old (open_task_of end user task)) }
+        ensures nothing { result ≡ false → pass.new ≡ pass.old }
+        ensures stays { result ≡ false → next.new ≡ next.old }
+    {
+        let Some(task) = next.take() else {
             return false;
         };
-        room.copy_from(task);
-        let ticket = OpenTask {
-            end,
-            user,
-            task: room,
-        };
-        let Err(refused) = pass.push(rt, &self.queue, ticket) else {
+        let Err(refused) = pass.push(rt, &self.queue, OpenTask { end, user, task }) else {
             return true;
         };
-        self.put_by(rt, refused.task);
+        *next = Some(refused.task);
         false
     }
 
@@ -241,6 +266,7 @@ impl<L: PoolIdentity> QueuePool<L> {
         end: u64,
         user: u8,
         task: &Task,
+        next: &mut Option<TaskBox>,
     ) -> Result<(), NotPosted>
         ensures pushed { OnOk result (pass.new ≡ with_push pass.old (open_task_of end user task.now)) }
         ensures nothing { OnErr result (pass.new ≡ pass.old) }
@@ -253,7 +279,7 @@ impl<L: PoolIdentity> QueuePool<L> {
                 self.waiting_posters.fetch_sub(1, Ordering::SeqCst);
                 return Err(NotPosted::Closed);
             }
-            if self.try_post(rt, pass, end, user, task) {
+            if self.try_post(rt, pass, end, user, task, next) {
                 self.waiting_posters.fetch_sub(1, Ordering::SeqCst);
                 return Ok(());
             }
@@ -261,21 +287,6 @@ impl<L: PoolIdentity> QueuePool<L> {
             mailboxes = self.not_full.wait(rt, mailboxes);
         }
         unreachable!()
-    }
-
-    /// A box of no ticket, one that was put by lately if there is one.
-    fn spare_box<R: Wait>(&self, rt: &R) -> Option<Box<Task>> {
-        match self.warm.pop(rt) {
-            Some(room) => Some(room),
-            None => self.spare.pop(rt),
-        }
-    }
-
-    /// Puts by the box of a ticket that is no more, for another.
-    pub(crate) fn put_by<R: Wait>(&self, rt: &R, room: Box<Task>) {
-        if let Err(room) = self.warm.push(rt, room) {
-            let _spare = self.spare.push(rt, room);
-        }
     }
 
     /// Wakes workers that wait, for so many tasks that were posted.
@@ -351,27 +362,48 @@ impl<L: PoolIdentity> QueuePool<L> {
         Ok(())
     }
 
-    /// Gives the result of a task that an end posted for its user. It is kept, its box exchanged for another, and
-    /// credited to the share where that end is present, the task is of its user and there is room for it. It is dropped
-    /// elsewhere.
-    pub(crate) fn give<R: Wait>(
+    /// Gives the result of a task that an end posted for its user, and puts its box by where it is not kept.
+    pub(crate) fn give_or_put_by<R: Wait>(
         &self,
         rt: &R,
         end: u64,
         user: u8,
-        done: &mut Box<Done>,
+        done: DoneBox,
         share: &mut Share<L>,
     )
         ensures never_falls { share.old ≤ share.new }
         ensures one_at_most { share.new ≤ share.old + 1 }
     {
+        if let Err(refused) = self.give(rt, end, user, done, share) {
+            self.spares.put_by(rt, refused.into_task());
+        }
+    }
+
+    /// Gives the result of a task that an end posted for its user. It is kept, and credited to the share, where that end
+    /// is present, the task is of its user and there is room for it.
+    ///
+    /// # Errors
+    /// The result, where it is not kept.
+    fn give<R: Wait>(
+        &self,
+        rt: &R,
+        end: u64,
+        user: u8,
+        done: DoneBox,
+        share: &mut Share<L>,
+    ) -> Result<(), DoneBox>
+        ensures credited { OnOk result (share.new ≡ share.old + 1) }
+        ensures not_credited { OnErr result (share.new ≡ share.old) }
+        ensures refused { IfErr result (λ refused. refused ≡ done) }
+    {
         let mut mailboxes = self.mailboxes.lock(rt);
-        let wakes = mailboxes.keep(end, user, done, share)
-            && mailboxes.wait_queues.note_given(user);
+        let kept = mailboxes.keep(end, user, done, share);
+        let wakes = kept.is_ok() && mailboxes.wait_queues.note_given(user);
         drop(mailboxes);
         if wakes {
             self.results_ready[wait_queue_of(user)].notify_all();
         }
+        kept
     }
 
     /// Whether the pool is closed.
@@ -423,16 +455,4 @@ impl<L: PoolIdentity> QueuePool<L> {
     {
         self.mailboxes.lock(rt).audited(all)
     }
-}
-
-/// As many boxes as tickets may be open, and one for each pass.
-fn spare_boxes(alloc: Global, passes: usize) -> Result<ArrayQueue<Box<Task>>, AllocError> {
-    let Some(count) = passes.checked_add(MAX_OPEN_TASKS) else {
-        return Err(AllocError);
-    };
-    let mut boxes = ArrayQueue::new(alloc, count)?;
-    for _ in 0..count {
-        let _spare = boxes.push_mut(Box::new(alloc, Task::blank())?);
-    }
-    Ok(boxes)
 }

@@ -7,7 +7,6 @@ use crate::pass::{CountedPass, PoolIdentity, PoolPass};
 use crate::queue_pool::QueuePool;
 use lj_pool::{Gate, Share, merged};
 use lj_table::Table;
-use lj_tile::compute_in;
 use std::sync::Wait;
 
 /// Computes tasks of the pool until it is closed, with a gate between taking a task and computing it. The share that is
@@ -29,16 +28,15 @@ pub fn work_queue<L: PoolIdentity, G: Gate, R: Wait>(
     ensures of_its_own { PopsFor (result.0 - share) (G.sends_back gate.now) pass result.1 }
 {
     let mut share = share;
-    let (mut counted, mut slots) = pass.into_parts();
+    let (mut counted, slots) = pass.into_parts();
     for _ in rt.forever() {
         let Some(ticket) = pool.take(rt, &mut counted) else {
             break;
         };
         if let Some(ticket) = kept(rt, pool, &mut counted, gate, ticket) {
-            gate.between(ticket.task.name());
-            compute_in(&ticket.task, table, &mut slots.last);
-            pool.give(rt, ticket.end, ticket.user, &mut slots.last, &mut share);
-            pool.put_by(rt, ticket.task);
+            gate.between(ticket.task.task().name());
+            let OpenTask { end, user, task } = ticket;
+            pool.give_or_put_by(rt, end, user, task.compute(table), &mut share);
         }
     }
     (share, PoolPass::new(counted, slots))
@@ -57,7 +55,7 @@ fn kept<L: PoolIdentity, G: Gate, R: Wait>(
     ensures pushed { IfNone result (pass.new ≡ with_push pass.old ticket) }
     ensures sent_back { IfNone result (G.sends_back gate.now ticket.task.name) }
 {
-    if gate.back(ticket.task.name()) {
+    if gate.back(ticket.task.task().name()) {
         pool.hand_back(rt, pass, ticket).err()
     } else {
         Some(ticket)

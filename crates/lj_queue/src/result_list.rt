@@ -1,36 +1,33 @@
 //! The results of a user that were not fetched yet.
-ghost use Rattle.std.specs.Prelude.{◌≡◌, ◌<◌, ◌≤◌, ◌↔◌, [], length, true, false, vec_len, IfOk, IsTrue};
-ghost use Rattle.std.specs.Vec.{vec_capacity};
+ghost use Rattle.std.specs.Prelude.{◌≡◌, ◌<◌, ◌↔◌, [], length, IfNone, IfOk, IfSome, IsTrue};
 ghost use Rattle.lj_queue.specs.ResultList.{empty_list, with_first, with_last};
 
-use lj_tile::Done;
+use lj_book::DoneBox;
+use lj_tile::DoneRef;
 use std::alloc::{AllocError, Global};
 use std::collections::VecDeque;
 use std::marker::Model;
-use std::mem;
 
 /// The most results that the pool with a queue keeps for a user.
 pub const MAX_RESULTS: usize = 64;
 
-/// At most 64 results, all of one user, first in first out. Each lies in a box: what comes in or goes out is the box,
-/// in exchange for another one. It takes its memory when it is made.
+/// At most 64 results, all of one user, first in first out. Each lies in a box, which comes in and goes out. It takes
+/// its memory when it is made.
 #[derive(Drop)]
 pub struct ResultList {
     user: u8,
-    results: VecDeque<Box<Done>>,
-    /// The boxes of no result.
-    spare: Vec<Box<Done>>,
+    results: VecDeque<DoneBox>,
 }
 
 impl Model for ResultList {
-    ghost use Rattle.std.specs.Prelude.{◌≡◌, ◌≤◌, map};
-    ghost use Rattle.lj_queue.specs.ResultList.{ResultList, HasBoxes};
+    ghost use Rattle.std.specs.Prelude.{◌≡◌, ◌≤◌};
+    ghost use Rattle.lj_queue.specs.ResultList.{ResultList, HasPlaces};
 
     ghost Value = { ResultList };
 
-    ghost view = { λ list. record { user = list.user; results = map (λ box. box.value) list.results.items } };
+    ghost view = { λ list. record { user = list.user; results = list.results.items } };
 
-    ghost invariant = { λ list. HasBoxes list.user list.results list.spare };
+    ghost invariant = { λ list. HasPlaces list.user list.results };
 }
 
 impl ResultList {
@@ -39,12 +36,7 @@ impl ResultList {
         ensures { IfOk result (λ list. list ≡ empty_list user) }
     {
         let results = VecDeque::with_capacity(alloc, MAX_RESULTS)?;
-        let spare = spare_boxes(alloc)?;
-        Ok(ResultList {
-            user,
-            results,
-            spare,
-        })
+        Ok(ResultList { user, results })
     }
 
     /// Whether it has results of this user.
@@ -62,61 +54,50 @@ impl ResultList {
     }
 
     /// Whether there is room for a result, and it is of the list's user.
-    pub fn takes(&self, done: &Done) -> bool
+    pub fn takes(&self, done: &DoneRef<'_>) -> bool
         ensures { IsTrue result ↔ ((length self.now.results < MAX_RESULTS)
             × (done.now.name.label.user ≡ self.now.user)) }
     {
         self.results.len() < MAX_RESULTS && done.task().name().label.user == self.user
     }
 
-    /// Puts a result behind the others, by its box, which is exchanged for one of no result.
-    pub fn push(&mut self, done: &mut Box<Done>)
+    /// Puts a result behind the others.
+    pub fn push(&mut self, done: DoneBox)
         requires room { length self.old.results < MAX_RESULTS }
-        requires whose { done.old.value.name.label.user ≡ self.old.user }
-        ensures { self.new ≡ with_last self.old done.old.value }
+        requires whose { done.name.label.user ≡ self.old.user }
+        ensures { self.new ≡ with_last self.old done }
     {
-        let spare = self.spare.pop().unwrap();
-        self.results.push_back_reserved(mem::replace(done, spare));
+        self.results.push_back_reserved(done);
     }
 
-    /// Takes the first result for a user, in exchange for the box of another. False where there is none, or the list is
-    /// another's.
-    pub fn pop(&mut self, user: u8, room: &mut Box<Done>) -> bool
-        ensures first { result ≡ true → self.old ≡ with_first room.new.value self.new }
-        ensures whose { result ≡ true → room.new.value.name.label.user ≡ user }
-        ensures none { result ≡ false → self.old.user ≡ user → self.old.results ≡ [] }
-        ensures unchanged { result ≡ false → self.new ≡ self.old }
-        ensures stays { result ≡ false → room.new.value ≡ room.old.value }
+    /// Takes the first result for a user. None where there is none, or the list is another's.
+    pub fn pop(&mut self, user: u8) -> Option<DoneBox>
+        ensures first { IfSome result (λ done. self.old ≡ with_first done self.new) }
+        ensures whose { IfSome result (λ done. done.name.label.user ≡ user) }
+        ensures none { IfNone result (self.old.user ≡ user → self.old.results ≡ []) }
+        ensures unchanged { IfNone result (self.new ≡ self.old) }
     {
         if self.user != user {
-            return false;
+            return None;
         }
-        let Some(first) = self.results.pop_front() else {
-            return false;
-        };
-        self.spare.push_reserved(mem::replace(room, first));
-        true
+        self.take_first()
     }
 
-    /// Drops all results. It is this user's from now on.
-    pub fn clear_for(&mut self, user: u8)
+    /// Takes the first result, whosever it is.
+    pub fn take_first(&mut self) -> Option<DoneBox>
+        ensures first { IfSome result (λ done. self.old ≡ with_first done self.new) }
+        ensures whose { IfSome result (λ done. done.name.label.user ≡ self.old.user) }
+        ensures none { IfNone result (self.old.results ≡ []) }
+        ensures unchanged { IfNone result (self.new ≡ self.old) }
+    {
+        self.results.pop_front()
+    }
+
+    /// A list of no results is this user's from now on.
+    pub fn turn_to(&mut self, user: u8)
+        requires { self.old.results ≡ [] }
         ensures { self.new ≡ empty_list user }
     {
-        while let Some(dropped) = self.results.pop_front() {
-            self.spare.push_reserved(dropped);
-        }
         self.user = user;
     }
-}
-
-/// As many boxes as a list has.
-fn spare_boxes(alloc: Global) -> Result<Vec<Box<Done>>, AllocError>
-    ensures count { IfOk result (λ boxes. vec_len boxes ≡ MAX_RESULTS) }
-    ensures room { IfOk result (λ boxes. MAX_RESULTS ≤ vec_capacity boxes) }
-{
-    let mut boxes = Vec::with_capacity(alloc, MAX_RESULTS)?;
-    for _ in 0..MAX_RESULTS {
-        boxes.push_reserved(Box::new(alloc, Done::blank())?);
-    }
-    Ok(boxes)
 }

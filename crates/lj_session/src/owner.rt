@@ -20,7 +20,7 @@ use crate::refusal::Refusal;
 use crate::reply::Reply;
 use crate::state::UserState;
 use lj_step::{NotAwaited, Stray};
-use lj_tile::{Done, Kind, Label, Name, Task};
+use lj_tile::{Done, DoneRef, Kind, Label, Name, Task};
 use std::marker::Model;
 use std::mem;
 
@@ -174,14 +174,14 @@ impl Owner {
         ensures stray { IfErr result (λ s. s.done ≡ done) }
         ensures unchanged { OnErr result (self.new ≡ self.old) }
     {
-        match self.take_in(&done) {
+        match self.take_in(&done.by_ref()) {
             Ok(()) => Ok(()),
             Err(NotAwaited) => Err(Stray { done }),
         }
     }
 
     /// Takes in a result as `accept` does, and copies nothing of it.
-    pub fn take_in(&mut self, done: &Done) -> Result<(), NotAwaited>
+    pub fn take_in(&mut self, done: &DoneRef<'_>) -> Result<(), NotAwaited>
         ensures accepted { IsOk result ↔ IsAwaitedIn self.old done.now }
         ensures taken { OnOk result (self.new ≡ with_task_in done.now self.old) }
         ensures user { user_in self.new ≡ user_in self.old }

@@ -15,7 +15,7 @@ ghost use Rattle.lj_session.specs.UserState.{session_meant, with_simulation, wit
 
 use lj_branch::{Branches, NoBranch, SaveFault};
 use lj_step::{Displacement, MAX_STEP, NotAwaited, Sim};
-use lj_tile::{Done, Kind, Label, Name, Task};
+use lj_tile::{DoneRef, Kind, Label, Name, Task};
 use lj_xyz::Symbol;
 use std::marker::Model;
 
@@ -246,7 +246,7 @@ impl HeldSession {
     }
 
     /// Takes in the result of a tile that the open step awaits. At another nothing changes.
-    pub(crate) fn take_in(&mut self, label: &Label, done: &Done) -> Result<(), NotAwaited>
+    pub(crate) fn take_in(&mut self, label: &Label, done: &DoneRef<'_>) -> Result<(), NotAwaited>
         ensures accepted { IsOk result ↔ steps.IsAwaitedTask self.old.live label.now done.now }
         ensures taken { OnOk result
             (self.new ≡ states.with_tile_in (steps.tile_number_of done.now) self.old) }

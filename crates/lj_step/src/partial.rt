@@ -14,7 +14,7 @@ ghost use Rattle.lj_step.specs.Kept.{block_arcs, set_numbers};
 use crate::atoms::Atoms;
 use crate::cover::{block, blocks, is_tile};
 use lj_ring::{Arcs, Place};
-use lj_tile::{BLOCK, Done, Kind, Push};
+use lj_tile::{BLOCK, DoneRef, Kind, Push};
 use std::alloc::{AllocError, Global};
 
 /// The tiles and sums of the open step, and the room for them.
@@ -80,7 +80,7 @@ impl Partial {
     }
 
     /// Adds the sums of a tile that is awaited, and awaits it no more.
-    pub fn add(&mut self, done: &Done)
+    pub fn add(&mut self, done: &DoneRef<'_>)
         requires awaited { steps.tile_number_of done.now < length self.old.awaited.items }
         requires left { 1 ≤ self.old.left }
         requires first { steps.tile_number done.now.name.bi
@@ -161,7 +161,7 @@ fn clear(pushes: &mut Vec<Push>)
 }
 
 /// Adds the sums of a force task to those of its two blocks' atoms, once where they are one block.
-fn add_pushes(pushes: &mut [Push], done: &Done)
+fn add_pushes(pushes: &mut [Push], done: &DoneRef<'_>)
     requires kind { done.now.name.kind ≡ Force }
     requires first { steps.tile_number done.now.name.bi (length done.now.a.places) ≤ length pushes.old }
     requires second { steps.tile_number done.now.name.bj (length done.now.b.places) ≤ length pushes.old }
@@ -225,7 +225,7 @@ fn add_rest(pushes: &mut [Push], start: usize, sums: &[Push], from: usize)
     }
 }
 
-fn plus_energy(energy: i128, done: &Done) -> i128
+fn plus_energy(energy: i128, done: &DoneRef<'_>) -> i128
     requires kind { done.now.name.kind ≡ Energy }
     requires size { unsigned_abs energy + 2 ^ 63 ≤ 2 ^ 75 }
     ensures value { result ≡ energy +ℤ task_energy done.now }

@@ -21,7 +21,7 @@ use crate::measures::{self, Momentum};
 use crate::partial::Partial;
 use crate::snapshots::Snapshot;
 use lj_ring::{Edge, Mix, Place};
-use lj_tile::{BLOCK, Done, Kind, Label, Push, Task, TaskName};
+use lj_tile::{BLOCK, Done, DoneRef, Kind, Label, Push, Task, TaskName};
 use std::alloc::{AllocError, Global};
 use std::marker::Model;
 use std::mem;
@@ -285,14 +285,14 @@ impl Sim {
         ensures stray { IfErr result (λ s. s.done ≡ done) }
         ensures unchanged { OnErr result (self.new ≡ self.old) }
     {
-        match self.take_in(label, &done) {
+        match self.take_in(label, &done.by_ref()) {
             Ok(()) => Ok(()),
             Err(NotAwaited) => Err(Stray { done }),
         }
     }
 
     /// Takes in a result as `accept` does, and copies nothing of it.
-    pub fn take_in(&mut self, label: &Label, done: &Done) -> Result<(), NotAwaited>
+    pub fn take_in(&mut self, label: &Label, done: &DoneRef<'_>) -> Result<(), NotAwaited>
         ensures accepted { IsOk result ↔ steps.IsAwaitedTask self.old label.now done.now }
         ensures kind { steps.kind_of self.new.part ≡ steps.kind_of self.old.part }
         ensures taken { OnOk result

@@ -8,7 +8,7 @@ use lj_pool::{InlinePool, NotPosted, Pool, Served, serve};
 use lj_quota::Quota;
 use lj_session::UserState;
 use lj_table::Table;
-use lj_tile::{Done, Task};
+use lj_tile::{DoneRef, Task};
 use lj_wire::{Reading, Writing};
 use std::alloc::{AllocGlobal, Global};
 
@@ -76,7 +76,7 @@ impl Pool for ClosingPool {
         self.inner.poll_in(user)
     }
 
-    fn fetched(&self) -> &Done {
+    fn fetched(&self) -> DoneRef<'_> {
         self.inner.fetched()
     }
 

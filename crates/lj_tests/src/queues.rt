@@ -1,8 +1,9 @@
 //! Tests of the pools: ends that are full, a full pool, posts that are refused, a closed pool, ends that are gone, a user that is
 //! withdrawn, ends that find nothing or poll, tasks that are taken in turn or that a gate sends back, work that goes ahead of the
-//! next command, and sessions that are worked on at once.
+//! next command, sessions that are worked on at once, and boxes that serve other tasks.
 
 mod ahead;
+mod boxes;
 mod closing;
 mod ends;
 mod filled;

@@ -6,7 +6,7 @@ use lj_pool::{NotPosted, Pool, Served, serve_lines};
 use lj_quota::Quota;
 use lj_session::UserState;
 use lj_table::Table;
-use lj_tile::{Done, Task, compute};
+use lj_tile::{Done, DoneRef, Task, compute};
 use lj_wire::{LineReader, Reading, Writing};
 use std::alloc::Global;
 
@@ -121,8 +121,8 @@ impl Pool for OddPool {
         self.fetch_in(user)
     }
 
-    fn fetched(&self) -> &Done {
-        &self.shown
+    fn fetched(&self) -> DoneRef<'_> {
+        self.shown.by_ref()
     }
 
     fn owed(&self) -> usize {

@@ -16,5 +16,5 @@ mod tasks;
 pub use blocks::{BLOCK, Block};
 pub use names::{Kind, Label, MAX_NAME_BYTES, Name, TaskName};
 pub use pairs::{Push, pair_push};
-pub use results::{Done, compute, compute_in};
+pub use results::{Done, DoneRef, Sums, compute, compute_in, compute_sums};
 pub use tasks::Task;

@@ -1,9 +1,10 @@
 //! Results of tasks.
-ghost use Rattle.std.specs.Prelude.{◌≡◌, ◌<◌, length, map, ◌∷◌, []};
+ghost use Rattle.std.specs.Prelude.{◌≡◌, ◌<◌, length, map, pos, ◌∷◌, []};
 ghost use Rattle.std.specs.List.{range_with_len};
 ghost use Rattle.lj_tile.specs.declared.names.Kind.TheVariants.{Force, Energy};
 ghost use Rattle.lj_tile.specs.Blank.{blank_task};
 ghost use Rattle.lj_tile.specs.Task.{task_force, task_second, task_energy};
+ghost use Rattle.lj_tile.specs.Results.{AreSums};
 
 use crate::names::Kind;
 use crate::pairs::Push;
@@ -12,13 +13,38 @@ use crate::tasks::Task;
 use lj_table::Table;
 use std::marker::Model;
 
-/// The result of a task: the task itself with its sums, of pushes or of an energy. What it keeps of the other kind says
-/// nothing. Only `compute` and `compute_in` make one of a task that is given.
+/// Room for the sums of a task, of pushes or of an energy. The room of the other kind is unspecified.
+#[derive(Debug, Drop)]
+pub struct Sums {
+    pushes: ForceSums,
+    energy: i64,
+}
+
+impl Sums {
+    /// Room for the sums of any task.
+    pub fn blank() -> Sums
+        ensures { result.energy ≡ pos 0 }
+    {
+        Sums {
+            pushes: ForceSums::none(),
+            energy: 0,
+        }
+    }
+
+    /// Makes these sums equal to the others.
+    fn copy_from(&mut self, other: &Sums)
+        ensures { self.new ≡ other.now }
+    {
+        self.pushes = other.pushes;
+        self.energy = other.energy;
+    }
+}
+
+/// The result of a task: the task itself with its sums. Only `compute` and `compute_in` make one of a task that is given.
 #[derive(Debug, Drop)]
 pub struct Done {
     task: Task,
-    pushes: ForceSums,
-    energy: i64,
+    sums: Sums,
 }
 
 impl Model for Done {
@@ -30,7 +56,7 @@ impl Model for Done {
 
     ghost use Rattle.lj_tile.specs.Results.{AreSums};
 
-    ghost invariant = { λ d. AreSums d.task d.pushes d.energy };
+    ghost invariant = { λ d. AreSums d.task d.sums };
 }
 
 impl Done {
@@ -41,13 +67,24 @@ impl Done {
         &self.task
     }
 
+    /// The result by reference.
+    #[inline]
+    pub fn by_ref(&self) -> DoneRef<'_>
+        ensures { result ≡ self.now }
+    {
+        DoneRef {
+            task: &self.task,
+            sums: &self.sums,
+        }
+    }
+
     /// The sum of the pushes on place `t` of the first block, along each axis.
     pub fn sum_at(&self, t: usize) -> [u32; 3]
         requires force { self.now.name.kind ≡ Force }
         requires within { t < length self.now.a.places }
         ensures { let sum = task_force self.now t in result ≡ sum.x ∷ sum.y ∷ sum.z ∷ [] }
     {
-        let sum = self.pushes.first_at(t);
+        let sum = self.sums.pushes.first_at(t);
         [sum.x, sum.y, sum.z]
     }
 
@@ -59,28 +96,8 @@ impl Done {
         requires within { s < length self.now.b.places }
         ensures { let sum = task_second self.now s in result ≡ sum.x ∷ sum.y ∷ sum.z ∷ [] }
     {
-        let other = self.pushes.second_at(s);
+        let other = self.sums.pushes.second_at(s);
         [other.x, other.y, other.z]
-    }
-
-    /// The sums of the pushes on the places of the first block, in order.
-    #[inline]
-    pub fn sums(&self) -> &[Push]
-        requires { self.now.name.kind ≡ Force }
-        ensures { result.now ≡ map (task_force self.now) (range_with_len 0 (length self.now.a.places)) }
-    {
-        self.pushes.firsts(self.task.first().places().len())
-    }
-
-    /// The sums of the pushes on the places of the second block, in order. Of a task of one block twice `sums` has
-    /// it all.
-    #[inline]
-    pub fn second_sums(&self) -> &[Push]
-        requires force { self.now.name.kind ≡ Force }
-        requires apart { self.now.name.bi < self.now.name.bj }
-        ensures { result.now ≡ map (task_second self.now) (range_with_len 0 (length self.now.b.places)) }
-    {
-        self.pushes.seconds(self.task.second().places().len())
     }
 
     /// The sum of the energies of the task's pairs, in units of 2^-24 ε.
@@ -88,7 +105,7 @@ impl Done {
         requires { self.now.name.kind ≡ Energy }
         ensures { result ≡ task_energy self.now }
     {
-        self.energy
+        self.sums.energy
     }
 
     /// The result of a task of one atom: room for others.
@@ -97,8 +114,7 @@ impl Done {
     {
         Done {
             task: Task::blank(),
-            pushes: ForceSums::none(),
-            energy: 0,
+            sums: Sums::blank(),
         }
     }
 
@@ -106,20 +122,101 @@ impl Done {
     pub fn copy(&self) -> Done
         ensures { result ≡ self.now }
     {
-        Done {
-            task: self.task.copy(),
-            pushes: self.pushes,
-            energy: self.energy,
-        }
+        self.by_ref().to_done()
     }
 
     /// Makes this result equal to the other.
-    pub fn copy_from(&mut self, other: &Done)
+    pub fn copy_from(&mut self, other: &DoneRef<'_>)
         ensures { self.new ≡ other.now }
     {
-        self.task.copy_from(&other.task);
-        self.pushes = other.pushes;
-        self.energy = other.energy;
+        self.task.copy_from(other.task);
+        self.sums.copy_from(other.sums);
+    }
+}
+
+/// The result of a task by reference: a task and its sums, wherever each of them lies. `DoneRef::new` takes no sums that
+/// are not those of the task.
+#[derive(Debug, Drop)]
+pub struct DoneRef<'a> {
+    task: &'a Task,
+    sums: &'a Sums,
+}
+
+impl<'a> Model for DoneRef<'a> {
+    ghost use Rattle.lj_tile.specs.Task.{Task};
+
+    ghost Value = { Task };
+
+    ghost view = { λ d. d.task.now };
+
+    ghost use Rattle.lj_tile.specs.Results.{AreSums};
+
+    ghost invariant = { λ d. AreSums d.task.now d.sums.now };
+}
+
+impl<'a> DoneRef<'a> {
+    /// The result whose task and sums lie there.
+    #[inline]
+    pub fn new(task: &'a Task, sums: &'a Sums) -> DoneRef<'a>
+        requires { AreSums task.now sums.now }
+        ensures { result ≡ task.now }
+    {
+        DoneRef { task, sums }
+    }
+
+    /// The task that this is the result of.
+    #[inline]
+    pub fn task(&self) -> &'a Task
+        ensures { result.now ≡ self.now }
+    {
+        self.task
+    }
+
+    /// The sums of the pushes on the places of the first block, in order.
+    #[inline]
+    pub fn sums(&self) -> &'a [Push]
+        requires { self.now.name.kind ≡ Force }
+        ensures { result.now ≡ map (task_force self.now) (range_with_len 0 (length self.now.a.places)) }
+    {
+        self.sums.pushes.firsts(self.task.first().places().len())
+    }
+
+    /// The sums of the pushes on the places of the second block, in order. Of a task of one block twice `sums` has
+    /// it all.
+    #[inline]
+    pub fn second_sums(&self) -> &'a [Push]
+        requires force { self.now.name.kind ≡ Force }
+        requires apart { self.now.name.bi < self.now.name.bj }
+        ensures { result.now ≡ map (task_second self.now) (range_with_len 0 (length self.now.b.places)) }
+    {
+        self.sums.pushes.seconds(self.task.second().places().len())
+    }
+
+    /// The sum of the energies of the task's pairs, in units of 2^-24 ε.
+    #[inline]
+    pub fn energy_sum(&self) -> i64
+        requires { self.now.name.kind ≡ Energy }
+        ensures { result ≡ task_energy self.now }
+    {
+        self.sums.energy
+    }
+
+    /// A copy of the task and of its sums.
+    pub fn copy_to(&self, task: &mut Task, sums: &mut Sums)
+        ensures task { task.new ≡ self.now }
+        ensures sums { AreSums self.now sums.new }
+    {
+        task.copy_from(self.task);
+        sums.copy_from(self.sums);
+    }
+
+    /// An equal result.
+    pub fn to_done(&self) -> Done
+        ensures { result ≡ self.now }
+    {
+        let mut copy = Done::blank();
+        copy.copy_from(self);
+        copy
     }
 }
 
@@ -129,9 +226,9 @@ impl Done {
 pub fn compute(task: Task, table: &Table) -> Done
     ensures { result ≡ task }
 {
-    let mut room = Done::blank();
-    compute_in(&task, table, &mut room);
-    room
+    let mut sums = Sums::blank();
+    compute_sums(&task, table, &mut sums);
+    Done { task, sums }
 }
 
 /// Computes a task in the room of an older result. The result is of that very task.
@@ -140,9 +237,18 @@ pub fn compute(task: Task, table: &Table) -> Done
 pub fn compute_in(task: &Task, table: &Table, room: &mut Done)
     ensures { room.new ≡ task.now }
 {
-    match task.name().kind {
-        Kind::Force => sum_forces(task, table, &mut room.pushes),
-        Kind::Energy => room.energy = energy_sum(task, table),
-    }
+    compute_sums(task, table, &mut room.sums);
     room.task.copy_from(task);
+}
+
+/// Computes the sums of a task in the room of older ones.
+///
+/// Promise: the sums are those of that very task.
+pub fn compute_sums(task: &Task, table: &Table, sums: &mut Sums)
+    ensures { AreSums task.now sums.new }
+{
+    match task.name().kind {
+        Kind::Force => sum_forces(task, table, &mut sums.pushes),
+        Kind::Energy => sums.energy = energy_sum(task, table),
+    }
 }

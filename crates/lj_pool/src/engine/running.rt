@@ -271,7 +271,7 @@ fn fetch_next<P: Pool>(owner: &mut Owner, user: u8, pool: &mut P) -> Result<bool
     if !pool.fetch_in(user) {
         return Err(Halt::PoolClosed);
     }
-    Ok(owner.take_in(pool.fetched()).is_ok())
+    Ok(owner.take_in(&pool.fetched()).is_ok())
 }
 
 /// Takes in a result that is there now. False where it is of no tile that is awaited; it is dropped then. None where there
@@ -285,7 +285,7 @@ fn poll_next<P: Pool>(owner: &mut Owner, user: u8, pool: &mut P) -> Option<bool>
     if !pool.poll_in(user) {
         return None;
     }
-    Some(owner.take_in(pool.fetched()).is_ok())
+    Some(owner.take_in(&pool.fetched()).is_ok())
 }
 
 /// How many results in a row were of no tile that is awaited, after one more that was taken in or was not.

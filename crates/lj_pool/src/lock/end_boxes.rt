@@ -7,7 +7,7 @@ ghost use Rattle.lj_pool.specs.EndBoxes.{HandsOut, IsFirstOf, box_count, no_boxe
 
 use arrayvec::ArrayVec;
 use lj_book::{DoneBox, TaskBox};
-use lj_tile::{Done, Task};
+use lj_tile::{Done, DoneRef, Task};
 use std::marker::Model;
 
 /// The most results that an end has in hand, fetched and not handed out yet.
@@ -51,12 +51,12 @@ impl EndBoxes {
     }
 
     /// The result that was handed out last; a blank one where there is none.
-    pub(crate) fn last_or<'a>(&'a self, blank: &'a Done) -> &'a Done
-        ensures { result.now ≡ unwrap_or self.now.last blank.now }
+    pub(crate) fn last_or<'a>(&'a self, blank: &'a Done) -> DoneRef<'a>
+        ensures { result ≡ unwrap_or self.now.last blank.now }
     {
         match &self.last {
             Some(last) => last.done(),
-            None => blank,
+            None => blank.by_ref(),
         }
     }
 

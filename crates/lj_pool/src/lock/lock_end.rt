@@ -9,7 +9,7 @@ use crate::account::Account;
 use crate::lock::end_boxes::EndBoxes;
 use crate::lock::lock_pool::LockPool;
 use crate::pool::{NotPosted, Pool};
-use lj_tile::{Done, Task};
+use lj_tile::{DoneRef, Task};
 use std::marker::Model;
 use std::sync::Wait;
 use std::sync::ledger::Ledger;
@@ -137,7 +137,7 @@ impl<'p, L: Ledger, R: Wait> Pool for LockEnd<'p, L, R> {
         polled
     }
 
-    fn fetched(&self) -> &Done {
+    fn fetched(&self) -> DoneRef<'_> {
         self.boxes.last_or(self.pool.blank())
     }
 

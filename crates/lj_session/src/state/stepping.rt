@@ -13,7 +13,7 @@ ghost use Rattle.lj_session.specs.UserState as states;
 
 use crate::state::UserState;
 use lj_step::NotAwaited;
-use lj_tile::{Done, Kind, Label, Name, Task};
+use lj_tile::{DoneRef, Kind, Label, Name, Task};
 
 impl UserState {
     /// Opens a step of a kind in a session. No tile of it is posted or in.
@@ -92,7 +92,7 @@ impl UserState {
     }
 
     /// Takes in the result of a tile that a session's open step awaits. At another nothing changes.
-    pub(crate) fn take_in(&mut self, label: &Label, done: &Done) -> Result<(), NotAwaited>
+    pub(crate) fn take_in(&mut self, label: &Label, done: &DoneRef<'_>) -> Result<(), NotAwaited>
         ensures accepted { IsOk result ↔ IsAwaited self.old label.now done.now }
         ensures taken { OnOk result
             (self.new ≡ with_session_changed label.now.session

@@ -1,5 +1,6 @@
 //! Scenes: what is played over a pool of either kind that is empty and open.
 
+use super::boxes::Fate;
 use super::room::Crowd;
 use super::stage::{Host, Stage};
 use super::{
@@ -12,6 +13,7 @@ use std::alloc::AllocError;
 #[derive(Clone, Copy)]
 pub enum Scene {
     Ahead(ahead::Case),
+    Boxes(Fate),
     InVain,
     InHand,
     AfterClose,
@@ -51,6 +53,7 @@ pub enum Seen {
 pub fn play_over<S: Stage<R> + Sync, R: Host + Sync>(rt: &R, stage: &S, scene: Scene) -> Seen {
     match scene {
         Scene::Ahead(case) => Seen::Ahead(ahead::serve_until_closed(rt, stage, case)),
+        Scene::Boxes(fate) => Seen::Right(fate.play(rt, stage)),
         Scene::InVain => Seen::Right(closing::end_in_vain(rt, stage)),
         Scene::InHand => Seen::Right(closing::close_in_hand(rt, stage)),
         Scene::AfterClose => Seen::Answers(closing::post_after_close(rt, stage)),

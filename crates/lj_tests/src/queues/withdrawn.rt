@@ -48,7 +48,7 @@ const EXPECTED: Left = Left {
 };
 
 /// Posts the last task, and waits for its result. Whether it came.
-fn play_last<S: Stage<R>, R: Host>(rt: &R, stage: &S) -> bool {
+pub fn play_last<S: Stage<R>, R: Host>(rt: &R, stage: &S) -> bool {
     let mut last = posting_end(rt, stage, LAST, 1);
     let came = last.owed() > 0 && last.fetch(LAST).is_some();
     stage.leave(rt, last);

@@ -24,9 +24,9 @@ loop-preserved-in-Some-kept g c =
       next = tt;
       finite = tt;
       number = ap (λ (t : PoolPass). t.number) took ∙ at.number;
-      rises = omega (arith, at.rises, c.give.ensures.never_falls);
+      rises = omega (arith, at.rises, c.give_or_put_by.ensures.never_falls);
       pops = pops_more (g.G.Gate.sends_back c.args.gate.now) c.args.pass c.loop.counted c.kept.new.pass
-          c.in-Some-take.ticket c.args.share c.loop.share c.give.new.share at.pops took c.give.ensures.one_at_most;
+          c.in-Some-take.ticket c.args.share c.loop.share c.give_or_put_by.new.share at.pops took c.give_or_put_by.ensures.one_at_most;
     }
 
 pub loop-preserved : goal.loop-preserved

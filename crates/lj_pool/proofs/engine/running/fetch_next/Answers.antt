@@ -6,7 +6,7 @@ pub returns-clause-goes_on : goal.returns-clause-goes_on
 returns-clause-goes_on g c =
     let old = g.P.Pool.seen c.args.pool.now in
     let new = g.P.Pool.seen c.fetch_in.new.self in
-    comes c.args.owner.now old new c.requires.gathers c.fetched.result.now
+    comes c.args.owner.now old new c.requires.gathers c.fetched.result
     (shown old new c.fetched.ensures (c.if-not-fetch_in.ensures.handed_out refl))
     c.take_in.new.self c.take_in.result c.take_in.ensures.accepted c.take_in.ensures.taken c.take_in.ensures.unchanged
 
@@ -14,7 +14,7 @@ pub returns-clause-fewer : goal.returns-clause-fewer
 returns-clause-fewer g c taken =
     let old = g.P.Pool.seen c.args.pool.now in
     let new = g.P.Pool.seen c.fetch_in.new.self in
-    comes_fewer c.args.owner.now old new c.requires.gathers c.fetched.result.now
+    comes_fewer c.args.owner.now old new c.requires.gathers c.fetched.result
     (shown old new c.fetched.ensures (c.if-not-fetch_in.ensures.handed_out refl))
     c.take_in.new.self c.take_in.result c.take_in.ensures.accepted c.take_in.ensures.taken
     (sym c.is_ok.ensures.value ∙ taken)
@@ -23,7 +23,7 @@ pub returns-clause-stray : goal.returns-clause-stray
 returns-clause-stray g c taken below =
     let old = g.P.Pool.seen c.args.pool.now in
     let new = g.P.Pool.seen c.fetch_in.new.self in
-    let up = (comes_stray c.args.owner.now old new c.requires.gathers c.fetched.result.now
+    let up = (comes_stray c.args.owner.now old new c.requires.gathers c.fetched.result
     (shown old new c.fetched.ensures (c.if-not-fetch_in.ensures.handed_out refl))
     c.take_in.new.self c.take_in.result c.take_in.ensures.accepted (sym c.is_ok.ensures.value ∙ taken)).strays in
     omega (arith, up, below)
@@ -32,7 +32,7 @@ pub returns-clause-kept : goal.returns-clause-kept
 returns-clause-kept g c taken =
     let old = g.P.Pool.seen c.args.pool.now in
     let new = g.P.Pool.seen c.fetch_in.new.self in
-    (comes_stray c.args.owner.now old new c.requires.gathers c.fetched.result.now
+    (comes_stray c.args.owner.now old new c.requires.gathers c.fetched.result
     (shown old new c.fetched.ensures (c.if-not-fetch_in.ensures.handed_out refl))
     c.take_in.new.self c.take_in.result c.take_in.ensures.accepted (sym c.is_ok.ensures.value ∙ taken)).owed
 

@@ -9,14 +9,12 @@ own_list : (lists : List ResultList) (i : ℕ) (list : ResultList) → list ≡ 
 own_list lists i list read = ap (slice_set lists i) read ∙ set-get_or lists i list
 
 pub returns-then-not-is_present-clause-dropped : goal.returns-then-not-is_present-clause-dropped
-returns-then-not-is_present-clause-dropped g c e =
+returns-then-not-is_present-clause-dropped g c =
     let lists = c.args.self.now.lists.items in
     let read = c.index_mut-list.ensures.value in
+    let same = own_list lists c.mailbox_of.result c.index_mut-list.result.now read in
     elim c.then-not-is_present.branch [
-      | then-not-is_present-via-then-not-is_present w ↦
-          rw w.self-is (own_list lists c.mailbox_of.result c.index_mut-list.result.now read)
-      | then-not-is_present-via-else-not-is_present+then-not-takes w ↦
-          rw w.self-is (own_list lists c.mailbox_of.result c.index_mut-list.result.now read)
-      | then-not-is_present-via-else-not-is_present+else-not-takes+then-given w ↦
-          rw w.self-is (own_list lists c.mailbox_of.result c.index_mut-list.result.now read)
+      | then-not-is_present-via-then-not-is_present w ↦ ap (λ m. m.lists.items) w.self-is ∙ same
+      | then-not-is_present-via-else-not-is_present+then-not-takes w ↦ ap (λ m. m.lists.items) w.self-is ∙ same
+      | then-not-is_present-via-else-not-is_present+else-not-takes+then-given w ↦ ap (λ m. m.lists.items) w.self-is ∙ same
     ]

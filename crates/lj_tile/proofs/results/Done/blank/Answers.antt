@@ -21,5 +21,5 @@ invariant_of-result c = rw c.blank.ensures record {
   sound = sound;
   first = λ force. absurd cc;
   second = λ force. absurd cc;
-  sum = λ _. refl;
+  sum = λ _. c.blank-2.ensures;
 }

@@ -1,0 +1,105 @@
+//! Boxes over a queue: whatever becomes of results, their boxes serve other tasks.
+
+use super::over_queue::over_queue;
+use super::post_some;
+use super::scene::{Scene, Seen};
+use super::stage::{Host, Stage, beside_worker};
+use super::withdrawn::play_last;
+use lj_pool::Pool;
+use std::test::Fail;
+
+/// How many ends come one after another. Together they post more tasks than a pool has boxes.
+const ROUNDS: u64 = 90;
+
+/// How many tasks each of them posts.
+const TASKS: i64 = 64;
+
+const USER: u8 = 6;
+
+/// Another one.
+const OTHER: u8 = 5;
+
+/// What becomes of the results of an end's tasks, once all were given.
+#[derive(Clone, Copy)]
+pub enum Fate {
+    HandedOut,
+    /// The tasks are another user's.
+    Refused,
+    Withdrawn,
+    /// They are dropped as the next end comes.
+    Replaced,
+    /// The end has them in hand as it finishes.
+    InHand,
+}
+
+/// Polls so many times. How many results came.
+fn count_polled<P: Pool>(end: &mut P, times: i64) -> i64 {
+    let mut count = 0_i64;
+    for _ in 0..times {
+        if end.poll(USER).is_some() {
+            count = count.saturating_add(1);
+        }
+    }
+    count
+}
+
+impl Fate {
+    /// An end posts tasks, whose results come to this. Whether all were computed, and those came that were to.
+    fn befall<S: Stage<R>, R: Host>(self, rt: &R, stage: &S) -> bool {
+        let owner = match self {
+            Fate::Refused => OTHER,
+            _ => USER,
+        };
+        let polled = match self {
+            Fate::HandedOut => TASKS,
+            Fate::InHand => 1,
+            _ => 0,
+        };
+        let mut end = stage.end(rt, USER);
+        post_some(rt, &mut end, owner, TASKS);
+        let is_right = play_last(rt, stage) && count_polled(&mut end, polled) == polled;
+        if matches!(self, Fate::Withdrawn) {
+            stage.withdraw(rt, USER);
+        }
+        stage.leave(rt, end);
+        is_right
+    }
+
+    /// Whether that is so for one end after another.
+    fn befall_all<S: Stage<R>, R: Host>(self, rt: &R, stage: &S) -> bool {
+        for _ in 0..ROUNDS {
+            if !self.befall(rt, stage) {
+                return false;
+            }
+        }
+        true
+    }
+
+    /// Ends come one after another beside a worker, and then the pool is closed. Whether each was right.
+    pub fn play<S: Stage<R> + Sync, R: Host + Sync>(self, rt: &R, stage: &S) -> bool {
+        beside_worker(rt, stage, move || self.befall_all(rt, stage))
+    }
+}
+
+#[test]
+fn boxes_of_results_that_are_handed_out_serve_other_tasks(rt: HostRuntime) -> Result<(), Fail> {
+    let seen = over_queue(&rt, 1, Scene::Boxes(Fate::HandedOut))?.seen;
+    assert_eq!(rt; seen, Seen::Right(true));
+    Ok(())
+}
+
+#[test]
+fn boxes_of_results_that_are_refused_serve_other_tasks(rt: HostRuntime) -> Result<(), Fail> {
+    let seen = over_queue(&rt, 1, Scene::Boxes(Fate::Refused))?.seen;
+    assert_eq!(rt; seen, Seen::Right(true));
+    Ok(())
+}
+
+#[test]
+fn boxes_of_results_that_are_dropped_serve_other_tasks(rt: HostRuntime) -> Result<(), Fail> {
+    for fate in [Fate::Withdrawn, Fate::Replaced, Fate::InHand] {
+        let seen = over_queue(&rt, 1, Scene::Boxes(fate))?.seen;
+        assert_eq!(rt; seen, Seen::Right(true));
+    }
+    Ok(())
+}
