@@ -35,7 +35,8 @@ use Rattle.lj_pool.specs.Counting.{steps_tiles, advance_tiles, command_tiles}
 use Rattle.lj_pool.specs.Coming.{tiles_of_session, tiles_after, waiting_tiles_of, tiles_to_come, tiles_coming, OwesNoMore, OwesNoneWhereWaited}
 use Rattle.lj_pool.specs.Owing.{OwesAfter, most_after, steps_started}
 use Rattle.lj_pool.proofs.Outcomes.{no-own-tiles, Stays, still-there, start_stays, Outcome, staying, same_name_of, none_named, outcome}
-use Rattle.lj_pool.proofs.Sessions.{same_name as same_bytes, there-changed, other-changed, names-changed, sum-changed, sum-below, distinct-answered}
+use Rattle.lj_session.proofs.Others.{names-changed}
+use Rattle.lj_pool.proofs.Sessions.{same_name as same_bytes, there-changed, other-changed, sum-changed, sum-below, distinct-answered}
 use Rattle.lj_pool.proofs.Tiles.{idle-tiles, idle-gathered, closed-part, closed-posted, same-posted, same-tiles, same-gathered}
 use Rattle.lj_pool.proofs.Tiles.{started-tiles, started-posted, started-gathered}
 use Rattle.lj_session.proofs.Waiting.{same_name}

@@ -26,7 +26,8 @@ use Rattle.lj_pool.specs.Seen.{Seen, TakesOff, IsHandedOut}
 use Rattle.lj_pool.specs.Gathering.{tasks_posted_in, tasks_posted_of, is_of, IsGathered, IsOpenFor, Gathers}
 use Rattle.lj_pool.proofs.Gathering.{posted_some, posted_more, next_label, gathered_posted, posted_wanted, gathered_taken}
 use Rattle.lj_pool.proofs.Gathering.{taken_off, taken_stray}
-use Rattle.lj_pool.proofs.Sessions.{same_name, there-changed, other-changed, names-changed, find-none-named}
+use Rattle.lj_session.proofs.Others.{names-changed}
+use Rattle.lj_pool.proofs.Sessions.{same_name, there-changed, other-changed, find-none-named}
 
 -- one that passes is among those that pass, and only then
 contains-filter : {A : Type 0} (p : A → Bool) (x : A) → p x ≡ true → (xs : List A) → Contains xs x → Contains (filter p xs) x

@@ -15,3 +15,4 @@ pub mod Handing
 pub mod ItemEnds
 mod AllRead
 pub mod EndBoxLemmas
+pub mod Posts

@@ -79,21 +79,6 @@ module _ (owned : UserState) (name : List ℕ) (change : HeldSession → HeldSes
       ap (λ (o : UserState). sum_over f o + f held) (changed-some owned name change held e)
       ∙ sum-put name f owned.sessions held (change held) e
 
-names-put : (name : List ℕ) (es : List (List ℕ × HeldSession)) (v w : HeldSession) → value_named name es ≡ Some v
-    → map (λ (e : List ℕ × HeldSession). e.0) (with_value name w es) ≡ map (λ (e : List ℕ × HeldSession). e.0) es
-names-put name [] v w h = absurd (none-some v h)
-names-put name (e ∷ es) v w h = by_test (bytes_eq name e.0)
-    (λ t. rw t refl)
-    (λ t. rw t (ap (λ ns. e.0 ∷ ns) (names-put name es v w (rw t at h))))
-
--- a session changed keeps its name
-pub names-changed : (owned : UserState) (name : List ℕ) (change : HeldSession → HeldSession) → names (with_session_changed name change owned) ≡ names owned
-names-changed owned name change = by (held_session owned name) refl
-  where
-    by : (o : Option HeldSession) → held_session owned name ≡ o → names (with_session_changed name change owned) ≡ names owned
-    by None e = ap names (changed-none owned name change e)
-    by (Some held) e = ap names (changed-some owned name change held e) ∙ names-put name owned.sessions held (change held) e
-
 -- what is found under no name does not pass a test, where none of the names does
 pub find-none-named : (test : List ℕ → Bool) (es : List (List ℕ × HeldSession)) (name : List ℕ) (v : HeldSession)
     → find test (map (λ (e : List ℕ × HeldSession). e.0) es) ≡ None → value_named name es ≡ Some v → test name ≡ false

@@ -14,4 +14,5 @@ pub mod EndBoxes
 pub mod LockEnd
 pub mod Waking
 pub mod PoolStates
+pub mod Posting
 pub mod Limits

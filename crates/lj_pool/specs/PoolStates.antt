@@ -2,7 +2,7 @@
 use Rattle.std.specs.Prelude.{◌≡◌, ℕ, ◌+◌, ◌-◌, ◌<◌, ◌≤◌, List, [], ◌∷◌, Option, Some, None}
 use Rattle.lj_tile.specs.Task.{Task}
 use Rattle.lj_book.specs.Book.{BookOf, Fetches}
-use Rattle.lj_book.specs.Boxes.{BoxBook, Numbered, Slip, boxes}
+use Rattle.lj_book.specs.Boxes.{BoxBook, Numbered, PostsBox, Slip, boxes}
 use Rattle.lj_pool.specs.EndBoxes.{EndBoxes, TakesInHand, box_count}
 
 -- a box can be posted: the one at hand if one is lent, else a spare one
@@ -27,6 +27,15 @@ abbrev pub FetchesEach : List Task → BookOf Numbered Slip → BookOf Numbered 
 FetchesEach [] old new = new ≡ old
 FetchesEach (done ∷ others) old new =
     (next : BookOf Numbered Slip) × ((key : ℕ) × Fetches old next done key) × FetchesEach others next new
+
+-- The task stands in the book, in a box that was at hand or in one that was spare.
+abbrev pub HasPosted : Task → BoxBook → BoxBook → Type 0
+HasPosted work old new = (boxed : Option Task) × (key : ℕ) × PostsBox (lending boxed old) new work key
+
+-- These tasks have come into the book, one after the other.
+abbrev pub PostsEach : List Task → BoxBook → BoxBook → Type 0
+PostsEach [] old new = new ≡ old
+PostsEach (work ∷ works) old new = (next : BoxBook) × HasPosted work old next × PostsEach works next new
 
 -- Of the boxes of the book and of an end none is lost, if the end's were lent.
 abbrev pub NoneIsLost : BoxBook → EndBoxes → BoxBook → EndBoxes → Type 0

@@ -40,6 +40,12 @@ pub record IsPosted (task : Task) (old new : Seen) : Type 0 where
   pub good : new.good ≡ old.good
   pub strays : new.strays ≡ old.strays
 
+-- The tasks are owed after the others, in their order, and nothing is counted.
+pub record ArePosted (tasks : List Task) (old new : Seen) : Type 0 where
+  pub owed : new.owed ≡ old.owed ++ tasks
+  pub good : new.good ≡ old.good
+  pub strays : new.strays ≡ old.strays
+
 -- The first task that is equal to this one is owed no more, and one result more that was owed is counted.
 pub record TakesOff (task : Task) (old new : Seen) : Type 0 where
   pub front : List Task

@@ -1,8 +1,8 @@
 //! What an end of a pool is owed, and what it has counted.
-ghost use Rattle.std.specs.Prelude.{◌≡◌, ◌<◌, ◌≤◌, ◌-◌, ◌↔◌, ℕ, Some, cond, length, nat_lt, slice_index_or, true, false, IfErr, IfSome, IfNone, IsTrue, OnErr, OnOk};
+ghost use Rattle.std.specs.Prelude.{◌≡◌, ◌<◌, ◌≤◌, ◌+◌, ◌-◌, ◌↔◌, ℕ, Some, cond, length, nat_lt, take, slice_index_or, true, false, IfErr, IfSome, IfNone, IsTrue, OnErr, OnOk};
 ghost use Rattle.std.specs.List.{Contains, remove};
 ghost use Rattle.lj_pool.specs.declared.pool.NotPosted.TheVariants.{Closed, Full};
-ghost use Rattle.lj_pool.specs.Seen.{IsHandedOut, IsPosted, SameOwed, StaysClosed, nothing_seen};
+ghost use Rattle.lj_pool.specs.Seen.{ArePosted, IsHandedOut, IsPosted, SameOwed, StaysClosed, nothing_seen};
 ghost use Rattle.lj_pool.specs.Gathering.{times};
 ghost use Rattle.lj_pool.specs.Accounts.{IsFirst};
 
@@ -79,6 +79,18 @@ impl Account {
             Ok(()) => self.post(task),
             Err(NotPosted::Full) => {}
             Err(NotPosted::Closed) => self.close(),
+        }
+    }
+
+    /// Notes that the first so many of some tasks were posted.
+    pub fn note_posts(&mut self, tasks: &[Task], posted: usize)
+        requires most { posted ≤ length tasks.now }
+        requires room { length self.old.owed + length tasks.now ≤ MAX_OWED }
+        ensures posted { ArePosted (take posted tasks.now) self.old self.new }
+        ensures closed { self.new.closed ≡ self.old.closed }
+    {
+        for here in 0..posted {
+            self.post(&tasks[here]);
         }
     }
 

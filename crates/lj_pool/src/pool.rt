@@ -1,8 +1,9 @@
 //! What a pool is to the one who posts tasks: an end that takes tasks and hands out results.
-ghost use Rattle.std.specs.Prelude.{◌≡◌, ◌<◌, ◌↔◌, ℕ, length, true, false, [], IfErr, IfNone, IfSome, OnErr, OnOk};
+ghost use Rattle.std.specs.Prelude.{◌≡◌, ◌+◌, ◌<◌, ◌≤◌, ◌↔◌, ℕ, length, take, true, false, [], IfErr, IfNone, IfSome, OnErr, OnOk};
+ghost use Rattle.std.specs.List.{All};
 ghost use Rattle.lj_tile.specs.Task.{Task};
 ghost use Rattle.lj_pool.specs.declared.pool.NotPosted.TheVariants.{Closed};
-ghost use Rattle.lj_pool.specs.Seen.{Seen, SameOwed, IsPosted, IsHandedOut, StaysClosed};
+ghost use Rattle.lj_pool.specs.Seen.{Seen, SameOwed, ArePosted, IsPosted, IsHandedOut, StaysClosed};
 ghost use Rattle.lj_pool.specs.Refusals.{task_of, IsClosed};
 
 use lj_tile::{Done, DoneRef, Task};
@@ -10,6 +11,9 @@ use thiserror::Error;
 
 /// The most tasks that are owed to an end of a pool at once.
 pub const MAX_OWED: usize = 64;
+
+/// The most tasks that are posted at once.
+pub const MAX_POSTS: usize = 4;
 
 /// The most results in a row that are of no tile that is awaited: so many end the work for a user.
 pub const MAX_STRAYS: u64 = 4096;
@@ -91,6 +95,25 @@ pub trait Pool {
     fn fetched(&self) -> DoneRef<'_>
         ensures { result ≡ last self.now };
 
+    /// Posts tasks in their order, and never waits. Returns how many of them were posted, which are the first ones: no task that
+    /// is not among these is in the pool.
+    fn post_some(&mut self, tasks: &[Task]) -> usize
+        requires few { length tasks.now ≤ MAX_POSTS }
+        requires room { length (seen self.old).owed + length tasks.now ≤ MAX_OWED }
+        ensures most { result ≤ length tasks.now }
+        ensures posted { ArePosted (take result tasks.now) (seen self.old) (seen self.new) }
+        ensures stays_closed { StaysClosed (seen self.old) (seen self.new) }
+        ensures own { (user : ℕ) → All (λ task. task.name.label.user ≡ user) tasks.now
+            → for_others self.new user ≡ for_others self.old user }
+    {
+        for here in 0..tasks.len() {
+            if self.post_from(&tasks[here], false).is_err() {
+                return here;
+            }
+        }
+        tasks.len()
+    }
+
     /// Posts a task by value. With `wait` it is never refused as `Full`.
     fn post(&mut self, task: Task, wait: bool) -> Result<(), Refused>
         requires room { length (seen self.old).owed < MAX_OWED }
@@ -147,6 +170,15 @@ pub trait Pool {
         ensures most { result ≡ true ↔ (length (seen self.now).owed ≡ most) }
         ensures room { result ≡ false → length (seen self.now).owed < MAX_OWED }
         ensures owes { result ≡ true → 0 < length (seen self.now).owed };
+
+    /// For how many tasks at once there is room now; none where it is full. Here it is one at most, for pools that gain nothing
+    /// by more.
+    fn room(&self) -> usize
+        ensures none { result ≡ 0 ↔ (length (seen self.now).owed ≡ most) }
+        ensures within { 0 < result → length (seen self.now).owed + result ≤ MAX_OWED }
+    {
+        usize::from(!self.is_full())
+    }
 
     /// Whether the end has seen the pool closed.
     fn closed(&self) -> bool

@@ -121,6 +121,14 @@ module _ {A : Type 0} (name : List ℕ) where
       (λ t. rw (t, t) refl)
       (λ t. rw (t, t) (named-put_any es v))
 
+  -- the names stay where a value is put under one of them
+  pub names-put : (es : List (List ℕ × A)) (v w : A) → value_named name es ≡ Some v
+      → map (λ (e : List ℕ × A). e.0) (with_value name w es) ≡ map (λ (e : List ℕ × A). e.0) es
+  names-put [] v w h = absurd (none-some v h)
+  names-put (e ∷ es) v w h = by_test (bytes_eq name e.0)
+      (λ t. rw t refl)
+      (λ t. rw t (ap (λ ns. e.0 ∷ ns) (names-put es v w (rw t at h))))
+
   pub length-put : (es : List (List ℕ × A)) (v w : A) → value_named name es ≡ Some v → length (with_value name w es) ≡ length es
   length-put [] v w h = absurd (none-some v h)
   length-put (e ∷ es) v w h = by_test (bytes_eq name e.0)

@@ -2,6 +2,7 @@ pub mod Entries
 pub mod Counts
 pub mod Firsts
 pub mod NextTiles
+pub mod Cursors
 pub mod Owed
 pub mod Owing
 pub mod Reach

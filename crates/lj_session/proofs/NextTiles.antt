@@ -8,7 +8,7 @@ use Rattle.std.specs.Option.{option_map}
 use Rattle.std.specs.Str.{bytes_eq}
 use Rattle.lj_tile.specs.declared.names.Label.{Label}
 use Rattle.lj_step.specs.OpenSteps.{tiles_of}
-use Rattle.lj_session.specs.UserState.{HeldSession, UserState, IsNextTile, first_with_task, names, held_session_at, held_session, next_of, next_task, next_tile}
+use Rattle.lj_session.specs.UserState.{HeldSession, UserState, IsNextTile, NoTaskBefore, first_with_task, names, held_session_at, held_session, next_of, next_task, next_tile}
 use Rattle.lj_session.proofs.Firsts.{NoneBefore, none-first, none-next, find-at, find-nowhere}
 use Rattle.lj_session.proofs.Holding.{held-there}
 use Rattle.lj_session.proofs.Tiles.{found-task}
@@ -16,10 +16,6 @@ use Rattle.lj_session.proofs.Tiles.{found-task}
 -- whether the session of a name has a task of a user
 abbrev pub has_task : UserState → ℕ → List ℕ → Bool
 has_task owned user name = is_some (next_task owned (record { user = user; session = name }))
-
--- none of the first so many sessions has one, whatever the user
-abbrev pub NoTaskBefore : UserState → ℕ → Type 0
-NoTaskBefore owned i = (user : ℕ) → NoneBefore (has_task owned user) (names owned) i
 
 has-task : (owned : UserState) (user : ℕ) (name : List ℕ) (held : HeldSession) → held_session owned name ≡ Some held
     → has_task owned user name ≡ is_some (next_tile held)
@@ -58,6 +54,7 @@ module _ (owned : UserState) (distinct : IsDistinct bytes_eq (names owned)) (i :
     there = stands.there;
     tile = tile;
     below = below;
+    before = before;
     first = λ user. find-at (has_task owned user) (names owned) i stands.name stands.named
         (has-task owned user stands.name held stands.there ∙ ap is_some tile) (before user);
   }

@@ -19,10 +19,10 @@ use Rattle.lj_session.specs.Users.{User, atoms_of, branches_used}
 use Rattle.lj_session.specs.Answers.{session_of, simulation_saved, atom_or_refusal, can_advance, command_result, session_named}
 use Rattle.lj_session.specs.Loads.{admission, body_or_refusal, session_read, refusal_unless}
 use Rattle.lj_session.specs.Begins.{OnRefusal, reply_of}
-use Rattle.lj_session.specs.UserState.{HeldSession, UserState, OthersKept, Reads, StepsAfter, Performs, held_session, with_held_session, with_session_changed, owed_in, steps_before}
+use Rattle.lj_session.specs.UserState.{HeldSession, UserState, OthersKept, Reads, StepsAfter, Performs, held_session, with_held_session, with_session_changed, names, owed_in, steps_before}
 use Rattle.lj_session.specs.Owner.{IsSettled}
 use Rattle.lj_session.specs.Turns.{waits_for}
-use Rattle.lj_session.proofs.Entries.{named-put_other, named-taken_other}
+use Rattle.lj_session.proofs.Entries.{named-put_other, named-taken_other, names-put}
 
 module _ (owned : UserState) (name : List ℕ) where
   apart_of : (other : List ℕ) → Some name ≢ Some other → name ≢ other
@@ -41,6 +41,15 @@ module _ (owned : UserState) (name : List ℕ) where
           → held_session (with_session_changed name change owned) other ≡ held_session owned other
       by None e = rw e refl
       by (Some held) e = rw e (others-put (change held) other apart)
+
+  -- a session changed keeps its name
+  pub names-changed : (change : HeldSession → HeldSession) → names (with_session_changed name change owned) ≡ names owned
+  names-changed change = by (held_session owned name) refl
+    where
+      by : (found : Option HeldSession) → held_session owned name ≡ found
+          → names (with_session_changed name change owned) ≡ names owned
+      by None e = rw e refl
+      by (Some held) e = rw e (names-put name owned.sessions held (change held) e)
 
   pub others-taken : (other : List ℕ) → Some name ≢ Some other
       → held_session (record owned { sessions = without_value name owned.sessions }) other ≡ held_session owned other

@@ -11,6 +11,7 @@ pub mod Openings
 pub mod Faults
 pub mod Owner
 pub mod Begins
+pub mod Cursors
 pub mod KeptOwners
 pub mod Laws
 pub mod Limits

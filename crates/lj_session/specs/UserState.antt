@@ -125,6 +125,11 @@ abbrev pub first_with_task : UserState → ℕ → Option (List ℕ)
 first_with_task owned user =
     find (λ name. is_some (next_task owned (record { user = user; session = name }))) (names owned)
 
+-- None of the sessions before the i-th has such a task, whatever the number of the user.
+abbrev pub NoTaskBefore : UserState → ℕ → Type 0
+NoTaskBefore owned i = (user k : ℕ) (name : List ℕ) → k < i → slice_get (names owned) k ≡ Some name
+    → is_some (next_task owned (record { user = user; session = name })) ≡ false
+
 -- The tile of the next task is the one at position `k` in the cover of the session at index `i`.
 pub record IsNextTile (owned : UserState) (i k : ℕ) : Type 0 where
   pub within : i < length owned.sessions
@@ -135,6 +140,7 @@ pub record IsNextTile (owned : UserState) (i k : ℕ) : Type 0 where
   pub there : held_session owned name ≡ Some held
   pub tile : next_tile held ≡ Some k
   pub below : k < tiles_of held.live
+  pub before : NoTaskBefore owned i
   pub first : (user : ℕ) → first_with_task owned user ≡ Some name
 
 -- with the tiles passed up to a position and at it, if one is given

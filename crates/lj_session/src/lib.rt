@@ -13,6 +13,7 @@ mod seconds;
 mod session;
 mod state;
 mod substance;
+mod tile_cursor;
 
 pub use body::{Body, LoadBody};
 pub use command::{Command, Load, Mode};
@@ -25,3 +26,4 @@ pub use refusal::Refusal;
 pub use reply::Reply;
 pub use state::UserState;
 pub use substance::{ClassNumbers, Substance};
+pub use tile_cursor::TileCursor;

@@ -11,7 +11,8 @@ ghost use Rattle.lj_session.specs.Owner.{IsAnswered, IsReplied, IsAwaitedIn, IsL
 ghost use Rattle.lj_session.specs.Owner.{WaitsAlike};
 ghost use Rattle.lj_session.specs.Owner.{state_begun, command_left};
 ghost use Rattle.lj_session.specs.Owner.{user_in, owner_of_state, is_owing, is_busy, turns_left, is_waited_for, owner_begun};
-ghost use Rattle.lj_session.specs.Owner.{label_of, task_in};
+ghost use Rattle.lj_session.specs.Owner.{Owner, label_of, task_in};
+ghost use Rattle.lj_session.specs.Cursors.{IsPostedTo};
 ghost use Rattle.lj_session.specs.Owner.{with_task_posted, with_task_in, ready_session, owner_turned, state_turned};
 ghost use Rattle.lj_session.specs.Begins.{IfAnswered, OnRunning, OnRefused, OnRefusal, reply_of};
 
@@ -19,6 +20,7 @@ use crate::command::Command;
 use crate::refusal::Refusal;
 use crate::reply::Reply;
 use crate::state::UserState;
+use crate::tile_cursor::TileCursor;
 use lj_step::{NotAwaited, Stray};
 use lj_tile::{Done, DoneRef, Kind, Label, Name, Task};
 use std::marker::Model;
@@ -150,6 +152,40 @@ impl Owner {
         };
         let label = self.label(self.state.name_at(i).copy());
         self.state.task_in(i, k, &label, room)
+    }
+
+    /// The cursor at the task that `next_task` returns.
+    pub fn first_tile(&self) -> Option<TileCursor>
+        ensures some { IfSome result (λ cursor. IsPostedTo cursor self.now self.now) }
+        ensures none { IfNone result (task_in self.now ≡ None) }
+    {
+        let Some((session, _)) = self.state.next_tile() else {
+            return None;
+        };
+        let from = self.state.passed_at(session);
+        Some(TileCursor { session, from })
+    }
+
+    /// Makes `room` the task at a cursor, and moves the cursor behind it: the next task once all before the cursor are posted.
+    /// It posts none. False where the session of the cursor has no task there; nothing is changed then.
+    pub fn task_from_in(&self, cursor: &mut TileCursor, room: &mut Task) -> bool
+        ensures task { result ≡ true → (later : Owner) → IsPostedTo cursor.old self.now later
+            → task_in later ≡ Some room.new }
+        ensures moved { result ≡ true → (later : Owner) → IsPostedTo cursor.old self.now later
+            → IsPostedTo cursor.new self.now (with_task_posted later) }
+        ensures unchanged { result ≡ false → room.new ≡ room.old }
+        ensures stays { result ≡ false → cursor.new ≡ cursor.old }
+    {
+        let TileCursor { session, from } = *cursor;
+        if session >= self.state.len() {
+            return false;
+        }
+        let label = self.label(self.state.name_at(session).copy());
+        let Some(next) = self.state.task_from_in(session, from, &label, room) else {
+            return false;
+        };
+        cursor.from = next;
+        true
     }
 
     /// Notes the tile of the task that `next_task` returns as posted.

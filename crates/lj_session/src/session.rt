@@ -1,7 +1,7 @@
 //! A session as it is held.
 ghost use Rattle.std.specs.Prelude.{◌≡◌, ◌↔◌, ◌<◌, ◌+◌, ◌^◌, [], length, slice_get, Some, None, IsOk, IsSome};
 ghost use Rattle.std.specs.Prelude.{IsErrOf};
-ghost use Rattle.std.specs.Prelude.{IfSome, OnOk, OnErr, ◌≤◌, unsigned_abs, IfOk, true, false, is_some};
+ghost use Rattle.std.specs.Prelude.{IfNone, IfSome, OnOk, OnErr, ◌≤◌, unsigned_abs, IfOk, true, false, is_some};
 ghost use Rattle.std.specs.Prelude.{nat_le, pos, ◌&&◌, ◌+ℤ◌, ◌*ℤ◌};
 ghost use Rattle.lj_tile.specs.declared.names.Kind.TheVariants.{Force};
 ghost use Rattle.lj_branch.specs.declared.branch_faults.SaveFault.TheVariants.{Exists};
@@ -212,17 +212,49 @@ impl HeldSession {
         }
     }
 
+    /// How many tiles of the open step's cover have been posted, or were in when their turn came.
+    pub(crate) fn passed(&self) -> usize
+        ensures { result ≡ self.now.passed }
+    {
+        self.passed
+    }
+
     /// The position in the cover of the first tile that is neither posted nor in.
     pub(crate) fn next_tile(&self) -> Option<usize>
         ensures value { result ≡ states.next_tile self.now }
         ensures below { IfSome result (λ i. i < steps.tiles_of self.now.live) }
     {
-        for i in self.passed..self.sim.tiles() {
+        self.next_tile_from(self.passed)
+    }
+
+    /// The position in the cover of the first tile, from a place on, that is awaited.
+    fn next_tile_from(&self, from: usize) -> Option<usize>
+        ensures value { result ≡ states.next_tile (record self.now { passed = from }) }
+        ensures below { IfSome result (λ i. i < steps.tiles_of self.now.live) }
+    {
+        for i in from..self.sim.tiles() {
             if self.sim.is_tile_awaited(i) {
                 return Some(i);
             }
         }
         None
+    }
+
+    /// Makes `room` the task of the first tile of the cover, from a place on, that is awaited. Returns the place after it.
+    pub(crate) fn task_from_in(&self, from: usize, label: &Label, room: &mut Task) -> Option<usize>
+        ensures task { let held = record self.now { passed = from } in
+            IfSome result (λ _. states.next_of label.now (Some held) ≡ Some room.new) }
+        ensures passes { let held = record self.now { passed = from } in
+            IfSome result (λ next. states.with_posted held ≡ record held { passed = next }) }
+        ensures unchanged { IfNone result (room.new ≡ room.old) }
+    {
+        let i = self.next_tile_from(from)?;
+        let _tiles = self.sim.tiles();
+        if self.sim.task_in(i, label, room) {
+            Some(i + 1)
+        } else {
+            None
+        }
     }
 
     /// Makes `room` the task of the first tile that is neither posted nor in, which is the i-th of the cover.

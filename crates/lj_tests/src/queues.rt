@@ -1,4 +1,4 @@
-//! Tests of the pools: ends that are full, a full pool, posts that are refused, a closed pool, ends that are gone, a user that is
+//! Tests of the pools: ends that are full, a full pool, tasks that are posted together, posts that are refused, a closed pool, ends that are gone, a user that is
 //! withdrawn, ends that find nothing or poll, tasks that are taken in turn or that a gate sends back, work that goes ahead of the
 //! next command, sessions that are worked on at once, and boxes that serve other tasks.
 
@@ -18,6 +18,7 @@ mod room;
 mod scene;
 mod side_by_side;
 mod stage;
+mod together;
 mod withdrawn;
 
 use crate::tasks::task;

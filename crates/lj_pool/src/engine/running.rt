@@ -1,7 +1,7 @@
 //! The work that is owed to sessions, done over a pool: while a command waits for it, and before the next one is read. Tasks
-//! are written in one room, which is handed down.
-ghost use Rattle.std.specs.Prelude.{◌≡◌, ◌+◌, ◌-◌, ◌<◌, ◌≤◌, length, Bool, true, false, [], ◌∷◌, Some, None, Ok, IsSome, IfOk, IfErr, IfSome, OnErr, OnOk};
-ghost use Rattle.lj_session.specs.Owner.{IsReplied, IsSettled, user_in, ready_session};
+//! are written in rooms, which are handed down.
+ghost use Rattle.std.specs.Prelude.{◌≡◌, ◌+◌, ◌-◌, ◌<◌, ◌≤◌, length, ℕ, Bool, true, false, [], ◌∷◌, Some, None, Ok, IsSome, IfOk, IfErr, IfSome, OnErr, OnOk};
+ghost use Rattle.lj_session.specs.Owner.{IsReplied, IsSettled, task_in, user_in, ready_session};
 ghost use Rattle.lj_wire.specs.Runs.{item_before};
 ghost use Rattle.lj_pool.specs.declared.engine.running.Halt.TheVariants.{TooManyStrays};
 ghost use Rattle.lj_pool.specs.Seen.{SameOwed};
@@ -9,13 +9,17 @@ ghost use Rattle.lj_pool.specs.Gathering.{Gathers};
 ghost use Rattle.lj_pool.specs.Counting.{CountsRise, FallsShort, HandedWithin, StraysRise, item_tiles};
 ghost use Rattle.lj_pool.specs.Coming.{GoesOn, OwesNoMore, OwesNoneWhereWaited, posts_coming, tiles_coming, tiles_to_come};
 ghost use Rattle.lj_pool.specs.Owing.{OwesAfter};
+ghost use Rattle.lj_pool.specs.Posting.{AreNext, after_posts};
 ghost use Rattle.lj_pool.specs.Running.{IsHalted};
 ghost use Rattle.lj_pool.specs.Serving.{AnswersItem};
 
-use crate::pool::{MAX_AHEAD, MAX_STRAYS, NotPosted, Pool};
+use crate::pool::{MAX_AHEAD, MAX_POSTS, MAX_STRAYS, NotPosted, Pool};
 use lj_session::{Begin, Owner, Refusal, Reply};
 use lj_tile::Task;
 use lj_wire::Item;
+
+/// The rooms in which tasks are written that are posted together.
+pub(crate) type Rooms = [Task; MAX_POSTS];
 
 /// Why the work was given up.
 #[derive(Clone, Copy, PartialEq, Eq, Debug)]
@@ -30,7 +34,7 @@ pub(crate) fn answer<P: Pool>(
     user: u8,
     pool: &mut P,
     item: &mut Item,
-    room: &mut Task,
+    rooms: &mut Rooms,
 ) -> Result<Reply, Halt>
     requires idle { owner.old.waiting ≡ None }
     requires number { owner.old.number ≡ user }
@@ -58,14 +62,14 @@ pub(crate) fn answer<P: Pool>(
     match item {
         Item::Command(command) => match owner.begin_from(command) {
             Begin::Answered(reply) => Ok(reply),
-            Begin::Running => run(owner, user, pool, room),
+            Begin::Running => run(owner, user, pool, rooms),
         },
         Item::Bad(fault) | Item::Last(fault) => Ok(Reply::Refused(Refusal::from(*fault))),
     }
 }
 
 /// Goes on with the steps of all sessions, until what waits is answered.
-fn run<P: Pool>(owner: &mut Owner, user: u8, pool: &mut P, room: &mut Task) -> Result<Reply, Halt>
+fn run<P: Pool>(owner: &mut Owner, user: u8, pool: &mut P, rooms: &mut Rooms) -> Result<Reply, Halt>
     requires waits { IsSome owner.old.waiting }
     requires number { owner.old.number ≡ user }
     requires gathers { Gathers owner.old (P.seen pool.old).owed }
@@ -92,11 +96,11 @@ fn run<P: Pool>(owner: &mut Owner, user: u8, pool: &mut P, room: &mut Task) -> R
                 return Ok(reply);
             }
             poll_next(owner, user, pool);
-            post_next(owner, pool, room, false)?;
+            post_next(owner, pool, &mut rooms[0], false)?;
             strays = 0;
-        } else if !post_or_wait(owner, pool, room)? {
+        } else if !post_or_wait(owner, pool, &mut rooms[0])? {
             strays = strays_after(strays, fetch_next(owner, user, pool)?)?;
-            if poll_and_post(owner, user, pool, room) {
+            if poll_and_post(owner, user, pool, rooms) {
                 strays = 0;
             }
         }
@@ -111,7 +115,7 @@ pub(crate) fn work_ahead<P: Pool>(
     user: u8,
     pool: &mut P,
     owes: bool,
-    room: &mut Task,
+    rooms: &mut Rooms,
 ) -> Result<bool, Halt>
     requires idle { owner.old.waiting ≡ None }
     requires number { owner.old.number ≡ user }
@@ -125,8 +129,8 @@ pub(crate) fn work_ahead<P: Pool>(
         return Ok(false);
     }
     poll_all(owner, user, pool);
-    turn_whole(owner, user, pool, room);
-    post_all(owner, pool, room);
+    turn_whole(owner, user, pool, rooms);
+    post_all(owner, pool, rooms);
     fetch_down(owner, user, pool)?;
     poll_all(owner, user, pool);
     Ok(owner.is_busy())
@@ -151,7 +155,7 @@ fn poll_all<P: Pool>(owner: &mut Owner, user: u8, pool: &mut P) -> bool
 
 /// Turns sessions until none is whole. Between two turns a result is taken in and a task posted, so that a session whose
 /// steps have no tiles does not keep the others waiting.
-fn turn_whole<P: Pool>(owner: &mut Owner, user: u8, pool: &mut P, room: &mut Task)
+fn turn_whole<P: Pool>(owner: &mut Owner, user: u8, pool: &mut P, rooms: &mut Rooms)
     requires idle { owner.old.waiting ≡ None }
     requires number { owner.old.number ≡ user }
     requires gathers { Gathers owner.old (P.seen pool.old).owed }
@@ -161,17 +165,62 @@ fn turn_whole<P: Pool>(owner: &mut Owner, user: u8, pool: &mut P, room: &mut Tas
     while let Some(name) = owner.ready_session() {
         let _none = owner.turn_session(&name);
         poll_next(owner, user, pool);
-        let _posted = post_next(owner, pool, room, false);
+        let _posted = post_next(owner, pool, &mut rooms[0], false);
     }
 }
 
-/// Posts tasks while there is room for them.
-fn post_all<P: Pool>(owner: &mut Owner, pool: &mut P, room: &mut Task)
+/// Posts tasks while there is room for them, several at once where the pool has room for several.
+fn post_all<P: Pool>(owner: &mut Owner, pool: &mut P, rooms: &mut Rooms)
     requires gathers { Gathers owner.old (P.seen pool.old).owed }
     ensures goes_on { GoesOn owner.old (P.seen pool.old) owner.new (P.seen pool.new) }
     ensures own { let user = owner.old.number in P.for_others pool.new user ≡ P.for_others pool.old user }
 {
-    while let Ok(true) = post_next(owner, pool, room, false) {}
+    while post_some(owner, pool, rooms) {}
+}
+
+/// Posts the next tasks together, as many as there is room for. False where there was none, or not all of them were posted.
+fn post_some<P: Pool>(owner: &mut Owner, pool: &mut P, rooms: &mut Rooms) -> bool
+    requires gathers { Gathers owner.old (P.seen pool.old).owed }
+    ensures goes_on { GoesOn owner.old (P.seen pool.old) owner.new (P.seen pool.new) }
+    ensures fewer { result ≡ true → posts_coming owner.new < posts_coming owner.old }
+    ensures own { let user = owner.old.number in P.for_others pool.new user ≡ P.for_others pool.old user }
+{
+    let written = write_next(owner, pool.room().min(MAX_POSTS), rooms);
+    if written == 0 {
+        return false;
+    }
+    let posted = pool.post_some(&rooms[..written]);
+    note_posted(owner, posted);
+    posted == written
+}
+
+/// Writes the next tasks in the rooms, at most so many, and posts none. Returns how many.
+fn write_next(owner: &Owner, most: usize, rooms: &mut Rooms) -> usize
+    requires { most ≤ MAX_POSTS }
+    ensures most { result ≤ most }
+    ensures next { AreNext result rooms.new owner.now }
+    ensures rooms { length rooms.new ≡ MAX_POSTS }
+{
+    let Some(mut cursor) = owner.first_tile() else {
+        return 0;
+    };
+    for here in 0..most {
+        if !owner.task_from_in(&mut cursor, &mut rooms[here]) {
+            return here;
+        }
+    }
+    most
+}
+
+/// Notes the next tasks as posted, so many.
+#[tactic(auto, using(crate::proofs::Posts::after_more))]
+fn note_posted(owner: &mut Owner, posted: usize)
+    requires { (k : ℕ) → k < posted → IsSome (task_in (after_posts k owner.old)) }
+    ensures { owner.new ≡ after_posts posted owner.old }
+{
+    for _done in 0..posted {
+        owner.posted();
+    }
 }
 
 /// Fetches results until few tasks are owed.
@@ -242,7 +291,7 @@ fn post_next<P: Pool>(
 
 /// Takes in what is there of the results that are owed, and posts what there is room for then, so that many tasks go to the
 /// workers together. Whether one of the results was of a tile that is awaited.
-fn poll_and_post<P: Pool>(owner: &mut Owner, user: u8, pool: &mut P, room: &mut Task) -> bool
+fn poll_and_post<P: Pool>(owner: &mut Owner, user: u8, pool: &mut P, rooms: &mut Rooms) -> bool
     requires number { owner.old.number ≡ user }
     requires gathers { Gathers owner.old (P.seen pool.old).owed }
     ensures goes_on { GoesOn owner.old (P.seen pool.old) owner.new (P.seen pool.new) }
@@ -250,7 +299,7 @@ fn poll_and_post<P: Pool>(owner: &mut Owner, user: u8, pool: &mut P, room: &mut 
     ensures own { P.for_others pool.new user ≡ P.for_others pool.old user }
 {
     let taken = poll_all(owner, user, pool);
-    post_all(owner, pool, room);
+    post_all(owner, pool, rooms);
     taken
 }
 

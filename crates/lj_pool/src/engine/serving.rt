@@ -24,6 +24,7 @@ use lj_session::{Command, Owner, UserState};
 use lj_tile::Task;
 use lj_wire::{Fault, Item, Line, LineReader, ReadFault, Sink, Source, WriteFault};
 use std::alloc::Global;
+use std::array;
 
 /// Serves a stream of commands from a user's state on, over a pool that owes nothing. What is written is the dialogue
 /// of what is read. The state is handed back, with the steps that are still owed to its sessions, but where the pool was
@@ -86,11 +87,11 @@ pub fn serve_lines<R: Source, W: Sink, P: Pool>(
 {
     let mut owner = Owner::new(state, user);
     let mut line = Line::new();
-    let mut room = Task::blank();
+    let mut rooms = array::from_fn(|_| Task::blank());
     let mut item = Item::Bad(Fault::Syntax);
     let mut owes = true;
     'items: loop {
-        owes = match work_ahead(&mut owner, user, pool, owes, &mut room) {
+        owes = match work_ahead(&mut owner, user, pool, owes, &mut rooms) {
             Ok(owes) => owes,
             Err(halt) => return given_up(owner, halt),
         };
@@ -101,7 +102,7 @@ pub fn serve_lines<R: Source, W: Sink, P: Pool>(
         }
         let ending = ending_of(&item);
         owes = owes || matches!(&item, Item::Command(Command::Start { .. }));
-        let reply = match answer(&mut owner, user, pool, &mut item, &mut room) {
+        let reply = match answer(&mut owner, user, pool, &mut item, &mut rooms) {
             Ok(reply) => reply,
             Err(halt) => return given_up(owner, halt),
         };

@@ -1,10 +1,12 @@
 //! The boxes that an end of a pool behind a lock has.
-ghost use Rattle.std.specs.Prelude.{◌≡◌, ◌≢◌, ◌+◌, ◌<◌, ◌≤◌, ◌↔◌, ◌∷◌, [], ◌++◌, ℕ, Some, cond, is_some, length, slice_index_or, true, false, unwrap_or, IsTrue, IfNone, IfSome, OnSome};
+ghost use Rattle.std.specs.Prelude.{◌≡◌, ◌≢◌, ◌+◌, ◌<◌, ◌≤◌, ◌↔◌, ◌∷◌, [], ◌++◌, ℕ, Some, cond, count_by, is_some, length, slice_index_or, true, false, unwrap_or, IsTrue, IfNone, IfSome, OnSome};
 ghost use Rattle.std.specs.List.{All};
 ghost use Rattle.lj_book.specs.Book.{user_of};
 ghost use Rattle.lj_tile.specs.Blank.{blank_task};
 ghost use Rattle.lj_pool.specs.EndBoxes.{HandsOut, IsFirstOf, box_count, no_boxes};
+ghost use Rattle.lj_pool.specs.Posting.{AreCopies};
 
+use crate::pool::MAX_POSTS;
 use arrayvec::ArrayVec;
 use lj_book::{DoneBox, TaskBox};
 use lj_tile::{Done, DoneRef, Task};
@@ -18,6 +20,9 @@ pub const MAX_SPARE: usize = MAX_IN_HAND + 1;
 
 /// The most boxes that an end has: those, and that of the result that it handed out last.
 pub const MAX_END_BOXES: usize = MAX_SPARE + 1;
+
+/// Copies of tasks that are to be posted, in their boxes. The place of a box that was posted is empty.
+pub(crate) type TaskCopies = ArrayVec<Option<TaskBox>, MAX_POSTS>;
 
 /// The result that an end handed out last, those that it hands out next, and boxes for tasks. It takes no memory.
 #[derive(Drop)]
@@ -99,6 +104,39 @@ impl EndBoxes {
         Some(boxed)
     }
 
+    /// Takes spare boxes off, as far as there are some, for copies of tasks.
+    #[tactic(auto, using(crate::proofs::Posts::are_copies))]
+    pub(crate) fn copies_of(&mut self, tasks: &[Task]) -> TaskCopies
+        requires few { length tasks.now ≤ MAX_POSTS }
+        ensures copies { AreCopies result.items tasks.now }
+        ensures most { length result.items ≤ length tasks.now }
+        ensures taken { self.old ≡ record self.new { spare = self.new.spare + length result.items } }
+        ensures places { length self.new.hand + self.new.spare + length result.items ≤ MAX_SPARE }
+    {
+        self.are_placed();
+        let mut copies = ArrayVec::new();
+        for here in 0..tasks.len() {
+            let Some(copy) = self.copy_of(&tasks[here]) else {
+                return copies;
+            };
+            copies.push(Some(copy));
+        }
+        copies
+    }
+
+    /// Keeps the boxes of the copies that were not posted.
+    pub(crate) fn take_back(&mut self, copies: TaskCopies)
+        requires { length self.old.hand + self.old.spare + length copies.items ≤ MAX_SPARE }
+        ensures { self.new ≡ record self.old { spare = self.old.spare + count_by is_some copies.items } }
+    {
+        let mut left = copies;
+        while let Some(place) = left.pop() {
+            if let Some(handed_back) = place {
+                self.push_spare(handed_back);
+            }
+        }
+    }
+
     /// Keeps a box for a task.
     pub(crate) fn push_spare(&mut self, spare: TaskBox)
         requires { length self.old.hand + self.old.spare < MAX_SPARE }
@@ -154,6 +192,13 @@ impl EndBoxes {
         }
         let last = self.last.take()?;
         Some(last.into_task())
+    }
+
+    /// There is a place for each box.
+    fn are_placed(&self)
+        ensures { length self.now.hand + self.now.spare ≤ MAX_SPARE }
+    {
+        let _hand = self.hand.len();
     }
 
     /// Where the first result in hand of a user lies.

@@ -1,14 +1,14 @@
 //! One connection's end of a pool behind a lock.
-ghost use Rattle.std.specs.Prelude.{◌≡◌, ◌<◌, [], true, false, length, IfErr, OnErr, OnOk};
+ghost use Rattle.std.specs.Prelude.{◌≡◌, ◌+◌, ◌<◌, ◌≤◌, ◌↔◌, [], true, false, length, take, IfErr, OnErr, OnOk};
 ghost use Rattle.lj_tile.specs.Blank.{blank_task};
 ghost use Rattle.lj_pool.specs.declared.pool.NotPosted.TheVariants.{Closed};
 ghost use Rattle.lj_pool.specs.EndBoxes.{IsNext};
-ghost use Rattle.lj_pool.specs.Seen.{IsHandedOut, IsPosted, SameOwed, StaysClosed, nothing_seen};
+ghost use Rattle.lj_pool.specs.Seen.{ArePosted, IsHandedOut, IsPosted, SameOwed, StaysClosed, nothing_seen};
 
 use crate::account::Account;
 use crate::lock::end_boxes::EndBoxes;
 use crate::lock::lock_pool::LockPool;
-use crate::pool::{NotPosted, Pool};
+use crate::pool::{MAX_OWED, MAX_POSTS, NotPosted, Pool};
 use lj_tile::{DoneRef, Task};
 use std::marker::Model;
 use std::sync::Wait;
@@ -98,6 +98,26 @@ impl<'p, L: Ledger, R: Wait> Pool for LockEnd<'p, L, R> {
         posted
     }
 
+    fn post_some(&mut self, tasks: &[Task]) -> usize
+        requires few { length tasks.now ≤ MAX_POSTS }
+        requires room { length self.old.seen.owed + length tasks.now ≤ MAX_OWED }
+        ensures last { self.new.last ≡ self.old.last }
+        ensures hand { self.new.hand ≡ self.old.hand }
+        ensures most { result ≤ length tasks.now }
+        ensures posted { ArePosted (take result tasks.now) self.old.seen self.new.seen }
+        ensures stays_closed { StaysClosed self.old.seen self.new.seen }
+    {
+        let mut copies = self.boxes.copies_of(tasks);
+        let posted = self.pool.post_some(self.rt, &mut copies, tasks);
+        self.boxes.take_back(copies);
+        self.account.note_posts(tasks, posted);
+        if posted == tasks.len() || !self.pool.is_closed() {
+            return posted;
+        }
+        self.account.close();
+        posted
+    }
+
     fn fetch_in(&mut self, user: u8) -> bool
         ensures whose { result ≡ true → self.new.last.name.label.user ≡ user }
         ensures next { result ≡ true → IsNext user self.old.hand self.new.last self.new.hand }
@@ -147,6 +167,14 @@ impl<'p, L: Ledger, R: Wait> Pool for LockEnd<'p, L, R> {
 
     fn is_full(&self) -> bool {
         self.account.is_full()
+    }
+
+    fn room(&self) -> usize
+        ensures all { length self.now.seen.owed + result ≡ MAX_OWED }
+        ensures none { result ≡ 0 ↔ (length self.now.seen.owed ≡ MAX_OWED) }
+        ensures within { 0 < result → length self.now.seen.owed + result ≤ MAX_OWED }
+    {
+        MAX_OWED - self.account.owed()
     }
 
     fn closed(&self) -> bool {

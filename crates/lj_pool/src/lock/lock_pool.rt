@@ -1,13 +1,14 @@
 //! A pool behind a lock, whose workers run in threads of their own.
-ghost use Rattle.std.specs.Prelude.{◌≡◌, ◌+◌, ◌≤◌, None, true, false, vec_len, IfErr, IfOk, IsSomeAnd, OnErr, OnOk};
+ghost use Rattle.std.specs.Prelude.{◌≡◌, ◌+◌, ◌≤◌, None, true, false, length, vec_len, IfErr, IfOk, IsSomeAnd, OnErr, OnOk};
 ghost use Rattle.std.specs.List.{All};
 ghost use Rattle.std.specs.Option.{ForSome};
 ghost use Rattle.lj_pool.specs.declared.pool.NotPosted.TheVariants.{Closed};
 ghost use Rattle.lj_pool.specs.EndBoxes.{IsNext, SameResults, TakesInHand};
+ghost use Rattle.lj_pool.specs.Posting.{AreCopies, HandsOver};
 ghost use Rattle.lj_pool.specs.Seen.{nothing_seen};
 ghost use Rattle.lj_tile.specs.Blank.{blank_task};
 
-use crate::lock::end_boxes::{EndBoxes, MAX_END_BOXES};
+use crate::lock::end_boxes::{EndBoxes, MAX_END_BOXES, TaskCopies};
 use crate::lock::lock_end::LockEnd;
 use crate::lock::pool_state::PoolState;
 use crate::pool::NotPosted;
@@ -111,7 +112,7 @@ impl<L: Ledger> LockPool<L> {
     }
 
     /// Whether the pool is closed.
-    fn is_closed(&self) -> bool {
+    pub(crate) fn is_closed(&self) -> bool {
         self.closed.load(Ordering::SeqCst)
     }
 
@@ -150,6 +151,26 @@ impl<L: Ledger> LockPool<L> {
             state = self.not_full.wait(rt, state);
         }
         unreachable!()
+    }
+
+    /// Posts tasks in their order, in the boxes of their copies or in spare ones, under one holding of the lock. Returns how many
+    /// of them were posted, the first ones. It never waits for room.
+    pub(crate) fn post_some<R: Wait>(
+        &self,
+        rt: &R,
+        copies: &mut TaskCopies,
+        tasks: &[Task],
+    ) -> usize
+        requires { AreCopies copies.old.items tasks.now }
+        ensures most { result ≤ length tasks.now }
+        ensures hands_over { HandsOver result copies.old.items copies.new.items }
+    {
+        let mut state = self.state.lock(rt);
+        let posted = state.post_some(copies, tasks);
+        let due = state.unsignalled.take_due(TASKS_AT_ONCE);
+        drop(state);
+        self.wake_workers(due);
+        posted
     }
 
     /// Wakes workers that wait, for so many tasks.

@@ -1,14 +1,15 @@
 //! What lies under the lock of a pool.
-ghost use Rattle.std.specs.Prelude.{◌≡◌, ◌≢◌, ◌+◌, ◌≤◌, ◌<◌, ◌↔◌, ◌⊎◌, ◌++◌, ℕ, List, Some, None, true, false, length, IsOk, IsTrue, IfErr, IfNone, IfSome, OnErr, OnOk};
+ghost use Rattle.std.specs.Prelude.{◌≡◌, ◌≢◌, ◌+◌, ◌≤◌, ◌<◌, ◌↔◌, ◌⊎◌, ◌++◌, ℕ, List, Some, None, true, false, length, slice_index_or, take, IsOk, IsTrue, IfErr, IfNone, IfSome, OnErr, OnOk};
 ghost use Rattle.std.specs.List.{All};
 ghost use Rattle.std.specs.Option.{ForSome};
 ghost use Rattle.lj_book.specs.Book.{entry_count, user_of, HasRoom, IsDoneAt, IsOpenAt};
 ghost use Rattle.lj_book.specs.Boxes.{boxes as boxes_of, GivesBox, HandsBackBox, IsOut, PostsBox, TakesBox, WithdrawsBox};
 ghost use Rattle.lj_pool.specs.declared.pool.NotPosted.TheVariants.{Closed};
 ghost use Rattle.lj_pool.specs.EndBoxes.{SameResults, box_count};
-ghost use Rattle.lj_pool.specs.PoolStates.{FetchesEach, FetchesInHand, HasBox, NoneIsLost, PutsBy, lending};
+ghost use Rattle.lj_pool.specs.PoolStates.{FetchesEach, FetchesInHand, HasBox, HasPosted, NoneIsLost, PostsEach, PutsBy, lending};
+ghost use Rattle.lj_pool.specs.Posting.{AreCopies, HandsOver};
 
-use crate::lock::end_boxes::{EndBoxes, MAX_IN_HAND};
+use crate::lock::end_boxes::{EndBoxes, MAX_IN_HAND, TaskCopies};
 use crate::pool::NotPosted;
 use crate::share::Share;
 use crate::waking::{UnsignalledPosts, WaitQueues};
@@ -61,6 +62,7 @@ impl<L: Ledger> PoolState<L> {
         ensures stays { self.new.closed ≡ self.old.closed }
         ensures wait_queues { self.new.wait_queues ≡ self.old.wait_queues }
         ensures unsignalled { OnOk result (1 ≤ self.new.unsignalled) }
+        ensures none_noted { OnErr result (self.new.unsignalled ≡ self.old.unsignalled) }
     {
         if self.closed {
             return Err(NotPosted::Closed);
@@ -76,6 +78,54 @@ impl<L: Ledger> PoolState<L> {
         Ok(())
     }
 
+    /// Posts tasks in their order: in the boxes of their copies, as far as there are some, and else copies of them in spare
+    /// boxes. Returns how many of them were posted, the first ones. The boxes of the others are handed back.
+    #[tactic(auto, using(crate::proofs::Posts::posts_next))]
+    pub(crate) fn post_some(&mut self, copies: &mut TaskCopies, tasks: &[Task]) -> usize
+        requires { AreCopies copies.old.items tasks.now }
+        ensures most { result ≤ length tasks.now }
+        ensures posts { PostsEach (take result tasks.now) self.old.book self.new.book }
+        ensures hands_over { HandsOver result copies.old.items copies.new.items }
+        ensures stays { self.new.closed ≡ self.old.closed }
+        ensures wait_queues { self.new.wait_queues ≡ self.old.wait_queues }
+        ensures unsignalled { 0 < result → 1 ≤ self.new.unsignalled }
+    {
+        for here in 0..tasks.len() {
+            if self.post_at(here, copies, &tasks[here]).is_err() {
+                return here;
+            }
+        }
+        tasks.len()
+    }
+
+    /// Posts a task in the box at this place, where there is one; else a copy of it in a spare box. Where it is not posted, the
+    /// box stays.
+    fn post_at(
+        &mut self,
+        here: usize,
+        copies: &mut TaskCopies,
+        task: &Task,
+    ) -> Result<(), NotPosted>
+        requires { ForSome (slice_index_or copies.old.items here None) (λ work. work ≡ task.now) }
+        ensures posts { OnOk result (HasPosted task.now self.old.book self.new.book) }
+        ensures unchanged { OnErr result (self.new.book ≡ self.old.book) }
+        ensures out_of_hand { OnOk result (slice_index_or copies.new.items here None ≡ None) }
+        ensures handed_back { OnErr result (copies.new.items ≡ copies.old.items) }
+        ensures places { length copies.new.items ≡ length copies.old.items }
+        ensures others { (k : ℕ) → k ≢ here
+            → slice_index_or copies.new.items k None ≡ slice_index_or copies.old.items k None }
+        ensures stays { self.new.closed ≡ self.old.closed }
+        ensures wait_queues { self.new.wait_queues ≡ self.old.wait_queues }
+        ensures unsignalled { OnOk result (1 ≤ self.new.unsignalled) }
+        ensures none_noted { OnErr result (self.new.unsignalled ≡ self.old.unsignalled) }
+    {
+        if here < copies.len() {
+            self.post(&mut copies[here], task)
+        } else {
+            self.post(&mut None, task)
+        }
+    }
+
     /// Posts a copy of a task in a spare box.
     fn post_copy(&mut self, task: &Task) -> Result<(), NotPosted>
         ensures room { IsOk result ↔ (HasRoom self.old.book.held × (0 < self.old.book.spare)) }
@@ -86,6 +136,7 @@ impl<L: Ledger> PoolState<L> {
         ensures stays { self.new.closed ≡ self.old.closed }
         ensures wait_queues { self.new.wait_queues ≡ self.old.wait_queues }
         ensures unsignalled { OnOk result (1 ≤ self.new.unsignalled) }
+        ensures none_noted { OnErr result (self.new.unsignalled ≡ self.old.unsignalled) }
     {
         self.book.boxes_are_few();
         let Some(mut spare) = self.book.lend() else {

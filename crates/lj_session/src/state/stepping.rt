@@ -2,12 +2,12 @@
 ghost use Rattle.std.specs.Prelude.{◌≡◌, ◌↔◌, ◌<◌, ℕ, List, Some, None, true, false, IsOk, IsSome, OnOk};
 ghost use Rattle.std.specs.Prelude.{OnErr, IfSome, IfNone, length, slice_get};
 ghost use Rattle.std.specs.List.{IsDistinct, find};
-ghost use Rattle.std.specs.Option.{ForSome, option_copied};
+ghost use Rattle.std.specs.Option.{ForSome, option_copied, option_map};
 ghost use Rattle.std.specs.Str.{bytes_eq};
 ghost use Rattle.lj_tile.specs.declared.names.Kind.TheVariants.{Force};
 ghost use Rattle.lj_step.specs.OpenSteps.{tile_number_of};
 ghost use Rattle.lj_session.specs.UserState.{IsWhole, IsAwaited, user_of, held_session, names, owed_in, with_session_changed};
-ghost use Rattle.lj_session.specs.UserState.{IsNextTile, first_with_task, with_step, with_posted};
+ghost use Rattle.lj_session.specs.UserState.{HeldSession, IsNextTile, first_with_task, held_session_at, with_step, with_posted};
 ghost use Rattle.lj_session.specs.UserState.{with_tile_in, with_no_step, with_step_passed, state_at_rest, is_whole_in};
 ghost use Rattle.lj_session.specs.UserState as states;
 
@@ -76,6 +76,33 @@ impl UserState {
         ensures unchanged { result ≡ false → room.new ≡ room.old }
     {
         self.at(i).task_in(k, label, room)
+    }
+
+    /// How many tiles of the i-th session have been posted, or were in when their turn came.
+    pub(crate) fn passed_at(&self, i: usize) -> usize
+        requires { i < length self.now.sessions }
+        ensures { option_map (λ held. held.passed) (held_session_at self.now i) ≡ Some result }
+    {
+        self.at(i).passed()
+    }
+
+    /// Makes `room` the task of the first tile of the i-th session, from a place of its cover on, that is awaited. Returns the
+    /// place after it.
+    pub(crate) fn task_from_in(
+        &self,
+        i: usize,
+        from: usize,
+        label: &Label,
+        room: &mut Task,
+    ) -> Option<usize>
+        requires { i < length self.now.sessions }
+        ensures task { IfSome result (λ _. (held : HeldSession) → held_session_at self.now i ≡ Some held
+            → states.next_of label.now (Some (record held { passed = from })) ≡ Some room.new) }
+        ensures passes { IfSome result (λ next. (held : HeldSession) → held_session_at self.now i ≡ Some held
+            → with_posted (record held { passed = from }) ≡ record held { passed = next }) }
+        ensures unchanged { IfNone result (room.new ≡ room.old) }
+    {
+        self.at(i).task_from_in(from, label, room)
     }
 
     /// Notes the next tile, which is the k-th of the i-th session, as posted.

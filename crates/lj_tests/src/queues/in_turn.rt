@@ -78,12 +78,19 @@ fn post_fourth<S: Stage<R>, P: Pool, R: Host>(
     is_held && first_came && others_came
 }
 
+/// Posts one task, and then two together.
+fn post_three<P: Pool, R: Abort>(rt: &R, end: &mut P) {
+    post_one(rt, end, task(rt, USER, 1));
+    if end.owed() == 1 {
+        let posted = end.post_some(&[task(rt, USER, 2), task(rt, USER, 3)]);
+        assert!(rt; posted == 2);
+    }
+}
+
 /// An end posts three tasks. Then a worker comes.
 pub fn take_in_turn<S: Stage<R> + Sync, R: Host + Sync>(rt: &R, stage: &S) -> Taken {
     let mut end = stage.end(rt, USER);
-    for step in 1..4 {
-        post_one(rt, &mut end, task(rt, USER, step));
-    }
+    post_three(rt, &mut end);
     let gate = Noting {
         rt,
         order: AtomicU64::new(0),

@@ -33,16 +33,29 @@ pub enum Answer {
     Other,
 }
 
+/// The ends that fill the pool, of which the first one posts only so many tasks.
+///
+/// # Errors
+/// Out of memory.
+pub fn fill_from<S: Stage<R>, R: Host>(
+    rt: &R,
+    stage: &S,
+    first: i64,
+) -> Result<Vec<S::End>, AllocError> {
+    let mut ends = Vec::with_capacity(rt.alloc(), usize::from(ENDS))?;
+    for user in 0..ENDS {
+        let tasks = if user == 0 { first } else { 64 };
+        put_back(rt, &mut ends, posting_end(rt, stage, user, tasks));
+    }
+    Ok(ends)
+}
+
 /// Ends that fill the pool.
 ///
 /// # Errors
 /// Out of memory.
 pub fn fill<S: Stage<R>, R: Host>(rt: &R, stage: &S) -> Result<Vec<S::End>, AllocError> {
-    let mut ends = Vec::with_capacity(rt.alloc(), usize::from(ENDS))?;
-    for user in 0..ENDS {
-        put_back(rt, &mut ends, posting_end(rt, stage, user, 64));
-    }
-    Ok(ends)
+    fill_from(rt, stage, 64)
 }
 
 /// Posts a task by an end that is owed nothing.

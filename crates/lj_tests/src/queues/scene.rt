@@ -5,7 +5,7 @@ use super::room::Crowd;
 use super::stage::{Host, Stage};
 use super::{
     ahead, closing, ends, filled, handed_back, in_turn, nothing_found, polling, refused, room,
-    side_by_side, withdrawn,
+    side_by_side, together, withdrawn,
 };
 use std::alloc::AllocError;
 
@@ -26,6 +26,7 @@ pub enum Scene {
     Refused,
     Crowd(Crowd),
     SideBySide,
+    Together,
     WithEnd,
     WithoutEnd,
 }
@@ -43,6 +44,7 @@ pub enum Seen {
     Answers([room::Answer; 4]),
     Crowd(Result<room::Told, AllocError>),
     Refused(Result<refused::Told, AllocError>),
+    Together(Result<[together::Told; 3], AllocError>),
     WithEnd(withdrawn::Left),
     WithoutEnd(withdrawn::LeftAndCounts),
 }
@@ -66,6 +68,7 @@ pub fn play_over<S: Stage<R> + Sync, R: Host + Sync>(rt: &R, stage: &S, scene: S
         Scene::Refused => Seen::Refused(refused::refuse_many(rt, stage)),
         Scene::Crowd(crowd) => Seen::Crowd(crowd.play(rt, stage)),
         Scene::SideBySide => Seen::Right(side_by_side::serve_beside_workers(rt, stage)),
+        Scene::Together => Seen::Together(together::post_together(rt, stage)),
         Scene::WithEnd => Seen::WithEnd(withdrawn::withdraw_with_end(rt, stage)),
         Scene::WithoutEnd => Seen::WithoutEnd(withdrawn::withdraw_without_end(rt, stage)),
     }

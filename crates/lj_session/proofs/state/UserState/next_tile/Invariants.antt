@@ -1,4 +1,4 @@
-use Rattle.lj_session.proofs.NextTiles.{NoTaskBefore}
+use Rattle.lj_session.specs.UserState.{NoTaskBefore}
 use Rattle.lj_session.proofs.state.UserState.next_tile.Given as goal
 
 -- none of the sessions before has a task

@@ -1,0 +1,179 @@
+-- Several tasks posted at once: what is owed then, what the pool holds then, and that the work goes on.
+use Rattle.std.proofs.Common.{◌≡◌, ℕ, zero, suc, ◌+◌, ◌<◌, ◌≤◌, ◌≢◌, ◌⊎◌, true, false, nat_eq, List, [], ◌∷◌, ◌++◌, length, take, get_or, set, Option, Some, None, inl, inr}
+use Rattle.std.proofs.Common.{refl, sym, ap, ◌∙◌, subst, arith}
+use Rattle.std.specs.List.{All}
+use Rattle.std.proofs.lemmas.Bool.{cases_lt, true≢false}
+use Rattle.std.proofs.lemmas.Bool.Decides.{eqb_tells}
+use Rattle.std.proofs.lemmas.List.{append-nil, append_assoc, length-append, length-take-le, take_more, get_or_default, get_or_past, get_or-take, get_or-set_same, get_or-set_other}
+use Rattle.std.proofs.lemmas.Option.{none-some, same_Some}
+use Rattle.lj_tile.specs.declared.names.Label.{Label}
+use Rattle.lj_tile.specs.Blank.{blank_task}
+use Rattle.lj_tile.specs.Task.{Task}
+use Rattle.lj_book.specs.Boxes.{BoxBook}
+use Rattle.lj_session.specs.Owner.{Owner, label_of, task_in, with_task_posted}
+use Rattle.lj_pool.specs.Coming.{GoesOn, posts_coming}
+use Rattle.lj_pool.specs.Gathering.{Gathers}
+use Rattle.lj_pool.specs.PoolStates.{HasPosted, PostsEach}
+use Rattle.lj_pool.specs.Posting.{AreCopies, AreNext, after_posts}
+use Rattle.lj_pool.specs.Seen.{ArePosted, IsPosted, Seen}
+use Rattle.lj_pool.proofs.Gathered.{Posting, posting}
+use Rattle.lj_pool.proofs.Gathering.{next_label}
+use Rattle.lj_pool.proofs.Going.{fewer_posts, goes_posted, goes_then, goes_unchanged}
+
+-- no task is posted, and then one more
+pub posted_none : (tasks : List Task) (seen : Seen) → ArePosted (take 0 tasks) seen seen
+posted_none tasks seen = record { owed = sym (append-nil seen.owed); good = refl; strays = refl }
+
+pub posted_more : (tasks : List Task) (k : ℕ) (work : Task) (a b c : Seen) → k < length tasks → work ≡ get_or tasks k work
+    → ArePosted (take k tasks) a b → IsPosted work b c → ArePosted (take (k + 1) tasks) a c
+posted_more tasks k work a b c inside read before posted = record {
+  owed = posted.owed ∙ ap (λ front. front ++ work ∷ []) before.owed ∙ append_assoc a.owed (take k tasks) (work ∷ [])
+      ∙ ap (λ x. a.owed ++ (take k tasks ++ x ∷ [])) read ∙ ap (λ l. a.owed ++ l) (sym (take_more tasks k work inside));
+  good = posted.good ∙ before.good;
+  strays = posted.strays ∙ before.strays;
+}
+
+-- how many are owed then
+pub owed_then : (tasks : List Task) (k : ℕ) (a b : Seen) → k ≤ length tasks → ArePosted (take k tasks) a b
+    → length b.owed ≡ length a.owed + k
+owed_then tasks k a b inside posted =
+    ap length posted.owed ∙ length-append a.owed (take k tasks) ∙ ap (λ n. length a.owed + n) (length-take-le k tasks inside)
+
+-- one task more stands in the book
+pub posts_more : (xs : List Task) (work : Task) (old mid new : BoxBook) → PostsEach xs old mid → HasPosted work mid new
+    → PostsEach (xs ++ work ∷ []) old new
+posts_more [] work old mid new before posted = (new, subst (λ book. HasPosted work book new) before posted, refl)
+posts_more (x ∷ xs) work old mid new before posted =
+    (before.0, before.1, posts_more xs work before.0 mid new before.2 posted)
+
+pub posts_next : (tasks : List Task) (k : ℕ) (work : Task) (old mid new : BoxBook) → k < length tasks → work ≡ get_or tasks k work
+    → PostsEach (take k tasks) old mid → HasPosted work mid new → PostsEach (take (k + 1) tasks) old new
+posts_next tasks k work old mid new inside read before posted =
+    subst (λ xs. PostsEach xs old new)
+    (ap (λ x. take k tasks ++ x ∷ []) read ∙ sym (take_more tasks k work inside))
+    (posts_more (take k tasks) work old mid new before posted)
+
+-- copies that lie at the first places are copies
+pub are_copies : (boxes : List (Option Task)) (tasks : List Task)
+    → ((k : ℕ) → k < length boxes → get_or boxes k None ≡ Some (get_or tasks k blank_task)) → AreCopies boxes tasks
+are_copies boxes tasks each k inside copy there = elim (cases_lt k (length boxes)) [
+  | inl below ↦ sym (same_Some (get_or tasks k blank_task) copy (sym (each k below) ∙ there))
+  | inr above ↦ absurd (none-some copy (sym (get_or_past boxes k None (omega (arith, above))) ∙ there))
+]
+
+-- the posts of an owner one after the other
+pub after_more : (n : ℕ) (owner : Owner) → after_posts (n + 1) owner ≡ with_task_posted (after_posts n owner)
+after_more n owner = let e : n + 1 ≡ suc n = omega arith in ap (λ m. after_posts m owner) e
+
+-- one next task more in the rooms
+pub next_more : (owner : Owner) (rooms : List Task) (k : ℕ) (work : Task) → k < length rooms → AreNext k rooms owner
+    → task_in (after_posts k owner) ≡ Some work → AreNext (k + 1) (set rooms k work) owner
+next_more owner rooms k work inside before some j below = elim (cases_lt j k) [
+  | inl less ↦ before j less ∙ ap (λ (x : Task). Some x)
+      (sym (get_or-set_other rooms k j work blank_task (λ same. omega (arith, less, same))))
+  | inr above ↦ let is : j ≡ k = omega (arith, above, below) in
+      ap (λ n. task_in (after_posts n owner)) is ∙ some
+      ∙ ap (λ (x : Task). Some x) (sym (ap (λ n. get_or (set rooms k work) n blank_task) is ∙ get_or-set_same rooms k work blank_task inside))
+]
+
+-- a next task is one of its owner's user
+pub task_user : (owner : Owner) (owed : List Task) (t : Gathers owner owed) (work : Task) → task_in owner ≡ Some work
+    → work.name.label.user ≡ owner.number
+task_user owner owed t work some =
+    let p : Posting owner owed t work = posting owner owed t work some in
+    ap (λ (l : Label). l.user) (next_label p.held (label_of owner p.name) p.step p.is_open (t.gathered p.name p.held p.there)
+    p.place p.next_place work p.task)
+
+-- so many tasks posted: what was seen then
+abbrev seen_then : List Task → ℕ → Seen → Seen
+seen_then tasks n seen = record seen { owed = seen.owed ++ take n tasks }
+
+module _ (owner : Owner) (before : Seen) (t : Gathers owner before.owed) (tasks : List Task) where
+  record Goes (n : ℕ) (after : Seen) : Type 0 where
+    goes : GoesOn owner before (after_posts n owner) after
+    fewer : posts_coming (after_posts n owner) + n ≤ posts_coming owner
+    number : (after_posts n owner).number ≡ owner.number
+
+  goes_each : (n : ℕ) → n ≤ length tasks → AreNext n tasks owner → (after : Seen) → ArePosted (take n tasks) before after → Goes n after
+  goes_each zero most next after posted = record {
+    goes = goes_unchanged owner before after t (record { owed = posted.owed ∙ append-nil before.owed; good = posted.good; strays = posted.strays });
+    fewer = omega arith;
+    number = refl;
+  }
+  goes_each (suc n) most next after posted =
+      let mid : Seen = record before { owed = before.owed ++ take n tasks } in
+      let first : Goes n mid = goes_each n (omega (arith, most)) (λ k below. next k (omega (arith, below))) mid
+      (record { owed = refl; good = refl; strays = refl }) in
+      let work : Task = get_or tasks n blank_task in
+      let some : task_in (after_posts n owner) ≡ Some work = next n (omega arith) in
+      let last : IsPosted work mid after = record {
+        owed = posted.owed ∙ ap (λ l. before.owed ++ l) (one_more n (omega (arith, most)))
+            ∙ sym (append_assoc before.owed (take n tasks) (work ∷ []));
+        good = posted.good;
+        strays = posted.strays;
+      } in
+      let less = fewer_posts (after_posts n owner) mid after first.goes.gathers work some in
+      let goes = goes_posted (after_posts n owner) mid after first.goes.gathers work some last in
+      let before_less = first.fewer in
+      record {
+        goes = goes_then first.goes goes;
+        fewer = omega (arith, before_less, less);
+        number = goes.number ∙ first.number;
+      }
+    where
+      one_more : (n : ℕ) → n < length tasks → take (suc n) tasks ≡ take n tasks ++ get_or tasks n blank_task ∷ []
+      one_more n inside =
+          let e : n + 1 ≡ suc n = omega arith in
+          subst (λ m. take m tasks ≡ take n tasks ++ get_or tasks n blank_task ∷ []) e (take_more tasks n blank_task inside)
+
+  pub goes_all : (n : ℕ) → n ≤ length tasks → AreNext n tasks owner → (after : Seen) → ArePosted (take n tasks) before after
+      → GoesOn owner before (after_posts n owner) after
+  goes_all n most next after posted = (goes_each n most next after posted).goes
+
+  pub fewer_all : (n : ℕ) → n ≤ length tasks → AreNext n tasks owner → (after : Seen) → ArePosted (take n tasks) before after
+      → posts_coming (after_posts n owner) + n ≤ posts_coming owner
+  fewer_all n most next after posted = (goes_each n most next after posted).fewer
+
+  -- all next tasks are of the owner's user
+  pub users_all : (n : ℕ) → n ≤ length tasks → AreNext n tasks owner
+      → All (λ task. task.name.label.user ≡ owner.number) (take n tasks)
+  users_all n most next k d inside =
+      let below : k < n = omega (arith, inside, length-take-le n tasks most) in
+      let front : Goes k (seen_then tasks k before) = goes_each k (omega (arith, below, most)) (λ j less. next j (omega (arith, less, below)))
+      (seen_then tasks k before) (record { owed = refl; good = refl; strays = refl }) in
+      let read : get_or (take n tasks) k d ≡ get_or tasks k blank_task =
+      get_or-take n tasks k d below ∙ get_or_default tasks k d blank_task (omega (arith, below, most)) in
+      ap (λ (task : Task). task.name.label.user) read
+      ∙ task_user (after_posts k owner) (seen_then tasks k before).owed front.goes.gathers (get_or tasks k blank_task) (next k below)
+      ∙ front.number
+
+-- numbers that are told equal are
+eq_of : (n m : ℕ) → nat_eq n m ≡ true → n ≡ m
+eq_of n m told = by (eqb_tells n m)
+  where
+    by : (nat_eq n m ≡ true) × (n ≡ m) ⊎ (nat_eq n m ≡ false) × (n ≢ m) → n ≡ m
+    by (inl (t, is)) = is
+    by (inr (t, differs)) = absurd (true≢false (sym told ∙ t))
+
+-- the rooms in which the next tasks are written are handed to the pool
+module _ (owner : Owner) (before : Seen) (t : Gathers owner before.owed) (rooms : List Task) (written : ℕ)
+    (inside : written ≤ length rooms) (next : AreNext written rooms owner) where
+  next_front : (n : ℕ) → n ≤ length (take written rooms) → AreNext n (take written rooms) owner
+  next_front n most k below =
+      let count = length-take-le written rooms inside in
+      let less : k < written = omega (arith, most, below, count) in
+      next k less ∙ ap (λ (x : Task). Some x) (sym (get_or-take written rooms k blank_task less))
+
+  pub goes_front : (n : ℕ) → n ≤ length (take written rooms) → (after : Seen) → ArePosted (take n (take written rooms)) before after
+      → GoesOn owner before (after_posts n owner) after
+  goes_front n most after posted = goes_all owner before t (take written rooms) n most (next_front n most) after posted
+
+  pub fewer_front : (n : ℕ) → n ≤ length (take written rooms) → (after : Seen) → ArePosted (take n (take written rooms)) before after
+      → nat_eq n written ≡ true → written ≢ 0 → posts_coming (after_posts n owner) < posts_coming owner
+  fewer_front n most after posted all some =
+      let less = fewer_all owner before t (take written rooms) n most (next_front n most) after posted in
+      let same = eq_of n written all in
+      omega (arith, less, same, some)
+
+  pub users_front : All (λ task. task.name.label.user ≡ owner.number) (take written rooms)
+  users_front = users_all owner before t rooms written inside next
