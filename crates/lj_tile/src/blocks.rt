@@ -1,10 +1,11 @@
 //! Blocks of places of atoms.
-ghost use Rattle.std.specs.Prelude.{◌≡◌, ◌≤◌, ◌↔◌, ◌+◌, ◌*◌, ◌&&◌, drop, length, IsTrue};
-ghost use Rattle.lj_tile.specs.Block.{is_same_place, are_same_places};
+ghost use Rattle.std.specs.Prelude.{◌≡◌, ◌≤◌, ◌↔◌, ◌+◌, ◌*◌, ◌&&◌, ◌∷◌, [], drop, length, IsTrue};
+ghost use Rattle.lj_tile.specs.Block.{is_same_place, are_same_places, are_same_lanes, has_none};
 
 use arrayvec::ArrayVec;
 use lj_ring::Place;
 use std::marker::Model;
+use std::simd::prelude::*;
 
 /// The most atoms of a block.
 pub const BLOCK: usize = 64;
@@ -119,7 +120,8 @@ fn is_same_list(a: &[Place], b: &[Place]) -> bool
     is_same_in_fours(a, b, fours) & is_same_from(a, b, 4 * fours)
 }
 
-/// Whether the first places of two lists are the same, so many times four.
+/// Whether the first places of two lists are the same, so many times four. What differs is kept in lanes, and looked at
+/// once.
 #[inline]
 fn is_same_in_fours(a: &[Place], b: &[Place], fours: usize) -> bool
     requires count { length a.now ≡ length b.now }
@@ -127,25 +129,83 @@ fn is_same_in_fours(a: &[Place], b: &[Place], fours: usize) -> bool
     ensures { (result && are_same_places (drop (4 * fours) a.now) (drop (4 * fours) b.now))
         ≡ are_same_places a.now b.now }
 {
-    let mut same = true;
+    let mut differences = u32x4::splat(0);
     for group in 0..fours {
-        same &= is_same_four(a, b, 4 * group);
+        differences = either(differences, differences_of_four(a, b, 4 * group));
     }
-    same
+    has_none(differences)
 }
 
-/// Whether the four places from one on are the same.
-#[inline]
-fn is_same_four(a: &[Place], b: &[Place], from: usize) -> bool
+/// The bits in which the coordinates of the four places from one on differ, in lanes.
+#[inline(always)]
+fn differences_of_four(a: &[Place], b: &[Place], from: usize) -> u32x4
     requires count { length a.now ≡ length b.now }
     requires enough { from + 4 ≤ length a.now }
-    ensures { (result && are_same_places (drop (from + 4) a.now) (drop (from + 4) b.now))
+    ensures { (has_none result && are_same_places (drop (from + 4) a.now) (drop (from + 4) b.now))
         ≡ are_same_places (drop from a.now) (drop from b.now) }
 {
-    is_same(&a[from], &b[from])
-        & is_same(&a[from + 1], &b[from + 1])
-        & is_same(&a[from + 2], &b[from + 2])
-        & is_same(&a[from + 3], &b[from + 3])
+    let first = differences(
+        first_lanes(&a[from], &a[from + 1]),
+        first_lanes(&b[from], &b[from + 1]),
+    );
+    let middle = differences(
+        middle_lanes(&a[from + 1], &a[from + 2]),
+        middle_lanes(&b[from + 1], &b[from + 2]),
+    );
+    let last = differences(
+        last_lanes(&a[from + 2], &a[from + 3]),
+        last_lanes(&b[from + 2], &b[from + 3]),
+    );
+    either(either(first, middle), last)
+}
+
+/// The first four coordinates of four places, as they lie.
+#[inline(always)]
+fn first_lanes(first: &Place, second: &Place) -> u32x4
+    ensures { result ≡ first.now.x ∷ first.now.y ∷ first.now.z ∷ second.now.x ∷ [] }
+{
+    u32x4::from_array([first.x, first.y, first.z, second.x])
+}
+
+/// The middle four coordinates of four places, as they lie.
+#[inline(always)]
+fn middle_lanes(second: &Place, third: &Place) -> u32x4
+    ensures { result ≡ second.now.y ∷ second.now.z ∷ third.now.x ∷ third.now.y ∷ [] }
+{
+    u32x4::from_array([second.y, second.z, third.x, third.y])
+}
+
+/// The last four coordinates of four places, as they lie.
+#[inline(always)]
+fn last_lanes(third: &Place, fourth: &Place) -> u32x4
+    ensures { result ≡ third.now.z ∷ fourth.now.x ∷ fourth.now.y ∷ fourth.now.z ∷ [] }
+{
+    u32x4::from_array([third.z, fourth.x, fourth.y, fourth.z])
+}
+
+/// The bits in which two vectors differ.
+#[inline(always)]
+fn differences(a: u32x4, b: u32x4) -> u32x4
+    ensures { has_none result ≡ are_same_lanes a b }
+{
+    a ^ b
+}
+
+/// The bits that are set in one of two vectors, or in both.
+#[inline(always)]
+fn either(a: u32x4, b: u32x4) -> u32x4
+    ensures { has_none result ≡ (has_none a && has_none b) }
+{
+    a | b
+}
+
+/// Whether no bit is set.
+#[inline]
+fn has_none(v: u32x4) -> bool
+    ensures { result ≡ has_none v }
+{
+    let [first, second, third, fourth] = v.to_array();
+    (first | second | third | fourth) == 0
 }
 
 /// Whether the places from one on are the same.
