@@ -1,10 +1,11 @@
 -- Several tasks posted at once: what is owed then, what the pool holds then, and that the work goes on.
-use Rattle.std.proofs.Common.{◌≡◌, ℕ, zero, suc, ◌+◌, ◌<◌, ◌≤◌, ◌≢◌, ◌⊎◌, true, false, nat_eq, List, [], ◌∷◌, ◌++◌, length, take, get_or, set, Option, Some, None, inl, inr}
+use Rattle.std.proofs.Common.{◌≡◌, ℕ, zero, suc, ◌+◌, ◌<◌, ◌≤◌, ◌≢◌, ◌⊎◌, true, false, nat_eq, cond, count_by, is_some, List, [], ◌∷◌, ◌++◌, length, take, get_or, set, Option, Some, None, inl, inr}
 use Rattle.std.proofs.Common.{refl, sym, ap, ◌∙◌, subst, arith}
 use Rattle.std.specs.List.{All}
 use Rattle.std.proofs.lemmas.Bool.{cases_lt, true≢false}
 use Rattle.std.proofs.lemmas.Bool.Decides.{eqb_tells}
 use Rattle.std.proofs.lemmas.List.{append-nil, append_assoc, length-append, length-take-le, take_more, get_or_default, get_or_past, get_or-take, get_or-set_same, get_or-set_other}
+use Rattle.std.proofs.lemmas.List.Recursion.{is_count_by}
 use Rattle.std.proofs.lemmas.Option.{none-some, same_Some}
 use Rattle.lj_tile.specs.declared.names.Label.{Label}
 use Rattle.lj_tile.specs.Blank.{blank_task}
@@ -14,7 +15,7 @@ use Rattle.lj_session.specs.Owner.{Owner, label_of, task_in, with_task_posted}
 use Rattle.lj_pool.specs.Coming.{GoesOn, posts_coming}
 use Rattle.lj_pool.specs.Gathering.{Gathers}
 use Rattle.lj_pool.specs.PoolStates.{HasPosted, PostsEach}
-use Rattle.lj_pool.specs.Posting.{AreCopies, AreNext, after_posts}
+use Rattle.lj_pool.specs.Posting.{AreCopies, AreNext, HandsOver, after_posts}
 use Rattle.lj_pool.specs.Seen.{ArePosted, IsPosted, Seen}
 use Rattle.lj_pool.proofs.Gathered.{Posting, posting}
 use Rattle.lj_pool.proofs.Gathering.{next_label}
@@ -177,3 +178,37 @@ module _ (owner : Owner) (before : Seen) (t : Gathers owner before.owed) (rooms 
 
   pub users_front : All (λ task. task.name.label.user ≡ owner.number) (take written rooms)
   users_front = users_all owner before t rooms written inside next
+
+abbrev boxes_in : List (Option Task) → ℕ
+boxes_in [] = 0
+boxes_in (place ∷ places) = cond (is_some place) (1 + boxes_in places) (boxes_in places)
+
+left_by : (posted : ℕ) (old new : List (Option Task))
+    → ((k : ℕ) → k < length old → is_some (get_or old k None) ≡ true) → HandsOver posted old new
+    → length old ≤ boxes_in new + posted
+left_by posted [] new some h = omega arith
+left_by posted (b ∷ bs) [] some h = omega (arith, h.places)
+left_by zero (b ∷ bs) (c ∷ cs) some h =
+    let is_left : is_some c ≡ true = ap is_some (h.handed_back 0 (omega arith)) ∙ some 0 (omega arith) in
+    let others = left_by zero bs cs (λ k l. some (suc k) (omega (arith, l))) record {
+      out_of_hand = λ k l. let no : ⊥ = omega (arith, l) in absurd no;
+      handed_back = λ k l. h.handed_back (suc k) (omega arith);
+      places = omega (arith, h.places);
+    } in
+    rw is_left (omega (arith, others))
+left_by (suc posted) (b ∷ bs) (c ∷ cs) some h =
+    let others = left_by posted bs cs (λ k l. some (suc k) (omega (arith, l))) record {
+      out_of_hand = λ k l. h.out_of_hand (suc k) (omega (arith, l));
+      handed_back = λ k l. h.handed_back (suc k) (omega (arith, l));
+      places = omega (arith, h.places);
+    } in
+    rw (h.out_of_hand 0 (omega arith)) (omega (arith, others))
+
+-- Of boxes of which the first ones were handed over the others are left.
+pub left_over : (posted : ℕ) (old new : List (Option Task))
+    → ((k : ℕ) → k < length old → is_some (get_or old k None) ≡ true) → HandsOver posted old new
+    → length old ≤ count_by is_some new + posted
+left_over posted old new some h =
+    let counted = is_count_by boxes_in is_some refl (λ place places. refl) new in
+    let left = left_by posted old new some h in
+    omega (arith, counted, left)

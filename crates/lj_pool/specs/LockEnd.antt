@@ -1,10 +1,12 @@
 -- One connection's end of a pool behind a lock.
-use Rattle.std.specs.Prelude.{List}
+use Rattle.std.specs.Prelude.{ℕ, List}
 use Rattle.lj_tile.specs.Task.{Task}
 use Rattle.lj_pool.specs.Seen.{Seen}
 
--- what the end has seen, the task of the result that it was handed last, and those of the results that it has in hand
+-- what the end has seen, the task of the result that it was handed last, those of the results that it has in hand, and how
+-- many of its boxes are spare
 pub record LockEnd : Type 0 where
   pub seen : Seen
   pub last : Task
   pub hand : List Task
+  pub spare : ℕ

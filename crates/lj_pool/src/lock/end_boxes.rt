@@ -109,6 +109,7 @@ impl EndBoxes {
     pub(crate) fn copies_of(&mut self, tasks: &[Task]) -> TaskCopies
         requires few { length tasks.now ≤ MAX_POSTS }
         ensures copies { AreCopies result.items tasks.now }
+        ensures boxes { (k : ℕ) → k < length result.items → is_some (slice_index_or result.items k None) ≡ true }
         ensures most { length result.items ≤ length tasks.now }
         ensures taken { self.old ≡ record self.new { spare = self.new.spare + length result.items } }
         ensures places { length self.new.hand + self.new.spare + length result.items ≤ MAX_SPARE }

@@ -38,6 +38,7 @@ impl<'p, L: Ledger, R: Wait> Model for LockEnd<'p, L, R> {
       seen = end.account;
       last = unwrap_or end.boxes.last blank_task;
       hand = end.boxes.hand;
+      spare = end.boxes.spare;
     } };
 }
 
@@ -83,6 +84,7 @@ impl<'p, L: Ledger, R: Wait> Pool for LockEnd<'p, L, R> {
         requires room { length self.old.seen.owed < MAX_OWED }
         ensures last { self.new.last ≡ self.old.last }
         ensures hand { self.new.hand ≡ self.old.hand }
+        ensures box_kept { OnErr result (self.new.spare ≡ self.old.spare) }
         ensures posted { OnOk result (IsPosted task.now self.old.seen self.new.seen) }
         ensures unchanged { OnErr result (SameOwed self.old.seen self.new.seen) }
         ensures full { wait ≡ true → IfErr result (λ why. why ≡ Closed) }
@@ -103,6 +105,7 @@ impl<'p, L: Ledger, R: Wait> Pool for LockEnd<'p, L, R> {
         requires room { length self.old.seen.owed + length tasks.now ≤ MAX_OWED }
         ensures last { self.new.last ≡ self.old.last }
         ensures hand { self.new.hand ≡ self.old.hand }
+        ensures boxes_kept { self.old.spare ≤ self.new.spare + result }
         ensures most { result ≤ length tasks.now }
         ensures posted { ArePosted (take result tasks.now) self.old.seen self.new.seen }
         ensures stays_closed { StaysClosed self.old.seen self.new.seen }
